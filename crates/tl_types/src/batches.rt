@@ -1,0 +1,64 @@
+//! What a statement loads.
+use crate::cells::Cell;
+use crate::periods::Period;
+use crate::rows::Opened;
+use crate::schemas::Schema;
+use crate::sequences::Seq;
+use crate::texts::Text;
+
+/// A line of a removal: a key, and the valid period to remove where the table has them.
+#[derive(Debug, Drop, PartialEq, Eq)]
+pub struct KeyLine {
+    /// The key.
+    pub key: Cell,
+    /// The valid period.
+    pub period: Option<Period>,
+}
+
+/// One loaded batch, which becomes one commit or one fault.
+#[derive(Debug, Drop, PartialEq, Eq)]
+pub enum Batch {
+    /// A new table.
+    Create(Schema),
+    /// Rows that take the place of the open rows of their keys.
+    Put {
+        /// The table's name.
+        table: Text,
+        /// The rows, in order.
+        lines: Seq<Opened>,
+    },
+    /// Keys whose open rows are closed.
+    Remove {
+        /// The table's name.
+        table: Text,
+        /// The keys, in order.
+        lines: Seq<KeyLine>,
+    },
+}
+
+/// Why a batch becomes no commit. `rec` is the record number of a line: its place in the batch plus 2.
+#[derive(Clone, Copy, Debug, PartialEq, Eq)]
+pub enum BatchFault {
+    /// No table has the name.
+    UnknownTable,
+    /// A table has the name already.
+    TableExists,
+    /// There are as many tables as the limits allow.
+    TablesFull,
+    /// The key stood in an earlier line of the batch.
+    KeyTwice {
+        /// The record number.
+        rec: u32,
+    },
+    /// A removal touches no row.
+    NoRow {
+        /// The record number.
+        rec: u32,
+    },
+    /// The table would have more rows than the limits allow.
+    RowsFull,
+    /// There are as many commits as the limits allow.
+    VersionsFull,
+    /// Want of memory.
+    NoMemory,
+}

@@ -1,0 +1,51 @@
+//! Cells, and what a column holds.
+ghost use Rattle.std.specs.Prelude.{◌≡◌, IfOk};
+
+use crate::texts::Text;
+use std::alloc::AllocError;
+
+/// One value of a row.
+#[derive(Debug, Drop, PartialEq, Eq, PartialOrd, Ord)]
+pub enum Cell {
+    /// A signed whole number of 64 bits.
+    Int(i64),
+    /// A text of at most 65,535 bytes.
+    Text(Text),
+}
+
+impl Clone for Cell {
+    ghost is_clone = { λ v w. w ≡ v };
+
+    fn clone(&self) -> Result<Self, AllocError> {
+        match self {
+            Cell::Int(number) => Ok(Cell::Int(*number)),
+            Cell::Text(text) => Ok(Cell::Text(text.clone()?)),
+        }
+    }
+}
+
+/// What the cells of a column are.
+#[derive(Clone, Copy, Debug, PartialEq, Eq)]
+pub enum ColumnKind {
+    /// Signed whole numbers of 64 bits.
+    IntKind,
+    /// Texts.
+    TextKind,
+}
+
+/// A comparison of a cell with a constant. Texts are compared by `Eq` and `Ne` alone.
+#[derive(Clone, Copy, Debug, PartialEq, Eq)]
+pub enum Cmp {
+    /// Equal.
+    Eq,
+    /// Not equal.
+    Ne,
+    /// Less.
+    Lt,
+    /// Less or equal.
+    Le,
+    /// Greater.
+    Gt,
+    /// Greater or equal.
+    Ge,
+}

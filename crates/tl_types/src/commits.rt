@@ -1,0 +1,105 @@
+//! Commits, and the entries of a history.
+ghost use Rattle.std.specs.Prelude.{◌≡◌};
+ghost use Rattle.tl_types.specs.Plain as plain;
+ghost use Rattle.tl_types.specs.Facts.{IsChange};
+
+use crate::rows::Opened;
+use crate::schemas::Schema;
+use crate::sequences::Seq;
+use std::marker::Model;
+
+/// A change of one table: the ids of the rows that it closes, strictly ascending, and the rows that it opens.
+/// There are fewer than 2^32 of each.
+#[derive(Debug, Drop, PartialEq, Eq)]
+pub struct Change {
+    table: u16,
+    closes: Seq<u32>,
+    opens: Seq<Opened>,
+}
+
+impl Model for Change {
+    ghost use Rattle.tl_types.specs.Plain as plain;
+    ghost use Rattle.tl_types.specs.Facts.{IsChange};
+
+    ghost Value = { plain.Change };
+
+    ghost view = { λ c. record { table = c.table; closes = c.closes; opens = c.opens } };
+
+    ghost invariant = { λ c. IsChange (record { table = c.table; closes = c.closes; opens = c.opens }) };
+
+    ghost inverse = { λ c. record { table = c.table; closes = c.closes; opens = c.opens } };
+}
+
+impl Change {
+    /// The change of the table with this number that closes these rows and opens these.
+    pub fn new(table: u16, closes: Seq<u32>, opens: Seq<Opened>) -> Change
+        requires { IsChange (record { table = table; closes = closes; opens = opens }) }
+        ensures { result ≡ record { table = table; closes = closes; opens = opens } }
+    {
+        Change {
+            table,
+            closes,
+            opens,
+        }
+    }
+
+    /// The number of the table, from 0.
+    pub fn table(&self) -> u16
+        ensures { result ≡ self.now.table }
+    {
+        self.table
+    }
+
+    /// The ids of the rows that are closed.
+    pub fn closes(&self) -> &[u32]
+        ensures value { result.now ≡ self.now.closes }
+        ensures kept { IsChange self.now }
+    {
+        self.closes.as_slice()
+    }
+
+    /// The rows that are opened, in order of their ids.
+    pub fn opens(&self) -> &[Opened]
+        ensures value { result.now ≡ self.now.opens }
+        ensures kept { IsChange self.now }
+    {
+        self.opens.as_slice()
+    }
+}
+
+/// What a commit does.
+#[derive(Debug, Drop, PartialEq, Eq)]
+pub enum Body {
+    /// It creates a table.
+    Create(Schema),
+    /// It changes a table.
+    Change(Change),
+}
+
+/// One step of the history: who made it (the session's number), and what it does.
+#[derive(Debug, Drop, PartialEq, Eq)]
+pub struct Commit {
+    /// The number of the session that made it.
+    pub author: u32,
+    /// What it does.
+    pub body: Body,
+}
+
+/// An entry of the history.
+#[derive(Debug, Drop, PartialEq, Eq)]
+pub enum Entry {
+    /// A commit.
+    Commit(Commit),
+    /// A checkpoint of a table at a version.
+    Mark {
+        /// The number of the table, from 0.
+        table: u16,
+        /// The version.
+        version: u32,
+    },
+    /// The break that a device fault leaves, with the commit whose append failed.
+    Break {
+        /// The commit, which the journal may hold or not.
+        commit: Commit,
+    },
+}

@@ -1,0 +1,37 @@
+// The words that every crate of the engine shares: texts, cells and periods, schemas and commits, batches
+// and answers, and the limits they keep. Their definitions in specs/ say what a history of commits means:
+// its tables, the rows visible at a version, and the commit that a batch becomes.
+#![tactic(auto)]
+
+mod answers;
+mod batches;
+mod bytes;
+mod cells;
+mod commits;
+mod keywords;
+mod limits;
+mod lines;
+mod periods;
+mod rows;
+mod runs;
+mod schemas;
+mod sequences;
+mod texts;
+
+pub use answers::{Answer, Field};
+pub use batches::{Batch, BatchFault, KeyLine};
+pub use bytes::Bytes;
+pub use cells::{Cell, Cmp, ColumnKind};
+pub use commits::{Body, Change, Commit, Entry};
+pub use keywords::{begins_word, continues_word, is_keyword, is_name};
+pub use limits::Limits;
+pub use lines::Line;
+pub use periods::Period;
+pub use rows::Opened;
+pub use runs::{Pair, Piece, Run};
+pub use schemas::{Column, Schema};
+pub use sequences::Seq;
+pub use texts::Text;
+
+/// Want of memory, where it is the whole error of a call.
+pub type NoMemory = std::alloc::AllocError;

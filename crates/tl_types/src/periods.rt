@@ -1,0 +1,52 @@
+//! Half-open periods of valid time.
+ghost use Rattle.std.specs.Prelude.{◌≡◌, ◌<ℤ◌};
+
+use std::marker::Model;
+
+/// The moments of valid time from `from` on and before `to`, where `from` is less than `to`. A `to` of
+/// `FOREVER` has no end.
+#[derive(Clone, Copy, Debug, PartialEq, Eq)]
+pub struct Period {
+    from: i64,
+    to: i64,
+}
+
+impl Model for Period {
+    ghost use Rattle.std.specs.Prelude.{◌<ℤ◌};
+    ghost use Rattle.tl_types.specs.Plain as plain;
+
+    ghost Value = { plain.Period };
+
+    ghost view = { λ p. record { from = p.from; to = p.to } };
+
+    ghost invariant = { λ p. p.from <ℤ p.to };
+
+    ghost inverse = { λ p. record { from = p.from; to = p.to } };
+}
+
+impl Period {
+    /// The end of a period that has none.
+    pub const FOREVER: i64 = i64::MAX;
+
+    /// The period of two valid times, of which the first is less than the second.
+    pub fn new(from: i64, to: i64) -> Period
+        requires { from <ℤ to }
+        ensures { result ≡ record { from = from; to = to } }
+    {
+        Period { from, to }
+    }
+
+    /// The first valid time of the period.
+    pub fn from(&self) -> i64
+        ensures { result ≡ self.now.from }
+    {
+        self.from
+    }
+
+    /// The valid time at which the period has ended.
+    pub fn to(&self) -> i64
+        ensures { result ≡ self.now.to }
+    {
+        self.to
+    }
+}

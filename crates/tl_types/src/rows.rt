@@ -1,0 +1,66 @@
+//! Rows as commits open them.
+ghost use Rattle.std.specs.Prelude.{◌≡◌, ◌≤◌, length};
+ghost use Rattle.tl_types.specs.Plain as plain;
+ghost use Rattle.tl_types.specs.Facts.{IsOpened};
+
+use crate::cells::Cell;
+use crate::periods::Period;
+use crate::sequences::Seq;
+use std::alloc::AllocError;
+use std::marker::Model;
+
+/// A row as a commit opens it: 1 to 16 cells, and a valid period where its table has them.
+#[derive(Debug, Drop, PartialEq, Eq)]
+pub struct Opened {
+    cells: Seq<Cell>,
+    period: Option<Period>,
+}
+
+impl Model for Opened {
+    ghost use Rattle.tl_types.specs.Plain as plain;
+    ghost use Rattle.tl_types.specs.Facts.{IsOpened};
+
+    ghost Value = { plain.Opened };
+
+    ghost view = { λ o. record { cells = o.cells; period = o.period } };
+
+    ghost invariant = { λ o. IsOpened (record { cells = o.cells; period = o.period }) };
+
+    ghost inverse = { λ o. record { cells = o.cells; period = o.period } };
+}
+
+impl Opened {
+    /// A row of these cells, of which there are 1 to 16, and this period.
+    pub fn new(cells: Seq<Cell>, period: Option<Period>) -> Opened
+        requires { IsOpened (record { cells = cells; period = period }) }
+        ensures { result ≡ record { cells = cells; period = period } }
+    {
+        Opened { cells, period }
+    }
+
+    /// The cells, in the order of the columns.
+    pub fn cells(&self) -> &[Cell]
+        ensures value { result.now ≡ self.now.cells }
+        ensures number { IsOpened self.now }
+    {
+        self.cells.as_slice()
+    }
+
+    /// The valid period, where the row's table has them.
+    pub fn period(&self) -> Option<Period>
+        ensures { result ≡ self.now.period }
+    {
+        self.period
+    }
+}
+
+impl Clone for Opened {
+    ghost is_clone = { λ v w. w ≡ v };
+
+    fn clone(&self) -> Result<Self, AllocError> {
+        Ok(Opened {
+            cells: self.cells.clone()?,
+            period: self.period,
+        })
+    }
+}

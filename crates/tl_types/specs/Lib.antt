@@ -2,3 +2,5 @@ pub mod Names
 pub mod Plain
 pub mod Facts
 pub mod Limits
+pub mod History
+pub mod Resolving

@@ -25,3 +25,23 @@ pub record Change : Type 0 where
   pub table : ℕ
   pub closes : List ℕ
   pub opens : List Opened
+
+-- a row of a table: its cells, its valid period where the table has them, and the versions v with
+-- from ≤ v < to at which it stands
+pub record Row : Type 0 where
+  pub cells : List Cell
+  pub period : Option Period
+  pub from : ℕ
+  pub to : ℕ
+
+-- a table: its schema, the version before which its past is forgotten, and its rows; the i-th row, counted
+-- from 0, has id i
+pub record Table : Type 0 where
+  pub schema : Schema
+  pub floor : ℕ
+  pub rows : List Row
+
+-- the number of commits so far, and the tables after them
+pub record Database : Type 0 where
+  pub version : ℕ
+  pub tables : List Table

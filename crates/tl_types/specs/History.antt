@@ -1,0 +1,161 @@
+-- What a history of commits means: its tables, and the rows visible at a version.
+use Rattle.std.specs.Prelude.{ℕ, zero, suc, ◌+◌, ℤ, Bool, true, false, ◌&&◌, not, nat_le, nat_lt, ◌==◌, int_le, int_lt, List, [], ◌∷◌, ◌++◌, length, map, take, Option, Some, None, is_some, if◌then◌else◌, slice_get}
+use Rattle.std.specs.List.{list_all, list_any, enumerate_from, filter, fold}
+use Rattle.std.specs.Bool.{beq}
+use Rattle.std.specs.Ordering.{int_eq}
+use Rattle.tl_types.specs.declared.cells.Cell.{Cell}
+use Rattle.tl_types.specs.declared.cells.Cell.TheVariants as cell
+use Rattle.tl_types.specs.declared.cells.ColumnKind.{ColumnKind}
+use Rattle.tl_types.specs.declared.cells.ColumnKind.TheVariants.{IntKind, TextKind}
+use Rattle.tl_types.specs.declared.schemas.Column.{Column}
+use Rattle.tl_types.specs.declared.commits.Commit.{Commit}
+use Rattle.tl_types.specs.declared.commits.Body.{Body}
+use Rattle.tl_types.specs.declared.commits.Body.TheVariants as body
+use Rattle.tl_types.specs.declared.limits.Limits.{Limits}
+use Rattle.tl_types.specs.Names.{same_bytes}
+use Rattle.tl_types.specs.Plain as plain
+
+-- the system end of a row that is current: the greatest number of 32 bits
+abbrev pub open_end : ℕ
+open_end = 4294967295
+
+-- the row is current
+abbrev pub is_open : plain.Row → Bool
+is_open row = row.to == open_end
+
+-- the rows, each with its id
+abbrev pub numbered : List plain.Row → List (ℕ × plain.Row)
+numbered rows = enumerate_from 0 rows
+
+-- the list holds the number
+abbrev pub holds : List ℕ → ℕ → Bool
+holds ids id = list_any (λ x. x == id) ids
+
+-- APPLYING A COMMIT
+
+-- a row, ended at the version if its id is closed
+abbrev pub ended : ℕ → List ℕ → (ℕ × plain.Row) → plain.Row
+ended version closes entry = if holds closes entry.0 then record entry.1 { to = version } else entry.1
+
+-- a row that begins at the version
+abbrev pub begun : ℕ → plain.Opened → plain.Row
+begun version opened = record { cells = opened.cells; period = opened.period; from = version; to = open_end }
+
+-- a table without rows
+abbrev pub new_table : plain.Schema → plain.Table
+new_table schema = record { schema = schema; floor = 0; rows = [] }
+
+-- the table after the version's change: the closed rows end, the opened rows stand behind the others
+abbrev pub changed : ℕ → plain.Change → plain.Table → plain.Table
+changed version change table = record table { rows = map (ended version change.closes) (numbered table.rows) ++ map (begun version) change.opens }
+
+-- the list with what stands at a place replaced by its image
+abbrev pub at_place : {X : Type 0} → ℕ → (X → X) → List X → List X
+at_place i f [] = []
+at_place zero f (x ∷ xs) = f x ∷ xs
+at_place (suc i) f (x ∷ xs) = x ∷ at_place i f xs
+
+-- the tables after the version's commit
+abbrev pub after_body : ℕ → Body → List plain.Table → List plain.Table
+after_body version (body.Create schema) tables = tables ++ new_table schema ∷ []
+after_body version (body.Change change) tables = at_place change.table (changed version change) tables
+
+-- the database after one commit more, whose version is the next
+abbrev pub after_commit : plain.Database → Commit → plain.Database
+after_commit db commit = record { version = db.version + 1; tables = after_body (db.version + 1) commit.body db.tables }
+
+-- the database without commits
+abbrev pub nothing : plain.Database
+nothing = record { version = 0; tables = [] }
+
+-- the database after these commits
+abbrev pub database_of : List Commit → plain.Database
+database_of commits = fold after_commit nothing commits
+
+-- the database after the first commits, as many as the version says
+abbrev pub database_at : List Commit → ℕ → plain.Database
+database_at commits version = database_of (take version commits)
+
+-- A COMMIT THAT FITS
+
+-- the table has the name
+abbrev pub has_name : List ℕ → plain.Table → Bool
+has_name name table = same_bytes table.schema.name name
+
+-- the cell is what the column holds
+abbrev pub is_of_kind : ColumnKind → Cell → Bool
+is_of_kind IntKind (cell.Int i) = true
+is_of_kind IntKind (cell.Text t) = false
+is_of_kind TextKind (cell.Int i) = false
+is_of_kind TextKind (cell.Text t) = true
+
+-- there is one cell for each column, and each is what its column holds
+abbrev pub match_columns : List Column → List Cell → Bool
+match_columns [] [] = true
+match_columns [] (x ∷ xs) = false
+match_columns (c ∷ cs) [] = false
+match_columns (c ∷ cs) (x ∷ xs) = is_of_kind c.kind x && match_columns cs xs
+
+-- the row's cells match the columns, and it has a period exactly where the schema says so
+abbrev pub matches : plain.Schema → plain.Opened → Bool
+matches schema opened = match_columns schema.columns opened.cells && beq schema.valid (is_some opened.period)
+
+-- the row with the id is there and is current
+abbrev pub is_open_at : List plain.Row → ℕ → Bool
+is_open_at [] id = false
+is_open_at (row ∷ rows) zero = is_open row
+is_open_at (row ∷ rows) (suc id) = is_open_at rows id
+
+-- the change names this table, closes open rows only, opens rows that match, and leaves few enough rows
+abbrev pub fits_table : Limits → plain.Change → Option plain.Table → Bool
+fits_table limits change None = false
+fits_table limits change (Some table) =
+    list_all (is_open_at table.rows) change.closes
+    && list_all (matches table.schema) change.opens
+    && nat_le (length table.rows + length change.opens) limits.rows
+
+-- a new table has a new name, and there is room for it; a change fits its table
+abbrev pub fits_body : Limits → List plain.Table → Body → Bool
+fits_body limits tables (body.Create schema) = not (list_any (has_name schema.name) tables) && nat_lt (length tables) limits.tables
+fits_body limits tables (body.Change change) = fits_table limits change (slice_get tables change.table)
+
+-- the commit fits the database: there is room for a version, and what it does fits the tables
+abbrev pub fits : Limits → plain.Database → Commit → Bool
+fits limits db commit = nat_lt db.version limits.versions && fits_body limits db.tables commit.body
+
+-- READING
+
+-- the row stands at the version
+abbrev pub is_visible : ℕ → plain.Row → Bool
+is_visible version row = nat_le row.from version && nat_lt version row.to
+
+-- the rows of the table with this number, none where there is no such table
+abbrev pub rows_of : plain.Database → ℕ → List plain.Row
+rows_of db table = rows_of_table (slice_get db.tables table) where
+  rows_of_table : Option plain.Table → List plain.Row
+  rows_of_table None = []
+  rows_of_table (Some t) = t.rows
+
+-- the rows of a table that stand at the version, in order of id, each with its id
+abbrev pub visible_rows : plain.Database → ℕ → ℕ → List (ℕ × plain.Row)
+visible_rows db table version = filter (λ r. is_visible version r.1) (numbered (rows_of db table))
+
+-- the moment is within the period
+abbrev pub is_within : ℤ → Option plain.Period → Bool
+is_within moment None = false
+is_within moment (Some p) = int_le p.from moment && int_lt moment p.to
+
+-- the rows whose period holds the moment
+abbrev pub rows_valid_at : ℤ → List (ℕ × plain.Row) → List (ℕ × plain.Row)
+rows_valid_at moment rows = filter (λ r. is_within moment r.1.period) rows
+
+-- two cells are the same
+abbrev pub same_cell : Cell → Cell → Bool
+same_cell (cell.Int i) (cell.Int j) = int_eq i j
+same_cell (cell.Int i) (cell.Text t) = false
+same_cell (cell.Text s) (cell.Int j) = false
+same_cell (cell.Text s) (cell.Text t) = same_bytes s t
+
+-- the cell at a place, where there is one
+abbrev pub cell_at : List Cell → ℕ → Option Cell
+cell_at cells place = slice_get cells place

@@ -1,0 +1,47 @@
+//! Why a question or a new table does not fit the tables.
+
+/// Why a checked statement does not fit the tables. `at` is a byte offset in the statement's text.
+#[derive(Clone, Copy, Debug, PartialEq, Eq)]
+pub enum CheckFault {
+    /// No table has the name.
+    UnknownTable {
+        /// The byte offset of the name.
+        at: u32,
+    },
+    /// The table has no such column; for a new table, the key is no column.
+    UnknownColumn {
+        /// The byte offset of the name.
+        at: u32,
+    },
+    /// A comparison, a constant or a column is not of the kind that is wanted there.
+    WrongType {
+        /// The byte offset.
+        at: u32,
+    },
+    /// The table has no valid time.
+    NotValidTable {
+        /// The byte offset of the word that asks for it.
+        at: u32,
+    },
+    /// The version is after the last commit.
+    VersionAhead {
+        /// The byte offset of the version.
+        at: u32,
+        /// The version that is asked for.
+        asked: u64,
+        /// The number of commits.
+        now: u32,
+    },
+    /// A range is empty.
+    EmptyRange {
+        /// The byte offset of its first bound.
+        at: u32,
+    },
+    /// Two columns of a new table have one name.
+    ColumnTwice {
+        /// The byte offset of the second.
+        at: u32,
+    },
+    /// Want of memory.
+    NoMemory,
+}

@@ -1,0 +1,216 @@
+//! What a statement says, as it is written. Offsets count bytes from the statement's first, which is 0.
+ghost use Rattle.std.specs.Prelude.{◌≡◌, IfOk};
+
+use std::alloc::AllocError;
+use tl_types::{Cell, Cmp, ColumnKind, Seq, Text};
+
+/// The name of a table or a column, and where it stands.
+#[derive(Debug, Drop, PartialEq, Eq)]
+pub struct Name {
+    /// The name: 1 to 64 bytes.
+    pub text: Text,
+    /// Its byte offset.
+    pub at: u32,
+}
+
+/// A number in a statement: a version or a bound, and where it stands.
+#[derive(Clone, Copy, Debug, PartialEq, Eq)]
+pub struct Stamp {
+    /// The number: a version or a valid time.
+    pub value: i64,
+    /// Its byte offset.
+    pub at: u32,
+}
+
+/// One statement.
+#[derive(Debug, Drop, PartialEq, Eq)]
+pub enum Statement {
+    /// Makes a table.
+    Create(CreateForm),
+    /// Puts the rows of a block into the named table.
+    Put(Name),
+    /// Removes the rows of a block from the named table.
+    Remove(Name),
+    /// Asks for an answer.
+    Ask(Query),
+}
+
+/// The making of a table.
+#[derive(Debug, Drop, PartialEq, Eq)]
+pub struct CreateForm {
+    /// The table's name.
+    pub name: Name,
+    /// Its columns in order: 1 to 16.
+    pub columns: Seq<ColumnForm>,
+    /// The name of its key column.
+    pub key: Name,
+    /// Whether its rows have a valid period.
+    pub valid: bool,
+}
+
+/// One column of a new table.
+#[derive(Debug, Drop, PartialEq, Eq)]
+pub struct ColumnForm {
+    /// The column's name.
+    pub name: Name,
+    /// What its cells are.
+    pub kind: ColumnKind,
+}
+
+/// A question.
+#[derive(Debug, Drop, PartialEq, Eq)]
+pub enum Query {
+    /// Rows of one table.
+    Select(SelectForm),
+    /// An aggregate over time.
+    Agg(AggForm),
+    /// A join over time.
+    Join(JoinForm),
+}
+
+/// One item of a row that is asked for.
+#[derive(Debug, Drop, PartialEq, Eq)]
+pub enum Item {
+    /// A column.
+    Column(Name),
+    /// The first valid time; the byte offset of the word.
+    ValidFrom(u32),
+    /// The end of the valid time; the byte offset of the word.
+    ValidTo(u32),
+}
+
+/// A question for rows.
+#[derive(Debug, Drop, PartialEq, Eq)]
+pub struct SelectForm {
+    /// Whether `*` stands for the items; then `items` is empty.
+    pub all: bool,
+    /// The items in order.
+    pub items: Seq<Item>,
+    /// The table.
+    pub table: Name,
+    /// Which rows.
+    pub pred: Pred,
+    /// The valid time at which rows have to be valid, where it is given.
+    pub valid_at: Option<ValidPoint>,
+    /// The version, where it is given.
+    pub as_of: Option<Stamp>,
+}
+
+/// A valid time behind `VALID AT`.
+#[derive(Clone, Copy, Debug, PartialEq, Eq)]
+pub struct ValidPoint {
+    /// The byte offset of `VALID`.
+    pub pos: u32,
+    /// The valid time.
+    pub value: i64,
+}
+
+/// A row passes where it passes all tests of one of these lists, or where there is no list.
+#[derive(Debug, Drop, PartialEq, Eq)]
+pub struct Pred {
+    /// The lists, joined by `OR`, of tests joined by `AND`.
+    pub any: Seq<Seq<Test>>,
+}
+
+/// A comparison of a column with a constant.
+#[derive(Debug, Drop, PartialEq, Eq)]
+pub struct Test {
+    /// The column.
+    pub column: Name,
+    /// The comparison.
+    pub cmp: Cmp,
+    /// The byte offset of the comparison.
+    pub cmp_at: u32,
+    /// The constant.
+    pub value: Cell,
+    /// The byte offset of the constant.
+    pub value_at: u32,
+}
+
+/// The kinds of aggregates.
+#[derive(Clone, Copy, Debug, PartialEq, Eq)]
+pub enum AggKind {
+    /// The number of rows.
+    Count,
+    /// The sum of a column.
+    Sum,
+    /// The sum of a column and the number of rows.
+    Avg,
+    /// The least value of a column.
+    Min,
+    /// The greatest value of a column.
+    Max,
+}
+
+/// A question for an aggregate over time.
+#[derive(Debug, Drop, PartialEq, Eq)]
+pub struct AggForm {
+    /// The kind.
+    pub kind: AggKind,
+    /// The column; none for a count.
+    pub column: Option<Name>,
+    /// The table.
+    pub table: Name,
+    /// Which rows.
+    pub pred: Pred,
+    /// The column whose values part the rows into groups.
+    pub by: Option<Name>,
+    /// The range of time.
+    pub over: Over,
+}
+
+/// A question for the pairs of rows of two tables that exist at one time.
+#[derive(Debug, Drop, PartialEq, Eq)]
+pub struct JoinForm {
+    /// The left table.
+    pub left: Name,
+    /// Which of its rows.
+    pub left_pred: Pred,
+    /// The right table.
+    pub right: Name,
+    /// Which of its rows.
+    pub right_pred: Pred,
+    /// The column of the left table.
+    pub left_on: Name,
+    /// The column of the right table that has to be equal.
+    pub right_on: Name,
+    /// The range of time.
+    pub over: Over,
+}
+
+/// A range of time.
+#[derive(Clone, Copy, Debug, PartialEq, Eq)]
+pub enum Over {
+    /// All versions.
+    SystemAll,
+    /// The versions from the first up to before the second.
+    System {
+        /// The first version.
+        from: Stamp,
+        /// The version that ends the range.
+        to: Stamp,
+    },
+    /// The valid times from the first up to before the second, at a version.
+    Valid {
+        /// The byte offset of `VALID`.
+        pos: u32,
+        /// The first valid time.
+        from: Stamp,
+        /// The valid time that ends the range.
+        to: Stamp,
+        /// The version, where it is given.
+        as_of: Option<Stamp>,
+    },
+}
+
+impl Name {
+    /// A copy of the name. The error is want of memory.
+    pub(crate) fn copied(&self) -> Result<Name, AllocError>
+        ensures { IfOk result (λ name. name ≡ self.now) }
+    {
+        Ok(Name {
+            text: self.text.clone()?,
+            at: self.at,
+        })
+    }
+}

@@ -1,0 +1,15 @@
+// The query language: its tokens, its statements, and the one statement or first fault that a text has.
+#![tactic(auto)]
+
+mod check_faults;
+mod faults;
+mod forms;
+mod plans;
+
+pub use check_faults::CheckFault;
+pub use faults::TextFault;
+pub use forms::{
+    AggForm, AggKind, ColumnForm, CreateForm, Item, JoinForm, Name, Over, Pred, Query, SelectForm,
+    Stamp, Statement, Test, ValidPoint,
+};
+pub use plans::{AggPlan, JoinPlan, Span, Typed, TypedItem, TypedPred, TypedTest};

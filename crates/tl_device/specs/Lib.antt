@@ -1,0 +1,4 @@
+pub mod Known
+pub mod Plain
+pub mod Calls
+pub mod Whole

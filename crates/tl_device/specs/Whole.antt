@@ -1,0 +1,10 @@
+-- What reading to the end of input answers.
+use Rattle.std.specs.Prelude.{◌≡◌, ℕ}
+use Rattle.tl_device.specs.declared.whole.ReadError.{ReadError}
+use Rattle.tl_device.specs.declared.whole.ReadError.TheVariants.{NoMemory, Source}
+use Rattle.tl_device.specs.Known.{Rose}
+
+-- want of memory leaves the count of faults, and a fault of the source raised it to the count that it hands on
+abbrev pub ReadFaults : ReadError → ℕ → ℕ → Type 0
+ReadFaults NoMemory before now = now ≡ before
+ReadFaults (Source faults) before now = (faults ≡ now) × Rose before now

@@ -1,0 +1,24 @@
+// Where statements and pieces of work pass before they start.
+
+/// What is about to start.
+#[derive(Clone, Copy, Debug, PartialEq, Eq)]
+pub enum Place {
+    /// A statement of the session with this number.
+    Statement(u32),
+    /// The range piece with this number.
+    Piece(u32),
+}
+
+/// A gate that is called at the start of each statement and of each range piece, from any thread.
+pub trait Gate: Sync {
+    /// Returns after a bounded number of turns, and waits for nobody.
+    fn pass(&self, place: Place);
+}
+
+/// A gate that lets all pass at once.
+#[derive(Clone, Copy, Debug)]
+pub struct OpenGate;
+
+impl Gate for OpenGate {
+    fn pass(&self, _place: Place) {}
+}

@@ -1,0 +1,37 @@
+// The outside of the engine: where bytes come from (a source), where they go (a sink), what is kept (a disk), and a
+// gate that calls pass. Each has a form in memory that says what it holds, one that never fails, and, for sources and
+// sinks, an adapter over std. A call answers `Failed` only where the object's count of faults rose in that call.
+#![tactic(auto)]
+
+mod calls;
+mod disk;
+mod failed;
+mod gate;
+mod memory_sink;
+mod memory_source;
+mod real_sink;
+mod real_source;
+mod sink;
+mod source;
+mod sure_disk;
+mod sure_sink;
+mod sure_source;
+#[cfg(test)]
+mod tests;
+mod unread;
+mod whole;
+mod written;
+
+pub use disk::Disk;
+pub use failed::{Failed, NoMemory};
+pub use gate::{Gate, OpenGate, Place};
+pub use memory_sink::MemorySink;
+pub use memory_source::MemorySource;
+pub use real_sink::RealSink;
+pub use real_source::RealSource;
+pub use sink::Sink;
+pub use source::Source;
+pub use sure_disk::SureDisk;
+pub use sure_sink::SureSink;
+pub use sure_source::SureSource;
+pub use whole::{ReadError, read_all, write_all};

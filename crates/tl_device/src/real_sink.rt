@@ -1,0 +1,65 @@
+// A sink over std's writer.
+ghost use Rattle.std.specs.Prelude.{◌≡◌, ◌<◌, ◌≤◌, length, None, IfOk};
+
+use crate::failed::{Failed, NoMemory};
+use crate::sink::Sink;
+use std::io;
+use std::io::Write;
+
+/// A sink over a writer of std, such as standard output. It flushes after each write, is always ready, and tells
+/// nothing of what was written.
+#[derive(Drop)]
+pub struct RealSink<W> {
+    writer: W,
+    faults: u64,
+}
+
+impl<W: Write> RealSink<W> {
+    /// A sink that writes to `writer`.
+    pub fn new(writer: W) -> RealSink<W>
+        ensures writer { result.writer ≡ writer }
+        ensures faults { result.faults ≡ 0 }
+    {
+        RealSink { writer, faults: 0 }
+    }
+
+    // Writes the front of `from` and flushes. Taking no byte of a piece that is not empty is a fault.
+    fn write_and_flush(&mut self, from: &[u8]) -> io::Result<usize>
+        ensures bound { IfOk result (λ n. n ≤ length from.now) }
+        ensures some { IfOk result (λ n. 0 < length from.now → 0 < n) }
+        ensures faults { self.new.faults ≡ self.old.faults }
+    {
+        let number = self.writer.write(from)?;
+        if number == 0 && !from.is_empty() {
+            return Err(io::Error::from(io::ErrorKind::WriteZero));
+        }
+        self.writer.flush()?;
+        Ok(number)
+    }
+}
+
+impl<W: Write> Sink for RealSink<W> {
+    ghost written = { λ _. None };
+
+    ghost spare = { λ _. None };
+
+    ghost faults = { λ s. s.faults };
+
+    fn write(&mut self, from: &[u8]) -> Result<usize, Failed> {
+        match self.write_and_flush(from) {
+            Ok(number) => Ok(number),
+            Err(_) => {
+                self.faults = self.faults.saturating_add(1);
+                Err(Failed)
+            }
+        }
+    }
+
+    fn room(&mut self, _bytes: u64) -> Result<(), NoMemory> {
+        Ok(())
+    }
+
+    fn faults(&self) -> u64 {
+        self.faults
+    }
+}

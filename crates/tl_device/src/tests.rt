@@ -1,0 +1,1 @@
+// Each form called once.

@@ -77,3 +77,17 @@ read_more first before after bytes taken newer so_far more joined =
 -- a list is the front of what it begins
 pub whole_front : (n : ℕ) (xs ys : List ℕ) → length xs ≡ n → take n (xs ++ ys) ≡ xs
 whole_front n xs ys same = ap (λ k. take k (xs ++ ys)) (sym same) ∙ take-append_seam xs ys
+
+-- a read that takes nothing leaves what was taken before it
+pub taken_all : (first before after : Option (List ℕ)) (bytes into : List ℕ) (n : ℕ) → n ≡ 0 → first ≡ prepend_known bytes before → before ≡ prepend_known (take n into) after → first ≡ prepend_known bytes after
+taken_all first before after bytes into n none so_far taken = so_far ∙ ap (prepend_known bytes) (none_taken before after into n none taken)
+
+-- what was read to the end is all that was left
+pub all_taken : (before after : Option (List ℕ)) (bytes : List ℕ) → before ≡ prepend_known bytes after → IfSome after (λ left. left ≡ []) → IfSome before (λ left. bytes ≡ left)
+all_taken None after bytes taken end = tt
+all_taken (Some left) None bytes taken end = absurd (some≢none taken)
+  where
+  some≢none : Some left ≡ None → ⊥
+  some≢none e = cc
+all_taken (Some left) (Some rest) bytes taken end =
+    let joined : bytes ++ rest ≡ bytes = ap (λ xs. bytes ++ xs) end ∙ append-nil bytes in cc

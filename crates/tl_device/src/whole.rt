@@ -42,6 +42,7 @@ fn zeros(alloc: Global, number: usize) -> Result<Vec<u8>, NoMemory>
 /// call. Both leave the source with some front of its bytes taken.
 pub fn read_all<S: Source>(alloc: Global, source: &mut S) -> Result<Vec<u8>, ReadError>
     ensures taken { IfOk result (λ bytes. S.left source.old ≡ prepend_known bytes.items (S.left source.new)) }
+    ensures whole { IfOk result (λ bytes. IfSome (S.left source.old) (λ left. bytes.items ≡ left)) }
     ensures end { OnOk result (IfSome (S.left source.new) (λ bytes. bytes ≡ [])) }
     ensures sure { OnOk result (S.faults source.new ≡ S.faults source.old) }
     ensures front { OnErr result (TakesFront (S.left source.old) (S.left source.new)) }

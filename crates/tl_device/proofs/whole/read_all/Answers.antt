@@ -1,6 +1,6 @@
 use Rattle.std.proofs.Common.{◌≡◌, ℕ, vec_len, ◌++◌, ◌∙◌, ap, sym, refl, take, length, List, arith}
 use Rattle.tl_device.specs.Known.{prepend_known}
-use Rattle.tl_device.proofs.Known.{prepend_none, prepend_both, read_more, whole_front, none_taken, none_left, at_any_error}
+use Rattle.tl_device.proofs.Known.{prepend_none, prepend_both, read_more, whole_front, none_taken, none_left, taken_all, all_taken, at_any_error}
 use Rattle.tl_device.proofs.whole.read_all.Goals as goal
 
 pub loop-bytes-init : goal.loop-bytes-init
@@ -12,8 +12,14 @@ loop-bytes-init g c = record {
 
 pub returns-in-Ok-eq0-clause-taken : goal.returns-in-Ok-eq0-clause-taken
 returns-in-Ok-eq0-clause-taken g c =
+    taken_all _ _ _ _ _ _ c.in-Ok-eq0.field-0-test c.loop-bytes.invariant.taken c.in-Ok-eq0.ensures.taken
+
+pub returns-in-Ok-eq0-clause-whole : goal.returns-in-Ok-eq0-clause-whole
+returns-in-Ok-eq0-clause-whole g c =
     let same = none_taken _ _ _ _ c.in-Ok-eq0.field-0-test c.in-Ok-eq0.ensures.taken in
-    c.loop-bytes.invariant.taken ∙ ap (prepend_known c.loop-bytes.bytes.items) same
+    let end = none_left _ _ _ c.in-Ok-eq0.field-0-test same (c.in-Ok-eq0.ensures.end (omega arith)) in
+    let taken = taken_all _ _ _ _ _ _ c.in-Ok-eq0.field-0-test c.loop-bytes.invariant.taken c.in-Ok-eq0.ensures.taken in
+    all_taken _ _ _ taken end
 
 pub returns-in-Ok-eq0-clause-end : goal.returns-in-Ok-eq0-clause-end
 returns-in-Ok-eq0-clause-end g c =

@@ -87,7 +87,7 @@ pub all_taken : (before after : Option (List ℕ)) (bytes : List ℕ) → before
 all_taken None after bytes taken end = tt
 all_taken (Some left) None bytes taken end = absurd (some≢none taken)
   where
-  some≢none : Some left ≡ None → ⊥
-  some≢none e = cc
+    some≢none : Some left ≡ None → ⊥
+    some≢none e = cc
 all_taken (Some left) (Some rest) bytes taken end =
     let joined : bytes ++ rest ≡ bytes = ap (λ xs. bytes ++ xs) end ∙ append-nil bytes in cc

@@ -90,39 +90,63 @@ fn pass_both<G: Gate>(gate: &G) {
     gate.pass(Place::Piece(2));
 }
 
+// What reading to the end answers.
+fn taken<S: Source>(alloc: Global, source: &mut S) -> Result<Vec<u8>, ReadError> {
+    read_all(alloc, source)
+}
+
+// Whether the sink took all of `from`, for which room is made first.
+fn took<K: Sink>(sink: &mut K, from: &[u8]) -> Result<bool, NoMemory> {
+    sink.room(from.len() as u64)?;
+    Ok(write_all(sink, from).is_ok())
+}
+
 #[test]
-fn sources_in_memory_are_read_to_their_end(rt: HostRuntime) -> Result<(), Fail> {
+fn a_sure_source_is_read_to_its_end(rt: HostRuntime) -> Result<(), Fail> {
     let alloc = rt.alloc();
-    let mut sure = SureSource::new(vec![in alloc; 1, 2, 3]?);
-    assert_eq!(rt; read_all(alloc, &mut sure)?.as_slice(), [1, 2, 3].as_slice());
-    assert_eq!(rt; sure.faults(), 0);
-
-    let mut pieces = MemorySource::in_pieces(vec![in alloc; 1, 2, 3]?, vec![in alloc; 3]?, 1);
-    assert_eq!(rt; read_all(alloc, &mut pieces).err(), Some(ReadError::Source { faults: 1 }));
-    assert_eq!(rt; read_all(alloc, &mut pieces)?.as_slice(), [3].as_slice());
-    assert_eq!(rt; pieces.faults(), 1);
-
-    let mut whole = MemorySource::new(vec![in alloc; 1, 2, 3]?, vec![in alloc]?);
-    assert_eq!(rt; read_all(alloc, &mut whole)?.as_slice(), [1, 2, 3].as_slice());
+    let mut source = SureSource::new(vec![in alloc; 1, 2, 3]?);
+    assert_eq!(rt; taken(alloc, &mut source)?.as_slice(), [1, 2, 3].as_slice());
+    assert_eq!(rt; source.faults(), 0);
     Ok(())
 }
 
 #[test]
-fn sinks_in_memory_keep_what_was_written(rt: HostRuntime) -> Result<(), Fail> {
+fn a_planned_read_fails_once(rt: HostRuntime) -> Result<(), Fail> {
     let alloc = rt.alloc();
-    let mut sure = SureSink::none(alloc);
-    sure.room(4)?;
-    assert_eq!(rt; write_all(&mut sure, b"abc"), Ok(()));
-    assert_eq!(rt; sure.bytes(), b"abc".as_slice());
-    assert_eq!(rt; sure.faults(), 0);
+    let failing = vec![in alloc; 3]?;
+    let mut source = MemorySource::in_pieces(vec![in alloc; 1, 2, 3]?, failing, 1);
+    assert_eq!(rt;
+        taken(alloc, &mut source).err(),
+        Some(ReadError::Source { faults: 1 })
+    );
+    assert_eq!(rt; taken(alloc, &mut source)?.as_slice(), [3].as_slice());
+    Ok(())
+}
 
-    let mut planned = MemorySink::new(alloc, vec![in alloc; 2]?);
-    planned.room(6)?;
-    assert_eq!(rt; write_all(&mut planned, b"ab"), Ok(()));
-    assert_eq!(rt; write_all(&mut planned, b"cd"), Err(Failed));
-    assert_eq!(rt; write_all(&mut planned, b"ef"), Ok(()));
-    assert_eq!(rt; planned.bytes(), b"abef".as_slice());
-    assert_eq!(rt; planned.faults(), 1);
+#[test]
+fn a_source_without_planned_faults_is_read_whole(rt: HostRuntime) -> Result<(), Fail> {
+    let alloc = rt.alloc();
+    let mut source = MemorySource::new(vec![in alloc; 1, 2, 3]?, Vec::new(alloc));
+    assert_eq!(rt; taken(alloc, &mut source)?.as_slice(), [1, 2, 3].as_slice());
+    Ok(())
+}
+
+#[test]
+fn a_sure_sink_keeps_what_was_written(rt: HostRuntime) -> Result<(), Fail> {
+    let mut sink = SureSink::none(rt.alloc());
+    assert!(rt; took(&mut sink, b"abc")?);
+    assert_eq!(rt; sink.bytes(), b"abc".as_slice());
+    Ok(())
+}
+
+#[test]
+fn a_planned_write_fails_once(rt: HostRuntime) -> Result<(), Fail> {
+    let alloc = rt.alloc();
+    let mut sink = MemorySink::new(alloc, vec![in alloc; 2]?);
+    for text in ["ab", "cd", "ef"] {
+        assert_eq!(rt; took(&mut sink, text.as_bytes())?, text != "cd");
+    }
+    assert_eq!(rt; sink.bytes(), b"abef".as_slice());
     Ok(())
 }
 
@@ -130,7 +154,11 @@ fn sinks_in_memory_keep_what_was_written(rt: HostRuntime) -> Result<(), Fail> {
 fn a_copy_knows_no_form(rt: HostRuntime) -> Result<(), Fail> {
     let alloc = rt.alloc();
     let mut sink = SureSink::none(alloc);
-    copy_all(alloc, &mut SureSource::new(vec![in alloc; 7, 8]?), &mut sink)?;
+    copy_all(
+        alloc,
+        &mut SureSource::new(vec![in alloc; 7, 8]?),
+        &mut sink,
+    )?;
     assert_eq!(rt; sink.bytes(), [7, 8].as_slice());
     Ok(())
 }
@@ -139,13 +167,13 @@ fn a_copy_knows_no_form(rt: HostRuntime) -> Result<(), Fail> {
 fn a_reader_of_std_is_a_source(rt: HostRuntime) -> Result<(), Fail> {
     let alloc = rt.alloc();
     let mut source = RealSource::new(b"hello".as_slice());
-    assert_eq!(rt; read_all(alloc, &mut source)?.as_slice(), b"hello".as_slice());
-    assert_eq!(rt; source.faults(), 0);
-
+    assert_eq!(rt; taken(alloc, &mut source)?.as_slice(), b"hello".as_slice());
     let mut broken = RealSource::new(Broken);
     for faults in 1..4 {
-        assert_eq!(rt; read_all(alloc, &mut broken).err(), Some(ReadError::Source { faults }));
-        assert_eq!(rt; broken.faults(), faults);
+        assert_eq!(rt;
+            taken(alloc, &mut broken).err(),
+            Some(ReadError::Source { faults })
+        );
     }
     Ok(())
 }
@@ -153,36 +181,35 @@ fn a_reader_of_std_is_a_source(rt: HostRuntime) -> Result<(), Fail> {
 #[test]
 fn a_writer_of_std_is_a_sink(rt: HostRuntime) -> Result<(), Fail> {
     let mut out = Vec::new(rt.alloc());
-    let mut sink = RealSink::new(&mut out);
-    sink.room(5)?;
-    assert_eq!(rt; write_all(&mut sink, b"hello"), Ok(()));
-    assert_eq!(rt; sink.faults(), 0);
-    drop(sink);
+    assert!(rt; took(&mut RealSink::new(&mut out), b"hello")?);
     assert_eq!(rt; out.as_slice(), b"hello".as_slice());
+    Ok(())
+}
 
+#[test]
+fn a_writer_that_fails_is_a_fault(rt: HostRuntime) -> Result<(), Fail> {
     let mut broken = RealSink::new(Broken);
-    assert_eq!(rt; write_all(&mut broken, b"hello"), Err(Failed));
-    assert_eq!(rt; write_all(&mut broken, b"hello"), Err(Failed));
+    assert!(rt; !took(&mut broken, b"hello")?);
+    assert!(rt; !took(&mut broken, b"hello")?);
     assert_eq!(rt; broken.faults(), 2);
+    Ok(())
+}
 
+#[test]
+fn a_writer_that_takes_or_flushes_nothing_is_a_fault(rt: HostRuntime) -> Result<(), Fail> {
     let mut full = RealSink::new(Full);
-    assert_eq!(rt; write_all(&mut full, b"hello"), Err(Failed));
-    assert_eq!(rt; full.write(b""), Ok(0));
+    assert!(rt; !took(&mut full, b"hello")?);
     assert_eq!(rt; full.faults(), 1);
-
     let mut unflushed = RealSink::new(Unflushed);
-    assert_eq!(rt; write_all(&mut unflushed, b"hello"), Err(Failed));
-    assert_eq!(rt; unflushed.faults(), 1);
+    assert!(rt; !took(&mut unflushed, b"hello")?);
     Ok(())
 }
 
 #[test]
 fn a_disk_in_memory_reads_as_its_bytes(rt: HostRuntime) -> Result<(), Fail> {
-    let alloc = rt.alloc();
-    let mut disk = SureDisk::new(vec![in alloc; 1, 2]?);
+    let mut disk = SureDisk::new(vec![in rt.alloc(); 1, 2]?);
     assert_eq!(rt; disk.len(), Ok(2));
     assert_eq!(rt; disk.bytes(), [1, 2].as_slice());
-    assert_eq!(rt; disk.faults(), 0);
     pass_both(&OpenGate);
     Ok(())
 }

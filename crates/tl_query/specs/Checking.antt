@@ -1,8 +1,8 @@
 -- The check of a question against the tables, and of a new table: what it means, or its first fault.
-use Rattle.std.specs.Prelude.{ℕ, ◌≡◌, ◌+◌, ℤ, pos, negsuc, nat_abs, Bool, true, false, ◌&&◌, ◌||◌, not, nat_le, nat_lt, ◌==◌, List, [], ◌∷◌, ◌++◌, length, map, Option, Some, None, is_some, Result, Ok, Err, if◌then◌else◌}
-use Rattle.std.specs.List.{list_any, flat_map}
+use Rattle.std.specs.Prelude.{ℕ, ◌≡◌, ◌≤◌, IsTrue, ℤ, nat_abs, Bool, true, false, ◌&&◌, ◌||◌, not, nat_le, nat_lt, ◌==◌, List, [], ◌∷◌, ◌++◌, length, map, take, slice_get, Option, Some, None, is_some, Result, Ok, Err, if◌then◌else◌}
+use Rattle.std.specs.List.{list_all, list_any, fold, position, enumerate_from}
 use Rattle.tl_types.specs.declared.schemas.Column.{Column}
-use Rattle.tl_types.specs.Names.{same_bytes}
+use Rattle.tl_types.specs.Names.{same_bytes, is_name}
 use Rattle.tl_types.specs.Plain as plain
 use Rattle.tl_types.specs.Resolving.{find_table}
 use Rattle.tl_query.specs.declared.forms.Name.{Name}
@@ -55,15 +55,14 @@ earlier None f = f
 earlier (Some e) None = Some e
 earlier (Some e) (Some f) = if comes_before f e then Some f else Some e
 
--- the first of these faults
-abbrev pub first_of : List CheckFault → Option CheckFault
-first_of [] = None
-first_of (f ∷ fs) = earlier (Some f) (first_of fs)
+-- the first of the faults that there are
+abbrev pub first_of : List (Option CheckFault) → Option CheckFault
+first_of faults = fold earlier None faults
 
 -- a fault where a test says so
-abbrev pub fault_if : Bool → CheckFault → List CheckFault
-fault_if true f = f ∷ []
-fault_if false f = []
+abbrev pub fault_if : Bool → CheckFault → Option CheckFault
+fault_if true f = Some f
+fault_if false f = None
 
 -- QUESTIONS
 
@@ -74,34 +73,33 @@ table_named db name = known (find_table name.text db.tables) where
   known None = None
   known (Some t) = Some (t.0, t.1.schema)
 
--- the place of a name among columns, counted from a number
-abbrev pub column_from : ℕ → List ℕ → List Column → Option ℕ
-column_from n name [] = None
-column_from n name (c ∷ cs) = if same_bytes c.name name then Some n else column_from (n + 1) name cs
+-- the place of a name among columns
+abbrev pub place_among : List Column → List ℕ → Option ℕ
+place_among columns name = position (λ c. same_bytes c.name name) columns
 
 -- the place of a name among the columns of a table
 abbrev pub column_of : plain.Schema → List ℕ → Option ℕ
-column_of schema name = column_from 0 name schema.columns
+column_of schema name = place_among schema.columns name
 
--- the faults of an item, where its table is known
-abbrev pub item_faults : plain.Schema → Item → List CheckFault
-item_faults schema (item.Column name) = fault_if (not (is_some (column_of schema name.text))) (fault.UnknownColumn name.at)
-item_faults schema (item.ValidFrom at) = fault_if (not schema.valid) (fault.NotValidTable at)
-item_faults schema (item.ValidTo at) = fault_if (not schema.valid) (fault.NotValidTable at)
+-- the fault of an item, where its table is known
+abbrev pub item_fault : plain.Schema → Item → Option CheckFault
+item_fault schema (item.Column name) = fault_if (not (is_some (column_of schema name.text))) (fault.UnknownColumn name.at)
+item_fault schema (item.ValidFrom at) = fault_if (not schema.valid) (fault.NotValidTable at)
+item_fault schema (item.ValidTo at) = fault_if (not schema.valid) (fault.NotValidTable at)
 
--- the version that a stamp asks for is after the last commit
-abbrev pub version_faults : ℕ → Option Stamp → List CheckFault
-version_faults now None = []
-version_faults now (Some stamp) = fault_if (nat_lt now (nat_abs stamp.value)) (fault.VersionAhead stamp.at (nat_abs stamp.value) now)
+-- the version that is asked for is after the last commit
+abbrev pub version_fault : ℕ → Option Stamp → Option CheckFault
+version_fault now None = None
+version_fault now (Some stamp) = fault_if (nat_lt now (nat_abs stamp.value)) (fault.VersionAhead stamp.at (nat_abs stamp.value) now)
 
--- the faults of the items, or of a table that is unknown
-abbrev pub name_faults : Option (ℕ × plain.Schema) → SelectForm → List CheckFault
-name_faults None form = fault.UnknownTable form.table.at ∷ []
-name_faults (Some t) form = flat_map (item_faults t.1) form.items
+-- the table is unknown, or the first fault of the items
+abbrev pub name_fault : Option (ℕ × plain.Schema) → SelectForm → Option CheckFault
+name_fault None form = Some (fault.UnknownTable form.table.at)
+name_fault (Some t) form = first_of (map (item_fault t.1) form.items)
 
--- all places of a SELECT where a rule is broken: its items, its table, its version
-abbrev pub select_faults : ℕ → Option (ℕ × plain.Schema) → SelectForm → List CheckFault
-select_faults now table form = name_faults table form ++ version_faults now form.as_of
+-- the first fault of a SELECT at so many commits: of its items, its table, its version
+abbrev pub select_fault : ℕ → Option (ℕ × plain.Schema) → SelectForm → Option CheckFault
+select_fault now table form = earlier (name_fault table form) (version_fault now form.as_of)
 
 -- a number, 0 where there is none
 abbrev pub or_zero : Option ℕ → ℕ
@@ -126,7 +124,7 @@ typed_select now table form =
 
 -- the SELECT by numbers at so many commits, over the table that its name means if it means one, or its first fault
 abbrev pub checked_select : ℕ → Option (ℕ × plain.Schema) → SelectForm → Result Typed CheckFault
-checked_select now table form = unless (first_of (select_faults now table form)) table where
+checked_select now table form = unless (select_fault now table form) table where
   unless : Option CheckFault → Option (ℕ × plain.Schema) → Result Typed CheckFault
   unless (Some f) t = Err f
   unless None None = Err (fault.UnknownTable form.table.at)
@@ -138,10 +136,13 @@ IsBareSelect form = (form.all ≡ false) × (form.pred.any ≡ []) × (form.vali
 
 -- NEW TABLES
 
--- the second of two columns of one name, for each name that stood before
-abbrev pub twice_faults : List (List ℕ) → List ColumnForm → List CheckFault
-twice_faults names [] = []
-twice_faults names (c ∷ cs) = fault_if (list_any (λ n. same_bytes n c.name.text) names) (fault.ColumnTwice c.name.at) ++ twice_faults (c.name.text ∷ names) cs
+-- the column at a place has the name of an earlier one
+abbrev pub twice_at : List ColumnForm → ℕ × ColumnForm → Option CheckFault
+twice_at columns (place, column) = fault_if (list_any (λ e. same_bytes e.name.text column.name.text) (take place columns)) (fault.ColumnTwice column.name.at)
+
+-- the first column that has the name of an earlier one
+abbrev pub twice_fault : List ColumnForm → Option CheckFault
+twice_fault columns = first_of (map (twice_at columns) (enumerate_from 0 columns))
 
 -- the columns of a new table
 abbrev pub columns_of : List ColumnForm → List Column
@@ -149,15 +150,28 @@ columns_of forms = map (λ c. record { name = c.name.text; kind = c.kind }) form
 
 -- the place of the key of a new table
 abbrev pub key_of : CreateForm → Option ℕ
-key_of form = column_from 0 form.key.text (columns_of form.columns)
+key_of form = position (λ c. same_bytes c.name.text form.key.text) form.columns
 
--- all places of a CREATE where a rule is broken
-abbrev pub create_faults : CreateForm → List CheckFault
-create_faults form = twice_faults [] form.columns ++ fault_if (not (is_some (key_of form))) (fault.UnknownColumn form.key.at)
+-- the first fault of a CREATE: two columns of one name, or a key that is no column
+abbrev pub create_fault : CreateForm → Option CheckFault
+create_fault form = earlier (twice_fault form.columns) (fault_if (not (is_some (key_of form))) (fault.UnknownColumn form.key.at))
 
 -- the schema of a new table, or its first fault
 abbrev pub checked_create : CreateForm → Result plain.Schema CheckFault
-checked_create form = unless (first_of (create_faults form)) where
+checked_create form = unless (create_fault form) where
   unless : Option CheckFault → Result plain.Schema CheckFault
   unless (Some f) = Err f
   unless None = Ok (record { name = form.name.text; columns = columns_of form.columns; key = or_zero (key_of form); valid = form.valid })
+
+-- the answer is this one, or memory ran out
+abbrev pub IsUnlessMemory : {X : Type 0} → Result X CheckFault → Result X CheckFault → Type 0
+IsUnlessMemory (Ok x) want = want ≡ Ok x
+IsUnlessMemory (Err fault.NoMemory) want = Unit {0}
+IsUnlessMemory (Err f) want = want ≡ Err f
+
+-- a new table as the language spells it: its names are names, and it has 1 to 16 columns
+pub record IsWellNamed (form : CreateForm) : Type 0 where
+  pub name : IsTrue (is_name form.name.text)
+  pub columns : IsTrue (list_all (λ c. is_name c.name.text) form.columns)
+  pub some : 1 ≤ length form.columns
+  pub few : length form.columns ≤ 16

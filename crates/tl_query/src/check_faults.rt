@@ -1,4 +1,8 @@
 //! Why a question or a new table does not fit the tables.
+ghost use Rattle.std.specs.Prelude.{◌≡◌};
+ghost use Rattle.tl_query.specs.declared.check_faults.CheckFault.TheVariants.{NoMemory};
+
+use std::alloc::{AllocError, AllocFailed};
 
 /// Why a checked statement does not fit the tables. `at` is a byte offset in the statement's text.
 #[derive(Clone, Copy, Debug, PartialEq, Eq)]
@@ -44,4 +48,20 @@ pub enum CheckFault {
     },
     /// Want of memory.
     NoMemory,
+}
+
+impl From<AllocError> for CheckFault {
+    ghost from_gives = { λ _ e. e ≡ NoMemory };
+
+    fn from(_error: AllocError) -> CheckFault {
+        CheckFault::NoMemory
+    }
+}
+
+impl<T: Drop> From<AllocFailed<T>> for CheckFault {
+    ghost from_gives = { λ _ e. e ≡ NoMemory };
+
+    fn from(_error: AllocFailed<T>) -> CheckFault {
+        CheckFault::NoMemory
+    }
 }

@@ -85,14 +85,16 @@ impl Schema {
 
     /// The columns, in order.
     pub fn columns(&self) -> &[Column]
-        ensures { result.now ≡ self.now.columns }
+        ensures value { result.now ≡ self.now.columns }
+        ensures few { length self.now.columns ≤ 16 }
     {
         self.columns.as_slice()
     }
 
     /// The place of the key among the columns, from 0.
     pub fn key(&self) -> u8
-        ensures { result ≡ self.now.key }
+        ensures value { result ≡ self.now.key }
+        ensures among { self.now.key < length self.now.columns }
     {
         self.key
     }

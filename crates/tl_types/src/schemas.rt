@@ -86,6 +86,7 @@ impl Schema {
     /// The columns, in order.
     pub fn columns(&self) -> &[Column]
         ensures value { result.now ≡ self.now.columns }
+        ensures some { 1 ≤ length self.now.columns }
         ensures few { length self.now.columns ≤ 16 }
     {
         self.columns.as_slice()

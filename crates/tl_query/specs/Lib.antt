@@ -1,1 +1,5 @@
 pub mod Checking
+pub mod Marks
+pub mod Grammar
+pub mod Reading
+pub mod Scanning

@@ -4,7 +4,11 @@
 mod check_faults;
 mod faults;
 mod forms;
+mod marks;
 mod plans;
+mod scanning;
+mod statements;
+mod tokens;
 
 pub use check_faults::CheckFault;
 pub use faults::TextFault;

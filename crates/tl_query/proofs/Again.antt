@@ -1,0 +1,204 @@
+-- What is spelled is read again.
+use Rattle.std.proofs.Common.{◌≡◌, ℕ, ◌+◌, ◌<◌, ◌≤◌, zero, suc, Bool, true, false, cond, ◌==◌, List, [], ◌∷◌, ◌++◌, length, map, flat_map, Option, Some, None, Result, Ok, Err, refl, sym, ◌∙◌, ap, subst, append_assoc, append-nil, arith}
+use Rattle.std.specs.List.{AllByRecursion}
+use Rattle.std.proofs.lemmas.Bool.{eq-eqb}
+use Rattle.tl_types.specs.declared.cells.ColumnKind.TheVariants as kinds
+use Rattle.tl_query.specs.declared.marks.Mark.{Mark}
+use Rattle.tl_query.specs.declared.marks.Mark.TheVariants as marks
+use Rattle.tl_query.specs.declared.tokens.Token.{Token}
+use Rattle.tl_query.specs.declared.tokens.Token.TheVariants.{Fixed, Word, Number}
+use Rattle.tl_query.specs.declared.tokens.Placed.{Placed}
+use Rattle.tl_query.specs.declared.forms.Name.{Name}
+use Rattle.tl_query.specs.declared.forms.Stamp.{Stamp}
+use Rattle.tl_query.specs.declared.forms.ColumnForm.{ColumnForm}
+use Rattle.tl_query.specs.declared.forms.CreateForm.{CreateForm}
+use Rattle.tl_query.specs.declared.forms.SelectForm.{SelectForm}
+use Rattle.tl_query.specs.declared.forms.Item.{Item}
+use Rattle.tl_query.specs.declared.forms.Item.TheVariants as items
+use Rattle.tl_query.specs.declared.forms.Query.TheVariants as queries
+use Rattle.tl_query.specs.declared.forms.Statement.{Statement}
+use Rattle.tl_query.specs.declared.forms.Statement.TheVariants as statements
+use Rattle.tl_query.specs.Marks.{place, same_mark}
+use Rattle.tl_query.specs.Grammar.{IsSpelling, IsCreate, IsSelect, IsNumbers, IsColumn, column_parts, further_columns, columns_parts, create_parts, put_parts, item_parts, further_items, items_parts, as_of_parts, select_parts}
+use Rattle.tl_query.specs.Reading.{◌>>=◌, place_of, is_fixed, after, expect, name_of, version_of, name_at, version_at, ended, column_at, in_front, before, further_columns_at, columns_at, create_at, put_at, items_at, as_of_at, select_at, statement_at, where_some}
+use Rattle.tl_query.proofs.Laws.{words_of}
+use Rattle.tl_query.proofs.Readers.{items_comma, items_end, item_first}
+
+-- what follows mark, name and number is read next
+pub after_again : (m : Mark) (ts : List Placed) (w : List Token) → words_of ts ≡ Fixed m ∷ w → (rest : List Placed) × (words_of rest ≡ w) × (after m ts ≡ Some rest)
+unfolding after
+after_again m [] w e = absurd (cc)
+after_again m (p ∷ ts) w e = 
+    let h : p.token ≡ Fixed m = cc in
+    let k : words_of ts ≡ w = cc in
+    (ts, k, ap (λ t. cond (is_fixed m t) (Some ts) None) h ∙ ap (λ b. cond b (Some ts) None) (eq-eqb (place m) (place m) refl))
+
+-- another token comes
+pub after_none : (m : Mark) (ts : List Placed) (t : Token) (w : List Token) → words_of ts ≡ t ∷ w → is_fixed m t ≡ false → after m ts ≡ None
+unfolding after
+after_none m [] t w e f = absurd (cc)
+after_none m (p ∷ ts) t w e f =
+    let h : p.token ≡ t = cc in
+    ap (λ x. cond (is_fixed m x) (Some ts) None) h ∙ ap (λ b. cond b (Some ts) None) f
+
+pub after_end : (m : Mark) (ts : List Placed) → words_of ts ≡ [] → after m ts ≡ None
+unfolding after
+after_end m [] e = refl
+after_end m (p ∷ ts) e = absurd (cc)
+
+pub expect_again : (m : Mark) (ts : List Placed) (w : List Token) → words_of ts ≡ Fixed m ∷ w → (rest : List Placed) × (words_of rest ≡ w) × (expect m ts ≡ Ok rest)
+unfolding expect
+expect_again m ts w e = let h = after_again m ts w e in (h.0, h.1, ap (λ o. where_some o (Err (place_of ts)) (λ rest. Ok rest)) h.2)
+
+pub name_again : (n : Name) (ts : List Placed) (w : List Token) → words_of ts ≡ Word n ∷ w → (rest : List Placed) × (words_of rest ≡ w) × (name_at ts ≡ Ok (n, rest))
+unfolding name_at
+name_again n [] w e = absurd (cc)
+name_again n (p ∷ ts) w e =
+    let h : p.token ≡ Word n = cc in
+    let k : words_of ts ≡ w = cc in
+    (ts, k, ap (λ t. where_some (name_of t) (Err (Some p.at)) (λ n. Ok (n, ts))) h)
+
+pub version_again : (s : Stamp) (ts : List Placed) (w : List Token) → words_of ts ≡ Number s ∷ w → (rest : List Placed) × (words_of rest ≡ w) × (version_at ts ≡ Ok (s, rest))
+unfolding version_at
+version_again s [] w e = absurd (cc)
+version_again s (p ∷ ts) w e =
+    let h : p.token ≡ Number s = cc in
+    let k : words_of ts ≡ w = cc in
+    (ts, k, ap (λ t. where_some (version_of t) (Err (Some p.at)) (λ s. Ok (s, ts))) h)
+
+pub ended_again : (s : Statement) (ts : List Placed) → words_of ts ≡ [] → ended s ts ≡ Ok s
+unfolding ended
+ended_again s [] e = refl
+ended_again s (p ∷ ts) e = absurd (cc)
+
+-- one reading after another
+pub then_again : {A B : Type 0} (r : Result A (Option ℕ)) (x : A) (f : A → Result B (Option ℕ)) (y : Result B (Option ℕ)) → r ≡ Ok x → f x ≡ y → r >>= f ≡ y
+then_again r x f y e h = ap (λ r. r >>= f) e ∙ h
+
+pub column_again : (c : ColumnForm) → IsNumbers c → (ts : List Placed) (w : List Token) → words_of ts ≡ column_parts c ++ w → (rest : List Placed) × (words_of rest ≡ w) × (column_at ts ≡ Ok (c, rest))
+unfolding column_at
+column_again c numbers ts w e =
+    let n = name_again c.name ts (Fixed marks.Int ∷ w) e in
+    let i = expect_again marks.Int n.0 w n.1 in
+    (i.0, i.1, then_again (name_at ts) (c.name, n.0) _ _ n.2 (then_again (expect marks.Int n.0) i.0 _ _ i.2 (ap (λ k. Ok (record { name = c.name; kind = k }, i.0)) (sym numbers))))
+
+-- nothing that would go on a list of columns or items: no comma comes
+abbrev pub NoComma : List Token → Type 0
+NoComma [] = Unit {0}
+NoComma (t ∷ w) = is_fixed marks.Comma t ≡ false
+
+comma_none : (ts : List Placed) (w : List Token) → words_of ts ≡ w → NoComma w → after marks.Comma ts ≡ None
+comma_none ts [] e h = after_end marks.Comma ts e
+comma_none ts (t ∷ w) e h = after_none marks.Comma ts t w e h
+
+pub further_columns_again : (cs : List ColumnForm) (room : ℕ) → length cs ≤ room → AllByRecursion IsNumbers cs → (ts : List Placed) (w : List Token) → NoComma w → words_of ts ≡ further_columns cs ++ w → (rest : List Placed) × (words_of rest ≡ w) × (further_columns_at room ts ≡ Ok (cs, rest))
+unfolding further_columns_at
+further_columns_again [] zero few all ts w stop e = (ts, e, refl)
+further_columns_again [] (suc room) few all ts w stop e = (ts, e, ap (λ o. where_some o (Ok ([], ts)) (λ rest. column_at rest >>= λ c. in_front c.0 (further_columns_at room c.1))) (comma_none ts w e stop))
+further_columns_again (c ∷ cs) zero few all ts w stop e = absurd (omega arith)
+further_columns_again (c ∷ cs) (suc room) few all ts w stop e =
+    let a = after_again marks.Comma ts (column_parts c ++ (further_columns cs ++ w)) e in
+    let x = column_again c all.0 a.0 (further_columns cs ++ w) a.1 in
+    let y = further_columns_again cs room (omega arith) all.1 x.0 w stop x.1 in
+    (y.0, y.1, ap (λ o. where_some o (Ok ([], ts)) (λ rest. column_at rest >>= λ c. in_front c.0 (further_columns_at room c.1))) a.2
+        ∙ then_again (column_at a.0) (c, x.0) (λ c. in_front c.0 (further_columns_at room c.1)) _ x.2 (ap (in_front c) y.2))
+
+pub columns_again : (cs : List ColumnForm) → 1 ≤ length cs → length cs ≤ 16 → AllByRecursion IsNumbers cs → (ts : List Placed) (w : List Token) → NoComma w → words_of ts ≡ columns_parts cs ++ w → (rest : List Placed) × (words_of rest ≡ w) × (columns_at ts ≡ Ok (cs, rest))
+unfolding columns_at
+columns_again [] some few all ts w stop e = absurd (omega arith)
+columns_again (c ∷ cs) some few all ts w stop e =
+    let x = column_again c all.0 ts (further_columns cs ++ w) e in
+    let y = further_columns_again cs 15 (omega arith) all.1 x.0 w stop x.1 in
+    (y.0, y.1, then_again (column_at ts) (c, x.0) (λ c. in_front c.0 (further_columns_at 15 c.1)) _ x.2 (ap (in_front c) y.2))
+
+further_items_again : (xs : List Item) → AllByRecursion IsColumn xs → (ts : List Placed) (w : List Token) → NoComma w → words_of ts ≡ further_items xs ++ w → (rest : List Placed) × (words_of rest ≡ w) × (items_at false ts ≡ Ok (xs, rest))
+further_items_again [] all ts w stop e = (ts, e, items_end ts (comma_none ts w e stop))
+further_items_again (items.Column n ∷ xs) all ts w stop e =
+    let a = after_again marks.Comma ts (Word n ∷ (further_items xs ++ w)) e in
+    let x = name_again n a.0 (further_items xs ++ w) a.1 in
+    let y = further_items_again xs all.1 x.0 w stop x.1 in
+    (y.0, y.1, items_comma ts a.0 a.2 ∙ item_first a.0 x.0 n x.2 ∙ ap (before (items.Column n ∷ [])) y.2)
+further_items_again (items.ValidFrom at ∷ xs) all ts w stop e = absurd all.0
+further_items_again (items.ValidTo at ∷ xs) all ts w stop e = absurd all.0
+
+pub items_again : (xs : List Item) → 1 ≤ length xs → AllByRecursion IsColumn xs → (ts : List Placed) (w : List Token) → NoComma w → words_of ts ≡ items_parts xs ++ w → (rest : List Placed) × (words_of rest ≡ w) × (items_at true ts ≡ Ok (xs, rest))
+items_again [] some all ts w stop e = absurd (omega arith)
+items_again (items.Column n ∷ xs) some all ts w stop e =
+    let x = name_again n ts (further_items xs ++ w) e in
+    let y = further_items_again xs all.1 x.0 w stop x.1 in
+    (y.0, y.1, item_first ts x.0 n x.2 ∙ ap (before (items.Column n ∷ [])) y.2)
+items_again (items.ValidFrom at ∷ xs) some all ts w stop e = absurd all.0
+items_again (items.ValidTo at ∷ xs) some all ts w stop e = absurd all.0
+
+pub as_of_again : (o : Option Stamp) (ts : List Placed) → words_of ts ≡ as_of_parts o → (rest : List Placed) × (words_of rest ≡ []) × (as_of_at ts ≡ Ok (o, rest))
+unfolding as_of_at
+as_of_again None ts e = (ts, e, ap (λ o. where_some o (Ok (None, ts)) (λ rest. expect marks.Of rest >>= λ next. version_at next >>= λ s. Ok (Some s.0, s.1))) (after_end marks.As ts e))
+as_of_again (Some s) ts e =
+    let a = after_again marks.As ts (Fixed marks.Of ∷ Number s ∷ []) e in
+    let o = expect_again marks.Of a.0 (Number s ∷ []) a.1 in
+    let v = version_again s o.0 [] o.1 in
+    (v.0, v.1, ap (λ o. where_some o (Ok (None, ts)) (λ rest. expect marks.Of rest >>= λ next. version_at next >>= λ s. Ok (Some s.0, s.1))) a.2
+        ∙ then_again (expect marks.Of a.0) o.0 (λ next. version_at next >>= λ s. Ok (Some s.0, s.1)) _ o.2 (then_again (version_at o.0) (s, v.0) (λ s. Ok (Some s.0, s.1)) _ v.2 refl))
+
+put_again : (n : Name) (ts : List Placed) → words_of ts ≡ Word n ∷ [] → put_at ts ≡ Ok (statements.Put n)
+unfolding put_at
+put_again n ts e =
+    let x = name_again n ts [] e in
+    then_again (name_at ts) (n, x.0) (λ x. ended (statements.Put x.0) x.1) _ x.2 (ended_again (statements.Put n) x.0 x.1)
+
+create_again : (f : CreateForm) → IsCreate f → (ts : List Placed) → Fixed marks.Create ∷ words_of ts ≡ create_parts f → create_at ts ≡ Ok (statements.Create f)
+unfolding create_at
+create_again f is ts e =
+    let k : words_of ts ≡ Fixed marks.Table ∷ Word f.name ∷ Fixed marks.Open ∷ (columns_parts f.columns ++ (Fixed marks.Close ∷ Fixed marks.Key ∷ Word f.key ∷ [])) = cc in
+    let table = expect_again marks.Table ts _ k in
+    let name = name_again f.name table.0 _ table.1 in
+    let opened = expect_again marks.Open name.0 _ name.1 in
+    let columns = columns_again f.columns is.some is.few is.numbers opened.0 (Fixed marks.Close ∷ Fixed marks.Key ∷ Word f.key ∷ []) refl opened.1 in
+    let closed = expect_again marks.Close columns.0 _ columns.1 in
+    let word = expect_again marks.Key closed.0 _ closed.1 in
+    let key = name_again f.key word.0 [] word.1 in
+    then_again (expect marks.Table ts) table.0 _ _ table.2 (then_again (name_at table.0) (f.name, name.0) _ _ name.2 (then_again (expect marks.Open name.0) opened.0 _ _ opened.2
+        (then_again (columns_at opened.0) (f.columns, columns.0) _ _ columns.2 (then_again (expect marks.Close columns.0) closed.0 _ _ closed.2 (then_again (expect marks.Key closed.0) word.0 _ _ word.2
+            (then_again (name_at word.0) (f.key, key.0) _ _ key.2 (ended_again (statements.Create (record { name = f.name; columns = f.columns; key = f.key; valid = false })) key.0 key.1
+                ∙ ap (λ v. Ok (statements.Create (record { name = f.name; columns = f.columns; key = f.key; valid = v }))) (sym is.plain))))))))
+
+select_same : (f : SelectForm) → f.all ≡ false → f.pred ≡ record { any = [] } → f.valid_at ≡ None → record { all = false; items = f.items; table = f.table; pred = record { any = [] }; valid_at = None; as_of = f.as_of } ≡ f
+select_same f a b c =
+    ap (λ x. record { all = x; items = f.items; table = f.table; pred = record { any = [] }; valid_at = None; as_of = f.as_of }) (sym a)
+    ∙ ap (λ x. record { all = f.all; items = f.items; table = f.table; pred = x; valid_at = None; as_of = f.as_of }) (sym b)
+    ∙ ap (λ x. record { all = f.all; items = f.items; table = f.table; pred = f.pred; valid_at = x; as_of = f.as_of }) (sym c)
+
+select_again : (f : SelectForm) → IsSelect f → (ts : List Placed) → Fixed marks.Select ∷ words_of ts ≡ select_parts f → select_at ts ≡ Ok (statements.Ask (queries.Select f))
+unfolding select_at
+select_again f is ts e =
+    let k : words_of ts ≡ items_parts f.items ++ (Fixed marks.From ∷ Word f.table ∷ as_of_parts f.as_of) = cc in
+    let items = items_again f.items is.some is.columns ts (Fixed marks.From ∷ Word f.table ∷ as_of_parts f.as_of) refl k in
+    let from = expect_again marks.From items.0 _ items.1 in
+    let table = name_again f.table from.0 _ from.1 in
+    let as_of = as_of_again f.as_of table.0 table.1 in
+    let same : record { all = false; items = f.items; table = f.table; pred = record { any = [] }; valid_at = None; as_of = f.as_of } ≡ f = select_same f is.plain is.untested is.timeless in
+    then_again (items_at true ts) (f.items, items.0) _ _ items.2 (then_again (expect marks.From items.0) from.0 _ _ from.2 (then_again (name_at from.0) (f.table, table.0) _ _ table.2
+        (then_again (as_of_at table.0) (f.as_of, as_of.0) _ _ as_of.2 (ended_again (statements.Ask (queries.Select (record { all = false; items = f.items; table = f.table; pred = record { any = [] }; valid_at = None; as_of = f.as_of }))) as_of.0 as_of.1
+            ∙ ap (λ g. Ok (statements.Ask (queries.Select g))) same))))
+
+-- what is spelled is read
+pub statement_again : (ts : List Placed) (s : Statement) → IsSpelling (words_of ts) s → statement_at ts ≡ Ok s
+unfolding statement_at
+statement_again ts (statements.Create f) h =
+    let a = after_again marks.Create ts _ h.1 in
+    ap (λ o. where_some o (where_some (after marks.Put ts) (where_some (after marks.Select ts) (Err (place_of ts)) select_at) put_at) create_at) a.2
+    ∙ create_again f h.0 a.0 (ap (λ w. Fixed marks.Create ∷ w) a.1)
+statement_again ts (statements.Put n) h =
+    let a = after_again marks.Put ts _ h in
+    ap (λ o. where_some o (where_some (after marks.Put ts) (where_some (after marks.Select ts) (Err (place_of ts)) select_at) put_at) create_at) (after_none marks.Create ts _ _ h refl)
+    ∙ ap (λ o. where_some o (where_some (after marks.Select ts) (Err (place_of ts)) select_at) put_at) a.2
+    ∙ put_again n a.0 a.1
+statement_again ts (statements.Remove n) h = absurd h
+statement_again ts (statements.Ask (queries.Select f)) h =
+    let a = after_again marks.Select ts _ h.1 in
+    ap (λ o. where_some o (where_some (after marks.Put ts) (where_some (after marks.Select ts) (Err (place_of ts)) select_at) put_at) create_at) (after_none marks.Create ts _ _ h.1 refl)
+    ∙ ap (λ o. where_some o (where_some (after marks.Select ts) (Err (place_of ts)) select_at) put_at) (after_none marks.Put ts _ _ h.1 refl)
+    ∙ ap (λ o. where_some o (Err (place_of ts)) select_at) a.2
+    ∙ select_again f h.0 a.0 (ap (λ w. Fixed marks.Select ∷ w) a.1)
+statement_again ts (statements.Ask (queries.Agg f)) h = absurd h
+statement_again ts (statements.Ask (queries.Join f)) h = absurd h

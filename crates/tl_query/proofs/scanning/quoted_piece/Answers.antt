@@ -1,0 +1,8 @@
+use Rattle.std.proofs.Common.{◌≡◌, ◌≤◌, ◌∙◌, sym, subst, length, IfSome, Some, Option, ℕ, false, arith}
+use Rattle.tl_query.proofs.Turns.{closing_within}
+use Rattle.tl_query.proofs.scanning.quoted_piece.Goals as goal
+
+pub overflow_add-len : goal.overflow_add-len
+overflow_add-len c =
+    let short : c.in-Some.count ≤ length c.args.bytes.now = subst (λ (o : Option ℕ). IfSome o (λ m. m ≤ length c.args.bytes.now)) (sym c.closing.ensures ∙ c.in-Some.is) (closing_within false c.args.bytes.now) in
+    omega arith

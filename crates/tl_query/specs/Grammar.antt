@@ -1,0 +1,101 @@
+-- Which lists of tokens spell a statement.
+use Rattle.std.specs.Prelude.{◌≡◌, ℕ, ◌+◌, ◌≤◌, Bool, true, false, List, [], ◌∷◌, ◌++◌, length, map, flat_map, Option, Some, None}
+use Rattle.std.specs.List.{AllByRecursion}
+use Rattle.tl_types.specs.declared.cells.ColumnKind.TheVariants as kinds
+use Rattle.tl_query.specs.declared.marks.Mark.{Mark}
+use Rattle.tl_query.specs.declared.marks.Mark.TheVariants as marks
+use Rattle.tl_query.specs.declared.tokens.Token.{Token}
+use Rattle.tl_query.specs.declared.tokens.Token.TheVariants.{Fixed, Word, Number}
+use Rattle.tl_query.specs.declared.forms.Name.{Name}
+use Rattle.tl_query.specs.declared.forms.Stamp.{Stamp}
+use Rattle.tl_query.specs.declared.forms.ColumnForm.{ColumnForm}
+use Rattle.tl_query.specs.declared.forms.CreateForm.{CreateForm}
+use Rattle.tl_query.specs.declared.forms.SelectForm.{SelectForm}
+use Rattle.tl_query.specs.declared.forms.Item.{Item}
+use Rattle.tl_query.specs.declared.forms.Item.TheVariants as items
+use Rattle.tl_query.specs.declared.forms.Query.TheVariants as queries
+use Rattle.tl_query.specs.declared.forms.Statement.{Statement}
+use Rattle.tl_query.specs.declared.forms.Statement.TheVariants as statements
+
+-- a column: its name, then INT
+abbrev pub column_parts : ColumnForm → List Token
+column_parts c = Word c.name ∷ Fixed marks.Int ∷ []
+
+-- each column behind a comma
+abbrev pub further_columns : List ColumnForm → List Token
+further_columns cs = flat_map (λ c. Fixed marks.Comma ∷ column_parts c) cs
+
+-- columns, parted by commas
+abbrev pub columns_parts : List ColumnForm → List Token
+columns_parts [] = []
+columns_parts (c ∷ cs) = column_parts c ++ further_columns cs
+
+-- CREATE TABLE name ( columns ) KEY name
+abbrev pub create_parts : CreateForm → List Token
+create_parts f = Fixed marks.Create ∷ Fixed marks.Table ∷ Word f.name ∷ Fixed marks.Open ∷ (columns_parts f.columns ++ (Fixed marks.Close ∷ Fixed marks.Key ∷ Word f.key ∷ []))
+
+-- a column of numbers
+abbrev pub IsNumbers : ColumnForm → Type 0
+IsNumbers c = c.kind ≡ kinds.IntKind
+
+-- a table with 1 to 16 columns of numbers, whose rows have no valid period
+pub record IsCreate (f : CreateForm) : Type 0 where
+  pub some : 1 ≤ length f.columns
+  pub few : length f.columns ≤ 16
+  pub numbers : AllByRecursion IsNumbers f.columns
+  pub plain : f.valid ≡ false
+
+-- PUT name
+abbrev pub put_parts : Name → List Token
+put_parts n = Fixed marks.Put ∷ Word n ∷ []
+
+-- an item: the name of a column
+abbrev pub item_parts : Item → List Token
+item_parts (items.Column n) = Word n ∷ []
+item_parts (items.ValidFrom at) = []
+item_parts (items.ValidTo at) = []
+
+-- an item is a column
+abbrev pub IsColumn : Item → Type 0
+IsColumn (items.Column n) = Unit {0}
+IsColumn (items.ValidFrom at) = ⊥
+IsColumn (items.ValidTo at) = ⊥
+
+-- each item behind a comma
+abbrev pub further_items : List Item → List Token
+further_items xs = flat_map (λ x. Fixed marks.Comma ∷ item_parts x) xs
+
+-- items, parted by commas
+abbrev pub items_parts : List Item → List Token
+items_parts [] = []
+items_parts (x ∷ xs) = item_parts x ++ further_items xs
+
+-- AS OF version, or nothing
+abbrev pub as_of_parts : Option Stamp → List Token
+as_of_parts None = []
+as_of_parts (Some s) = Fixed marks.As ∷ Fixed marks.Of ∷ Number s ∷ []
+
+-- SELECT items FROM name, and a version where there is one
+abbrev pub select_parts : SelectForm → List Token
+select_parts f = Fixed marks.Select ∷ (items_parts f.items ++ (Fixed marks.From ∷ Word f.table ∷ as_of_parts f.as_of))
+
+-- a question for one or more columns, with no test of rows
+pub record IsSelect (f : SelectForm) : Type 0 where
+  pub plain : f.all ≡ false
+  pub some : 1 ≤ length f.items
+  pub columns : AllByRecursion IsColumn f.items
+  pub untested : f.pred ≡ record { any = [] }
+  pub timeless : f.valid_at ≡ None
+
+-- The tokens spell the statement: a CREATE, a PUT or a SELECT.
+abbrev pub IsSpelling : List Token → Statement → Type 0
+IsSpelling ts (statements.Create f) = IsCreate f × (ts ≡ create_parts f)
+IsSpelling ts (statements.Put n) = ts ≡ put_parts n
+IsSpelling ts (statements.Remove n) = ⊥
+IsSpelling ts (statements.Ask (queries.Select f)) = IsSelect f × (ts ≡ select_parts f)
+IsSpelling ts (statements.Ask (queries.Agg f)) = ⊥
+IsSpelling ts (statements.Ask (queries.Join f)) = ⊥
+
+-- The tokens are the front of tokens that spell a statement.
+abbrev pub IsViable : List Token → Type 0
+IsViable ts = (more : List Token) × (s : Statement) × IsSpelling (ts ++ more) s

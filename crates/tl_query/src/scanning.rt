@@ -1,0 +1,320 @@
+//! Cutting a text into tokens.
+ghost use Rattle.std.specs.Prelude.{◌≡◌, ℕ, ◌+◌, ◌-◌, ◌^◌, ◌<◌, ◌≤◌, length, min, IfOk, IfSome, Some, None, Ok, Err, true, false};
+ghost use Rattle.std.specs.List.{prefix_len};
+ghost use Rattle.std.specs.Str.{IsAscii};
+ghost use Rattle.tl_types.specs.Names.{is_digit, continues_word};
+ghost use Rattle.tl_query.specs.Scanning.{is_blank, number_of, keyword_of, word_token, word_piece, number_piece, negative_piece, closing, quoted_piece, symbol, less_piece, greater_piece, symbol_piece, piece_of, placed, seen, scan};
+
+use crate::faults::TextFault;
+use crate::forms::{Name, Stamp};
+use crate::marks::Mark;
+use crate::tokens::{Placed, Token};
+use std::alloc::{AllocError, Global};
+use tl_types::{Text, begins_word, continues_word, is_name};
+
+/// The token at the front of some bytes.
+#[derive(Debug, Drop)]
+pub(crate) struct Piece {
+    /// The token.
+    pub token: Token,
+    /// How many bytes it has.
+    pub len: usize,
+    /// Whether it is a word, a number or a text, of which no two may touch.
+    pub joins: bool,
+}
+
+fn is_blank(byte: u8) -> bool
+    ensures { result ≡ is_blank byte }
+{
+    byte == b' ' || byte == b'\t'
+}
+
+fn is_digit(byte: u8) -> bool
+    ensures { result ≡ is_digit byte }
+{
+    byte >= b'0' && byte <= b'9'
+}
+
+fn word_len(bytes: &[u8]) -> usize
+    ensures { result ≡ prefix_len continues_word bytes.now }
+{
+    bytes.iter().take_while(|byte| continues_word(**byte)).count()
+}
+
+fn digit_count(bytes: &[u8]) -> usize
+    ensures { result ≡ prefix_len is_digit bytes.now }
+{
+    bytes.iter().take_while(|byte| is_digit(**byte)).count()
+}
+
+/// The number that the digits spell, or the greatest u64 where it is greater.
+fn number_of(digits: &[u8]) -> u64
+    ensures { result ≡ min (number_of digits.now) (2 ^ 64 - 1) }
+{
+    let mut number: u64 = 0;
+    for digit in digits {
+        number = number.saturating_mul(10).saturating_add(u64::from(digit.saturating_sub(b'0')));
+    }
+    number
+}
+
+#[tactic(auto, unfolding(crate::specs::Scanning::keyword_of))]
+fn keyword_of(word: &str) -> Option<Mark>
+    ensures { result ≡ keyword_of word.now }
+{
+    if word == "CREATE" {
+        return Some(Mark::Create);
+    }
+    if word == "TABLE" {
+        return Some(Mark::Table);
+    }
+    if word == "KEY" {
+        return Some(Mark::Key);
+    }
+    if word == "INT" {
+        return Some(Mark::Int);
+    }
+    if word == "PUT" {
+        return Some(Mark::Put);
+    }
+    if word == "SELECT" {
+        return Some(Mark::Select);
+    }
+    if word == "FROM" {
+        return Some(Mark::From);
+    }
+    if word == "AS" {
+        return Some(Mark::As);
+    }
+    if word == "OF" {
+        return Some(Mark::Of);
+    }
+    None
+}
+
+#[tactic(auto, unfolding(crate::specs::Scanning::word_token))]
+fn word_token(alloc: Global, at: u32, word: &str) -> Result<Token, AllocError>
+    ensures { IfOk result (λ token. token ≡ word_token at word.now) }
+{
+    if let Some(mark) = keyword_of(word) {
+        return Ok(Token::Fixed(mark));
+    }
+    if !is_name(word) {
+        return Ok(Token::Stray);
+    }
+    let text = Text::new(alloc, word)?;
+    Ok(Token::Word(Name { text, at }))
+}
+
+/// Bytes of ASCII as a text.
+fn as_text(bytes: &[u8]) -> &str
+    requires { IsAscii bytes.now }
+    ensures { result.now ≡ bytes.now }
+{
+    match str::from_utf8(bytes) {
+        Ok(text) => text,
+        Err(_) => unreachable!(),
+    }
+}
+
+#[tactic(auto, unfolding(crate::specs::Scanning::word_piece))]
+fn word_piece(alloc: Global, at: u32, bytes: &[u8]) -> Result<Piece, AllocError>
+    ensures { IfOk result (λ piece. piece ≡ word_piece at bytes.now) }
+{
+    let len = word_len(bytes);
+    let (word, _) = bytes.split_at(len);
+    let token = word_token(alloc, at, as_text(word))?;
+    let joins = true;
+    Ok(Piece { token, len, joins })
+}
+
+#[tactic(auto, unfolding(crate::specs::Scanning::number_piece))]
+fn number_piece(at: u32, bytes: &[u8]) -> Result<Piece, TextFault>
+    ensures { result ≡ number_piece at bytes.now }
+{
+    let len = digit_count(bytes);
+    let (digits, _) = bytes.split_at(len);
+    let number = number_of(digits);
+    if number >= 1 << 63 {
+        return Err(TextFault::NumberTooLarge { at });
+    }
+    let value = number as i64;
+    let token = Token::Number(Stamp { value, at });
+    let joins = true;
+    Ok(Piece { token, len, joins })
+}
+
+#[tactic(auto, unfolding(crate::specs::Scanning::negative_piece))]
+fn negative_piece(at: u32, bytes: &[u8]) -> Result<Piece, TextFault>
+    requires { length bytes.now < 2 ^ 32 }
+    ensures { result ≡ negative_piece at bytes.now }
+{
+    let count = digit_count(bytes);
+    if count == 0 {
+        return Err(TextFault::BadByte { at });
+    }
+    let (digits, _) = bytes.split_at(count);
+    if number_of(digits) > 1 << 63 {
+        return Err(TextFault::NumberTooLarge { at });
+    }
+    let token = Token::Negative;
+    let len = count + 1;
+    let joins = true;
+    Ok(Piece { token, len, joins })
+}
+
+/// How many bytes of a text constant follow its opening quote, with the quote that closes it.
+fn closing(bytes: &[u8]) -> Option<usize>
+    ensures { result ≡ closing false bytes.now }
+{
+    let mut quoted = false;
+    for (i, byte) in bytes.iter().enumerate() {
+        if *byte == b'\'' {
+            quoted = !quoted;
+        } else if quoted {
+            return Some(i);
+        }
+    }
+    if quoted { Some(bytes.len()) } else { None }
+}
+
+#[tactic(auto, unfolding(crate::specs::Scanning::quoted_piece))]
+fn quoted_piece(at: u32, bytes: &[u8]) -> Result<Piece, TextFault>
+    requires { length bytes.now < 2 ^ 32 }
+    ensures { result ≡ quoted_piece at bytes.now }
+{
+    match closing(bytes) {
+        None => Err(TextFault::OpenText { at }),
+        Some(count) => {
+            let token = Token::Quoted;
+            let len = count + 1;
+            let joins = true;
+            Ok(Piece { token, len, joins })
+        }
+    }
+}
+
+fn symbol(mark: Mark, len: usize) -> Piece
+    ensures { result ≡ symbol mark len }
+{
+    let token = Token::Fixed(mark);
+    let joins = false;
+    Piece { token, len, joins }
+}
+
+fn less_piece(bytes: &[u8]) -> Piece
+    ensures { result ≡ less_piece bytes.now }
+{
+    match bytes {
+        [b'>', ..] => symbol(Mark::Unequal, 2),
+        [b'=', ..] => symbol(Mark::AtMost, 2),
+        _ => symbol(Mark::Less, 1),
+    }
+}
+
+fn greater_piece(bytes: &[u8]) -> Piece
+    ensures { result ≡ greater_piece bytes.now }
+{
+    match bytes {
+        [b'=', ..] => symbol(Mark::AtLeast, 2),
+        _ => symbol(Mark::Greater, 1),
+    }
+}
+
+#[tactic(auto, unfolding(crate::specs::Scanning::symbol_piece))]
+fn symbol_piece(at: u32, first: u8, bytes: &[u8]) -> Result<Piece, TextFault>
+    ensures { result ≡ symbol_piece at first bytes.now }
+{
+    match first {
+        b'(' => Ok(symbol(Mark::Open, 1)),
+        b')' => Ok(symbol(Mark::Close, 1)),
+        b',' => Ok(symbol(Mark::Comma, 1)),
+        b';' => Ok(symbol(Mark::Semicolon, 1)),
+        b'*' => Ok(symbol(Mark::Star, 1)),
+        b'=' => Ok(symbol(Mark::Equal, 1)),
+        b'<' => Ok(less_piece(bytes)),
+        b'>' => Ok(greater_piece(bytes)),
+        _ => Err(TextFault::BadByte { at }),
+    }
+}
+
+/// The token at the front of the bytes, at most 65,536, or its fault.
+#[tactic(auto, unfolding(crate::specs::Scanning::piece_at))]
+fn piece_of(alloc: Global, at: u32, bytes: &[u8]) -> Result<Result<Piece, TextFault>, AllocError>
+    requires { length bytes.now < 2 ^ 32 }
+    ensures { IfOk result (λ piece. piece ≡ piece_of at bytes.now) }
+{
+    let [first, behind @ ..] = bytes else {
+        return Ok(Err(TextFault::BadByte { at }));
+    };
+    if begins_word(*first) {
+        let piece = word_piece(alloc, at, bytes)?;
+        return Ok(Ok(piece));
+    }
+    if is_digit(*first) {
+        return Ok(number_piece(at, bytes));
+    }
+    if *first == b'-' {
+        return Ok(negative_piece(at, behind));
+    }
+    if *first == b'\'' {
+        return Ok(quoted_piece(at, behind));
+    }
+    Ok(symbol_piece(at, *first, behind))
+}
+
+fn placed(at: u32, joined: bool, piece: Piece) -> Placed
+    ensures { result ≡ placed at joined piece }
+{
+    let Piece { token, len: _, joins } = piece;
+    if joined && joins {
+        let token = Token::Stray;
+        Placed { token, at }
+    } else {
+        Placed { token, at }
+    }
+}
+
+/// The tokens of a text up to its first fault, and that fault.
+#[derive(Debug, Drop)]
+pub(crate) struct Scanned {
+    /// The tokens in order.
+    pub tokens: Vec<Placed>,
+    /// The fault of what follows them, where there is one.
+    pub fault: Option<TextFault>,
+}
+
+/// The tokens of at most 65,536 bytes. The error is want of memory.
+pub(crate) fn scan(alloc: Global, bytes: &[u8]) -> Result<Scanned, AllocError>
+    requires { length bytes.now ≤ 65536 }
+    ensures { IfOk result (λ read. seen read ≡ scan 0 false 0 bytes.now) }
+{
+    let mut tokens = Vec::new(alloc);
+    let mut rest = bytes;
+    let mut at: u32 = 0;
+    let mut joined = false;
+    'tokens: while !rest.is_empty() {
+        if is_blank(rest[0]) {
+            (_, rest) = rest.split_at(1);
+            at += 1;
+            joined = false;
+            continue;
+        }
+        match piece_of(alloc, at, rest)? {
+            Err(fault) => {
+                let fault = Some(fault);
+                return Ok(Scanned { tokens, fault });
+            }
+            Ok(piece) => {
+                let len = piece.len;
+                let joins = piece.joins;
+                tokens.push(placed(at, joined, piece))?;
+                (_, rest) = rest.split_at(len);
+                at += len as u32;
+                joined = joins;
+            }
+        }
+    }
+    let fault = None;
+    Ok(Scanned { tokens, fault })
+}

@@ -5,3 +5,5 @@ pub mod Places
 pub mod Laws
 pub mod Parts
 pub mod Again
+pub mod Deciding
+pub mod Examples

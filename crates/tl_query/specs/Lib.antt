@@ -3,3 +3,4 @@ pub mod Marks
 pub mod Grammar
 pub mod Reading
 pub mod Scanning
+pub mod Texts

@@ -5,6 +5,7 @@ mod check_faults;
 mod faults;
 mod forms;
 mod marks;
+mod parsing;
 mod plans;
 mod scanning;
 mod statements;
@@ -16,4 +17,5 @@ pub use forms::{
     AggForm, AggKind, ColumnForm, CreateForm, Item, JoinForm, Name, Over, Pred, Query, SelectForm,
     Stamp, Statement, Test, ValidPoint,
 };
+pub use parsing::parse;
 pub use plans::{AggPlan, JoinPlan, Span, Typed, TypedItem, TypedPred, TypedTest};

@@ -1,0 +1,111 @@
+//! The statement that a text spells, or its first fault.
+ghost use Rattle.std.specs.Prelude.{◌≡◌, ◌≤◌, ◌⊎◌, length, IfOk, IfErr, IsErr, MatchResult};
+ghost use Rattle.tl_query.specs.declared.forms.Statement.{Statement};
+ghost use Rattle.tl_query.specs.declared.faults.TextFault.{TextFault};
+ghost use Rattle.tl_query.specs.declared.faults.TextFault.TheVariants as faults;
+ghost use Rattle.tl_query.specs.Texts.{Spells, IsFault, Answers, text_read};
+
+use crate::faults::TextFault;
+use crate::forms::Statement;
+use crate::scanning::{Scanned, scan};
+use crate::statements::{Stop, statement_at};
+use std::alloc::Global;
+
+/// How many bytes a statement's text can have.
+const MOST_BYTES: usize = 65536;
+
+#[tactic(auto, unfolding(crate::specs::Texts::text_read))]
+fn read(alloc: Global, text: &str) -> Result<Statement, TextFault>
+    ensures { Answers result (text_read text.now) }
+{
+    if text.len() > MOST_BYTES {
+        return Err(TextFault::QueryTooLong);
+    }
+    let Ok(Scanned { tokens, fault }) = scan(alloc, text.as_bytes()) else {
+        return Err(TextFault::NoMemory);
+    };
+    match statement_at(alloc, tokens.as_slice()) {
+        Err(Stop::NoMemory) => Err(TextFault::NoMemory),
+        Err(Stop::Token(at)) => Err(TextFault::Unexpected { at }),
+        Err(Stop::End) => match fault {
+            Some(fault) => Err(fault),
+            None => Err(TextFault::Unexpected {
+                at: text.len() as u32,
+            }),
+        },
+        Ok(statement) => match fault {
+            Some(fault) => Err(fault),
+            None => Ok(statement),
+        },
+    }
+}
+
+/// The statement that the text spells, whose offsets count bytes from the text's first. The error is the
+/// text's fault, or want of memory, which leaves nothing behind: `QueryTooLong` for more than 65,536 bytes;
+/// else the fault of least offset: `BadByte` where no token begins, `OpenText` at a text constant that
+/// isn't closed, `NumberTooLarge` at a number that isn't an i64, and `Unexpected` at a token that no
+/// statement has after those before it, or at the text's length where the text ends too early.
+pub fn parse(alloc: Global, text: &str) -> Result<Statement, TextFault>
+    // What is read is spelled.
+    ensures found { IfOk result (λ s. Spells text.now s) }
+    // What is spelled is read, unless memory runs out.
+    ensures only { (s : Statement) → Spells text.now s → MatchResult result (λ t. t ≡ s)
+        (λ e. e ≡ faults.NoMemory) }
+    // An error is the text's fault, or memory ran out.
+    ensures fault { IfErr result (λ e. (e ≡ faults.NoMemory) ⊎ IsFault text.now e) }
+    // A text with a fault has that answer, unless memory runs out.
+    ensures cause { (e : TextFault) → IsFault text.now e → IfErr result
+        (λ found. (found ≡ faults.NoMemory) ⊎ (found ≡ e)) }
+    ensures refused { (e : TextFault) → IsFault text.now e → IsErr result }
+    // What reading the text gives, as a value.
+    ensures exact { Answers result (text_read text.now) }
+{
+    read(alloc, text)
+}
+
+#[cfg(test)]
+mod tests {
+    use super::*;
+    use crate::forms::{Item, Query};
+    use std::test::Fail;
+
+    #[test]
+    fn faults(rt: HostRuntime) -> Result<(), Fail> {
+        let cases = [
+            ("SELECT id FORM emp", TextFault::Unexpected { at: 10 }),
+            ("SELECT $ FROM emp", TextFault::BadByte { at: 7 }),
+            ("SELECT id FROM emp AS OF 9223372036854775808", TextFault::NumberTooLarge { at: 25 }),
+            ("SELECT id FROM emp AS OF -0", TextFault::Unexpected { at: 25 }),
+            ("SELECT id FROM emp AS OF - 1", TextFault::BadByte { at: 25 }),
+            ("SELECT id FROM emp;", TextFault::Unexpected { at: 18 }),
+            ("SELECT id, FROM emp", TextFault::Unexpected { at: 11 }),
+            ("SELECT id FROM emp AS", TextFault::Unexpected { at: 21 }),
+            ("PUT 'b''", TextFault::OpenText { at: 4 }),
+            ("PUT 1a", TextFault::Unexpected { at: 4 }),
+            ("DROP t", TextFault::Unexpected { at: 0 }),
+            ("CREATE TABLE t (k TEXT) KEY k", TextFault::Unexpected { at: 18 }),
+            ("", TextFault::Unexpected { at: 0 }),
+        ];
+        for (text, fault) in cases.iter() {
+            let found = parse(rt.alloc(), text).err();
+            assert_eq!(rt; found, Some(*fault));
+        }
+        Ok(())
+    }
+
+    #[test]
+    fn statements(rt: HostRuntime) -> Result<(), Fail> {
+        let put = parse(rt.alloc(), "PUT t").ok().ok_or("put")?;
+        assert!(rt; matches!(&put, Statement::Put(name) if name.text.as_str() == "t" && name.at == 4));
+        let create = parse(rt.alloc(), "CREATE TABLE t (k INT, x INT) KEY k").ok().ok_or("create")?;
+        assert!(rt; matches!(&create, Statement::Create(form) if form.columns.len() == 2 && form.key.at == 34));
+        let select = parse(rt.alloc(), "SELECT k, x FROM t AS OF 2").ok().ok_or("select")?;
+        let Statement::Ask(Query::Select(form)) = &select else {
+            return Err("select".into());
+        };
+        assert_eq!(rt; form.items.len(), 2);
+        assert_eq!(rt; form.as_of.map(|stamp| stamp.value), Some(2));
+        assert!(rt; form.items.as_slice().iter().all(|item| matches!(item, Item::Column(_))));
+        Ok(())
+    }
+}

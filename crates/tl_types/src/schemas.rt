@@ -108,6 +108,19 @@ impl Schema {
     }
 }
 
+impl Clone for Schema {
+    ghost is_clone = { λ v w. w ≡ v };
+
+    fn clone(&self) -> Result<Self, AllocError> {
+        Ok(Schema {
+            name: self.name.clone()?,
+            columns: self.columns.clone()?,
+            key: self.key,
+            valid: self.valid,
+        })
+    }
+}
+
 fn is_shape(name: &Text, columns: &[Column], key: u8) -> bool
     ensures { result ≡ is_schema (record { name = name.now; columns = columns.now; key = key; valid = true }) }
 {

@@ -1,0 +1,86 @@
+//! One table.
+ghost use Rattle.std.specs.Prelude.{◌≡◌, ◌<◌, ◌^◌, IsTrue, OnOk, OnErr, Some, length};
+ghost use Rattle.tl_types.specs.History.{fits_table, changed, new_table, has_name};
+ghost use Rattle.tl_types.specs.Limits.{standard_limits};
+ghost use Rattle.tl_types.specs.Plain as plain;
+
+use crate::fitting;
+use crate::rows::{self, Row};
+use std::alloc::Global;
+use std::marker::Model;
+use tl_types::{Change, Limits, NoMemory, Schema};
+
+/// A table: its schema, the version before which its past is forgotten, and its rows, each at the place that
+/// is its id. It has fewer than 2^32 rows.
+#[derive(Debug, Drop)]
+pub(crate) struct Table {
+    schema: Schema,
+    floor: u32,
+    rows: Vec<Row>,
+}
+
+impl Model for Table {
+    ghost use Rattle.std.specs.Prelude.{◌<◌, ◌^◌, length};
+    ghost use Rattle.tl_types.specs.Plain as plain;
+
+    ghost Value = { plain.Table };
+
+    ghost view = { λ t. record { schema = t.schema; floor = t.floor; rows = t.rows.items } };
+
+    ghost invariant = { λ t. length t.rows.items < 2 ^ 32 };
+}
+
+impl Table {
+    /// A table without rows. It takes no memory.
+    pub fn new(alloc: Global, schema: Schema) -> Table
+        ensures { result ≡ new_table schema }
+    {
+        Table {
+            schema,
+            floor: 0,
+            rows: Vec::new(alloc),
+        }
+    }
+
+    /// The schema.
+    pub fn schema(&self) -> &Schema
+        ensures { result.now ≡ self.now.schema }
+    {
+        &self.schema
+    }
+
+    /// The rows, in order of id.
+    pub fn rows(&self) -> &[Row]
+        ensures value { result.now ≡ self.now.rows }
+        ensures few { length self.now.rows < 2 ^ 32 }
+    {
+        self.rows.as_slice()
+    }
+
+    /// Whether the table has the name.
+    pub fn has_name(&self, name: &str) -> bool
+        ensures { result ≡ has_name name.now self.now }
+    {
+        self.schema.name().as_str() == name
+    }
+
+    /// Whether a change fits the table: it closes open rows only, opens rows that match the schema, and leaves
+    /// few enough rows.
+    pub fn fits(&self, change: &Change, limits: &Limits) -> bool
+        ensures { result ≡ fits_table limits.now change.now (Some self.now) }
+    {
+        fitting::all_open(self.rows.as_slice(), change.closes())
+            && fitting::all_match(&self.schema, change.opens())
+            && self.rows.len() as u64 + change.opens().len() as u64 <= limits.rows
+    }
+
+    /// Applies the change of a version. The error is want of memory, and leaves the table as it was.
+    pub fn change(&mut self, alloc: Global, version: u32, change: &Change) -> Result<(), NoMemory>
+        requires { IsTrue (fits_table standard_limits change.now (Some self.old)) }
+        ensures ok { OnOk result (self.new ≡ changed version change.now self.old) }
+        ensures err { OnErr result (self.new ≡ self.old) }
+    {
+        rows::change_all(alloc, version, change, &mut self.rows)?;
+        Ok(())
+    }
+}

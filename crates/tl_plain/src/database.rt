@@ -1,0 +1,161 @@
+//! All tables.
+ghost use Rattle.std.specs.Prelude.{◌≡◌, ◌<◌, ◌≤◌, ◌^◌, IsTrue, IfSome, OnOk, OnErr, Some, length, option_map, slice_get};
+ghost use Rattle.std.specs.List.{list_any, position_from};
+ghost use Rattle.tl_types.specs.History.{fits, fits_body, after_commit, after_body, nothing, has_name, rows_of};
+ghost use Rattle.tl_types.specs.Resolving.{find_table};
+ghost use Rattle.tl_types.specs.Limits.{standard_limits};
+ghost use Rattle.tl_types.specs.Plain as plain;
+
+use crate::contents::Table;
+use crate::rows::Row;
+use std::alloc::Global;
+use std::marker::Model;
+use tl_types::{Body, Commit, Limits, NoMemory, Schema};
+
+/// The number of commits so far, and the tables after them, of which there are at most 64.
+#[derive(Debug, Drop)]
+pub struct Tables {
+    version: u32,
+    tables: Vec<Table>,
+}
+
+impl Model for Tables {
+    ghost use Rattle.std.specs.Prelude.{◌≤◌, length};
+    ghost use Rattle.tl_types.specs.Plain as plain;
+
+    ghost Value = { plain.Database };
+
+    ghost view = { λ d. record { version = d.version; tables = d.tables.items } };
+
+    ghost invariant = { λ d. length d.tables.items ≤ 64 };
+}
+
+impl Tables {
+    /// No table and no commit. It takes no memory.
+    pub fn empty(alloc: Global) -> Tables
+        ensures { result ≡ nothing }
+    {
+        Tables {
+            version: 0,
+            tables: Vec::new(alloc),
+        }
+    }
+
+    /// The number of commits so far.
+    pub fn version(&self) -> u32
+        ensures { result ≡ self.now.version }
+    {
+        self.version
+    }
+
+    /// The number of tables.
+    pub fn tables(&self) -> u16
+        ensures number { result ≡ length self.now.tables }
+        ensures few { result ≤ 64 }
+    {
+        self.tables.len() as u16
+    }
+
+    /// The number of the table with a name, from 0. `None` exactly where no table has the name.
+    #[tactic(auto, using(crate::proofs::Places::numbers))]
+    pub fn find(&self, name: &str) -> Option<u16>
+        ensures { result ≡ option_map (λ found. found.0) (find_table name.now self.now.tables) }
+    {
+        match place_of(self.tables.as_slice(), name) {
+            Some(number) => Some(number as u16),
+            None => None,
+        }
+    }
+
+    /// The schema of the table with a number.
+    pub fn schema(&self, table: u16) -> &Schema
+        requires { table < length self.now.tables }
+        ensures { Some result.now ≡ option_map (λ t. t.schema) (slice_get self.now.tables table) }
+    {
+        self.tables[table as usize].schema()
+    }
+
+    /// The rows of the table with a number, in order of id, ended ones included. There are fewer than 2^32.
+    pub fn rows(&self, table: u16) -> &[Row]
+        requires { table < length self.now.tables }
+        ensures value { result.now ≡ rows_of self.now table }
+        ensures few { length result.now < 2 ^ 32 }
+    {
+        self.tables[table as usize].rows()
+    }
+
+    /// Whether a commit fits: fewer commits than the limits allow are there; a new table has a new name, and
+    /// there is room for it; a change names a table, closes open rows only, opens rows that match the schema,
+    /// and leaves few enough rows.
+    pub fn fits(&self, commit: &Commit, limits: &Limits) -> bool
+        ensures { result ≡ fits limits.now self.now commit.now }
+    {
+        (self.version as u64) < limits.versions
+            && fits_body(self.tables.as_slice(), &commit.body, limits)
+    }
+
+    /// Applies a commit that fits, which takes as many turns as it closes and opens rows. The error is want of
+    /// memory, and leaves the tables as they were.
+    pub fn apply(&mut self, alloc: Global, commit: &Commit) -> Result<(), NoMemory>
+        requires { IsTrue (fits standard_limits self.old commit.now) }
+        ensures ok { OnOk result (self.new ≡ after_commit self.old commit.now) }
+        ensures err { OnErr result (self.new ≡ self.old) }
+    {
+        let version = self.version + 1;
+        apply_body(alloc, version, &commit.body, &mut self.tables)?;
+        self.version = version;
+        Ok(())
+    }
+}
+
+fn place_of(tables: &[Table], name: &str) -> Option<usize>
+    ensures first { result ≡ position_from (has_name name.now) 0 tables.now }
+    ensures within { IfSome result (λ number. number < length tables.now) }
+{
+    tables.iter().position(|table| table.has_name(name))
+}
+
+fn is_named(tables: &[Table], name: &str) -> bool
+    ensures { result ≡ list_any (has_name name.now) tables.now }
+{
+    tables.iter().any(|table| table.has_name(name))
+}
+
+fn fits_body(tables: &[Table], body: &Body, limits: &Limits) -> bool
+    requires { length tables.now ≤ 64 }
+    ensures { result ≡ fits_body limits.now tables.now body.now }
+{
+    match body {
+        Body::Create(schema) => {
+            !is_named(tables, schema.name().as_str()) && (tables.len() as u64) < limits.tables
+        }
+        Body::Change(change) => match tables.get(change.table() as usize) {
+            Some(table) => table.fits(change, limits),
+            None => false,
+        },
+    }
+}
+
+fn apply_body(
+    alloc: Global,
+    version: u32,
+    body: &Body,
+    tables: &mut Vec<Table>,
+) -> Result<(), NoMemory>
+    requires { IsTrue (fits_body standard_limits tables.old.items body.now) }
+    ensures ok { OnOk result (tables.new.items ≡ after_body version body.now tables.old.items) }
+    ensures err { OnErr result (tables.new.items ≡ tables.old.items) }
+    ensures few { length tables.old.items ≤ 64 → length tables.new.items ≤ 64 }
+{
+    match body {
+        Body::Create(schema) => {
+            tables.push(Table::new(alloc, schema.clone()?))?;
+            Ok(())
+        }
+        Body::Change(change) => {
+            let table = &mut tables[change.table() as usize];
+            table.change(alloc, version, change)?;
+            Ok(())
+        }
+    }
+}

@@ -1,2 +1,4 @@
 pub mod Ending
 pub mod Places
+pub mod Selecting
+pub mod Worked

@@ -1,7 +1,7 @@
 -- A table at its place among the others.
-use Rattle.std.proofs.Common.{◌≡◌, ℕ, zero, suc, ◌+◌, ◌<◌, ◌≤◌, ◌^◌, Bool, true, false, cond, List, [], ◌∷◌, ◌++◌, length, map, length-append, get_or, set, All, ◌&&◌, Some, option_map, refl, sym, ap, arith, slice_get}
-use Rattle.std.specs.List.{position_from}
-use Rattle.tl_types.specs.History.{at_place, is_open_at, is_open, has_name, fits_table, ended, begun, numbered}
+use Rattle.std.proofs.Common.{◌≡◌, ℕ, zero, suc, ◌+◌, ◌<◌, ◌≤◌, ◌^◌, Bool, true, false, cond, leb, List, [], ◌∷◌, ◌++◌, length, map, length-append, get_or, set, All, ◌&&◌, Some, option_map, refl, sym, ap, arith, slice_get}
+use Rattle.std.specs.List.{position_from, list_all}
+use Rattle.tl_types.specs.History.{at_place, matches, is_open_at, is_open, has_name, fits_table, ended, begun, numbered}
 use Rattle.tl_types.specs.Limits.{standard_limits}
 use Rattle.std.proofs.lemmas.List.{length-map}
 use Rattle.std.proofs.lemmas.List.FromFn.{length-enumerate_from}
@@ -52,7 +52,7 @@ closes_within limits change table rows h e = rw e (open_ids_within table.rows ch
 
 pub few_after : (version : ℕ) (change : plain.Change) (table : plain.Table) (rows : List plain.Row) → fits_table standard_limits change (Some table) ≡ true → rows ≡ map (ended version change.closes) (numbered table.rows) ++ map (begun version) change.opens → length rows < 2 ^ 32
 few_after version change table rows h e =
-    let few : length table.rows + length change.opens ≤ 16777216 = leb-true (length table.rows + length change.opens) 16777216 (and_right _ _ h) in
+    let few : length table.rows + length change.opens ≤ 16777216 = leb-true (length table.rows + length change.opens) 16777216 (and_right (list_all (is_open_at table.rows) change.closes && list_all (matches table.schema) change.opens) (leb (length table.rows + length change.opens) 16777216) h) in
     let ended_rows = length-map (numbered table.rows) (ended version change.closes) in
     let same = length-enumerate_from 0 table.rows in
     let begun_rows = length-map change.opens (begun version) in

@@ -75,13 +75,16 @@ impl Tables {
         self.tables[table as usize].schema()
     }
 
-    /// The rows of the table with a number, in order of id, ended ones included. There are fewer than 2^32.
+    /// The rows of the table with a number, in order of id, ended ones included; none where there is no such
+    /// table. There are fewer than 2^32.
     pub fn rows(&self, table: u16) -> &[Row]
-        requires { table < length self.now.tables }
         ensures value { result.now ≡ rows_of self.now table }
         ensures few { length result.now < 2 ^ 32 }
     {
-        self.tables[table as usize].rows()
+        match self.tables.get(table as usize) {
+            Some(table) => table.rows(),
+            None => &[],
+        }
     }
 
     /// Whether a commit fits: fewer commits than the limits allow are there; a new table has a new name, and

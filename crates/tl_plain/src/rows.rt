@@ -1,6 +1,6 @@
 //! Rows.
 ghost use Rattle.std.specs.Prelude.{◌≡◌, ◌<◌, ◌++◌, IfOk, OnOk, OnErr, length, map, All};
-ghost use Rattle.tl_types.specs.History.{begun, ended, numbered, is_open};
+ghost use Rattle.tl_types.specs.History.{begun, ended, numbered, is_open, is_visible};
 ghost use Rattle.tl_types.specs.Plain as plain;
 
 use std::alloc::Global;
@@ -63,6 +63,13 @@ impl Row {
         ensures { result ≡ is_open self.now }
     {
         self.to == OPEN
+    }
+
+    /// Whether the row stands at a version.
+    pub fn is_visible(&self, version: u32) -> bool
+        ensures { result ≡ is_visible version self.now }
+    {
+        self.from <= version && version < self.to
     }
 
     /// Ends the row at a version.

@@ -1,6 +1,7 @@
+pub mod Answers
 pub mod Checking
-pub mod Marks
 pub mod Grammar
+pub mod Marks
 pub mod Reading
 pub mod Scanning
 pub mod Texts

@@ -1,0 +1,208 @@
+//! A worked history: a table of employees, two rows, of which one is changed, and the other removed and put again.
+ghost use Rattle.std.specs.Prelude.{◌≤◌, ◌<◌, ◌^◌, IfOk, IsTrue, length};
+ghost use Rattle.tl_query.specs.Answers.{is_bare};
+
+use crate::{Tables, answer_plain};
+use std::alloc::Global;
+use std::test::Fail;
+use tl_query::{Typed, TypedItem, TypedPred};
+use tl_types::{
+    Body, Cell, Change, Column, ColumnKind, Commit, Field, Limits, NoMemory, Opened, Schema, Seq,
+    Text,
+};
+
+fn column(alloc: Global, name: &str, kind: ColumnKind) -> Result<Column, NoMemory>
+    requires { length name.now ≤ 65535 }
+{
+    Ok(Column {
+        name: Text::new(alloc, name)?,
+        kind,
+    })
+}
+
+fn create(alloc: Global) -> Result<Option<Commit>, NoMemory> {
+    let mut columns = Vec::new(alloc);
+    columns.push(column(alloc, "id", ColumnKind::IntKind)?)?;
+    columns.push(column(alloc, "dept", ColumnKind::TextKind)?)?;
+    columns.push(column(alloc, "pay", ColumnKind::IntKind)?)?;
+    let schema = Schema::new(Text::new(alloc, "emp")?, Seq::from_vec(columns), 0, false);
+    Ok(schema.map(|schema| Commit {
+        author: 0,
+        body: Body::Create(schema),
+    }))
+}
+
+fn opened(alloc: Global, id: i64, dept: &str, pay: i64) -> Result<Opened, NoMemory>
+    requires { length dept.now ≤ 65535 }
+{
+    let mut cells = Vec::new(alloc);
+    cells.push(Cell::Int(id))?;
+    cells.push(Cell::Text(Text::new(alloc, dept)?))?;
+    cells.push(Cell::Int(pay))?;
+    Ok(Opened::new(Seq::from_vec(cells), None))
+}
+
+fn change(alloc: Global, closed: Option<u32>, opens: Vec<Opened>) -> Result<Commit, NoMemory>
+    requires { length opens.items < 2 ^ 32 }
+{
+    let mut closes = Vec::new(alloc);
+    if let Some(id) = closed {
+        closes.push(id)?;
+    }
+    Ok(Commit {
+        author: 0,
+        body: Body::Change(Change::new(0, Seq::from_vec(closes), Seq::from_vec(opens))),
+    })
+}
+
+/// Applies a commit if it fits, and tells whether it does.
+fn applied(alloc: Global, tables: &mut Tables, commit: &Commit) -> Result<bool, NoMemory> {
+    let fits = tables.fits(commit, &Limits::standard());
+    if fits {
+        tables.apply(alloc, commit)?;
+    }
+    Ok(fits)
+}
+
+/// The worked history, applied; and whether each commit fits.
+fn worked(alloc: Global) -> Result<(Tables, bool), NoMemory> {
+    let mut tables = Tables::empty(alloc);
+    let mut fit = match create(alloc)? {
+        Some(commit) => applied(alloc, &mut tables, &commit)?,
+        None => false,
+    };
+    let mut two = Vec::new(alloc);
+    two.push(opened(alloc, 1, "ops", 100)?)?;
+    two.push(opened(alloc, 2, "dev", 50)?)?;
+    fit = applied(alloc, &mut tables, &change(alloc, None, two)?)? && fit;
+    let mut one = Vec::new(alloc);
+    one.push(opened(alloc, 1, "ops", 150)?)?;
+    fit = applied(alloc, &mut tables, &change(alloc, Some(0), one)?)? && fit;
+    let none = Vec::new(alloc);
+    fit = applied(alloc, &mut tables, &change(alloc, Some(1), none)?)? && fit;
+    let mut again = Vec::new(alloc);
+    again.push(opened(alloc, 2, "dev", 50)?)?;
+    fit = applied(alloc, &mut tables, &change(alloc, None, again)?)? && fit;
+    Ok((tables, fit))
+}
+
+fn shown_field(alloc: Global, field: &Field) -> Result<String, NoMemory> {
+    match field {
+        Field::Number(number) => format!(in alloc; "{number}"),
+        Field::Text(text) => String::from_str(alloc, text.as_str()),
+        Field::Ratio { sum, count } => format!(in alloc; "{sum}/{count}"),
+        Field::Empty => Ok(String::new(alloc)),
+        Field::Forever => String::from_str(alloc, "FOREVER"),
+    }
+}
+
+fn shown_row(alloc: Global, row: &[Field]) -> Result<String, NoMemory> {
+    let mut shown = String::new(alloc);
+    for field in row {
+        shown.push_str(shown_field(alloc, field)?.as_str())?;
+        shown.push(',')?;
+    }
+    Ok(shown)
+}
+
+fn select(alloc: Global, version: u32, places: &[u8]) -> Result<Typed, NoMemory>
+    ensures { IfOk result (λ query. IsTrue (is_bare query)) }
+{
+    let mut items = Vec::new(alloc);
+    for place in places {
+        items.push(TypedItem::Column(*place))?;
+    }
+    Ok(Typed::Select {
+        table: 0,
+        items: Seq::from_vec(items),
+        pred: TypedPred {
+            any: Seq::new(alloc),
+        },
+        valid_at: None,
+        version,
+    })
+}
+
+/// The answer at a version to a question for these columns, each field with a comma behind it, each row with a bar.
+fn answered(
+    alloc: Global,
+    tables: &Tables,
+    version: u32,
+    places: &[u8],
+) -> Result<String, NoMemory> {
+    let query = select(alloc, version, places)?;
+    let answer = answer_plain(alloc, tables, &query)?;
+    let mut shown = String::new(alloc);
+    for row in answer.rows.as_slice() {
+        shown.push_str(shown_row(alloc, row.as_slice())?.as_str())?;
+        shown.push('|')?;
+    }
+    Ok(shown)
+}
+
+#[test]
+fn the_worked_history(rt: HostRuntime) -> Result<(), Fail> {
+    let alloc = rt.alloc();
+    let (tables, fit) = worked(alloc)?;
+    assert!(rt; fit);
+    assert_eq!(rt; tables.version(), 5);
+    assert_eq!(rt; tables.tables(), 1);
+    assert_eq!(rt; tables.find("emp"), Some(0));
+    assert_eq!(rt; tables.find("emps"), None);
+    assert_eq!(rt; tables.schema(0).name().as_str(), "emp");
+    assert_eq!(rt; tables.rows(1).len(), 0);
+    let answers = [
+        (0, ""),
+        (1, ""),
+        (2, "1,100,|2,50,|"),
+        (3, "2,50,|1,150,|"),
+        (4, "1,150,|"),
+        (5, "1,150,|2,50,|"),
+    ];
+    for (version, answer) in answers {
+        let shown = answered(alloc, &tables, version, &[0, 2])?;
+        assert_eq!(rt; shown.as_str(), answer);
+    }
+    let departments = answered(alloc, &tables, 2, &[1, 0])?;
+    assert_eq!(rt; departments.as_str(), "ops,1,|dev,2,|");
+    Ok(())
+}
+
+#[test]
+fn the_rows_of_the_worked_history(rt: HostRuntime) -> Result<(), Fail> {
+    let alloc = rt.alloc();
+    let (tables, _) = worked(alloc)?;
+    let mut shown = String::new(alloc);
+    for row in tables.rows(0) {
+        let (from, to) = (row.from(), row.to());
+        let (open, at_three) = (row.is_open(), row.is_visible(3));
+        let cells = row.cells().len();
+        let valid = row.period().is_some();
+        let line = format!(in alloc; "{from} {to} {open} {at_three} {cells} {valid}|")?;
+        shown.push_str(line.as_str())?;
+    }
+    let expected =
+        "2 3 false false 3 false|2 4 false true 3 false|3 4294967295 true true 3 false|5 4294967295 true false 3 false|";
+    assert_eq!(rt; shown.as_str(), expected);
+    Ok(())
+}
+
+#[test]
+fn what_does_not_fit(rt: HostRuntime) -> Result<(), Fail> {
+    let alloc = rt.alloc();
+    let (mut tables, _) = worked(alloc)?;
+    let closed = change(alloc, Some(0), Vec::new(alloc))?;
+    assert!(rt;
+        !applied(alloc, &mut tables, &closed)?,
+        "a row that has ended"
+    );
+    let unknown = change(alloc, Some(4), Vec::new(alloc))?;
+    assert!(rt;
+        !applied(alloc, &mut tables, &unknown)?,
+        "a row that is not there"
+    );
+    let current = change(alloc, Some(2), Vec::new(alloc))?;
+    assert!(rt; applied(alloc, &mut tables, &current)?, "a current row");
+    assert_eq!(rt; tables.version(), 6);
+    Ok(())
+}

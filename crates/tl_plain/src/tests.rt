@@ -2,7 +2,7 @@
 ghost use Rattle.std.specs.Prelude.{◌≤◌, ◌<◌, ◌^◌, IfOk, IsTrue, length};
 ghost use Rattle.tl_query.specs.Answers.{is_bare};
 
-use crate::{Tables, answer_plain};
+use crate::{Row, Tables, answer_plain};
 use std::alloc::Global;
 use std::test::Fail;
 use tl_query::{Typed, TypedItem, TypedPred};
@@ -64,26 +64,40 @@ fn applied(alloc: Global, tables: &mut Tables, commit: &Commit) -> Result<bool, 
     Ok(fits)
 }
 
-/// The worked history, applied; and whether each commit fits.
-fn worked(alloc: Global) -> Result<(Tables, bool), NoMemory> {
+fn put(alloc: Global, closed: Option<u32>, row: Opened) -> Result<Commit, NoMemory> {
+    let mut opens = Vec::new(alloc);
+    opens.push(row)?;
+    change(alloc, closed, opens)
+}
+
+fn second(alloc: Global) -> Result<Commit, NoMemory> {
+    let mut opens = Vec::new(alloc);
+    opens.push(opened(alloc, 1, "ops", 100)?)?;
+    opens.push(opened(alloc, 2, "dev", 50)?)?;
+    change(alloc, None, opens)
+}
+
+/// The commits of the worked history, behind the one that makes the table.
+fn changes(alloc: Global) -> Result<Vec<Commit>, NoMemory> {
+    let mut commits = Vec::new(alloc);
+    commits.push(second(alloc)?)?;
+    commits.push(put(alloc, Some(0), opened(alloc, 1, "ops", 150)?)?)?;
+    commits.push(change(alloc, Some(1), Vec::new(alloc))?)?;
+    commits.push(put(alloc, None, opened(alloc, 2, "dev", 50)?)?)?;
+    Ok(commits)
+}
+
+/// The tables after the worked history, as far as its commits fit.
+fn worked(alloc: Global) -> Result<Tables, NoMemory> {
     let mut tables = Tables::empty(alloc);
-    let mut fit = match create(alloc)? {
-        Some(commit) => applied(alloc, &mut tables, &commit)?,
-        None => false,
-    };
-    let mut two = Vec::new(alloc);
-    two.push(opened(alloc, 1, "ops", 100)?)?;
-    two.push(opened(alloc, 2, "dev", 50)?)?;
-    fit = applied(alloc, &mut tables, &change(alloc, None, two)?)? && fit;
-    let mut one = Vec::new(alloc);
-    one.push(opened(alloc, 1, "ops", 150)?)?;
-    fit = applied(alloc, &mut tables, &change(alloc, Some(0), one)?)? && fit;
-    let none = Vec::new(alloc);
-    fit = applied(alloc, &mut tables, &change(alloc, Some(1), none)?)? && fit;
-    let mut again = Vec::new(alloc);
-    again.push(opened(alloc, 2, "dev", 50)?)?;
-    fit = applied(alloc, &mut tables, &change(alloc, None, again)?)? && fit;
-    Ok((tables, fit))
+    if let Some(commit) = create(alloc)? {
+        let _ = applied(alloc, &mut tables, &commit)?;
+    }
+    let commits = changes(alloc)?;
+    for commit in &commits {
+        let _ = applied(alloc, &mut tables, commit)?;
+    }
+    Ok(tables)
 }
 
 fn shown_field(alloc: Global, field: &Field) -> Result<String, NoMemory> {
@@ -140,46 +154,60 @@ fn answered(
     Ok(shown)
 }
 
-#[test]
-fn the_worked_history(rt: HostRuntime) -> Result<(), Fail> {
-    let alloc = rt.alloc();
-    let (tables, fit) = worked(alloc)?;
-    assert!(rt; fit);
-    assert_eq!(rt; tables.version(), 5);
-    assert_eq!(rt; tables.tables(), 1);
-    assert_eq!(rt; tables.find("emp"), Some(0));
-    assert_eq!(rt; tables.find("emps"), None);
-    assert_eq!(rt; tables.schema(0).name().as_str(), "emp");
-    assert_eq!(rt; tables.rows(1).len(), 0);
-    let answers = [
-        (0, ""),
-        (1, ""),
-        (2, "1,100,|2,50,|"),
-        (3, "2,50,|1,150,|"),
-        (4, "1,150,|"),
-        (5, "1,150,|2,50,|"),
-    ];
-    for (version, answer) in answers {
-        let shown = answered(alloc, &tables, version, &[0, 2])?;
-        assert_eq!(rt; shown.as_str(), answer);
+/// Whether the answers at the versions from 0 on are these.
+fn answers_are(alloc: Global, tables: &Tables, expected: &[&str]) -> Result<bool, NoMemory> {
+    let mut same = true;
+    for (version, answer) in expected.iter().enumerate() {
+        let shown = answered(alloc, tables, (version % 8) as u32, &[0, 2])?;
+        same = same && shown.as_str() == *answer;
     }
+    Ok(same)
+}
+
+#[test]
+fn answers(rt: HostRuntime) -> Result<(), Fail> {
+    let alloc = rt.alloc();
+    let tables = worked(alloc)?;
+    let expected = [
+        "",
+        "",
+        "1,100,|2,50,|",
+        "2,50,|1,150,|",
+        "1,150,|",
+        "1,150,|2,50,|",
+    ];
+    assert!(rt; answers_are(alloc, &tables, &expected)?);
     let departments = answered(alloc, &tables, 2, &[1, 0])?;
     assert_eq!(rt; departments.as_str(), "ops,1,|dev,2,|");
     Ok(())
 }
 
 #[test]
-fn the_rows_of_the_worked_history(rt: HostRuntime) -> Result<(), Fail> {
+fn names(rt: HostRuntime) -> Result<(), Fail> {
+    let tables = worked(rt.alloc())?;
+    assert_eq!(rt; (tables.version(), tables.tables()), (5, 1));
+    assert_eq!(rt; tables.find("emp"), Some(0));
+    assert_eq!(rt; tables.find("emps"), None);
+    assert_eq!(rt; tables.schema(0).name().as_str(), "emp");
+    assert_eq!(rt; tables.rows(1).len(), 0);
+    Ok(())
+}
+
+fn shown_life(alloc: Global, row: &Row) -> Result<String, NoMemory> {
+    let (from, to) = (row.from(), row.to());
+    let (open, at_three) = (row.is_open(), row.is_visible(3));
+    let cells = row.cells().len();
+    let valid = row.period().is_some();
+    format!(in alloc; "{from} {to} {open} {at_three} {cells} {valid}|")
+}
+
+#[test]
+fn lives(rt: HostRuntime) -> Result<(), Fail> {
     let alloc = rt.alloc();
-    let (tables, _) = worked(alloc)?;
+    let tables = worked(alloc)?;
     let mut shown = String::new(alloc);
     for row in tables.rows(0) {
-        let (from, to) = (row.from(), row.to());
-        let (open, at_three) = (row.is_open(), row.is_visible(3));
-        let cells = row.cells().len();
-        let valid = row.period().is_some();
-        let line = format!(in alloc; "{from} {to} {open} {at_three} {cells} {valid}|")?;
-        shown.push_str(line.as_str())?;
+        shown.push_str(shown_life(alloc, row)?.as_str())?;
     }
     let expected =
         "2 3 false false 3 false|2 4 false true 3 false|3 4294967295 true true 3 false|5 4294967295 true false 3 false|";
@@ -187,22 +215,20 @@ fn the_rows_of_the_worked_history(rt: HostRuntime) -> Result<(), Fail> {
     Ok(())
 }
 
+/// Whether the change that closes one row alone fits the worked history.
+fn closes(alloc: Global, id: u32) -> Result<bool, NoMemory> {
+    let mut tables = worked(alloc)?;
+    applied(
+        alloc,
+        &mut tables,
+        &change(alloc, Some(id), Vec::new(alloc))?,
+    )
+}
+
 #[test]
-fn what_does_not_fit(rt: HostRuntime) -> Result<(), Fail> {
-    let alloc = rt.alloc();
-    let (mut tables, _) = worked(alloc)?;
-    let closed = change(alloc, Some(0), Vec::new(alloc))?;
-    assert!(rt;
-        !applied(alloc, &mut tables, &closed)?,
-        "a row that has ended"
-    );
-    let unknown = change(alloc, Some(4), Vec::new(alloc))?;
-    assert!(rt;
-        !applied(alloc, &mut tables, &unknown)?,
-        "a row that is not there"
-    );
-    let current = change(alloc, Some(2), Vec::new(alloc))?;
-    assert!(rt; applied(alloc, &mut tables, &current)?, "a current row");
-    assert_eq!(rt; tables.version(), 6);
+fn closed_rows(rt: HostRuntime) -> Result<(), Fail> {
+    assert!(rt; !closes(rt.alloc(), 0)?, "a row that has ended");
+    assert!(rt; closes(rt.alloc(), 2)?, "a current row");
+    assert!(rt; !closes(rt.alloc(), 4)?, "a row that is not there");
     Ok(())
 }

@@ -28,7 +28,7 @@ use Rattle.tl_query.proofs.Readers.{items_comma, items_end, item_first}
 pub after_again : (m : Mark) (ts : List Placed) (w : List Token) → words_of ts ≡ Fixed m ∷ w → (rest : List Placed) × (words_of rest ≡ w) × (after m ts ≡ Some rest)
 unfolding after
 after_again m [] w e = absurd (cc)
-after_again m (p ∷ ts) w e = 
+after_again m (p ∷ ts) w e =
     let h : p.token ≡ Fixed m = cc in
     let k : words_of ts ≡ w = cc in
     (ts, k, ap (λ t. cond (is_fixed m t) (Some ts) None) h ∙ ap (λ b. cond b (Some ts) None) (eq-eqb (place m) (place m) refl))
@@ -99,9 +99,12 @@ further_columns_again (c ∷ cs) zero few all ts w stop e = absurd (omega arith)
 further_columns_again (c ∷ cs) (suc room) few all ts w stop e =
     let a = after_again marks.Comma ts (column_parts c ++ (further_columns cs ++ w)) e in
     let x = column_again c all.0 a.0 (further_columns cs ++ w) a.1 in
-    let y = further_columns_again cs room (omega arith) all.1 x.0 w stop x.1 in
-    (y.0, y.1, ap (λ o. where_some o (Ok ([], ts)) (λ rest. column_at rest >>= λ c. in_front c.0 (further_columns_at room c.1))) a.2
-        ∙ then_again (column_at a.0) (c, x.0) (λ c. in_front c.0 (further_columns_at room c.1)) _ x.2 (ap (in_front c) y.2))
+    let y = further_columns_again cs room (omega arith) all.1 x.0 w stop x.1 in (
+      y.0,
+      y.1,
+      ap (λ o. where_some o (Ok ([], ts)) (λ rest. column_at rest >>= λ c. in_front c.0 (further_columns_at room c.1))) a.2
+          ∙ then_again (column_at a.0) (c, x.0) (λ c. in_front c.0 (further_columns_at room c.1)) _ x.2 (ap (in_front c) y.2),
+    )
 
 pub columns_again : (cs : List ColumnForm) → 1 ≤ length cs → length cs ≤ 16 → AllByRecursion IsNumbers cs → (ts : List Placed) (w : List Token) → NoComma w → words_of ts ≡ columns_parts cs ++ w → (rest : List Placed) × (words_of rest ≡ w) × (columns_at ts ≡ Ok (cs, rest))
 unfolding columns_at
@@ -136,9 +139,12 @@ as_of_again None ts e = (ts, e, ap (λ o. where_some o (Ok (None, ts)) (λ rest.
 as_of_again (Some s) ts e =
     let a = after_again marks.As ts (Fixed marks.Of ∷ Number s ∷ []) e in
     let o = expect_again marks.Of a.0 (Number s ∷ []) a.1 in
-    let v = version_again s o.0 [] o.1 in
-    (v.0, v.1, ap (λ o. where_some o (Ok (None, ts)) (λ rest. expect marks.Of rest >>= λ next. version_at next >>= λ s. Ok (Some s.0, s.1))) a.2
-        ∙ then_again (expect marks.Of a.0) o.0 (λ next. version_at next >>= λ s. Ok (Some s.0, s.1)) _ o.2 (then_again (version_at o.0) (s, v.0) (λ s. Ok (Some s.0, s.1)) _ v.2 refl))
+    let v = version_again s o.0 [] o.1 in (
+      v.0,
+      v.1,
+      ap (λ o. where_some o (Ok (None, ts)) (λ rest. expect marks.Of rest >>= λ next. version_at next >>= λ s. Ok (Some s.0, s.1))) a.2
+          ∙ then_again (expect marks.Of a.0) o.0 (λ next. version_at next >>= λ s. Ok (Some s.0, s.1)) _ o.2 (then_again (version_at o.0) (s, v.0) (λ s. Ok (Some s.0, s.1)) _ v.2 refl),
+    )
 
 put_again : (n : Name) (ts : List Placed) → words_of ts ≡ Word n ∷ [] → put_at ts ≡ Ok (statements.Put n)
 unfolding put_at
@@ -158,9 +164,9 @@ create_again f is ts e =
     let word = expect_again marks.Key closed.0 _ closed.1 in
     let key = name_again f.key word.0 [] word.1 in
     then_again (expect marks.Table ts) table.0 _ _ table.2 (then_again (name_at table.0) (f.name, name.0) _ _ name.2 (then_again (expect marks.Open name.0) opened.0 _ _ opened.2
-        (then_again (columns_at opened.0) (f.columns, columns.0) _ _ columns.2 (then_again (expect marks.Close columns.0) closed.0 _ _ closed.2 (then_again (expect marks.Key closed.0) word.0 _ _ word.2
-            (then_again (name_at word.0) (f.key, key.0) _ _ key.2 (ended_again (statements.Create (record { name = f.name; columns = f.columns; key = f.key; valid = false })) key.0 key.1
-                ∙ ap (λ v. Ok (statements.Create (record { name = f.name; columns = f.columns; key = f.key; valid = v }))) (sym is.plain))))))))
+    (then_again (columns_at opened.0) (f.columns, columns.0) _ _ columns.2 (then_again (expect marks.Close columns.0) closed.0 _ _ closed.2 (then_again (expect marks.Key closed.0) word.0 _ _ word.2
+    (then_again (name_at word.0) (f.key, key.0) _ _ key.2 (ended_again (statements.Create (record { name = f.name; columns = f.columns; key = f.key; valid = false })) key.0 key.1
+    ∙ ap (λ v. Ok (statements.Create (record { name = f.name; columns = f.columns; key = f.key; valid = v }))) (sym is.plain))))))))
 
 select_same : (f : SelectForm) → f.all ≡ false → f.pred ≡ record { any = [] } → f.valid_at ≡ None → record { all = false; items = f.items; table = f.table; pred = record { any = [] }; valid_at = None; as_of = f.as_of } ≡ f
 select_same f a b c =
@@ -178,8 +184,8 @@ select_again f is ts e =
     let as_of = as_of_again f.as_of table.0 table.1 in
     let same : record { all = false; items = f.items; table = f.table; pred = record { any = [] }; valid_at = None; as_of = f.as_of } ≡ f = select_same f is.plain is.untested is.timeless in
     then_again (items_at true ts) (f.items, items.0) _ _ items.2 (then_again (expect marks.From items.0) from.0 _ _ from.2 (then_again (name_at from.0) (f.table, table.0) _ _ table.2
-        (then_again (as_of_at table.0) (f.as_of, as_of.0) _ _ as_of.2 (ended_again (statements.Ask (queries.Select (record { all = false; items = f.items; table = f.table; pred = record { any = [] }; valid_at = None; as_of = f.as_of }))) as_of.0 as_of.1
-            ∙ ap (λ g. Ok (statements.Ask (queries.Select g))) same))))
+    (then_again (as_of_at table.0) (f.as_of, as_of.0) _ _ as_of.2 (ended_again (statements.Ask (queries.Select (record { all = false; items = f.items; table = f.table; pred = record { any = [] }; valid_at = None; as_of = f.as_of }))) as_of.0 as_of.1
+    ∙ ap (λ g. Ok (statements.Ask (queries.Select g))) same))))
 
 -- what is spelled is read
 pub statement_again : (ts : List Placed) (s : Statement) → IsSpelling (words_of ts) s → statement_at ts ≡ Ok s

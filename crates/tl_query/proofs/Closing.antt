@@ -73,6 +73,7 @@ word_byte b h = grind (arith, nat_tests)
 
 pub word_ascii : (bytes : List ℕ) (i : ℕ) → get_or (take (prefix_len continues_word bytes) bytes) i 0 < 128
 word_ascii bytes i = elim (cases_lt i (prefix_len continues_word bytes)) as (λ _. get_or (take (prefix_len continues_word bytes) bytes) i 0 < 128) [
-    inl h ↦ rw (get_or-take (prefix_len continues_word bytes) bytes i 0 h) (word_byte (get_or bytes i 0) (prefix_len_passes continues_word bytes i 0 h))
+  | inl h ↦ rw (get_or-take (prefix_len continues_word bytes) bytes i 0 h) (word_byte (get_or bytes i 0) (prefix_len_passes continues_word bytes i 0 h))
   | inr h ↦ let n : length (take (prefix_len continues_word bytes) bytes) ≤ i = omega (arith, length-take (prefix_len continues_word bytes) bytes) in
-        rw (get_or_past (take (prefix_len continues_word bytes) bytes) i 0 n) (lit< tt) ]
+      rw (get_or_past (take (prefix_len continues_word bytes) bytes) i 0 n) (lit< tt)
+]

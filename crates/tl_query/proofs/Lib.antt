@@ -7,3 +7,4 @@ pub mod Parts
 pub mod Again
 pub mod Deciding
 pub mod Examples
+pub mod Naming

@@ -55,9 +55,9 @@ unfolding column_at
 column_good c g h =
     let column : Name → ColumnForm = λ n. record { name = n; kind = kinds.IntKind } in
     good_by c (λ ts. column_at ts >>= g) (λ ts. name_at ts >>= λ x. expect marks.Int x.1 >>= λ rest. g (column x.0, rest))
-        (λ ts. column_regroup (name_at ts) g)
-        (name_good c (λ x. expect marks.Int x.1 >>= λ rest. g (column x.0, rest)) (λ n. expect_good (c ++ (Word n ∷ [])) marks.Int (λ rest. g (column n, rest))
-            (good_at (c ++ (Word n ∷ Fixed marks.Int ∷ [])) ((c ++ (Word n ∷ [])) ++ (Fixed marks.Int ∷ [])) (λ ts. g (column n, ts)) (sym (append_assoc c (Word n ∷ []) (Fixed marks.Int ∷ []))) (h (column n) refl))))
+    (λ ts. column_regroup (name_at ts) g)
+    (name_good c (λ x. expect marks.Int x.1 >>= λ rest. g (column x.0, rest)) (λ n. expect_good (c ++ (Word n ∷ [])) marks.Int (λ rest. g (column n, rest))
+    (good_at (c ++ (Word n ∷ Fixed marks.Int ∷ [])) ((c ++ (Word n ∷ [])) ++ (Fixed marks.Int ∷ [])) (λ ts. g (column n, ts)) (sym (append_assoc c (Word n ∷ []) (Fixed marks.Int ∷ []))) (h (column n) refl))))
 
 -- a further column in front of those behind it
 column_and : (room : ℕ) (r : Result (ColumnForm × List Placed) (Option ℕ)) (g : List ColumnForm × List Placed → Result Statement (Option ℕ)) → (r >>= λ x. in_front x.0 (further_columns_at room x.1)) >>= g ≡ r >>= λ x. further_columns_at room x.1 >>= λ y. g (x.0 ∷ y.0, y.1)
@@ -73,19 +73,19 @@ unfolding further_columns_at
 further_columns_good zero c g h = good_at (c ++ []) c (λ ts. g ([], ts)) (append-nil c) (h [] (omega arith) tt)
 further_columns_good (suc room) c g h =
     peek_good c marks.Comma (λ ts. further_columns_at (suc room) ts >>= g) (λ ts. g ([], ts)) (λ rest. column_at rest >>= λ x. further_columns_at room x.1 >>= λ y. g (x.0 ∷ y.0, y.1))
-        (λ ts. room_then ts (after marks.Comma ts) (λ rest. column_at rest >>= λ x. in_front x.0 (further_columns_at room x.1)) (λ rest. column_at rest >>= λ x. further_columns_at room x.1 >>= λ y. g (x.0 ∷ y.0, y.1)) g (λ rest. column_and room (column_at rest) g))
-        (column_good (c ++ (Fixed marks.Comma ∷ [])) (λ x. further_columns_at room x.1 >>= λ y. g (x.0 ∷ y.0, y.1)) (λ x numbers.
-            further_columns_good room ((c ++ (Fixed marks.Comma ∷ [])) ++ column_parts x) (λ y. g (x ∷ y.0, y.1)) (λ cs few all.
-                good_at (c ++ further_columns (x ∷ cs)) (((c ++ (Fixed marks.Comma ∷ [])) ++ column_parts x) ++ further_columns cs) (λ ts. g (x ∷ cs, ts)) (simp append_assoc) (h (x ∷ cs) (omega arith) (numbers, all)))))
-        (good_at (c ++ []) c (λ ts. g ([], ts)) (append-nil c) (h [] (omega arith) tt))
+    (λ ts. room_then ts (after marks.Comma ts) (λ rest. column_at rest >>= λ x. in_front x.0 (further_columns_at room x.1)) (λ rest. column_at rest >>= λ x. further_columns_at room x.1 >>= λ y. g (x.0 ∷ y.0, y.1)) g (λ rest. column_and room (column_at rest) g))
+    (column_good (c ++ (Fixed marks.Comma ∷ [])) (λ x. further_columns_at room x.1 >>= λ y. g (x.0 ∷ y.0, y.1)) (λ x numbers.
+    further_columns_good room ((c ++ (Fixed marks.Comma ∷ [])) ++ column_parts x) (λ y. g (x ∷ y.0, y.1)) (λ cs few all.
+    good_at (c ++ further_columns (x ∷ cs)) (((c ++ (Fixed marks.Comma ∷ [])) ++ column_parts x) ++ further_columns cs) (λ ts. g (x ∷ cs, ts)) (simp append_assoc) (h (x ∷ cs) (omega arith) (numbers, all)))))
+    (good_at (c ++ []) c (λ ts. g ([], ts)) (append-nil c) (h [] (omega arith) tt))
 
 pub columns_good : (c : List Token) (g : List ColumnForm × List Placed → Result Statement (Option ℕ)) → ((cs : List ColumnForm) → 1 ≤ length cs → length cs ≤ 16 → AllByRecursion IsNumbers cs → Good (c ++ columns_parts cs) (λ ts. g (cs, ts))) → Good c (λ ts. columns_at ts >>= g)
 unfolding columns_at
 columns_good c g h =
     good_by c (λ ts. columns_at ts >>= g) (λ ts. column_at ts >>= λ x. further_columns_at 15 x.1 >>= λ y. g (x.0 ∷ y.0, y.1)) (λ ts. column_and 15 (column_at ts) g)
-        (column_good c (λ x. further_columns_at 15 x.1 >>= λ y. g (x.0 ∷ y.0, y.1)) (λ x numbers.
-            further_columns_good 15 (c ++ column_parts x) (λ y. g (x ∷ y.0, y.1)) (λ cs few all.
-                good_at (c ++ columns_parts (x ∷ cs)) ((c ++ column_parts x) ++ further_columns cs) (λ ts. g (x ∷ cs, ts)) (simp append_assoc) (h (x ∷ cs) (omega arith) (omega arith) (numbers, all)))))
+    (column_good c (λ x. further_columns_at 15 x.1 >>= λ y. g (x.0 ∷ y.0, y.1)) (λ x numbers.
+    further_columns_good 15 (c ++ column_parts x) (λ y. g (x ∷ y.0, y.1)) (λ cs few all.
+    good_at (c ++ columns_parts (x ∷ cs)) ((c ++ column_parts x) ++ further_columns cs) (λ ts. g (x ∷ cs, ts)) (simp append_assoc) (h (x ∷ cs) (omega arith) (omega arith) (numbers, all)))))
 
 -- items that have to come, or may go on
 abbrev Follows : Bool → List Token → (List Item × List Placed → Result Statement (Option ℕ)) → Type 0
@@ -106,15 +106,17 @@ items_good_at : (b : Bool) (ts : List Placed) (c : List Token) (g : List Item ×
 unfolding items_at
 items_good_at true [] c g h = end_at c (λ ts. items_at true ts >>= g) refl (item_needed c g h)
 items_good_at true (p ∷ ts) c g h = elim (name_of p.token) as (λ o. name_of p.token ≡ o → At c (λ ts. items_at true ts >>= g) (p ∷ ts)) [
-    None ↦ λ e. fail_at c (λ ts. items_at true ts >>= g) p ts (λ y. ap (λ o. where_some o (Err (Some p.at)) (λ n. in_front (items.Column n) (items_at false y)) >>= g) e) (item_needed c g h)
+  | None ↦ λ e. fail_at c (λ ts. items_at true ts >>= g) p ts (λ y. ap (λ o. where_some o (Err (Some p.at)) (λ n. in_front (items.Column n) (items_at false y)) >>= g) e) (item_needed c g h)
   | Some n ↦ λ e. step_at c (λ ts. items_at true ts >>= g) (λ ts. items_at false ts >>= λ y. g (items.Column n ∷ y.0, y.1)) p ts
-        (λ y. ap (λ o. where_some o (Err (Some p.at)) (λ n. in_front (items.Column n) (items_at false y)) >>= g) e ∙ front_then (items.Column n) (items_at false y) g)
-        (subst (λ t. At (c ++ (t ∷ [])) (λ ts. items_at false ts >>= λ y. g (items.Column n ∷ y.0, y.1)) ts) (sym (name_of_some p.token n e)) (items_good_at false ts (c ++ (Word n ∷ [])) (λ y. g (items.Column n ∷ y.0, y.1)) (behind_name c n g h))) ] refl
+      (λ y. ap (λ o. where_some o (Err (Some p.at)) (λ n. in_front (items.Column n) (items_at false y)) >>= g) e ∙ front_then (items.Column n) (items_at false y) g)
+      (subst (λ t. At (c ++ (t ∷ [])) (λ ts. items_at false ts >>= λ y. g (items.Column n ∷ y.0, y.1)) ts) (sym (name_of_some p.token n e)) (items_good_at false ts (c ++ (Word n ∷ [])) (λ y. g (items.Column n ∷ y.0, y.1)) (behind_name c n g h)))
+] refl
 items_good_at false [] c g h = pass_end c (λ ts. items_at false ts >>= g) (λ ts. g ([], ts)) refl (good_at (c ++ []) c (λ ts. g ([], ts)) (append-nil c) (h [] tt) [])
 items_good_at false (p ∷ ts) c g h = elim (is_fixed marks.Comma p.token) as (λ b. is_fixed marks.Comma p.token ≡ b → At c (λ ts. items_at false ts >>= g) (p ∷ ts)) [
-    true ↦ λ e. step_at c (λ ts. items_at false ts >>= g) (λ ts. items_at true ts >>= g) p ts (λ y. ap (λ b. cond b (items_at true y) (Ok ([], p ∷ y)) >>= g) e)
-        (subst (λ t. At (c ++ (t ∷ [])) (λ ts. items_at true ts >>= g) ts) (sym (is_fixed_true marks.Comma p.token e)) (items_good_at true ts (c ++ (Fixed marks.Comma ∷ [])) g (behind_comma c g h)))
-  | false ↦ λ e. pass_at c (λ ts. items_at false ts >>= g) (λ ts. g ([], ts)) p ts (λ y. ap (λ b. cond b (items_at true y) (Ok ([], p ∷ y)) >>= g) e) (good_at (c ++ []) c (λ ts. g ([], ts)) (append-nil c) (h [] tt) (p ∷ ts)) ] refl
+  | true ↦ λ e. step_at c (λ ts. items_at false ts >>= g) (λ ts. items_at true ts >>= g) p ts (λ y. ap (λ b. cond b (items_at true y) (Ok ([], p ∷ y)) >>= g) e)
+      (subst (λ t. At (c ++ (t ∷ [])) (λ ts. items_at true ts >>= g) ts) (sym (is_fixed_true marks.Comma p.token e)) (items_good_at true ts (c ++ (Fixed marks.Comma ∷ [])) g (behind_comma c g h)))
+  | false ↦ λ e. pass_at c (λ ts. items_at false ts >>= g) (λ ts. g ([], ts)) p ts (λ y. ap (λ b. cond b (items_at true y) (Ok ([], p ∷ y)) >>= g) e) (good_at (c ++ []) c (λ ts. g ([], ts)) (append-nil c) (h [] tt) (p ∷ ts))
+] refl
 
 pub items_good : (c : List Token) (g : List Item × List Placed → Result Statement (Option ℕ)) → ((xs : List Item) → 1 ≤ length xs → AllByRecursion IsColumn xs → Good (c ++ items_parts xs) (λ ts. g (xs, ts))) → Good c (λ ts. items_at true ts >>= g)
 items_good c g h = λ ts. items_good_at true ts c g h
@@ -131,10 +133,10 @@ pub as_of_good : (c : List Token) (g : Option Stamp × List Placed → Result St
 unfolding as_of_at
 as_of_good c g h =
     peek_good c marks.As (λ ts. as_of_at ts >>= g) (λ ts. g (None, ts)) (λ rest. expect marks.Of rest >>= λ next. version_at next >>= λ s. g (Some s.0, s.1)) (λ ts. as_of_then ts (after marks.As ts) g)
-        (expect_good (c ++ (Fixed marks.As ∷ [])) marks.Of (λ next. version_at next >>= λ s. g (Some s.0, s.1))
-            (version_good ((c ++ (Fixed marks.As ∷ [])) ++ (Fixed marks.Of ∷ [])) (λ s. g (Some s.0, s.1)) (λ s.
-                good_at (c ++ as_of_parts (Some s)) (((c ++ (Fixed marks.As ∷ [])) ++ (Fixed marks.Of ∷ [])) ++ (Number s ∷ [])) (λ ts. g (Some s, ts)) (simp append_assoc) (h (Some s)))))
-        (good_at (c ++ []) c (λ ts. g (None, ts)) (append-nil c) (h None))
+    (expect_good (c ++ (Fixed marks.As ∷ [])) marks.Of (λ next. version_at next >>= λ s. g (Some s.0, s.1))
+    (version_good ((c ++ (Fixed marks.As ∷ [])) ++ (Fixed marks.Of ∷ [])) (λ s. g (Some s.0, s.1)) (λ s.
+    good_at (c ++ as_of_parts (Some s)) (((c ++ (Fixed marks.As ∷ [])) ++ (Fixed marks.Of ∷ [])) ++ (Number s ∷ [])) (λ ts. g (Some s, ts)) (simp append_assoc) (h (Some s)))))
+    (good_at (c ++ []) c (λ ts. g (None, ts)) (append-nil c) (h None))
 
 pub put_good : Good (Fixed marks.Put ∷ []) put_at
 unfolding put_at
@@ -157,9 +159,9 @@ create_good =
     let closed : Name → List ColumnForm → List Token = λ name columns. listed name columns ++ (Fixed marks.Close ∷ []) in
     let keyed : Name → List ColumnForm → List Token = λ name columns. closed name columns ++ (Fixed marks.Key ∷ []) in
     expect_good word marks.Table _ (name_good table _ (λ name. expect_good (named name) marks.Open _ (columns_good (opened name) _ (λ columns some few numbers.
-        expect_good (listed name columns) marks.Close _ (expect_good (closed name columns) marks.Key _ (name_good (keyed name columns) _ (λ key.
-            let form : CreateForm = record { name = name; columns = columns; key = key; valid = false } in
-            end_good (keyed name columns ++ (Word key ∷ [])) (statements.Create form) (record { some = some; few = few; numbers = numbers; plain = refl }, create_spelled form))))))))
+    expect_good (listed name columns) marks.Close _ (expect_good (closed name columns) marks.Key _ (name_good (keyed name columns) _ (λ key.
+    let form : CreateForm = record { name = name; columns = columns; key = key; valid = false } in
+    end_good (keyed name columns ++ (Word key ∷ [])) (statements.Create form) (record { some = some; few = few; numbers = numbers; plain = refl }, create_spelled form))))))))
 
 pub select_good : Good (Fixed marks.Select ∷ []) select_at
 unfolding select_at
@@ -169,8 +171,8 @@ select_good =
     let from : List Item → List Token = λ items. listed items ++ (Fixed marks.From ∷ []) in
     let named : List Item → Name → List Token = λ items table. from items ++ (Word table ∷ []) in
     items_good word _ (λ items some columns. expect_good (listed items) marks.From _ (name_good (from items) _ (λ table. as_of_good (named items table) _ (λ as_of.
-        let form : SelectForm = record { all = false; items = items; table = table; pred = record { any = [] }; valid_at = None; as_of = as_of } in
-        end_good (named items table ++ as_of_parts as_of) (statements.Ask (queries.Select form)) (record { plain = refl; some = some; columns = columns; untested = refl; timeless = refl }, select_spelled form)))))
+    let form : SelectForm = record { all = false; items = items; table = table; pred = record { any = [] }; valid_at = None; as_of = as_of } in
+    end_good (named items table ++ as_of_parts as_of) (statements.Ask (queries.Select form)) (record { plain = refl; some = some; columns = columns; untested = refl; timeless = refl }, select_spelled form)))))
 
 nothing_begins : Good [] (λ ts. Err (place_of ts))
 nothing_begins [] = end_at [] (λ ts. Err (place_of ts)) refl (shorter_viable [] (Fixed marks.Put ∷ []) (viable_of (Fixed marks.Put ∷ []) put_at put_good))
@@ -180,5 +182,5 @@ pub statement_good : Good [] statement_at
 unfolding statement_at
 statement_good =
     peek_good [] marks.Create statement_at (λ ts. where_some (after marks.Put ts) (where_some (after marks.Select ts) (Err (place_of ts)) select_at) put_at) create_at (λ y. refl) create_good
-        (peek_good [] marks.Put (λ ts. where_some (after marks.Put ts) (where_some (after marks.Select ts) (Err (place_of ts)) select_at) put_at) (λ ts. where_some (after marks.Select ts) (Err (place_of ts)) select_at) put_at (λ y. refl) put_good
-            (peek_good [] marks.Select (λ ts. where_some (after marks.Select ts) (Err (place_of ts)) select_at) (λ ts. Err (place_of ts)) select_at (λ y. refl) select_good nothing_begins))
+    (peek_good [] marks.Put (λ ts. where_some (after marks.Put ts) (where_some (after marks.Select ts) (Err (place_of ts)) select_at) put_at) (λ ts. where_some (after marks.Select ts) (Err (place_of ts)) select_at) put_at (λ y. refl) put_good
+    (peek_good [] marks.Select (λ ts. where_some (after marks.Select ts) (Err (place_of ts)) select_at) (λ ts. Err (place_of ts)) select_at (λ y. refl) select_good nothing_begins))

@@ -1,6 +1,7 @@
 -- Which lists of tokens spell a statement.
-use Rattle.std.specs.Prelude.{◌≡◌, ℕ, ◌+◌, ◌≤◌, Bool, true, false, List, [], ◌∷◌, ◌++◌, length, map, flat_map, Option, Some, None}
+use Rattle.std.specs.Prelude.{◌≡◌, ℕ, ◌≤◌, ◌<◌, ◌^◌, IfSome, pos, Bool, true, false, List, [], ◌∷◌, ◌++◌, length, map, flat_map, Option, Some, None}
 use Rattle.std.specs.List.{AllByRecursion}
+use Rattle.tl_types.specs.Names.{is_name}
 use Rattle.tl_types.specs.declared.cells.ColumnKind.TheVariants as kinds
 use Rattle.tl_query.specs.declared.marks.Mark.{Mark}
 use Rattle.tl_query.specs.declared.marks.Mark.TheVariants as marks
@@ -99,3 +100,28 @@ IsSpelling ts (statements.Ask (queries.Join f)) = ⊥
 -- The tokens are the front of tokens that spell a statement.
 abbrev pub IsViable : List Token → Type 0
 IsViable ts = (more : List Token) × (s : Statement) × IsSpelling (ts ++ more) s
+
+-- a name of the language, at an offset in a text
+pub record IsNamed (n : Name) : Type 0 where
+  pub named : is_name n.text ≡ true
+  pub within : n.at < 2 ^ 32
+
+-- a version: not negative, at an offset in a text
+pub record IsVersion (s : Stamp) : Type 0 where
+  pub number : (n : ℕ) × (s.value ≡ pos n)
+  pub within : s.at < 2 ^ 32
+
+-- the column of an item is named
+abbrev pub IsNamedItem : Item → Type 0
+IsNamedItem (items.Column n) = IsNamed n
+IsNamedItem (items.ValidFrom at) = at < 2 ^ 32
+IsNamedItem (items.ValidTo at) = at < 2 ^ 32
+
+-- The names of a statement are names, its version isn't negative, and offsets are below 2 ^ 32.
+abbrev pub HasNames : Statement → Type 0
+HasNames (statements.Create f) = IsNamed f.name × AllByRecursion (λ c. IsNamed c.name) f.columns × IsNamed f.key
+HasNames (statements.Put n) = IsNamed n
+HasNames (statements.Remove n) = IsNamed n
+HasNames (statements.Ask (queries.Select f)) = AllByRecursion IsNamedItem f.items × IsNamed f.table × IfSome f.as_of IsVersion
+HasNames (statements.Ask (queries.Agg f)) = ⊥
+HasNames (statements.Ask (queries.Join f)) = ⊥

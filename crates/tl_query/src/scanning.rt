@@ -38,7 +38,10 @@ fn is_digit(byte: u8) -> bool
 fn word_len(bytes: &[u8]) -> usize
     ensures { result ≡ prefix_len continues_word bytes.now }
 {
-    bytes.iter().take_while(|byte| continues_word(**byte)).count()
+    bytes
+        .iter()
+        .take_while(|byte| continues_word(**byte))
+        .count()
 }
 
 fn digit_count(bytes: &[u8]) -> usize
@@ -53,7 +56,9 @@ fn number_of(digits: &[u8]) -> u64
 {
     let mut number: u64 = 0;
     for digit in digits {
-        number = number.saturating_mul(10).saturating_add(u64::from(digit.saturating_sub(b'0')));
+        number = number
+            .saturating_mul(10)
+            .saturating_add(u64::from(digit.saturating_sub(b'0')));
     }
     number
 }
@@ -266,7 +271,11 @@ fn piece_of(alloc: Global, at: u32, bytes: &[u8]) -> Result<Result<Piece, TextFa
 fn placed(at: u32, joined: bool, piece: Piece) -> Placed
     ensures { result ≡ placed at joined piece }
 {
-    let Piece { token, len: _, joins } = piece;
+    let Piece {
+        token,
+        len: _,
+        joins,
+    } = piece;
     if joined && joins {
         let token = Token::Stray;
         Placed { token, at }

@@ -165,7 +165,15 @@ fn create_at(alloc: Global, tokens: &[Placed]) -> Result<Statement, Stop>
     let rest = expect(rest, Mark::Key)?;
     let (key, rest) = name_at(rest)?;
     let valid = false;
-    ended(Statement::Create(CreateForm { name, columns, key, valid }), rest)
+    ended(
+        Statement::Create(CreateForm {
+            name,
+            columns,
+            key,
+            valid,
+        }),
+        rest,
+    )
 }
 
 #[tactic(auto, unfolding(crate::specs::Reading::put_at))]
@@ -215,7 +223,9 @@ fn select_at(alloc: Global, tokens: &[Placed]) -> Result<Statement, Stop>
         all: false,
         items,
         table,
-        pred: Pred { any: Seq::new(alloc) },
+        pred: Pred {
+            any: Seq::new(alloc),
+        },
         valid_at: None,
         as_of,
     };

@@ -1,4 +1,5 @@
 use Rattle.tl_query.proofs.Deciding.{found_of, only_of, fault_of, cause_of, refused_of}
+use Rattle.tl_query.proofs.Naming.{named_of}
 use Rattle.tl_query.proofs.parsing.parse.Goals as goal
 
 pub returns-clause-found : goal.returns-clause-found
@@ -15,3 +16,6 @@ returns-clause-cause c = cause_of c.args.text.now c.read.result c.read.ensures
 
 pub returns-clause-refused : goal.returns-clause-refused
 returns-clause-refused c = refused_of c.args.text.now c.read.result c.read.ensures
+
+pub returns-clause-names : goal.returns-clause-names
+returns-clause-names c = named_of c.args.text.now c.read.result c.read.ensures

@@ -8,8 +8,9 @@ returns-then-quoted c = sym (c.loop-i.invariant ∙ done_turn c.args.bytes.now c
 
 pub loop-i-preserved : goal.loop-i-preserved
 loop-i-preserved c = elim c.if-byte-eq39.branch [
-    then-byte-eq39 w ↦ rw w.quoted-is (c.loop-i.invariant ∙ quote_turn c.args.bytes.now c.loop-i.i c.loop-i.quoted c.loop-i-test.true w.if-byte-eq39.true)
-  | else-byte-eq39+else-quoted w ↦ rw w.quoted-is (c.loop-i.invariant ∙ other_turn c.args.bytes.now c.loop-i.i c.loop-i.quoted c.loop-i-test.true w.if-byte-eq39.false w.if-quoted.false) ]
+  | then-byte-eq39 w ↦ rw w.quoted-is (c.loop-i.invariant ∙ quote_turn c.args.bytes.now c.loop-i.i c.loop-i.quoted c.loop-i-test.true w.if-byte-eq39.true)
+  | else-byte-eq39+else-quoted w ↦ rw w.quoted-is (c.loop-i.invariant ∙ other_turn c.args.bytes.now c.loop-i.i c.loop-i.quoted c.loop-i-test.true w.if-byte-eq39.false w.if-quoted.false)
+]
 
 pub returns-then-quoted-2 : goal.returns-then-quoted-2
 returns-then-quoted-2 c =

@@ -13,7 +13,8 @@ tokens-preserved-then-is_blank c =
     let blank : is_blank (get_or c.tokens.rest.now 0 0) ≡ true = sym c.is_blank.ensures ∙ c.if-is_blank.true in
     record {
       place = let n = ap length rest in omega (arith, n, length-drop 1 c.tokens.rest.now, c.tokens.invariant.place);
-      read = rw rest (sym (blank_step c.tokens.tokens.items c.tokens.at c.tokens.joined c.tokens.rest.now some blank) ∙ c.tokens.invariant.read); }
+      read = rw rest (sym (blank_step c.tokens.tokens.items c.tokens.at c.tokens.joined c.tokens.rest.now some blank) ∙ c.tokens.invariant.read);
+    }
 
 pub returns-in-Err : goal.returns-in-Err
 returns-in-Err c =
@@ -45,7 +46,8 @@ tokens-preserved c =
     let items : c.push.new.self.items ≡ c.tokens.tokens.items ++ (placed c.tokens.at c.tokens.joined c.in-Ok.piece ∷ []) = grind (arith, common_steps) in
     record {
       place = let n = ap length rest in omega (arith, n, within.1, length-drop c.in-Ok.piece.len c.tokens.rest.now, c.tokens.invariant.place);
-      read = rw (rest, items) (sym (piece_step c.tokens.tokens.items c.tokens.at c.tokens.joined c.tokens.rest.now c.in-Ok.piece some black read) ∙ c.tokens.invariant.read); }
+      read = rw (rest, items) (sym (piece_step c.tokens.tokens.items c.tokens.at c.tokens.joined c.tokens.rest.now c.in-Ok.piece some black read) ∙ c.tokens.invariant.read);
+    }
 
 pub returns : goal.returns
 returns c =

@@ -1,8 +1,7 @@
 -- What is spelled is read again.
-use Rattle.std.proofs.Common.{◌≡◌, ℕ, ◌+◌, ◌<◌, ◌≤◌, zero, suc, Bool, true, false, cond, ◌==◌, List, [], ◌∷◌, ◌++◌, length, map, flat_map, Option, Some, None, Result, Ok, Err, refl, sym, ◌∙◌, ap, subst, append_assoc, append-nil, arith}
+use Rattle.std.proofs.Common.{◌≡◌, ℕ, ◌≤◌, zero, suc, true, false, cond, List, [], ◌∷◌, ◌++◌, length, Option, Some, None, Result, Ok, Err, refl, sym, ◌∙◌, ap, arith}
 use Rattle.std.specs.List.{AllByRecursion}
 use Rattle.std.proofs.lemmas.Bool.{eq-eqb}
-use Rattle.tl_types.specs.declared.cells.ColumnKind.TheVariants as kinds
 use Rattle.tl_query.specs.declared.marks.Mark.{Mark}
 use Rattle.tl_query.specs.declared.marks.Mark.TheVariants as marks
 use Rattle.tl_query.specs.declared.tokens.Token.{Token}
@@ -18,8 +17,8 @@ use Rattle.tl_query.specs.declared.forms.Item.TheVariants as items
 use Rattle.tl_query.specs.declared.forms.Query.TheVariants as queries
 use Rattle.tl_query.specs.declared.forms.Statement.{Statement}
 use Rattle.tl_query.specs.declared.forms.Statement.TheVariants as statements
-use Rattle.tl_query.specs.Marks.{place, same_mark}
-use Rattle.tl_query.specs.Grammar.{IsSpelling, IsCreate, IsSelect, IsNumbers, IsColumn, column_parts, further_columns, columns_parts, create_parts, put_parts, item_parts, further_items, items_parts, as_of_parts, select_parts}
+use Rattle.tl_query.specs.Marks.{place}
+use Rattle.tl_query.specs.Grammar.{IsSpelling, IsCreate, IsSelect, IsNumbers, IsColumn, column_parts, further_columns, columns_parts, create_parts, further_items, items_parts, as_of_parts, select_parts}
 use Rattle.tl_query.specs.Reading.{◌>>=◌, place_of, is_fixed, after, expect, name_of, version_of, name_at, version_at, ended, column_at, in_front, before, further_columns_at, columns_at, create_at, put_at, items_at, as_of_at, select_at, statement_at, where_some}
 use Rattle.tl_query.proofs.Laws.{words_of}
 use Rattle.tl_query.proofs.Readers.{items_comma, items_end, item_first}

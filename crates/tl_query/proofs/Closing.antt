@@ -1,5 +1,5 @@
 -- How one byte of a text constant goes on, and that words are ASCII.
-use Rattle.std.proofs.Common.{◌≡◌, ℕ, ◌+◌, ◌<◌, ◌≤◌, zero, suc, Bool, true, false, not, cond, ◌==◌, List, [], ◌∷◌, length, drop, take, get_or, Option, Some, None, refl, sym, ◌∙◌, ap, add-one, arith, inl, inr, lit<, length-take}
+use Rattle.std.proofs.Common.{◌≡◌, ℕ, ◌+◌, ◌<◌, ◌≤◌, Bool, true, false, not, cond, ◌==◌, List, [], ◌∷◌, length, drop, take, get_or, Option, Some, None, refl, ◌∙◌, ap, add-one, arith, inl, inr, lit<, length-take}
 use Rattle.std.proofs.Math.Seq.{drop-cons}
 use Rattle.std.specs.List.{prefix_len}
 use Rattle.std.proofs.lemmas.List.Sums.{prefix_len_passes}

@@ -1,5 +1,5 @@
 -- The definitions, computed on texts.
-use Rattle.std.proofs.Common.{◌≡◌, ℕ, List, [], ◌∷◌, Option, Some, None, Result, Ok, Err, pos, codes, true, false, refl}
+use Rattle.std.proofs.Common.{[], ◌∷◌, Some, None, pos, codes, false, refl}
 use Rattle.tl_types.specs.declared.cells.ColumnKind.TheVariants.{IntKind}
 use Rattle.tl_query.specs.declared.faults.TextFault.TheVariants.{BadByte, OpenText, NumberTooLarge, Unexpected}
 use Rattle.tl_query.specs.declared.forms.Item.TheVariants.{Column}

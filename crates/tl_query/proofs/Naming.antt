@@ -1,16 +1,13 @@
 -- The names of what is read are names.
-use Rattle.std.proofs.Common.{◌≡◌, ℕ, ◌+◌, ◌-◌, ◌^◌, ◌<◌, ◌≤◌, ◌==◌, zero, suc, Bool, true, false, cond, nat_lt, nat_le, List, [], ◌∷◌, ◌++◌, length, map, flat_map, take, Option, Some, None, Result, Ok, Err, IfOk, IfSome, refl, sym, ◌∙◌, ap, subst, pos, arith}
+use Rattle.std.proofs.Common.{◌≡◌, ℕ, ◌+◌, ◌-◌, ◌^◌, ◌<◌, ◌≤◌, ◌==◌, zero, suc, Bool, true, false, cond, nat_lt, nat_le, List, [], ◌∷◌, ◌++◌, length, take, Option, Some, None, Result, Ok, Err, IfOk, IfSome, refl, subst, arith}
 use Rattle.std.specs.List.{AllByRecursion, prefix_len}
 use Rattle.tl_types.specs.Names.{is_name, is_digit, begins_word, continues_word}
-use Rattle.tl_query.specs.declared.marks.Mark.{Mark}
 use Rattle.tl_query.specs.declared.marks.Mark.TheVariants as marks
 use Rattle.tl_query.specs.declared.tokens.Token.{Token}
 use Rattle.tl_query.specs.declared.tokens.Token.TheVariants.{Fixed, Word, Number, Negative, Quoted, Stray}
-use Rattle.tl_query.specs.declared.tokens.Placed.{Placed}
 use Rattle.tl_query.specs.declared.scanning.Piece.{Piece}
 use Rattle.tl_query.specs.declared.faults.TextFault.{TextFault}
 use Rattle.tl_query.specs.declared.faults.TextFault.TheVariants.{OpenText}
-use Rattle.tl_query.specs.declared.forms.Name.{Name}
 use Rattle.tl_query.specs.declared.forms.Stamp.{Stamp}
 use Rattle.tl_query.specs.declared.forms.ColumnForm.{ColumnForm}
 use Rattle.tl_query.specs.declared.forms.Item.{Item}
@@ -18,8 +15,8 @@ use Rattle.tl_query.specs.declared.forms.Item.TheVariants as items
 use Rattle.tl_query.specs.declared.forms.Query.TheVariants as queries
 use Rattle.tl_query.specs.declared.forms.Statement.{Statement}
 use Rattle.tl_query.specs.declared.forms.Statement.TheVariants as statements
-use Rattle.tl_query.specs.Grammar.{IsSpelling, IsNamed, IsVersion, IsNamedItem, HasNames, IsColumn, column_parts, further_columns, columns_parts, create_parts, put_parts, item_parts, further_items, items_parts, as_of_parts, select_parts}
-use Rattle.tl_query.specs.Scanning.{Tokens, scan, with_piece, is_blank, number_of, keyword_of, word_token, word_piece, piece_at, number_piece, negative_piece, quoted_piece, symbol, less_piece, greater_piece, symbol_piece, closing, placed}
+use Rattle.tl_query.specs.Grammar.{IsSpelling, IsNamed, IsVersion, IsNamedItem, HasNames, IsColumn, further_columns, columns_parts, create_parts, put_parts, further_items, items_parts, as_of_parts, select_parts}
+use Rattle.tl_query.specs.Scanning.{Tokens, scan, with_piece, is_blank, number_of, keyword_of, word_token, word_piece, piece_at, number_piece, negative_piece, quoted_piece, less_piece, greater_piece, symbol_piece, closing, placed}
 use Rattle.tl_query.specs.Texts.{tokens_of, words_of, Spells, text_read, Answers}
 use Rattle.tl_query.proofs.Deciding.{read_spelled}
 

@@ -1,9 +1,8 @@
 -- The law of each part of the grammar: behind the tokens c, what follows is read right.
-use Rattle.std.proofs.Common.{◌≡◌, ℕ, ◌+◌, ◌<◌, ◌≤◌, zero, suc, Bool, true, false, cond, List, [], ◌∷◌, ◌++◌, length, map, flat_map, Option, Some, None, Result, Ok, Err, refl, sym, ◌∙◌, ap, subst, append_assoc, append-nil, arith}
+use Rattle.std.proofs.Common.{◌≡◌, ℕ, ◌≤◌, zero, suc, Bool, true, false, cond, List, [], ◌∷◌, ◌++◌, length, Option, Some, None, Result, Ok, Err, refl, sym, ◌∙◌, ap, subst, append_assoc, append-nil, arith}
 use Rattle.std.specs.List.{AllByRecursion}
 use Rattle.std.proofs.Common.{pos}
 use Rattle.tl_types.specs.declared.cells.ColumnKind.TheVariants as kinds
-use Rattle.tl_query.specs.declared.marks.Mark.{Mark}
 use Rattle.tl_query.specs.declared.marks.Mark.TheVariants as marks
 use Rattle.tl_query.specs.declared.tokens.Token.{Token}
 use Rattle.tl_query.specs.declared.tokens.Token.TheVariants.{Fixed, Word, Number}
@@ -18,10 +17,10 @@ use Rattle.tl_query.specs.declared.forms.Item.TheVariants as items
 use Rattle.tl_query.specs.declared.forms.Query.TheVariants as queries
 use Rattle.tl_query.specs.declared.forms.Statement.{Statement}
 use Rattle.tl_query.specs.declared.forms.Statement.TheVariants as statements
-use Rattle.tl_query.specs.Grammar.{IsSpelling, IsViable, IsNumbers, IsColumn, column_parts, further_columns, columns_parts, create_parts, put_parts, item_parts, further_items, items_parts, as_of_parts, select_parts}
+use Rattle.tl_query.specs.Grammar.{IsViable, IsNumbers, IsColumn, column_parts, further_columns, columns_parts, create_parts, put_parts, further_items, items_parts, as_of_parts, select_parts}
 use Rattle.tl_query.specs.Reading.{◌>>=◌, place_of, is_fixed, after, expect, name_of, version_of, name_at, version_at, ended, column_at, in_front, further_columns_at, columns_at, create_at, put_at, items_at, as_of_at, select_at, statement_at, where_some}
 use Rattle.tl_query.proofs.Places.{is_fixed_true, name_of_some, version_of_some}
-use Rattle.tl_query.proofs.Laws.{Reader, At, Good, words_of, at_same, good_by, good_at, shorter_viable, viable_of, fail_at, end_at, step_at, pass_at, pass_end, expect_good, one_good, peek_good, end_good}
+use Rattle.tl_query.proofs.Laws.{At, Good, good_by, good_at, shorter_viable, viable_of, fail_at, end_at, step_at, pass_at, pass_end, expect_good, one_good, peek_good, end_good}
 
 any_name : Name
 any_name = record { text = 97 ∷ []; at = 0 }

@@ -1,9 +1,6 @@
 -- How one turn of the loops over columns and items goes on.
-use Rattle.std.proofs.Common.{◌≡◌, ℕ, ◌+◌, ◌-◌, ◌<◌, ◌≤◌, zero, suc, Bool, true, false, cond, List, [], ◌∷◌, ◌++◌, length, Option, Some, None, Result, Ok, Err, refl, sym, ◌∙◌, ap, append_assoc, arith}
-use Rattle.tl_query.specs.declared.marks.Mark.{Mark}
+use Rattle.std.proofs.Common.{◌≡◌, ℕ, zero, suc, true, false, cond, List, [], ◌∷◌, ◌++◌, Option, Some, None, Result, Ok, Err, refl, sym, ◌∙◌, ap, append_assoc}
 use Rattle.tl_query.specs.declared.marks.Mark.TheVariants as marks
-use Rattle.tl_query.specs.declared.tokens.Token.{Token}
-use Rattle.tl_query.specs.declared.tokens.Token.TheVariants.{Fixed, Word, Number, Negative, Quoted, Stray}
 use Rattle.tl_query.specs.declared.tokens.Placed.{Placed}
 use Rattle.tl_query.specs.declared.forms.Name.{Name}
 use Rattle.tl_query.specs.declared.forms.ColumnForm.{ColumnForm}
@@ -11,7 +8,7 @@ use Rattle.tl_query.specs.declared.forms.Item.{Item}
 use Rattle.tl_query.specs.declared.forms.Item.TheVariants as items
 use Rattle.tl_query.specs.declared.statements.Stop.{Stop}
 use Rattle.tl_query.specs.declared.statements.Stop.TheVariants as stops
-use Rattle.tl_query.specs.Reading.{◌>>=◌, Fails, IsStopAt, place_of, is_fixed, after, name_at, column_at, columns_at, further_columns_at, items_at, in_front, before, where_some, name_of}
+use Rattle.tl_query.specs.Reading.{◌>>=◌, Fails, IsStopAt, is_fixed, after, name_at, column_at, columns_at, further_columns_at, items_at, in_front, before, where_some, name_of}
 
 -- where one reader stops, so does one that begins with it
 pub fails_through : (Y Z : Type 0) (e : Stop) (r : Result Y (Option ℕ)) (s : Result Z (Option ℕ)) → ((o : Option ℕ) → r ≡ Err o → s ≡ Err o) → Fails e r → Fails e s

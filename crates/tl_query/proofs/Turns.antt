@@ -1,15 +1,14 @@
 -- How the scan of a text goes on by one token.
-use Rattle.std.proofs.Common.{◌≡◌, ℕ, ◌+◌, ◌-◌, ◌^◌, ◌<◌, ◌≤◌, zero, suc, Bool, true, false, ◌||◌, cond, ◌==◌, nat_lt, nat_le, List, [], ◌∷◌, ◌++◌, length, drop, take, Option, Some, None, Result, Ok, Err, IfOk, IfSome, refl, sym, ◌∙◌, ap, subst, append_assoc, add-one, arith, get_or}
+use Rattle.std.proofs.Common.{◌≡◌, ℕ, ◌+◌, ◌-◌, ◌^◌, ◌<◌, ◌≤◌, zero, suc, Bool, true, false, ◌||◌, cond, ◌==◌, nat_lt, nat_le, List, [], ◌∷◌, ◌++◌, length, drop, take, Option, Some, None, Result, Ok, Err, IfOk, IfSome, refl, sym, ◌∙◌, ap, subst, append_assoc, arith, get_or}
 use Rattle.std.specs.List.{prefix_len}
 use Rattle.std.proofs.lemmas.List.Sums.{prefix_len-le-length}
 use Rattle.tl_types.specs.Names.{is_digit, begins_word, continues_word}
-use Rattle.tl_query.specs.declared.marks.Mark.{Mark}
 use Rattle.tl_query.specs.declared.tokens.Placed.{Placed}
 use Rattle.tl_query.specs.declared.scanning.Piece.{Piece}
 use Rattle.tl_query.specs.declared.faults.TextFault.{TextFault}
 use Rattle.tl_query.specs.declared.faults.TextFault.TheVariants.{OpenText}
 use Rattle.tl_query.specs.declared.tokens.Token.TheVariants.{Quoted}
-use Rattle.tl_query.specs.Scanning.{is_blank, number_of, word_piece, number_piece, negative_piece, one_more, closing, quoted_piece, symbol, less_piece, greater_piece, symbol_piece, piece_at, piece_of, Tokens, tokens_before, placed, with_piece, scan}
+use Rattle.tl_query.specs.Scanning.{is_blank, number_of, word_piece, number_piece, negative_piece, one_more, closing, quoted_piece, less_piece, greater_piece, symbol_piece, piece_at, piece_of, Tokens, tokens_before, placed, with_piece, scan}
 
 -- passing bytes of a token that was read
 skip_on : (bytes : List ℕ) (skip at : ℕ) (joined : Bool) → skip ≤ length bytes → scan at joined skip bytes ≡ scan (at + skip) joined 0 (drop skip bytes)

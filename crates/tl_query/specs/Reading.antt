@@ -1,6 +1,6 @@
 -- Reading the tokens of a statement from the left. Each reader gives a value and the tokens behind it, or
 -- where it stops: at the offset of a token, or at the end.
-use Rattle.std.specs.Prelude.{◌≡◌, ℕ, ◌+◌, Bool, true, false, suc, zero, if◌then◌else◌, List, [], ◌∷◌, ◌++◌, length, Option, Some, None, Result, Ok, Err}
+use Rattle.std.specs.Prelude.{◌≡◌, ℕ, Bool, true, false, suc, zero, if◌then◌else◌, List, [], ◌∷◌, ◌++◌, Option, Some, None, Result, Ok, Err}
 use Rattle.tl_types.specs.declared.cells.ColumnKind.TheVariants as kinds
 use Rattle.tl_query.specs.declared.marks.Mark.{Mark}
 use Rattle.tl_query.specs.declared.marks.Mark.TheVariants as marks

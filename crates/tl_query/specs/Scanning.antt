@@ -1,5 +1,5 @@
 -- The tokens of a text. A token is as long as it can be; spaces and tabs stand between tokens.
-use Rattle.std.specs.Prelude.{ℕ, ◌+◌, ◌-◌, ◌*◌, ◌^◌, Bool, true, false, not, ◌&&◌, ◌||◌, nat_lt, nat_le, ◌==◌, zero, suc, if◌then◌else◌, pos, List, [], ◌∷◌, ◌++◌, length, take, codes, Option, Some, None, Result, Ok, Err}
+use Rattle.std.specs.Prelude.{ℕ, ◌+◌, ◌-◌, ◌*◌, ◌^◌, Bool, true, false, ◌&&◌, ◌||◌, nat_lt, nat_le, ◌==◌, zero, suc, if◌then◌else◌, pos, List, [], ◌∷◌, ◌++◌, take, codes, Option, Some, None, Result, Ok, Err}
 use Rattle.std.specs.List.{prefix_len, fold}
 use Rattle.tl_types.specs.Names.{same_bytes, is_digit, begins_word, continues_word, is_name}
 use Rattle.tl_query.specs.declared.marks.Mark.{Mark}

@@ -117,15 +117,21 @@ mod tests {
 
     #[test]
     fn creates(rt: HostRuntime) -> Result<(), Fail> {
-        let create = parse(rt.alloc(), "CREATE TABLE t (k INT, x INT) KEY k").ok().ok_or("create")?;
+        let create = parse(rt.alloc(), "CREATE TABLE t (k INT, x INT) KEY k")
+            .ok()
+            .ok_or("create")?;
         assert!(rt; matches!(&create, Statement::Create(form) if form.columns.len() == 2));
         Ok(())
     }
 
     #[test]
     fn selects(rt: HostRuntime) -> Result<(), Fail> {
-        let select = parse(rt.alloc(), "SELECT k, x FROM t AS OF 2").ok().ok_or("select")?;
-        assert!(rt; matches!(&select, Statement::Ask(Query::Select(form)) if form.items.len() == 2));
+        let select = parse(rt.alloc(), "SELECT k, x FROM t AS OF 2")
+            .ok()
+            .ok_or("select")?;
+        assert!(rt;
+            matches!(&select, Statement::Ask(Query::Select(form)) if form.items.len() == 2)
+        );
         Ok(())
     }
 }

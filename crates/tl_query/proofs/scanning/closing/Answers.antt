@@ -1,4 +1,4 @@
-use Rattle.std.proofs.Common.{◌≡◌, ◌∙◌, sym, ap, ◌+◌, ◌≤◌, ◌<◌, length, Some, None, true, false, arith}
+use Rattle.std.proofs.Common.{◌≡◌, ◌∙◌, sym, ap, ◌≤◌, length, Some, arith}
 use Rattle.tl_query.proofs.Closing.{quote_turn, other_turn, done_turn, end_turn, closing_quoted, closing_open}
 use Rattle.tl_query.proofs.scanning.closing.Goals as goal
 use Rattle.tl_query.proofs.scanning.closing.Goals.{then-byte-eq39, else-byte-eq39+else-quoted}

@@ -1,4 +1,4 @@
-use Rattle.std.proofs.Common.{◌≡◌, ◌+◌, drop, false}
+use Rattle.std.proofs.Common.{◌≡◌, drop, false}
 use Rattle.tl_query.specs.Scanning.{closing}
 use Rattle.tl_query.proofs.Closing.{further}
 use Rattle.tl_query.proofs.scanning.closing.Given as goal

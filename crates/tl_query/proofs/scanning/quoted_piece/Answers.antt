@@ -1,4 +1,4 @@
-use Rattle.std.proofs.Common.{◌≡◌, ◌≤◌, ◌∙◌, sym, subst, length, IfSome, Some, Option, ℕ, false, arith}
+use Rattle.std.proofs.Common.{◌≤◌, ◌∙◌, sym, subst, length, IfSome, Option, ℕ, false, arith}
 use Rattle.tl_query.proofs.Turns.{closing_within}
 use Rattle.tl_query.proofs.scanning.quoted_piece.Goals as goal
 

@@ -1,8 +1,8 @@
-use Rattle.std.proofs.Common.{◌≡◌, ◌∙◌, sym, ap, ◌+◌, ◌-◌, ◌<◌, ◌≤◌, ◌==◌, length, drop, get_or, Some, None, Ok, Err, true, false, List, [], ◌∷◌, ◌++◌, append-nil, length-drop, arith}
+use Rattle.std.proofs.Common.{◌≡◌, ◌∙◌, sym, ap, ◌<◌, length, get_or, Some, None, Ok, Err, true, false, List, [], ◌∷◌, ◌++◌, append-nil, length-drop, arith}
 use Rattle.std.proofs.lemmas.Grind.{common_steps}
 use Rattle.std.proofs.lemmas.Bool.Decides.{nat_tests}
 use Rattle.tl_query.specs.declared.tokens.Placed.{Placed}
-use Rattle.tl_query.specs.Scanning.{is_blank, piece_of, placed, tokens_before, scan, Tokens}
+use Rattle.tl_query.specs.Scanning.{is_blank, piece_of, placed}
 use Rattle.tl_query.proofs.Turns.{blank_step, fault_step, piece_step, step_within, scan_done}
 use Rattle.tl_query.proofs.scanning.scan.Goals as goal
 

@@ -1,7 +1,7 @@
-use Rattle.std.proofs.Common.{rules, ◌≡◌, ◌∙◌, sym, ap, suc, ◌+◌, ◌-◌, ◌≤◌, Ok, Err, List, [], ◌∷◌, ◌++◌, length, append-nil, arith, vec_len}
+use Rattle.std.proofs.Common.{◌≡◌, ◌∙◌, sym, ap, suc, ◌+◌, ◌-◌, Ok, [], ◌∷◌, ◌++◌, append-nil, arith, vec_len}
 use Rattle.std.proofs.lemmas.Grind.{common_steps}
 use Rattle.std.proofs.lemmas.Result.{err_from_is_err_and}
-use Rattle.tl_query.specs.Reading.{columns_at, further_columns_at, column_at, before, after}
+use Rattle.tl_query.specs.Reading.{columns_at, column_at}
 use Rattle.tl_query.proofs.Readers.{fails_through, column_turn, column_fails, columns_end, columns_full}
 use Rattle.tl_query.proofs.statements.columns_at.Goals as goal
 use Rattle.tl_query.proofs.statements.columns_at.Goals.{else-loop-rest-test, then-loop-rest-test+in_default}

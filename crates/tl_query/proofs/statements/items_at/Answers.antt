@@ -1,8 +1,8 @@
-use Rattle.std.proofs.Common.{rules, ◌≡◌, ◌∙◌, sym, ap, refl, subst, Ok, Err, true, false, List, [], ◌∷◌, ◌++◌, length, append-nil, arith}
+use Rattle.std.proofs.Common.{◌≡◌, ◌∙◌, sym, ap, Ok, true, [], ◌∷◌, ◌++◌, append-nil, arith}
 use Rattle.std.proofs.lemmas.Grind.{common_steps}
 use Rattle.std.proofs.lemmas.Result.{err_from_is_err_and}
 use Rattle.tl_query.specs.declared.forms.Item.TheVariants as items
-use Rattle.tl_query.specs.Reading.{items_at, name_at, before, after}
+use Rattle.tl_query.specs.Reading.{items_at, name_at}
 use Rattle.tl_query.proofs.Readers.{item_first, item_turn, item_fails, items_done, fails_through, item_missing}
 use Rattle.tl_query.proofs.statements.items_at.Goals as goal
 

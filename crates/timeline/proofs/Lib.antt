@@ -1,0 +1,11 @@
+pub mod BlockLemmas
+pub mod CheckingLemmas
+pub mod KeyLemmas
+pub mod ListLemmas
+pub mod PlayLemmas
+pub mod ReadyLemmas
+pub mod ResolvingExamples
+pub mod ResolvingLemmas
+pub mod ScriptLemmas
+pub mod TopLemmas
+pub mod Worked

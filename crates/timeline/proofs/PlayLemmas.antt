@@ -1,0 +1,148 @@
+-- Tables found by name, and statements done one after the other.
+use Rattle.std.proofs.Common.{◌≡◌, ℕ, zero, suc, ◌+◌, ◌-◌, ◌<◌, ◌≤◌, Bool, true, false, List, [], ◌∷◌, ◌++◌, length, Option, Some, None, refl, ap, arith, sym, ◌∙◌, slice_get, IfSome, append_assoc, append-nil, drop, map, get_or, subst, add-one, drop-cons}
+use Rattle.std.proofs.lemmas.Option.{slice_get_within}
+use Rattle.std.specs.Option.{option_map}
+use Rattle.tl_types.specs.declared.batches.BatchFault.TheVariants as batch_fault
+use Rattle.tl_types.specs.Limits.{standard_limits}
+use Rattle.tl_types.specs.Plain as plain
+use Rattle.tl_types.specs.History.{has_name}
+use Rattle.tl_types.specs.Resolving.{find_from, find_table, resolved_change, said_by_rows}
+use Rattle.tl_query.specs.declared.forms.Name.{Name}
+use Rattle.tl_query.specs.Checking.{table_named}
+use Rattle.timeline.specs.declared.replies.Refusal.TheVariants as refusal
+use Rattle.timeline.specs.Block.{rows_of_block, AreRowsFor}
+use Rattle.timeline.specs.Keys.{resolved_rows}
+use Rattle.timeline.specs.Replies.{reply_bytes}
+use Rattle.timeline.specs.Script.{Job}
+use Rattle.timeline.specs.Reading.{job_of}
+use Rattle.timeline.specs.declared.jobs.Job.{Job as LentJob}
+use Rattle.timeline.specs.Play.{Turn, IsTurn, IsPlay, IsPlayed, refused, settled, author, most_rows, put_rows, put_block}
+
+abbrev number_of : Option (ℕ × plain.Table) → ℕ
+number_of None = 0
+number_of (Some x) = x.0
+
+abbrev table_of : plain.Table → Option (ℕ × plain.Table) → plain.Table
+table_of d None = d
+table_of d (Some x) = x.1
+
+-- the table with a name is the one at its number
+found_from : (k : ℕ) (name : List ℕ) (ts : List plain.Table) (n : ℕ) (t : plain.Table) → find_from k name ts ≡ Some (n, t) → (k ≤ n) × (slice_get ts (n - k) ≡ Some t)
+found_from k name [] n t h = absurd (cc)
+found_from k name (x ∷ xs) n t h = by_test (has_name name x) refl (found_from (k + 1) name xs n t) where
+  by_test : (b : Bool) → has_name name x ≡ b → (find_from (k + 1) name xs ≡ Some (n, t) → (k + 1 ≤ n) × (slice_get xs (n - (k + 1)) ≡ Some t)) → (k ≤ n) × (slice_get (x ∷ xs) (n - k) ≡ Some t)
+  by_test true e more =
+      let f : Some (k, x) ≡ Some (n, t) = rw e at h in
+      let same : k ≡ n = ap number_of f in
+      let here : x ≡ t = ap (table_of x) f in
+      let none : n - k ≡ 0 = omega arith in
+      (omega arith, rw none (ap Some here))
+  by_test false e more =
+      let later = more (rw e at h) in
+      let next : n - k ≡ suc (n - (k + 1)) = omega (arith, later.0) in
+      (omega (arith, later.0), rw next later.1)
+
+-- a table that is found by name, and stands at its number
+pub record IsFound (db : plain.Database) (name : List ℕ) (number : ℕ) : Type 0 where
+  pub table : plain.Table
+  pub named : find_table name db.tables ≡ Some (number, table)
+  pub at : slice_get db.tables number ≡ Some table
+  pub within : number < length db.tables
+
+numbered_some : (o : Option (ℕ × plain.Table)) (n : ℕ) → option_map (λ found. found.0) o ≡ Some n → (t : plain.Table) × (o ≡ Some (n, t))
+numbered_some None n h = absurd (cc)
+numbered_some (Some x) n h = let e : x.0 ≡ n = cc in (x.1, ap (λ m. Some (m, x.1)) e)
+
+pub table_found : (db : plain.Database) (name : List ℕ) (number : ℕ) → option_map (λ found. found.0) (find_table name db.tables) ≡ Some number → IsFound db name number
+table_found db name number h =
+    let there = numbered_some (find_table name db.tables) number h in
+    let found = found_from 0 name db.tables number there.0 there.1 in
+    let place : number - 0 ≡ number = omega arith in
+    let at : slice_get db.tables number ≡ Some there.0 = rw place at found.1 in
+    record { table = there.0; named = there.1; at = at; within = slice_get_within db.tables number there.0 at }
+
+-- the schema of the table at its number
+schema_at : (o : Option plain.Table) (t : plain.Table) (schema : plain.Schema) → o ≡ Some t → Some schema ≡ option_map (λ u. u.schema) o → schema ≡ t.schema
+schema_at None t schema at e = absurd (cc)
+schema_at (Some u) t schema at e = cc
+
+pub schema_found : (db : plain.Database) (name : List ℕ) (number : ℕ) (schema : plain.Schema) (f : IsFound db name number) → Some schema ≡ option_map (λ u. u.schema) (slice_get db.tables number) → schema ≡ f.table.schema
+schema_found db name number schema f e = schema_at (slice_get db.tables number) f.table schema f.at e
+
+-- the table that a name means
+pub named_found : (db : plain.Database) (name : Name) (number : ℕ) (schema : plain.Schema) → option_map (λ found. found.0) (find_table name.text db.tables) ≡ Some number → Some schema ≡ option_map (λ u. u.schema) (slice_get db.tables number) → Some (number, schema) ≡ table_named db name
+named_found db name number schema h e =
+    let f = table_found db name.text number h in
+    let s = schema_found db name.text number schema f e in
+    rw (f.named, s) refl
+
+numbered_none : (o : Option (ℕ × plain.Table)) → option_map (λ found. found.0) o ≡ None → o ≡ None
+numbered_none None h = refl
+numbered_none (Some x) h = absurd (cc)
+
+-- a table that no name means
+pub put_unknown : (db : plain.Database) (name block : List ℕ) → option_map (λ found. found.0) (find_table name db.tables) ≡ None → put_block db name (find_table name db.tables) block ≡ refused db (refusal.BatchFault batch_fault.UnknownTable)
+put_unknown db name block h = rw (numbered_none (find_table name db.tables) h) refl
+
+-- a block of another form
+pub put_not_built : (db : plain.Database) (name block : List ℕ) (number : ℕ) (schema : plain.Schema) → option_map (λ found. found.0) (find_table name db.tables) ≡ Some number → Some schema ≡ option_map (λ u. u.schema) (slice_get db.tables number) → rows_of_block most_rows schema block ≡ None → put_block db name (find_table name db.tables) block ≡ refused db refusal.NotBuilt
+put_not_built db name block number schema h e none =
+    let f = table_found db name number h in
+    let s = schema_found db name number schema f e in
+    let n : rows_of_block most_rows f.table.schema block ≡ None = rw s at none in
+    rw (f.named, n) refl
+
+-- rows for the table with a name are rows for the table with its number
+pub put_same : (db : plain.Database) (name block : List ℕ) (number : ℕ) (schema : plain.Schema) (rows : List plain.Opened) → option_map (λ found. found.0) (find_table name db.tables) ≡ Some number → Some schema ≡ option_map (λ u. u.schema) (slice_get db.tables number) → rows_of_block most_rows schema block ≡ Some rows → put_block db name (find_table name db.tables) block ≡ settled db (resolved_rows standard_limits db author number rows)
+put_same db name block number schema rows h e some =
+    let f = table_found db name number h in
+    let s = schema_found db name number schema f e in
+    let r : rows_of_block most_rows f.table.schema block ≡ Some rows = rw s at some in
+    ap (λ o. put_block db name o block) f.named
+    ∙ (ap (λ o. put_rows db name o) r
+    ∙ (ap (λ o. settled db (resolved_change standard_limits db author o (λ schema. said_by_rows schema rows))) f.named
+    ∙ sym (ap (λ o. settled db (resolved_change standard_limits db author (option_map (λ t. (number, t)) o) (λ schema. said_by_rows schema rows))) f.at)))
+
+-- rows for the schema of a table are rows for the table at its number
+pub rows_fit : (db : plain.Database) (name : List ℕ) (number : ℕ) (schema : plain.Schema) (rows : List plain.Opened) → option_map (λ found. found.0) (find_table name db.tables) ≡ Some number → Some schema ≡ option_map (λ u. u.schema) (slice_get db.tables number) → AreRowsFor most_rows schema rows → IfSome (slice_get db.tables number) (λ t. AreRowsFor most_rows t.schema rows)
+rows_fit db name number schema rows h e fit =
+    let f = table_found db name number h in
+    let s = schema_found db name number schema f e in
+    rw (f.at, ← s) fit
+
+-- ONE JOB AFTER THE OTHER
+
+-- one job more: its reply behind the bytes so far
+pub one_more_turn : (db now : plain.Database) (all rest : List Job) (job : Job) (out : List ℕ) (turn : Turn) →
+    ((more : List ℕ) (after : plain.Database) → IsPlay now (job ∷ rest) more after → IsPlay db all (out ++ more) after) →
+    IsTurn now job turn →
+    (more : List ℕ) (after : plain.Database) → IsPlay turn.after rest more after → IsPlay db all ((out ++ reply_bytes job.session turn.reply) ++ more) after
+one_more_turn db now all rest job out turn so_far is more after play =
+    rw append_assoc (so_far (reply_bytes job.session turn.reply ++ more) after (turn, (more, (is, refl, play))))
+
+nothing_left : {X : Type 0} (xs : List X) (i : ℕ) → length xs ≤ i → drop i xs ≡ []
+nothing_left [] zero h = refl
+nothing_left [] (suc i) h = refl
+nothing_left (x ∷ xs) zero h = absurd (omega arith)
+nothing_left (x ∷ xs) (suc i) h = nothing_left xs i (omega arith)
+
+-- the job at a place is done, with its reply behind the bytes so far
+pub job_done : (db now : plain.Database) (all : List LentJob) (i : ℕ) (d : LentJob) (out new : List ℕ) (turn : Turn) → i < length all →
+    ((more : List ℕ) (after : plain.Database) → IsPlay now (map job_of (drop i all)) more after → IsPlay db (map job_of all) (out ++ more) after) →
+    IsTurn now (job_of (get_or all i d)) turn →
+    new ≡ out ++ reply_bytes (job_of (get_or all i d)).session turn.reply →
+    (more : List ℕ) (after : plain.Database) → IsPlay turn.after (map job_of (drop (i + 1) all)) more after → IsPlay db (map job_of all) (new ++ more) after
+job_done db now all i d out new turn within so_far is made more after play =
+    let cons : drop i all ≡ get_or all i d ∷ drop (i + 1) all = rw (add-one, drop-cons all i d) refl in
+    let from_here : (more : List ℕ) (after : plain.Database) → IsPlay now (job_of (get_or all i d) ∷ map job_of (drop (i + 1) all)) more after → IsPlay db (map job_of all) (out ++ more) after
+    = λ more after p. so_far more after (subst (λ (xs : List LentJob). IsPlay now (map job_of xs) more after) (sym cons) p) in
+    rw made (one_more_turn db now (map job_of all) (map job_of (drop (i + 1) all)) (job_of (get_or all i d)) out turn from_here is more after play)
+
+-- all jobs are done
+pub jobs_done : (db now : plain.Database) (all : List LentJob) (i : ℕ) (out : List ℕ) → length all ≤ i →
+    ((more : List ℕ) (after : plain.Database) → IsPlay now (map job_of (drop i all)) more after → IsPlay db (map job_of all) (out ++ more) after) →
+    IsPlayed db (map job_of all) out
+jobs_done db now all i out past so_far =
+    let none : drop i all ≡ [] = nothing_left all i past in
+    let last = so_far [] now (subst (λ (xs : List LentJob). IsPlay now (map job_of xs) [] now) (sym none) (refl, refl)) in
+    (now, rw append-nil at last)

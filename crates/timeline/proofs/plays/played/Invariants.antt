@@ -1,0 +1,10 @@
+use Rattle.std.proofs.Common.{ℕ, List, ◌++◌, drop, map}
+use Rattle.tl_types.specs.Plain as plain
+use Rattle.tl_types.specs.History.{nothing}
+use Rattle.timeline.specs.Play.{IsPlay}
+use Rattle.timeline.specs.Reading.{job_of}
+use Rattle.timeline.proofs.plays.played.Given as goal
+
+abbrev pub invariant-jobs : goal.invariant-jobs
+invariant-jobs g l =
+    (more : List ℕ) (after : plain.Database) → IsPlay l.tables (map job_of (drop l.job-index l.jobs)) more after → IsPlay nothing (map job_of l.jobs) (l.out.items ++ more) after

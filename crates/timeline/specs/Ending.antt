@@ -1,0 +1,114 @@
+-- What a run leaves outside, and why it ended.
+use Rattle.std.specs.Prelude.{◌≡◌, ℕ, Bool, true, false, List, [], ◌∷◌, ◌++◌, take, codes, Option, Some, Result, Ok, Err, IfSome, IsSome, ◌⊎◌}
+use Rattle.std.specs.Fmt.{decimal}
+use Rattle.tl_types.specs.Names.{same_bytes}
+use Rattle.tl_types.specs.History.{nothing}
+use Rattle.tl_device.specs.Known.{append_known, Rose}
+use Rattle.timeline.specs.declared.statuses.Status.{Status}
+use Rattle.timeline.specs.declared.statuses.Status.TheVariants as status
+use Rattle.timeline.specs.declared.jobs.ScriptFault.{ScriptFault}
+use Rattle.timeline.specs.declared.jobs.ScriptFault.TheVariants as fault
+use Rattle.timeline.specs.Script.{Job, jobs_of}
+use Rattle.timeline.specs.Play.{IsPlayed}
+
+-- the words are those of a command: `run` alone
+abbrev pub are_words : List (List ℕ) → Bool
+are_words [] = false
+are_words (word ∷ []) = same_bytes word (codes "run")
+are_words (word ∷ other ∷ words) = false
+
+-- how many bytes the lines of a script may have
+abbrev pub most_bytes : ℕ
+most_bytes = 67108864
+
+-- the words of a script's fault
+abbrev pub script_fault_words : ScriptFault → List ℕ
+script_fault_words (fault.PhaseTooLong line) = codes "PhaseTooLong " ++ decimal line
+script_fault_words (fault.NotUtf8 line) = codes "NotUtf8 " ++ decimal line
+script_fault_words (fault.NoSession line) = codes "NoSession " ++ decimal line
+script_fault_words (fault.BlockOpen line) = codes "BlockOpen " ++ decimal line
+
+-- the closing lines
+abbrev pub usage_line : List ℕ
+usage_line = codes "! usage\n"
+
+abbrev pub source_line : List ℕ
+source_line = codes "! source\n"
+
+abbrev pub script_line : ScriptFault → List ℕ
+script_line f = codes "! script " ++ (script_fault_words f ++ codes "\n")
+
+-- what the source and the sink tell, and their counts of faults
+pub record Outside : Type 0 where
+  pub left : Option (List ℕ)
+  pub written : Option (List ℕ)
+  pub source_faults : ℕ
+  pub sink_faults : ℕ
+
+-- what a script that is read comes to: the replies to its jobs, from no commits on, or the line of its fault
+abbrev pub IsTranscript : Result (List Job) ScriptFault → List ℕ → Type 0
+IsTranscript (Ok jobs) bytes = IsPlayed nothing jobs bytes
+IsTranscript (Err f) bytes = bytes ≡ script_line f
+
+-- the bytes that a run writes: the line of wrong words; the line of a source that failed; or what the script
+-- comes to
+abbrev pub IsWhole : List (List ℕ) → Outside → Outside → List ℕ → Type 0
+IsWhole words before after bytes =
+    ((are_words words ≡ false) × (bytes ≡ usage_line))
+    ⊎ (((are_words words ≡ true) × Rose before.source_faults after.source_faults × (bytes ≡ source_line))
+    ⊎ ((are_words words ≡ true) × IfSome before.left (λ script. IsTranscript (jobs_of most_bytes script) bytes)))
+
+-- A text is written, and the run ends as it was to; or memory ran out before the first byte; or the sink failed
+-- behind some front of the text. What was written and the count of faults are given before and after.
+abbrev pub Closes : List ℕ → Status → Option (List ℕ) → Option (List ℕ) → ℕ → ℕ → Status → Type 0
+Closes bytes wanted old new before after ended =
+    ((ended ≡ wanted) × (new ≡ append_known old bytes) × (after ≡ before))
+    ⊎ (((ended ≡ status.NoMemory) × (new ≡ old))
+    ⊎ ((ended ≡ status.SinkFault after) × Rose before after × ((n : ℕ) × (new ≡ append_known old (take n bytes)))))
+
+-- how the run of a script that is read ends, and what it writes
+abbrev pub RunsScript : List ℕ → Option (List ℕ) → Option (List ℕ) → ℕ → ℕ → Status → Type 0
+RunsScript script old new before after status.Done =
+    (after ≡ before) × ((bytes : List ℕ) × ((new ≡ append_known old bytes) × ((jobs : List Job) × ((jobs_of most_bytes script ≡ Ok jobs) × IsPlayed nothing jobs bytes))))
+RunsScript script old new before after status.NoMemory = new ≡ old
+RunsScript script old new before after status.Usage = ⊥
+RunsScript script old new before after (status.SourceFault faults) = ⊥
+RunsScript script old new before after (status.SinkFault faults) =
+    (faults ≡ after) × Rose before after × ((bytes : List ℕ) × ((n : ℕ) × (IsTranscript (jobs_of most_bytes script) bytes × (new ≡ append_known old (take n bytes)))))
+RunsScript script old new before after (status.DiskFault faults) = ⊥
+RunsScript script old new before after (status.ScriptFault f) = (jobs_of most_bytes script ≡ Err f) × (new ≡ append_known old (script_line f))
+RunsScript script old new before after (status.NotInitialised len) = ⊥
+RunsScript script old new before after (status.AlreadyInitialised len) = ⊥
+RunsScript script old new before after (status.Damaged at) = ⊥
+
+-- why a run ended so, and what it wrote
+abbrev pub Ends : List (List ℕ) → Outside → Outside → Status → Type 0
+Ends words before after status.Done =
+    (are_words words ≡ true) × IfSome after.left (λ bytes. bytes ≡ []) × (after.source_faults ≡ before.source_faults) × (after.sink_faults ≡ before.sink_faults)
+    × ((bytes : List ℕ) × ((after.written ≡ append_known before.written bytes)
+    × IfSome before.left (λ script. (jobs : List Job) × ((jobs_of most_bytes script ≡ Ok jobs) × IsPlayed nothing jobs bytes))))
+Ends words before after status.NoMemory = after.written ≡ before.written
+Ends words before after status.Usage =
+    (are_words words ≡ false) × (after.left ≡ before.left) × (after.written ≡ append_known before.written usage_line)
+Ends words before after (status.SourceFault faults) =
+    (are_words words ≡ true) × (faults ≡ after.source_faults) × Rose before.source_faults after.source_faults × (after.written ≡ append_known before.written source_line)
+Ends words before after (status.SinkFault faults) =
+    (faults ≡ after.sink_faults) × Rose before.sink_faults after.sink_faults
+    × ((bytes : List ℕ) × ((n : ℕ) × (IsWhole words before after bytes × (after.written ≡ append_known before.written (take n bytes)))))
+Ends words before after (status.DiskFault faults) = ⊥
+Ends words before after (status.ScriptFault f) =
+    (are_words words ≡ true) × IfSome before.left (λ script. jobs_of most_bytes script ≡ Err f) × (after.written ≡ append_known before.written (script_line f))
+Ends words before after (status.NotInitialised len) = ⊥
+Ends words before after (status.AlreadyInitialised len) = ⊥
+Ends words before after (status.Damaged at) = ⊥
+
+-- the run is done, or memory ran out
+abbrev pub IsDoneOrNoMemory : Status → Type 0
+IsDoneOrNoMemory ended = (ended ≡ status.Done) ⊎ (ended ≡ status.NoMemory)
+
+-- Completeness: with the words of a command, a script without a fault and no count that rises, a run is done,
+-- unless memory runs out.
+abbrev pub Completes : List (List ℕ) → Outside → Outside → Status → Type 0
+Completes words before after ended =
+    are_words words ≡ true → ((script : List ℕ) → before.left ≡ Some script → (jobs : List Job) × (jobs_of most_bytes script ≡ Ok jobs)) → IsSome before.left
+    → (Rose before.source_faults after.source_faults → ⊥) → (Rose before.sink_faults after.sink_faults → ⊥) → IsDoneOrNoMemory ended

@@ -1,0 +1,9 @@
+pub mod Block
+pub mod Ending
+pub mod Keys
+pub mod Known
+pub mod Play
+pub mod Reading
+pub mod Replies
+pub mod Script
+pub mod Status

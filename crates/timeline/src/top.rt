@@ -1,0 +1,166 @@
+//! The top call: the whole of what the program does.
+ghost use Rattle.std.specs.Prelude.{◌≡◌, ℕ, ◌≤◌, Some, None, Ok, Err, IfOk, OnOk, OnErr, IfErr, MatchResult, map, length, take, true, false, Bool, codes};
+ghost use Rattle.std.specs.String.{string_bytes};
+ghost use Rattle.tl_types.specs.History.{nothing};
+ghost use Rattle.tl_device.specs.Known.{append_known, HasRoom, Rose};
+ghost use Rattle.timeline.specs.Ending.{are_words, most_bytes, script_fault_words, usage_line, source_line, script_line, Outside, IsTranscript, IsWhole, Closes, RunsScript, Ends, Completes};
+ghost use Rattle.timeline.specs.Script.{jobs_of};
+ghost use Rattle.timeline.specs.declared.statuses.Status.TheVariants as status;
+
+use crate::jobs::{ScriptError, ScriptFault};
+use crate::plays::played;
+use crate::scripts::read_jobs;
+use crate::statuses::Status;
+use std::alloc::{AllocError, Global};
+use std::sync::Wait;
+use std::thread::Threads;
+use tl_device::{Disk, Failed, Gate, ReadError, Sink, Source, read_all, write_all};
+
+// How many bytes the lines of a script may have.
+const MOST_BYTES: u64 = 67_108_864;
+
+/// How a run ended, and the disk that it was given.
+#[derive(Debug, Drop)]
+pub struct Ending<D> {
+    /// How it ended.
+    pub status: Status,
+    /// The disk.
+    pub disk: D,
+}
+
+fn are_words(words: &[String]) -> bool
+    ensures { result ≡ are_words (map (λ w. string_bytes w) words.now) }
+{
+    match words {
+        [word] => word.as_str() == "run",
+        _ => false,
+    }
+}
+
+fn script_fault_words(alloc: Global, fault: &ScriptFault) -> Result<String, AllocError>
+    ensures { IfOk result (λ text. string_bytes text ≡ script_fault_words fault.now) }
+{
+    match fault {
+        ScriptFault::PhaseTooLong { line } => format!(in alloc; "PhaseTooLong {line}"),
+        ScriptFault::NotUtf8 { line } => format!(in alloc; "NotUtf8 {line}"),
+        ScriptFault::NoSession { line } => format!(in alloc; "NoSession {line}"),
+        ScriptFault::BlockOpen { line } => format!(in alloc; "BlockOpen {line}"),
+    }
+}
+
+fn script_line(alloc: Global, fault: &ScriptFault) -> Result<String, AllocError>
+    ensures { IfOk result (λ text. string_bytes text ≡ script_line fault.now) }
+{
+    let words = script_fault_words(alloc, fault)?;
+    format!(in alloc; "! script {words}\n")
+}
+
+// Writes bytes, for which room is taken first, and ends the run as it was to.
+fn closed<K: Sink>(sink: &mut K, bytes: &[u8], wanted: Status) -> Status
+    ensures { Closes bytes.now wanted (K.written sink.old) (K.written sink.new) (K.faults sink.old) (K.faults sink.new) result }
+{
+    if sink.room(bytes.len() as u64).is_err() {
+        return Status::NoMemory;
+    }
+    match write_all(sink, bytes) {
+        Ok(()) => wanted,
+        Err(Failed) => Status::SinkFault {
+            faults: sink.faults(),
+        },
+    }
+}
+
+// Ends the run for a fault of its script.
+fn refused<K: Sink>(alloc: Global, sink: &mut K, fault: ScriptFault) -> Status
+    ensures { Closes (script_line fault) (status.ScriptFault fault) (K.written sink.old) (K.written sink.new) (K.faults sink.old) (K.faults sink.new) result }
+{
+    match script_line(alloc, &fault) {
+        Ok(line) => closed(sink, line.as_bytes(), Status::ScriptFault(fault)),
+        Err(_) => Status::NoMemory,
+    }
+}
+
+// Runs a script that is read.
+fn run_script<K: Sink, G: Gate>(alloc: Global, script: &[u8], sink: &mut K, gate: &G) -> Status
+    ensures { RunsScript script.now (K.written sink.old) (K.written sink.new) (K.faults sink.old) (K.faults sink.new) result }
+{
+    match read_jobs(alloc, script, MOST_BYTES) {
+        Err(ScriptError::NoMemory) => Status::NoMemory,
+        Err(ScriptError::Fault(fault)) => refused(alloc, sink, fault),
+        Ok(jobs) => match played(alloc, jobs.as_slice(), gate) {
+            Ok(replies) => closed(sink, replies.as_slice(), Status::Done),
+            Err(_) => Status::NoMemory,
+        },
+    }
+}
+
+fn run<S: Source, K: Sink, G: Gate>(
+    alloc: Global,
+    words: &[String],
+    source: &mut S,
+    sink: &mut K,
+    gate: &G,
+) -> Status
+    ensures { Ends (map (λ w. string_bytes w) words.now)
+        (record { left = S.left source.old; written = K.written sink.old; source_faults = S.faults source.old; sink_faults = K.faults sink.old })
+        (record { left = S.left source.new; written = K.written sink.new; source_faults = S.faults source.new; sink_faults = K.faults sink.new })
+        result }
+{
+    if !are_words(words) {
+        return closed(sink, b"! usage\n".as_slice(), Status::Usage);
+    }
+    match read_all(alloc, source) {
+        Err(ReadError::NoMemory) => Status::NoMemory,
+        Err(ReadError::Source { faults }) => {
+            closed(
+                sink,
+                b"! source\n".as_slice(),
+                Status::SourceFault { faults },
+            )
+        }
+        Ok(script) => run_script(alloc, script.as_slice(), sink, gate),
+    }
+}
+
+/// All that the program does: it reads a script from the source, runs its statements over the tables of one
+/// history, which begins with no commits, and writes one reply for each to the sink. It hands the disk back as it
+/// was.
+///
+/// `words` are the words after the program's name; the one command is `run`. The statuses:
+/// - `Done`: the script was read to its end, and the bytes written are the replies to its jobs, in order.
+/// - `NoMemory`: memory ran out, and nothing is written.
+/// - `Usage`: exactly where the words are no command. The source is not read, and `! usage` is written.
+/// - `SourceFault`: only where the source's count of faults rose in this call; `! source` is written.
+/// - `SinkFault`: only where the sink's count of faults rose in this call; what is written is a front of the
+///   bytes that the run was to write.
+/// - `ScriptFault`: exactly where the script has that fault. No statement is run, and `! script` and the fault's
+///   words are written.
+///
+/// The others do not come yet. With the words of a command, a script without a fault and no count that rises, the
+/// status is `Done` or `NoMemory`. The call waits for nobody; `rt` and its leave to wait are there for the
+/// sessions to come.
+#[tactic(auto, using(crate::proofs::TopLemmas::ends_complete))]
+pub fn timeline<R: Threads + Wait + Sync, S: Source, K: Sink, D: Disk + Send, G: Gate>(
+    _rt: &R,
+    alloc: Global,
+    words: &[String],
+    source: &mut S,
+    sink: &mut K,
+    disk: D,
+    gate: &G,
+) -> Ending<D>
+    ensures ends { Ends (map (λ w. string_bytes w) words.now)
+        (record { left = S.left source.old; written = K.written sink.old; source_faults = S.faults source.old; sink_faults = K.faults sink.old })
+        (record { left = S.left source.new; written = K.written sink.new; source_faults = S.faults source.new; sink_faults = K.faults sink.new })
+        result.status }
+    ensures complete { Completes (map (λ w. string_bytes w) words.now)
+        (record { left = S.left source.old; written = K.written sink.old; source_faults = S.faults source.old; sink_faults = K.faults sink.old })
+        (record { left = S.left source.new; written = K.written sink.new; source_faults = S.faults source.new; sink_faults = K.faults sink.new })
+        result.status }
+    ensures disk { result.disk ≡ disk }
+{
+    Ending {
+        status: run(alloc, words, source, sink, gate),
+        disk,
+    }
+}

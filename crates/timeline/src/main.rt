@@ -10,6 +10,8 @@ mod replies;
 mod resolving;
 mod scripts;
 mod statuses;
+#[cfg(test)]
+mod tests;
 mod top;
 
 use std::alloc::AllocError;

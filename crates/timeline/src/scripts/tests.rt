@@ -15,7 +15,10 @@ fn jobs_of_a_script(rt: HostRuntime) -> Result<(), Fail> {
     ];
     assert_eq!(rt; jobs.len(), expected.len());
     for (job, (line, text, block)) in jobs.iter().zip(expected) {
-        assert_eq!(rt; *job, Job { line, text, block });
+        assert_eq!(rt; job.session, b"a".as_slice());
+        assert_eq!(rt; job.line, line);
+        assert_eq!(rt; job.text, text);
+        assert_eq!(rt; job.block, block);
     }
     Ok(())
 }

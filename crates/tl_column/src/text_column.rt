@@ -1,0 +1,128 @@
+// A column of texts.
+ghost use Rattle.std.specs.Prelude.{◌≡◌, ℕ, ◌+◌, ◌<◌, ◌^◌, ◌++◌, [], Some, false, length, fold, slice_index_or, IfOk, IfSome, IsNone, ◌↔◌};
+ghost use Rattle.tl_column.specs.Dictionary.{text_of, contains_text, code_in, with_text, dictionary_of, texts_of, AreCodes};
+
+use crate::dictionary::Dictionary;
+use std::alloc::Global;
+use std::marker::Model;
+use tl_shared::{Shareable, SharedList};
+use tl_types::{NoMemory, Text};
+
+/// A column of texts. Contracts see it as the list of its cells.
+///
+/// Each distinct text has a code, its number among the distinct texts in the order of first appearance,
+/// counted from 0.
+#[derive(Drop)]
+pub struct TextColumn {
+    codes: SharedList<u32>,
+    dictionary: Dictionary,
+}
+
+impl Model for TextColumn {
+    ghost use Rattle.std.specs.Prelude.{List, ℕ};
+    ghost use Rattle.tl_column.specs.Dictionary.{texts_of, IsCoded};
+
+    ghost Value = { List (List ℕ) };
+
+    ghost view = { λ c. texts_of c.dictionary c.codes };
+
+    ghost invariant = { λ c. IsCoded c.dictionary c.codes };
+}
+
+impl TextColumn {
+    /// The column of no cells. `alloc` is the memory that it will take, none as yet.
+    pub fn none(alloc: Global) -> TextColumn
+        ensures { result ≡ [] }
+    {
+        TextColumn {
+            codes: SharedList::none(alloc),
+            dictionary: Dictionary::none(alloc),
+        }
+    }
+
+    /// How many cells there are.
+    pub fn len(&self) -> u64
+        ensures { result ≡ length self.now }
+    {
+        self.codes.len()
+    }
+
+    /// The column followed by `cells`. It shares with this one, which stays as it was. `NoMemory` comes
+    /// only for want of memory.
+    pub fn push_all(&self, alloc: Global, cells: &[Text]) -> Result<TextColumn, NoMemory>
+        requires { length self.now + length cells.now < 2 ^ 32 }
+        ensures { IfOk result (λ column. column ≡ self.now ++ cells.now) }
+    {
+        let (dictionary, codes) = coded(alloc, self.dictionary.share(alloc)?, cells)?;
+        Ok(TextColumn {
+            codes: self.codes.push_all(alloc, codes.as_slice())?,
+            dictionary: dictionary.settle(alloc)?,
+        })
+    }
+
+    /// The cell of row `row`, counted from 0.
+    pub fn at(&self, row: u32) -> &str
+        requires { row < length self.now }
+        ensures { result.now ≡ slice_index_or self.now row [] }
+    {
+        self.dictionary.text(*self.codes.at(row as u64))
+    }
+
+    /// The code of a text, none where no cell is the text.
+    pub fn code_of(&self, text: &str) -> Option<u32>
+        ensures code { result ≡ code_in (dictionary_of self.now) text.now }
+        ensures text { IfSome result (λ code. text_of (dictionary_of self.now) code ≡ text.now) }
+        ensures absent { IsNone result ↔ (contains_text self.now text.now ≡ false) }
+    {
+        self.dictionary.code(text)
+    }
+
+    /// The code of the cell of row `row`, counted from 0.
+    pub fn code_at(&self, row: u32) -> u32
+        requires { row < length self.now }
+        ensures code { Some result ≡ code_in (dictionary_of self.now) (slice_index_or self.now row []) }
+        ensures text { text_of (dictionary_of self.now) result ≡ slice_index_or self.now row [] }
+        ensures valid { result < length (dictionary_of self.now) }
+    {
+        *self.codes.at(row as u64)
+    }
+
+    /// The text of a code.
+    pub fn text_of(&self, code: u32) -> &str
+        requires { code < length (dictionary_of self.now) }
+        ensures text { result.now ≡ text_of (dictionary_of self.now) code }
+        ensures code { code_in (dictionary_of self.now) result.now ≡ Some code }
+    {
+        self.dictionary.text(code)
+    }
+}
+
+impl Shareable for TextColumn {
+    fn share(&self, alloc: Global) -> Result<TextColumn, NoMemory> {
+        Ok(TextColumn {
+            codes: self.codes.share(alloc)?,
+            dictionary: self.dictionary.share(alloc)?,
+        })
+    }
+}
+
+// The dictionary with the texts of some cells, and the code of each cell.
+fn coded(
+    alloc: Global,
+    dictionary: Dictionary,
+    cells: &[Text],
+) -> Result<(Dictionary, Vec<u32>), NoMemory>
+    requires { length dictionary + length cells.now < 2 ^ 32 }
+    ensures dictionary { IfOk result (λ pair. pair.0 ≡ fold with_text dictionary cells.now) }
+    ensures cells { IfOk result (λ pair. texts_of pair.0 pair.1.items ≡ cells.now) }
+    ensures valid { IfOk result (λ pair. AreCodes pair.0 pair.1.items) }
+{
+    let mut dictionary = dictionary;
+    let mut codes = Vec::with_capacity(alloc, cells.len())?;
+    'coding: for cell in cells {
+        let (next, code) = dictionary.with(alloc, cell)?;
+        dictionary = next;
+        codes.push(code)?;
+    }
+    Ok((dictionary, codes))
+}

@@ -5,6 +5,7 @@ use Rattle.std.specs.Option.{ForSome}
 use Rattle.std.specs.Int.{IsNonNegative}
 use Rattle.tl_types.specs.Names.{is_name}
 use Rattle.tl_query.specs.declared.forms.ColumnForm.{ColumnForm}
+use Rattle.tl_query.specs.declared.forms.Pred.{Pred}
 use Rattle.tl_query.specs.declared.forms.Stamp.{Stamp}
 use Rattle.tl_query.specs.declared.forms.Query.TheVariants as query
 use Rattle.tl_query.specs.declared.forms.Statement.{Statement}
@@ -33,7 +34,9 @@ ready_by text (statement.Create f) spelled h =
     record { name = h.0.named; columns = columns_named f.columns h.1; some = spelled.spelled.0.some; few = spelled.spelled.0.few }
 ready_by text (statement.Put n) spelled h = tt
 ready_by text (statement.Remove n) spelled h = spelled.spelled
-ready_by text (statement.Ask (query.Select f)) spelled h = version_ready f.as_of h.2
+ready_by text (statement.Ask (query.Select f)) spelled h =
+    let bare = spelled.spelled.0 in
+    ((bare.plain, ap (λ (p : Pred). p.any) bare.untested, bare.timeless), version_ready f.as_of h.2)
 ready_by text (statement.Ask (query.Agg f)) spelled h = spelled.spelled
 ready_by text (statement.Ask (query.Join f)) spelled h = spelled.spelled
 

@@ -1,32 +1,10 @@
 -- How a run ends.
-use Rattle.std.proofs.Common.{◌≡◌, ℕ, true, false, List, Option, Some, None, Result, Ok, Err, IfSome, IsSome, refl, sym, ◌∙◌, subst, inl, inr}
-use Rattle.tl_types.specs.History.{nothing}
+use Rattle.std.proofs.Common.{◌≡◌, ℕ, true, false, List, Option, Some, None, Ok, Err, IfSome, IsSome, refl, sym, ◌∙◌, inl, inr}
 use Rattle.timeline.specs.declared.statuses.Status.{Status}
 use Rattle.timeline.specs.declared.statuses.Status.TheVariants as status
 use Rattle.timeline.specs.declared.jobs.ScriptFault.{ScriptFault}
 use Rattle.timeline.specs.Script.{Job, jobs_of}
-use Rattle.timeline.specs.Play.{IsPlayed}
-use Rattle.timeline.specs.Ending.{are_words, most_bytes, script_line, Outside, IsTranscript, Closes, RunsScript, Ends, Completes}
-
--- the run of a script without a fault
-pub done_runs : (script : List ℕ) (jobs : List Job) (bytes : List ℕ) (old new : Option (List ℕ)) (before after : ℕ) (ended : Status) → jobs_of most_bytes script ≡ Ok jobs → IsPlayed nothing jobs bytes → Closes bytes status.Done old new before after ended → RunsScript script old new before after ended
-done_runs script jobs bytes old new before after ended found played (inl h) =
-    subst (RunsScript script old new before after) (sym h.0) (h.2, (bytes, (h.1, (jobs, (found, played)))))
-done_runs script jobs bytes old new before after ended found played (inr (inl h)) =
-    subst (RunsScript script old new before after) (sym h.0) h.1
-done_runs script jobs bytes old new before after ended found played (inr (inr h)) =
-    let told : IsTranscript (jobs_of most_bytes script) bytes = subst (λ (r : Result (List Job) ScriptFault). IsTranscript r bytes) (sym found) played in
-    subst (RunsScript script old new before after) (sym h.0) (refl, h.1, (bytes, (h.2.0, (told, h.2.1))))
-
--- the run of a script with a fault
-pub refused_runs : (script : List ℕ) (fault : ScriptFault) (old new : Option (List ℕ)) (before after : ℕ) (ended : Status) → jobs_of most_bytes script ≡ Err fault → Closes (script_line fault) (status.ScriptFault fault) old new before after ended → RunsScript script old new before after ended
-refused_runs script fault old new before after ended found (inl h) =
-    subst (RunsScript script old new before after) (sym h.0) (found, h.1)
-refused_runs script fault old new before after ended found (inr (inl h)) =
-    subst (RunsScript script old new before after) (sym h.0) h.1
-refused_runs script fault old new before after ended found (inr (inr h)) =
-    let told : IsTranscript (jobs_of most_bytes script) (script_line fault) = subst (λ (r : Result (List Job) ScriptFault). IsTranscript r (script_line fault)) (sym found) refl in
-    subst (RunsScript script old new before after) (sym h.0) (refl, h.1, (script_line fault, (h.2.0, (told, h.2.1))))
+use Rattle.timeline.specs.Ending.{are_words, most_bytes, Outside, Ends, Completes}
 
 -- COMPLETENESS
 

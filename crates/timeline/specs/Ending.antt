@@ -54,29 +54,29 @@ IsTranscript (Err f) bytes = bytes ≡ script_line f
 -- comes to
 abbrev pub IsWhole : List (List ℕ) → Outside → Outside → List ℕ → Type 0
 IsWhole words before after bytes =
-    ((are_words words ≡ false) × (bytes ≡ usage_line))
+    ((are_words words ≡ false) × (after.left ≡ before.left) × (after.source_faults ≡ before.source_faults) × (bytes ≡ usage_line))
     ⊎ (((are_words words ≡ true) × Rose before.source_faults after.source_faults × (bytes ≡ source_line))
-    ⊎ ((are_words words ≡ true) × IfSome before.left (λ script. IsTranscript (jobs_of most_bytes script) bytes)))
+    ⊎ ((are_words words ≡ true) × (after.source_faults ≡ before.source_faults) × IfSome before.left (λ script. IsTranscript (jobs_of most_bytes script) bytes)))
 
 -- A text is written, and the run ends as it was to; or memory ran out before the first byte; or the sink failed
 -- behind some front of the text. What was written and the count of faults are given before and after.
 abbrev pub Closes : List ℕ → Status → Option (List ℕ) → Option (List ℕ) → ℕ → ℕ → Status → Type 0
 Closes bytes wanted old new before after ended =
     ((ended ≡ wanted) × (new ≡ append_known old bytes) × (after ≡ before))
-    ⊎ (((ended ≡ status.NoMemory) × (new ≡ old))
+    ⊎ (((ended ≡ status.NoMemory) × (new ≡ old) × (after ≡ before))
     ⊎ ((ended ≡ status.SinkFault after) × Rose before after × ((n : ℕ) × (new ≡ append_known old (take n bytes)))))
 
 -- how the run of a script that is read ends, and what it writes
 abbrev pub RunsScript : List ℕ → Option (List ℕ) → Option (List ℕ) → ℕ → ℕ → Status → Type 0
 RunsScript script old new before after status.Done =
     (after ≡ before) × ((bytes : List ℕ) × ((new ≡ append_known old bytes) × ((jobs : List Job) × ((jobs_of most_bytes script ≡ Ok jobs) × IsPlayed nothing jobs bytes))))
-RunsScript script old new before after status.NoMemory = new ≡ old
+RunsScript script old new before after status.NoMemory = (new ≡ old) × (after ≡ before)
 RunsScript script old new before after status.Usage = ⊥
 RunsScript script old new before after (status.SourceFault faults) = ⊥
 RunsScript script old new before after (status.SinkFault faults) =
     (faults ≡ after) × Rose before after × ((bytes : List ℕ) × ((n : ℕ) × (IsTranscript (jobs_of most_bytes script) bytes × (new ≡ append_known old (take n bytes)))))
 RunsScript script old new before after (status.DiskFault faults) = ⊥
-RunsScript script old new before after (status.ScriptFault f) = (jobs_of most_bytes script ≡ Err f) × (new ≡ append_known old (script_line f))
+RunsScript script old new before after (status.ScriptFault f) = (jobs_of most_bytes script ≡ Err f) × (new ≡ append_known old (script_line f)) × (after ≡ before)
 RunsScript script old new before after (status.NotInitialised len) = ⊥
 RunsScript script old new before after (status.AlreadyInitialised len) = ⊥
 RunsScript script old new before after (status.Damaged at) = ⊥
@@ -87,17 +87,20 @@ Ends words before after status.Done =
     (are_words words ≡ true) × IfSome after.left (λ bytes. bytes ≡ []) × (after.source_faults ≡ before.source_faults) × (after.sink_faults ≡ before.sink_faults)
     × ((bytes : List ℕ) × ((after.written ≡ append_known before.written bytes)
     × IfSome before.left (λ script. (jobs : List Job) × ((jobs_of most_bytes script ≡ Ok jobs) × IsPlayed nothing jobs bytes))))
-Ends words before after status.NoMemory = after.written ≡ before.written
+Ends words before after status.NoMemory = (after.written ≡ before.written) × (after.sink_faults ≡ before.sink_faults)
 Ends words before after status.Usage =
-    (are_words words ≡ false) × (after.left ≡ before.left) × (after.written ≡ append_known before.written usage_line)
+    (are_words words ≡ false) × (after.left ≡ before.left) × (after.source_faults ≡ before.source_faults) × (after.sink_faults ≡ before.sink_faults)
+    × (after.written ≡ append_known before.written usage_line)
 Ends words before after (status.SourceFault faults) =
-    (are_words words ≡ true) × (faults ≡ after.source_faults) × Rose before.source_faults after.source_faults × (after.written ≡ append_known before.written source_line)
+    (are_words words ≡ true) × (faults ≡ after.source_faults) × Rose before.source_faults after.source_faults × (after.sink_faults ≡ before.sink_faults)
+    × (after.written ≡ append_known before.written source_line)
 Ends words before after (status.SinkFault faults) =
     (faults ≡ after.sink_faults) × Rose before.sink_faults after.sink_faults
     × ((bytes : List ℕ) × ((n : ℕ) × (IsWhole words before after bytes × (after.written ≡ append_known before.written (take n bytes)))))
 Ends words before after (status.DiskFault faults) = ⊥
 Ends words before after (status.ScriptFault f) =
-    (are_words words ≡ true) × IfSome before.left (λ script. jobs_of most_bytes script ≡ Err f) × (after.written ≡ append_known before.written (script_line f))
+    (are_words words ≡ true) × IfSome before.left (λ script. jobs_of most_bytes script ≡ Err f) × (after.source_faults ≡ before.source_faults) × (after.sink_faults ≡ before.sink_faults)
+    × (after.written ≡ append_known before.written (script_line f))
 Ends words before after (status.NotInitialised len) = ⊥
 Ends words before after (status.AlreadyInitialised len) = ⊥
 Ends words before after (status.Damaged at) = ⊥

@@ -7,7 +7,7 @@ use Rattle.tl_types.specs.Plain as plain
 use Rattle.tl_query.specs.declared.forms.Query.TheVariants as query
 use Rattle.tl_query.specs.declared.forms.Statement.{Statement}
 use Rattle.tl_query.specs.declared.forms.Statement.TheVariants as statement
-use Rattle.tl_query.specs.Checking.{IsWellNamed}
+use Rattle.tl_query.specs.Checking.{IsBareSelect, IsWellNamed}
 
 -- the number and the schema of a table
 abbrev pub known : Option (ℕ × Bor plain.Schema) → Option (ℕ × plain.Schema)
@@ -20,6 +20,6 @@ abbrev pub IsReady : Statement → Type 0
 IsReady (statement.Create form) = IsWellNamed form
 IsReady (statement.Put name) = Unit {0}
 IsReady (statement.Remove name) = ⊥
-IsReady (statement.Ask (query.Select form)) = ForSome form.as_of (λ stamp. IsNonNegative stamp.value)
+IsReady (statement.Ask (query.Select form)) = IsBareSelect form × ForSome form.as_of (λ stamp. IsNonNegative stamp.value)
 IsReady (statement.Ask (query.Agg form)) = ⊥
 IsReady (statement.Ask (query.Join form)) = ⊥

@@ -175,14 +175,17 @@ fn version_of(now: u32, asked: Option<Stamp>) -> u32
 }
 
 /// The question by numbers at `now` commits, over the table that its name means if it means one, or its first
-/// fault: the one that stands furthest to the left.
+/// fault: the one that stands furthest to the left. `UnknownTable` stands at the table's name; `UnknownColumn` at
+/// an item that the known table lacks; `VersionAhead` at a version after the last commit. `NoMemory` is want of
+/// memory. The form is one of the language as it is: named items, no predicate, no valid time.
 pub fn check_select(
     alloc: Global,
     now: u32,
     table: Option<(u16, &Schema)>,
     form: &SelectForm,
 ) -> Result<Typed, CheckFault>
-    requires { ForSome form.now.as_of (λ stamp. IsNonNegative stamp.value) }
+    requires bare { IsBareSelect form.now }
+    requires positive { ForSome form.now.as_of (λ stamp. IsNonNegative stamp.value) }
     ensures { IsUnlessMemory result (checked_select now (known table.entry) form.now) }
 {
     match (select_fault(now, table, form), table) {
@@ -276,7 +279,9 @@ fn schema_of(alloc: Global, form: &CreateForm) -> Result<Schema, AllocError>
     Ok(made_schema(form.name.text.clone()?, columns, key, form.valid))
 }
 
-/// The schema of a new table, or its first fault: the one that stands furthest to the left.
+/// The schema of a new table, or its first fault: the one that stands furthest to the left, and at one place the
+/// one of the lesser number. `ColumnTwice` stands at the second of two columns of one name, `UnknownColumn` at a key
+/// that is no column. `NoMemory` is want of memory.
 pub fn check_create(alloc: Global, form: &CreateForm) -> Result<Schema, CheckFault>
     requires { IsWellNamed form.now }
     ensures { IsUnlessMemory result (checked_create form.now) }

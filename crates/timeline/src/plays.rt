@@ -10,7 +10,7 @@ ghost use Rattle.tl_types.specs.Resolving.{find_table, resolved};
 ghost use Rattle.tl_types.specs.declared.batches.Batch.TheVariants as batch;
 ghost use Rattle.tl_types.specs.declared.batches.BatchFault.TheVariants as batch_fault;
 ghost use Rattle.tl_query.specs.Answers.{answer_of};
-ghost use Rattle.tl_query.specs.Checking.{IsWellNamed, table_named, checked_create, checked_select};
+ghost use Rattle.tl_query.specs.Checking.{IsBareSelect, IsWellNamed, table_named, checked_create, checked_select};
 ghost use Rattle.tl_query.specs.Texts.{Spells, IsFault};
 ghost use Rattle.timeline.specs.Block.{rows_of_block, AreRowsFor};
 ghost use Rattle.timeline.specs.Keys.{resolved_rows};
@@ -132,7 +132,8 @@ fn table_named<'a>(tables: &'a Tables, name: &Name) -> Option<(u16, &'a Schema)>
 }
 
 fn ask(alloc: Global, tables: &Tables, form: &SelectForm) -> Result<Reply, AllocError>
-    requires { ForSome form.now.as_of (λ stamp. IsNonNegative stamp.value) }
+    requires bare { IsBareSelect form.now }
+    requires positive { ForSome form.now.as_of (λ stamp. IsNonNegative stamp.value) }
     ensures { IfOk result (λ reply. record { reply = reply; after = tables.now }
         ≡ asked tables.now (checked_select tables.now.version (table_named tables.now form.now.table) form.now)) }
 {

@@ -112,7 +112,7 @@ fn scripts_and_their_replies(rt: HostRuntime) -> Result<(), Fail> {
         (
             "a> SELECT x FROM t AS OF 9223372036854775808",
             0,
-            "a @0 ! NumberTooLarge 25\n",
+            "a @0 ! NumberTooLarge 22\n",
         ),
     ];
     for (script, expected, replies) in cases {

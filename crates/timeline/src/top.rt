@@ -101,7 +101,8 @@ fn run<S: Source, K: Sink, G: Gate>(
     sink: &mut K,
     gate: &G,
 ) -> Status
-    ensures { Ends (map (λ w. string_bytes w) words.now)
+    ensures unread { are_words (map (λ w. string_bytes w) words.now) ≡ false → source.new ≡ source.old }
+    ensures ends { Ends (map (λ w. string_bytes w) words.now)
         (record { left = S.left source.old; written = K.written sink.old; source_faults = S.faults source.old; sink_faults = K.faults sink.old })
         (record { left = S.left source.new; written = K.written sink.new; source_faults = S.faults source.new; sink_faults = K.faults sink.new })
         result }
@@ -129,12 +130,13 @@ fn run<S: Source, K: Sink, G: Gate>(
 /// `words` are the words after the program's name; the one command is `run`. The statuses:
 /// - `Done`: the script was read to its end, and the bytes written are the replies to its jobs, in order.
 /// - `NoMemory`: memory ran out, and nothing is written.
-/// - `Usage`: exactly where the words are no command. The source is not read, and `! usage` is written.
+/// - `Usage`: where the words are no command; then no other comes but `NoMemory` and `SinkFault`. Nothing is taken
+///   from the source, and `! usage` is written.
 /// - `SourceFault`: only where the source's count of faults rose in this call; `! source` is written.
 /// - `SinkFault`: only where the sink's count of faults rose in this call; what is written is a front of the
 ///   bytes that the run was to write.
-/// - `ScriptFault`: exactly where the script has that fault. No statement is run, and `! script` and the fault's
-///   words are written.
+/// - `ScriptFault`: where the script has that fault; then no other comes but `NoMemory`, `SourceFault` and
+///   `SinkFault`. No statement is run, and `! script` and the fault's words are written.
 ///
 /// The others do not come yet. With the words of a command, a script without a fault and no count that rises, the
 /// status is `Done` or `NoMemory`. The call waits for nobody; `rt` and its leave to wait are there for the
@@ -157,6 +159,7 @@ pub fn timeline<R: Threads + Wait + Sync, S: Source, K: Sink, D: Disk + Send, G:
         (record { left = S.left source.old; written = K.written sink.old; source_faults = S.faults source.old; sink_faults = K.faults sink.old })
         (record { left = S.left source.new; written = K.written sink.new; source_faults = S.faults source.new; sink_faults = K.faults sink.new })
         result.status }
+    ensures unread { are_words (map (λ w. string_bytes w) words.now) ≡ false → source.new ≡ source.old }
     ensures disk { result.disk ≡ disk }
 {
     Ending {

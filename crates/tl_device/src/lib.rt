@@ -1,6 +1,7 @@
 // The outside of the engine: where bytes come from (a source), where they go (a sink), what is kept (a disk), and a
-// gate that calls pass. Each has a form in memory that says what it holds, one that never fails, and, for sources and
-// sinks, an adapter over std. A call answers `Failed` only where the object's count of faults rose in that call.
+// gate that calls pass. Sources and sinks have a form in memory that fails where it is told to, one that never
+// fails, and an adapter over std; disks have one in memory that never fails. A call answers `Failed` only where the
+// object's count of faults rose in that call.
 #![tactic(auto)]
 
 mod calls;

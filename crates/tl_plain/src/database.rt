@@ -97,8 +97,7 @@ impl Tables {
             && fits_body(self.tables.as_slice(), &commit.body, limits)
     }
 
-    /// Applies a commit that fits, which takes as many turns as it closes and opens rows. The error is want of
-    /// memory, and leaves the tables as they were.
+    /// Applies a commit that fits. The error is want of memory, and leaves the tables as they were.
     pub fn apply(&mut self, alloc: Global, commit: &Commit) -> Result<(), NoMemory>
         requires { IsTrue (fits standard_limits self.old commit.now) }
         ensures ok { OnOk result (self.new ≡ after_commit self.old commit.now) }

@@ -38,14 +38,16 @@ impl Period {
 
     /// The first valid time of the period.
     pub fn from(&self) -> i64
-        ensures { result ≡ self.now.from }
+        ensures value { result ≡ self.now.from }
+        ensures some { self.now.from <ℤ self.now.to }
     {
         self.from
     }
 
     /// The valid time at which the period has ended.
     pub fn to(&self) -> i64
-        ensures { result ≡ self.now.to }
+        ensures value { result ≡ self.now.to }
+        ensures some { self.now.from <ℤ self.now.to }
     {
         self.to
     }

@@ -1,5 +1,6 @@
 pub mod BlockLemmas
 pub mod CheckingLemmas
+pub mod FrontLemmas
 pub mod KeyLemmas
 pub mod ListLemmas
 pub mod PlayLemmas

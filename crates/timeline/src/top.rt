@@ -14,7 +14,7 @@ use crate::statuses::Status;
 use std::alloc::{AllocError, Global};
 use std::sync::Wait;
 use std::thread::Threads;
-use tl_device::{Disk, Failed, Gate, ReadError, Sink, Source, read_all, write_all};
+use tl_device::{Disk, Failed, Gate, ReadError, Sink, Source, read_front, write_all};
 
 // How many bytes the lines of a script may have.
 const MOST_BYTES: u64 = 67_108_864;
@@ -94,6 +94,7 @@ fn run_script<K: Sink, G: Gate>(alloc: Global, script: &[u8], sink: &mut K, gate
     }
 }
 
+#[tactic(auto, using(crate::proofs::FrontLemmas::front_ends))]
 fn run<S: Source, K: Sink, G: Gate>(
     alloc: Global,
     words: &[String],
@@ -110,7 +111,7 @@ fn run<S: Source, K: Sink, G: Gate>(
     if !are_words(words) {
         return closed(sink, b"! usage\n".as_slice(), Status::Usage);
     }
-    match read_all(alloc, source) {
+    match read_front(alloc, source, MOST_BYTES) {
         Err(ReadError::NoMemory) => Status::NoMemory,
         Err(ReadError::Source { faults }) => {
             closed(
@@ -128,7 +129,8 @@ fn run<S: Source, K: Sink, G: Gate>(
 /// was.
 ///
 /// `words` are the words after the program's name; the one command is `run`. The statuses:
-/// - `Done`: the script was read to its end, and the bytes written are the replies to its jobs, in order.
+/// - `Done`: the script was read to its end, and the bytes written are the replies to its jobs, in order. Of a
+///   longer script than may be, no more is read than that takes and 65,536 bytes.
 /// - `NoMemory`: memory ran out, and nothing is written.
 /// - `Usage`: where the words are no command; then no other comes but `NoMemory` and `SinkFault`. Nothing is taken
 ///   from the source, and `! usage` is written.

@@ -1,5 +1,5 @@
 -- What reading to the end of input answers.
-use Rattle.std.specs.Prelude.{◌≡◌, ℕ}
+use Rattle.std.specs.Prelude.{◌≡◌, ℕ, ◌<◌, ◌⊎◌, IfSome, Option, List, [], length}
 use Rattle.tl_device.specs.declared.whole.ReadError.{ReadError}
 use Rattle.tl_device.specs.declared.whole.ReadError.TheVariants.{NoMemory, Source}
 use Rattle.tl_device.specs.Known.{Rose}
@@ -8,3 +8,7 @@ use Rattle.tl_device.specs.Known.{Rose}
 abbrev pub ReadFaults : ReadError → ℕ → ℕ → Type 0
 ReadFaults NoMemory before now = now ≡ before
 ReadFaults (Source faults) before now = (faults ≡ now) × Rose before now
+
+-- more than so many bytes were read, or none is left
+abbrev pub IsFront : ℕ → List ℕ → Option (List ℕ) → Type 0
+IsFront most bytes left = (most < length bytes) ⊎ IfSome left (λ rest. rest ≡ [])

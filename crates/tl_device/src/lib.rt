@@ -35,4 +35,4 @@ pub use source::Source;
 pub use sure_disk::SureDisk;
 pub use sure_sink::SureSink;
 pub use sure_source::SureSource;
-pub use whole::{ReadError, read_all, write_all};
+pub use whole::{ReadError, read_front, write_all};

@@ -1,6 +1,5 @@
 // Each form called once, and the adapters over readers and writers of std that work and that fail.
-ghost use Rattle.std.specs.Prelude.{◌≡◌, OnOk, IfSome};
-ghost use Rattle.tl_device.specs.Known.{append_known};
+ghost use Rattle.std.specs.Prelude.{◌≡◌};
 
 use super::*;
 use std::alloc::Global;
@@ -69,10 +68,8 @@ fn copy_all<S: Source, K: Sink>(
     alloc: Global,
     source: &mut S,
     sink: &mut K,
-) -> Result<(), CopyError>
-    ensures { OnOk result (IfSome (S.left source.old) (λ left. K.written sink.new ≡ append_known (K.written sink.old) left)) }
-{
-    let Ok(bytes) = read_all(alloc, source) else {
+) -> Result<(), CopyError> {
+    let Ok(bytes) = read_front(alloc, source, u64::MAX) else {
         return Err(CopyError::Source);
     };
     let Ok(()) = sink.room(bytes.len() as u64) else {
@@ -92,7 +89,7 @@ fn pass_both<G: Gate>(gate: &G) {
 
 // What reading to the end answers.
 fn taken<S: Source>(alloc: Global, source: &mut S) -> Result<Vec<u8>, ReadError> {
-    read_all(alloc, source)
+    read_front(alloc, source, u64::MAX)
 }
 
 // Whether the sink took all of `from`, for which room is made first.

@@ -1,7 +1,7 @@
-// Reading to the end of input, and writing the whole of a text.
-ghost use Rattle.std.specs.Prelude.{◌≡◌, ℕ, ◌≤◌, [], length, take, IfOk, OnOk, IfErr, OnErr, IfSome, vec_len};
+// Reading up to a bound or the end of input, and writing the whole of a text.
+ghost use Rattle.std.specs.Prelude.{◌≡◌, ℕ, ◌+◌, ◌≤◌, [], length, take, IfOk, OnOk, IfErr, OnErr, vec_len};
 ghost use Rattle.tl_device.specs.Known.{prepend_known, append_known, spend_room, HasRoom, Rose, TakesFront};
-ghost use Rattle.tl_device.specs.Whole.{ReadFaults};
+ghost use Rattle.tl_device.specs.Whole.{ReadFaults, IsFront};
 
 use crate::failed::{Failed, NoMemory};
 use crate::sink::Sink;
@@ -37,20 +37,21 @@ fn zeros(alloc: Global, number: usize) -> Result<Vec<u8>, NoMemory>
     Ok(vec![in alloc; 0u8; number]?)
 }
 
-/// Reads to the end of input. It answers all the bytes that the source had left.
+/// Reads to the end of input, or until more than `most` bytes are there. It answers all the bytes that it took, at
+/// most 65,536 more than `most`.
 /// `NoMemory` is for want of memory; `Source` is the source's fault, with its count of faults, which rose in this
 /// call. Both leave the source with some front of its bytes taken.
-pub fn read_all<S: Source>(alloc: Global, source: &mut S) -> Result<Vec<u8>, ReadError>
+pub fn read_front<S: Source>(alloc: Global, source: &mut S, most: u64) -> Result<Vec<u8>, ReadError>
     ensures taken { IfOk result (λ bytes. S.left source.old ≡ prepend_known bytes.items (S.left source.new)) }
-    ensures whole { IfOk result (λ bytes. IfSome (S.left source.old) (λ left. bytes.items ≡ left)) }
-    ensures end { OnOk result (IfSome (S.left source.new) (λ bytes. bytes ≡ [])) }
+    ensures end { IfOk result (λ bytes. IsFront most bytes.items (S.left source.new)) }
+    ensures bound { IfOk result (λ bytes. vec_len bytes ≤ most + 65536) }
     ensures sure { OnOk result (S.faults source.new ≡ S.faults source.old) }
     ensures front { OnErr result (TakesFront (S.left source.old) (S.left source.new)) }
     ensures faults { IfErr result (λ e. ReadFaults e (S.faults source.old) (S.faults source.new)) }
 {
     let mut piece = zeros(alloc, PIECE)?;
     let mut bytes = Vec::new(alloc);
-    loop {
+    'reading: while bytes.len() as u64 <= most {
         match source.read(&mut piece) {
             Ok(0) => return Ok(bytes),
             Ok(number) => bytes.extend_from_slice(&piece[..number])?,
@@ -61,6 +62,7 @@ pub fn read_all<S: Source>(alloc: Global, source: &mut S) -> Result<Vec<u8>, Rea
             }
         }
     }
+    Ok(bytes)
 }
 
 /// Writes the whole of `from`, for which the sink has room. The room falls by its length.

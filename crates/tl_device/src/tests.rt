@@ -1,5 +1,4 @@
 // Each form called once, and the adapters over readers and writers of std that work and that fail.
-ghost use Rattle.std.specs.Prelude.{◌≡◌};
 
 use super::*;
 use std::alloc::Global;

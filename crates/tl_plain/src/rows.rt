@@ -5,7 +5,7 @@ ghost use Rattle.tl_types.specs.Plain as plain;
 
 use std::alloc::Global;
 use std::marker::Model;
-use tl_types::{Cell, Change, NoMemory, Opened, Period, Seq};
+use tl_types::{Cell, Change, NoMemory, OPEN, Opened, Period, Seq};
 
 /// A row of a table: its cells, its valid period where the table has them, and the versions at which it stands.
 #[derive(Debug, Drop, PartialEq, Eq)]
@@ -25,9 +25,6 @@ impl Model for Row {
 
     ghost inverse = { λ r. record { cells = r.cells; period = r.period; from = r.from; to = r.to } };
 }
-
-/// The system end of a row that is current.
-const OPEN: u32 = u32::MAX;
 
 impl Row {
     /// The cells, in the order of the columns.

@@ -27,7 +27,7 @@ pub use keywords::{begins_word, continues_word, is_keyword, is_name};
 pub use limits::Limits;
 pub use lines::Line;
 pub use periods::Period;
-pub use rows::Opened;
+pub use rows::{OPEN, Opened};
 pub use runs::{Pair, Piece, Run};
 pub use schemas::{Column, Schema};
 pub use sequences::Seq;
@@ -35,3 +35,6 @@ pub use texts::Text;
 
 /// Want of memory, where it is the whole error of a call.
 pub type NoMemory = std::alloc::AllocError;
+
+#[cfg(test)]
+mod tests;

@@ -1,7 +1,8 @@
 //! Texts of any length: the text of a statement.
 ghost use Rattle.std.specs.Prelude.{◌≡◌, ◌<◌, ◌^◌, length, IfOk, IsUtf8};
 
-use std::alloc::{AllocError, Global};
+use crate::NoMemory;
+use std::alloc::Global;
 use std::marker::Model;
 
 /// A text of any length in UTF-8. A contract sees it as its bytes.
@@ -21,7 +22,7 @@ impl Model for Line {
 
 impl Line {
     /// A copy of a text. The error is want of memory.
-    pub fn new(alloc: Global, text: &str) -> Result<Line, AllocError>
+    pub fn new(alloc: Global, text: &str) -> Result<Line, NoMemory>
         ensures { IfOk result (λ t. t ≡ text.now) }
     {
         Ok(Line {

@@ -9,6 +9,9 @@ use crate::sequences::Seq;
 use std::alloc::AllocError;
 use std::marker::Model;
 
+/// The system end of a row that is current: an open end, the greatest version.
+pub const OPEN: u32 = u32::MAX;
+
 /// A row as a commit opens it: 1 to 16 cells, and a valid period where its table has them.
 #[derive(Debug, Drop, PartialEq, Eq)]
 pub struct Opened {

@@ -4,6 +4,7 @@ ghost use Rattle.std.specs.List.{AllZip};
 ghost use Rattle.std.specs.Cmp.Lexicographic.{pointwise, lists_per, lists_equiv};
 ghost use Rattle.std.specs.Cmp.{on_per, on_equiv};
 
+use crate::NoMemory;
 use std::alloc::{AllocError, Global};
 use std::marker::Model;
 
@@ -47,7 +48,7 @@ impl<T> Seq<T> {
     }
 
     /// Appends an item. The error is want of memory, and leaves the list as it was.
-    pub fn push(&mut self, item: T) -> Result<(), AllocError>
+    pub fn push(&mut self, item: T) -> Result<(), NoMemory>
     where
         T: Drop,
         ensures ok { OnOk result (self.new ≡ self.old ++ item ∷ []) }

@@ -4,6 +4,7 @@ ghost use Rattle.std.specs.Ordering.{nat_cmp};
 ghost use Rattle.std.specs.Cmp.Lexicographic.{pointwise, slice_cmp, nat_list_eq_equiv, nat_list_cmp_total, texts_ties, texts_po};
 ghost use Rattle.std.specs.Cmp.{partial_equiv_from_equiv};
 
+use crate::NoMemory;
 use std::alloc::{AllocError, Global};
 use std::cmp::Ordering;
 use std::fmt;
@@ -28,7 +29,7 @@ impl Model for Text {
 
 impl Text {
     /// A copy of a text of at most 65,535 bytes. The error is want of memory.
-    pub fn new(alloc: Global, text: &str) -> Result<Text, AllocError>
+    pub fn new(alloc: Global, text: &str) -> Result<Text, NoMemory>
         requires { length text.now ≤ 65535 }
         ensures { IfOk result (λ t. t ≡ text.now) }
     {

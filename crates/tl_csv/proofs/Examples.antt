@@ -1,0 +1,75 @@
+-- Worked examples of the definitions, computed: a file as a spreadsheet writes it, and the first fault of headers
+-- and records. The table is `p (id INT, name TEXT, pay INT) KEY id`.
+use Rattle.std.specs.Prelude.{◌≡◌, ℕ, ◌∷◌, [], List, None, Ok, Err, refl, codes, pos, false, Result}
+use Rattle.std.specs.Str.{is_utf8, chars}
+use Rattle.std.proofs.Math.Utf8.{encode}
+use Rattle.tl_types.specs.declared.cells.Cell.TheVariants as cell
+use Rattle.tl_types.specs.declared.cells.ColumnKind.TheVariants.{IntKind, TextKind}
+use Rattle.tl_types.specs.declared.limits.Limits.{Limits}
+use Rattle.tl_types.specs.Limits.{standard_limits}
+use Rattle.tl_types.specs.Plain as plain
+use Rattle.tl_csv.specs.declared.faults.CsvFault.{CsvFault}
+use Rattle.tl_csv.specs.declared.faults.CsvFault.TheVariants as fault
+use Rattle.tl_csv.specs.Block.{rows_of, without_marks}
+
+people : plain.Schema
+people = record {
+  name = codes "p";
+  columns = record { name = codes "id"; kind = IntKind } ∷ record { name = codes "name"; kind = TextKind } ∷ record { name = codes "pay"; kind = IntKind } ∷ [];
+  key = 0;
+  valid = false;
+}
+
+header : List (List ℕ)
+header = codes "id" ∷ codes "name" ∷ codes "pay" ∷ []
+
+-- texts of three bytes at most, and two records
+few : Limits
+few = record standard_limits { text = 3; batch = 2 }
+
+rows : List (List (List ℕ)) → Result (List plain.Opened) CsvFault
+rows records = rows_of few people records
+
+file : rows_of standard_limits people ((codes "pay" ∷ codes "id" ∷ codes "name" ∷ []) ∷ (codes "100" ∷ codes "1" ∷ codes "Doe, J." ∷ []) ∷ [])
+    ≡ Ok (record { cells = cell.Int (pos 1) ∷ cell.Text (codes "Doe, J.") ∷ cell.Int (pos 100) ∷ []; period = None } ∷ [])
+unfolding people is_utf8 chars encode
+file = refl
+
+no_record : rows [] ≡ Err (fault.HeaderMissing 1)
+unfolding rows
+no_record = refl
+
+missing : rows ((codes "id" ∷ codes "name" ∷ []) ∷ []) ≡ Err (fault.HeaderMissing 3)
+unfolding rows people is_utf8 chars encode
+missing = refl
+
+misnamed : rows ((codes "id" ∷ codes "nam" ∷ codes "pay" ∷ []) ∷ []) ≡ Err (fault.HeaderName 2)
+unfolding rows people is_utf8 chars encode
+misnamed = refl
+
+twice : rows ((codes "id" ∷ codes "id" ∷ codes "pay" ∷ []) ∷ []) ≡ Err (fault.HeaderTwice 2)
+unfolding rows people is_utf8 chars encode
+twice = refl
+
+too_few : rows (header ∷ (codes "1" ∷ codes "x" ∷ []) ∷ []) ≡ Err (fault.FieldCount 2)
+unfolding rows people header few is_utf8 chars encode
+too_few = refl
+
+no_text : rows (header ∷ (codes "1" ∷ (255 ∷ []) ∷ codes "1" ∷ []) ∷ []) ≡ Err (fault.NotUtf8 2 2)
+unfolding rows people header few is_utf8 chars encode
+no_text = refl
+
+no_number : rows (header ∷ (codes "9223372036854775808" ∷ codes "x" ∷ codes "1" ∷ []) ∷ []) ≡ Err (fault.NotInt 2 1)
+unfolding rows people header few is_utf8 chars encode
+no_number = refl
+
+too_long : rows (header ∷ (codes "1" ∷ codes "abcd" ∷ codes "1" ∷ []) ∷ []) ≡ Err (fault.TextTooLong 2 2)
+unfolding rows people header few is_utf8 chars encode
+too_long = refl
+
+too_many : rows (header ∷ (codes "1" ∷ codes "x" ∷ codes "1" ∷ []) ∷ (codes "2" ∷ codes "y" ∷ codes "2" ∷ []) ∷ (codes "3" ∷ []) ∷ []) ≡ Err (fault.BatchTooLong 4)
+unfolding rows people header few is_utf8 chars encode
+too_many = refl
+
+marks : without_marks (239 ∷ 187 ∷ 191 ∷ 239 ∷ 187 ∷ 191 ∷ codes "id") ≡ codes "id"
+marks = refl

@@ -1,0 +1,79 @@
+-- Several things in order, and their first fault.
+use Rattle.std.proofs.Common.{◌≡◌, ℕ, zero, suc, ◌+◌, List, [], ◌∷◌, ◌++◌, ◌<◌, Bool, true, false, IsUtf8, length, drop, ◌∙◌, Option, Some, None, Result, Ok, Err, refl, ap, sym, append_assoc, length-append, slice_get, arith}
+use Rattle.std.specs.Str.{is_utf8}
+use Rattle.std.proofs.lemmas.Str.{IsUtf8-from_is_utf8, is_utf8-from_IsUtf8}
+use Rattle.std.proofs.lemmas.Option.{slice_get_within}
+use Rattle.csv.specs.Records.{field_at}
+use Rattle.tl_csv.specs.declared.faults.CsvFault.{CsvFault}
+use Rattle.tl_csv.specs.Faults.{with_first, each_from, fault_or}
+
+-- these items, and then the others where there is no fault
+abbrev pub behind : {X : Type 0} → List X → Result (List X) CsvFault → Result (List X) CsvFault
+behind xs (Err e) = Err e
+behind xs (Ok ys) = Ok (xs ++ ys)
+
+-- one more in front of the others
+pub one_behind : {X : Type 0} (xs : List X) (y : X) (r : Result X CsvFault) (others all : Result (List X) CsvFault) → r ≡ Ok y → behind xs (with_first r others) ≡ all → behind (xs ++ y ∷ []) others ≡ all
+one_behind xs y (Err e) others all h g = absurd (cc)
+one_behind xs y (Ok z) (Err e) all h g = g
+one_behind xs y (Ok z) (Ok zs) all h g =
+    let same : z ≡ y = cc in
+    rw (append_assoc xs (y ∷ []) zs) (rw same at g)
+
+-- the fault of all where one has a fault
+pub fault_behind : {X : Type 0} (xs : List X) (e : CsvFault) (r : Result X CsvFault) (others all : Result (List X) CsvFault) → r ≡ Err e → behind xs (with_first r others) ≡ all → all ≡ Err e
+fault_behind xs e (Err d) others all h g = let same : d ≡ e = cc in rw (← same) (sym g)
+fault_behind xs e (Ok x) others all h g = absurd (cc)
+
+-- what is left from a place on begins with what stands there
+drop_suc : {X : Type 0} (xs : List X) (i : ℕ) (x : X) → slice_get xs i ≡ Some x → drop i xs ≡ x ∷ drop (suc i) xs
+drop_suc [] i x h = absurd (cc)
+drop_suc (y ∷ xs) zero x h = let same : y ≡ x = cc in rw same
+drop_suc (y ∷ xs) (suc i) x h = drop_suc xs i x h
+
+pub drop_at : {X : Type 0} (xs : List X) (i : ℕ) (x : X) → slice_get xs i ≡ Some x → drop i xs ≡ x ∷ drop (i + 1) xs
+drop_at xs i x h = let e : suc i ≡ i + 1 = omega arith in drop_suc xs i x h ∙ ap (λ k. x ∷ drop k xs) e
+
+-- nothing is left from a place on where nothing stands
+pub drop_past : {X : Type 0} (xs : List X) (i : ℕ) → slice_get xs i ≡ None → drop i xs ≡ []
+drop_past [] zero h = refl
+drop_past [] (suc i) h = refl
+drop_past (y ∷ xs) zero h = absurd (cc)
+drop_past (y ∷ xs) (suc i) h = drop_past xs i h
+
+-- a place where something stands is within the list
+pub within : {X : Type 0} (xs : List X) (i : ℕ) (x : X) → slice_get xs i ≡ Some x → i < length xs
+within xs i x h = slice_get_within xs i x h
+
+-- the field at a place
+pub same_field : (fields : List (List ℕ)) (i : ℕ) → field_at fields i ≡ slice_get fields i
+unfolding field_at
+same_field [] i = refl
+same_field (f ∷ fields) zero = refl
+same_field (f ∷ fields) (suc i) = same_field fields i
+
+-- what is text, and what is none
+pub is_text : (bs : List ℕ) → IsUtf8 bs → is_utf8 bs ≡ true
+is_text bs h = is_utf8-from_IsUtf8 bs h
+
+pub no_text : (bs : List ℕ) → (IsUtf8 bs → ⊥) → is_utf8 bs ≡ false
+no_text bs h = by_test (is_utf8 bs) refl where
+  by_test : (t : Bool) → is_utf8 bs ≡ t → is_utf8 bs ≡ false
+  by_test true e = absurd (h (IsUtf8-from_is_utf8 bs e))
+  by_test false e = e
+
+-- the fault of one, and else that of those behind it
+pub fault_first : {X : Type 0} (r : Result X CsvFault) (later : Option CsvFault) (e : CsvFault) → fault_or r None ≡ Some e → fault_or r later ≡ Some e
+fault_first (Err d) later e h = h
+fault_first (Ok x) later e h = absurd (cc)
+
+pub fault_later : {X : Type 0} (r : Result X CsvFault) (later : Option CsvFault) → fault_or r None ≡ None → fault_or r later ≡ later
+fault_later (Err d) later h = absurd (cc)
+fault_later (Ok x) later h = refl
+
+-- one item more, and the others behind it
+pub each_step : {X Y : Type 0} (f : ℕ → X → Result Y CsvFault) (ys new : List Y) (y : Y) (x : X) (xs rest : List X) (all : Result (List Y) CsvFault)
+    → xs ≡ x ∷ rest → f (length ys) x ≡ Ok y → new ≡ ys ++ y ∷ [] → behind ys (each_from f (length ys) xs) ≡ all → behind new (each_from f (length new) rest) ≡ all
+each_step f ys new y x xs rest all e r n h =
+    let counted : length (ys ++ y ∷ []) ≡ length ys + 1 = length-append ys (y ∷ []) in
+    rw (n, counted) (one_behind ys y (f (length ys) x) (each_from f (length ys + 1) rest) all r (rw e at h))

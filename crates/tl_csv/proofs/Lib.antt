@@ -1,0 +1,7 @@
+pub mod NumberLemmas
+pub mod FaultLemmas
+pub mod ReadingLemmas
+pub mod FittingLemmas
+pub mod WritingLemmas
+pub mod SampleLemmas
+pub mod Examples

@@ -1,0 +1,76 @@
+-- Numbers that fields spell.
+use Rattle.std.proofs.Common.{◌≡◌, ◌≢◌, ℕ, ◌^◌, ◌<◌, ◌≤◌, nat_lt, nat_le, ◌==◌, ℤ, pos, neg_ℤ, Bool, true, false, cond, ◌&&◌, List, [], ◌∷◌, length, Some, None, Result, Ok, Err, refl, ap, arith}
+use Rattle.std.specs.Int.{w64}
+use Rattle.std.specs.Result.{OkIff, result_ok}
+use Rattle.std.specs.Str.{all_ascii_digits}
+use Rattle.std.specs.Str.Parse.{ParsesSigned, digits_value}
+use Rattle.std.proofs.lemmas.Str.Parse.{IsNumeralModel, numerals_by_value, tells_all_ascii_digits, parse_signed_minus, parse_signed_plain, parse_signed_plus}
+use Rattle.std.proofs.lemmas.Bool.{ltb-true}
+use Rattle.std.proofs.lemmas.Bool.Decides.{nat_tests}
+use Rattle.std.proofs.lemmas.Grind.{common_steps}
+use Rattle.tl_csv.specs.Numbers.{are_digits, positive, negative, number_of}
+
+own : IsNumeralModel (λ ds. all_ascii_digits ds ≡ true) (digits_value 10)
+own = numerals_by_value _ tells_all_ascii_digits
+
+-- a result that is right exactly where a test is
+ok_by_test : {E : Type 0} {P : Type 0} (r : Result ℤ E) (t : Bool) (v : ℤ) → OkIff r P v → (t ≡ true → P) → (P → t ≡ true) → result_ok r ≡ cond t (Some v) None
+ok_by_test (Ok x) true v h to from = ap Some h.1
+ok_by_test (Ok x) false v h to from = absurd (let e = from h.0 in cc)
+ok_by_test (Err e) true v h to from = absurd (h (to refl))
+ok_by_test (Err e) false v h to from = refl
+
+both_tests : (a b c : Bool) → (a && b && c) ≡ true → (a ≡ true) × (b ≡ true) × (c ≡ true)
+both_tests true true true h = (refl, refl, refl)
+both_tests true true false h = absurd (cc)
+both_tests true false c h = absurd (cc)
+both_tests false b c h = absurd (cc)
+
+all_tests : (a b c : Bool) → a ≡ true → b ≡ true → c ≡ true → (a && b && c) ≡ true
+all_tests a b c p q r = cc
+
+lt_true : (a b : ℕ) → a < b → nat_lt a b ≡ true
+lt_true a b h = grind (arith, common_steps)
+
+le_true : (a b : ℕ) → a ≤ b → nat_le a b ≡ true
+le_true a b h = grind (arith, common_steps)
+
+true_lt : (a b : ℕ) → nat_lt a b ≡ true → a < b
+true_lt a b h = ltb-true a b h
+
+true_le : (a b : ℕ) → nat_le a b ≡ true → a ≤ b
+true_le a b h = grind (arith, nat_tests)
+
+parsed_positive : {E : Type 0} (ds : List ℕ) (r : Result ℤ E) → OkIff r ((all_ascii_digits ds ≡ true) × (0 < length ds) × (digits_value 10 ds < 2 ^ 63)) (pos (digits_value 10 ds)) → result_ok r ≡ positive ds
+parsed_positive ds r h =
+    ok_by_test r (are_digits ds && nat_lt (digits_value 10 ds) (2 ^ 63)) _ h
+    (λ t. let p = both_tests _ _ _ t in (p.1, true_lt _ _ p.0, true_lt _ _ p.2))
+    (λ p. all_tests _ _ _ (lt_true _ _ p.1) p.0 (lt_true _ _ p.2))
+
+parsed_negative : {E : Type 0} (ds : List ℕ) (r : Result ℤ E) → OkIff r ((all_ascii_digits ds ≡ true) × (0 < length ds) × (digits_value 10 ds ≤ 2 ^ 63)) (neg_ℤ (pos (digits_value 10 ds))) → result_ok r ≡ negative ds
+parsed_negative ds r h =
+    ok_by_test r (are_digits ds && nat_le (digits_value 10 ds) (2 ^ 63)) _ h
+    (λ t. let p = both_tests _ _ _ t in (p.1, true_lt _ _ p.0, true_le _ _ p.2))
+    (λ p. all_tests _ _ _ (lt_true _ _ p.1) p.0 (le_true _ _ p.2))
+
+eq_true : (a b : ℕ) → (a == b) ≡ true → a ≡ b
+eq_true a b h = grind (arith, nat_tests)
+
+eq_false : (a b : ℕ) → (a == b) ≡ false → a ≢ b
+eq_false a b h e = grind (arith, nat_tests)
+
+none_parsed : {E : Type 0} (r : Result ℤ E) → OkIff r ((all_ascii_digits [] ≡ true) × (0 < 0) × (digits_value 10 [] < 2 ^ 63)) (pos (digits_value 10 [])) → result_ok r ≡ None
+none_parsed (Ok x) h = absurd (omega (arith, h.0.1))
+none_parsed (Err e) h = refl
+
+-- what parsing a field as a number gives
+pub number_parsed : {E : Type 0} (bs : List ℕ) (r : Result ℤ E) → ParsesSigned w64 10 bs r → result_ok r ≡ number_of bs
+number_parsed [] r h = none_parsed r (parse_signed_plain own w64 [] r h (omega arith) (omega arith))
+number_parsed (b ∷ bs) r h = by_minus (b == 45) refl where
+  by_plus : (t : Bool) → (b == 43) ≡ t → (b == 45) ≡ false → result_ok r ≡ number_of (b ∷ bs)
+  by_plus true e m = rw (m, e) (parsed_positive bs r (parse_signed_plus own w64 (b ∷ bs) r h (eq_true b 43 e)))
+  by_plus false e m = rw (m, e) (parsed_positive (b ∷ bs) r (parse_signed_plain own w64 (b ∷ bs) r h (eq_false b 43 e) (eq_false b 45 m)))
+
+  by_minus : (t : Bool) → (b == 45) ≡ t → result_ok r ≡ number_of (b ∷ bs)
+  by_minus true e = rw e (parsed_negative bs r (parse_signed_minus own w64 (b ∷ bs) r h (eq_true b 45 e)))
+  by_minus false e = by_plus (b == 43) refl e

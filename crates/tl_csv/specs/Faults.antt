@@ -1,0 +1,24 @@
+-- The first fault of several things in order.
+use Rattle.std.specs.Prelude.{ℕ, ◌+◌, List, [], ◌∷◌, Option, Some, None, Result, Ok, Err}
+use Rattle.tl_csv.specs.declared.faults.CsvFault.{CsvFault}
+
+-- what an item gives in front of what the others give, or the first fault
+abbrev pub with_first : {X : Type 0} → Result X CsvFault → Result (List X) CsvFault → Result (List X) CsvFault
+with_first (Err e) others = Err e
+with_first (Ok x) (Err e) = Err e
+with_first (Ok x) (Ok xs) = Ok (x ∷ xs)
+
+-- what each item gives with its number, the first of which is n, or the first fault
+abbrev pub each_from : {X Y : Type 0} → (ℕ → X → Result Y CsvFault) → ℕ → List X → Result (List Y) CsvFault
+each_from f n [] = Ok []
+each_from f n (x ∷ xs) = with_first (f n x) (each_from f (n + 1) xs)
+
+-- the fault, where there is one, and else the result
+abbrev pub unless : {X : Type 0} → Option CsvFault → Result X CsvFault → Result X CsvFault
+unless None result = result
+unless (Some e) result = Err e
+
+-- the fault of a result, and else the later fault
+abbrev pub fault_or : {X : Type 0} → Result X CsvFault → Option CsvFault → Option CsvFault
+fault_or (Err e) later = Some e
+fault_or (Ok x) later = later

@@ -1,0 +1,74 @@
+//! The cell of a field.
+ghost use Rattle.std.specs.Prelude.{◌≡◌, ◌≤◌, ◌<◌, ◌+◌, ◌^◌, IfOk, None, length};
+ghost use Rattle.tl_csv.specs.Faults.{fault_or};
+ghost use Rattle.tl_csv.specs.Block.{cell_of, int_cell};
+ghost use Rattle.tl_csv.specs.Numbers.{number_of};
+
+use crate::faults::CsvFault;
+use crate::numbers::number_of;
+use crate::records::text_of;
+use std::alloc::{AllocError, Global};
+use tl_types::{Cell, ColumnKind, Limits, Text};
+
+fn int_cell(rec: u32, place: usize, text: &str) -> Result<Cell, CsvFault>
+    requires { place + 1 < 2 ^ 64 }
+    ensures { result ≡ int_cell rec place (number_of text.now) }
+{
+    match number_of(text) {
+        Some(number) => Ok(Cell::Int(number)),
+        None => Err(CsvFault::NotInt {
+            rec,
+            column: place as u64 + 1,
+        }),
+    }
+}
+
+// The cell of the field at a place (from 0) of a record, which is of this kind.
+pub fn cell_of(
+    alloc: Global,
+    limits: &Limits,
+    rec: u32,
+    place: usize,
+    kind: ColumnKind,
+    field: &[u8],
+) -> Result<Result<Cell, CsvFault>, AllocError>
+    requires short { limits.now.text ≤ 65535 }
+    requires within { place + 1 < 2 ^ 64 }
+    ensures { IfOk result (λ cell. cell ≡ cell_of limits.now rec place kind field.now) }
+{
+    let column = place as u64 + 1;
+    let Some(text) = text_of(field) else {
+        return Ok(Err(CsvFault::NotUtf8 { rec, column }));
+    };
+    match kind {
+        ColumnKind::IntKind => Ok(int_cell(rec, place, text)),
+        ColumnKind::TextKind if text.len() as u64 > limits.text => {
+            Ok(Err(CsvFault::TextTooLong { rec, column }))
+        }
+        ColumnKind::TextKind => Ok(Ok(Cell::Text(Text::new(alloc, text)?))),
+    }
+}
+
+// The fault of the field at a place (from 0) of a record, which is of this kind, where it has one.
+pub fn field_fault(
+    limits: &Limits,
+    rec: u32,
+    place: usize,
+    kind: ColumnKind,
+    field: &[u8],
+) -> Option<CsvFault>
+    requires { place + 1 < 2 ^ 64 }
+    ensures { result ≡ fault_or (cell_of limits.now rec place kind field.now) None }
+{
+    let column = place as u64 + 1;
+    let Some(text) = text_of(field) else {
+        return Some(CsvFault::NotUtf8 { rec, column });
+    };
+    match kind {
+        ColumnKind::IntKind => int_cell(rec, place, text).err(),
+        ColumnKind::TextKind if text.len() as u64 > limits.text => {
+            Some(CsvFault::TextTooLong { rec, column })
+        }
+        ColumnKind::TextKind => None,
+    }
+}

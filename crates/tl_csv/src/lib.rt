@@ -1,0 +1,21 @@
+// Blocks of CSV as batches: the records that csv's default reader gives for a block, without its byte order
+// marks, are a header and the rows of a batch, or have a first fault. Answers are written as rows of CSV.
+#![tactic(auto)]
+
+mod answers;
+mod batches;
+mod cells;
+mod faults;
+mod headers;
+mod marks;
+mod numbers;
+mod reading;
+mod records;
+mod samples;
+#[cfg(test)]
+mod tests;
+
+pub use answers::answer_bytes;
+pub use batches::{BatchKind, read_batch};
+pub use faults::CsvFault;
+pub use samples::Sample;

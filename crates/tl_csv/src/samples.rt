@@ -1,0 +1,139 @@
+//! The blocks of the sample: as many lines as are asked for, with numbers of a linear congruential generator.
+ghost use Rattle.std.specs.Prelude.{◌≡◌, ◌≤◌, ◌<◌, ◌+◌, ◌-◌, ◌++◌, ◌^◌, IfOk, OnOk, OnErr};
+ghost use Rattle.std.specs.String.{string_bytes};
+ghost use Rattle.tl_csv.specs.Sample.{block_end, block_of, drawn, id_of, line_text, lines_from};
+
+use std::alloc::{AllocError, Global};
+use std::marker::Model;
+use tl_types::{Bytes, NoMemory};
+
+const LINES_OF_A_BLOCK: u32 = 10_000;
+
+// The numbers drawn so far, of which `last` is the last.
+#[derive(Clone, Copy)]
+struct Draw {
+    start: u64,
+    count: u32,
+    last: u32,
+    ghost right: { last ≡ drawn start count },
+}
+
+impl Draw {
+    fn new(start: u64) -> Draw
+        ensures start { result.start ≡ start }
+        ensures count { result.count ≡ 0 }
+    {
+        Draw {
+            start,
+            count: 0,
+            last: (start % 2_147_483_648) as u32,
+        }
+    }
+
+    #[tactic(auto, using(crate::proofs::SampleLemmas::drawn_next))]
+    fn next(&mut self) -> u32
+        requires { self.old.count + 1 < 2 ^ 32 }
+        ensures value { result ≡ drawn self.old.start (self.old.count + 1) }
+        ensures count { self.new.count ≡ self.old.count + 1 }
+        ensures start { self.new.start ≡ self.old.start }
+    {
+        let next = (1_103_515_245 * u64::from(self.last) + 12_345) % 2_147_483_648;
+        *self = Draw {
+            start: self.start,
+            count: self.count + 1,
+            last: next as u32,
+        };
+        self.last
+    }
+}
+
+fn id_of(line: u32) -> u32
+    ensures { result ≡ id_of line }
+{
+    5_000 * (line / LINES_OF_A_BLOCK) + line % LINES_OF_A_BLOCK
+}
+
+fn put_line(alloc: Global, out: &mut Vec<u8>, id: u32, value: u32) -> Result<(), AllocError>
+    ensures { OnOk result (out.new.items ≡ out.old.items ++ line_text id value) }
+{
+    let group = value % 8;
+    let text = format!(in alloc; "{id},{group},{value}\n")?;
+    out.extend_from_slice(text.as_bytes())?;
+    Ok(())
+}
+
+// Appends the lines up to line `to`, which is not one of them.
+#[tactic(auto, using(crate::proofs::SampleLemmas::one_line, crate::proofs::SampleLemmas::no_line))]
+fn put_lines(alloc: Global, out: &mut Vec<u8>, draw: &mut Draw, to: u32) -> Result<(), AllocError>
+    requires { draw.old.count ≤ to }
+    ensures lines { OnOk result (out.new.items ≡ out.old.items ++ lines_from draw.old.start draw.old.count (to - draw.old.count)) }
+    ensures count { OnOk result (draw.new.count ≡ to) }
+    ensures start { OnOk result (draw.new.start ≡ draw.old.start) }
+{
+    'lines: while draw.count < to {
+        let id = id_of(draw.count);
+        let value = draw.next() / 65_536;
+        put_line(alloc, out, id, value)?;
+    }
+    Ok(())
+}
+
+/// A sample of lines `id,grp,val`, given in blocks of 10,000.
+#[derive(Drop)]
+pub struct Sample {
+    lines: u32,
+    draw: Draw,
+}
+
+impl Model for Sample {
+    ghost use Rattle.std.specs.Prelude.{◌≤◌};
+    ghost use Rattle.tl_csv.specs.Sample as plain;
+
+    ghost Value = { plain.Sample };
+
+    ghost view = { λ s. record { lines = s.lines; start = s.draw.start; given = s.draw.count } };
+
+    ghost invariant = { λ s. s.draw.count ≤ s.lines };
+}
+
+impl Sample {
+    /// A sample of `n` lines, whose numbers begin with `start`, before its first block.
+    pub fn new(n: u32, start: u64) -> Sample
+        ensures { result ≡ record { lines = n; start = start; given = 0 } }
+    {
+        Sample {
+            lines: n,
+            draw: Draw::new(start),
+        }
+    }
+
+    fn block_end(&self) -> u32
+        ensures end { result ≡ block_end self.now }
+        ensures forward { self.now.given ≤ result }
+        ensures within { result ≤ self.now.lines }
+    {
+        self.draw
+            .count
+            .saturating_add(LINES_OF_A_BLOCK)
+            .min(self.lines)
+    }
+
+    /// The next block: the header and up to 10,000 lines, each ended by LF. `None` exactly where all lines were
+    /// given. The error is want of memory, and leaves the sample as it was.
+    pub fn next_block(&mut self, alloc: Global) -> Result<Option<Bytes>, NoMemory>
+        ensures block { IfOk result (λ block. block ≡ block_of self.old) }
+        ensures given { OnOk result (self.new ≡ record self.old { given = block_end self.old }) }
+        ensures kept { OnErr result (self.new ≡ self.old) }
+    {
+        if self.draw.count == self.lines {
+            return Ok(None);
+        }
+        let end = self.block_end();
+        let mut draw = self.draw;
+        let mut text = Vec::new(alloc);
+        text.extend_from_slice(b"id,grp,val\n")?;
+        put_lines(alloc, &mut text, &mut draw, end)?;
+        self.draw = draw;
+        Ok(Some(Bytes::from_vec(text)))
+    }
+}

@@ -1,0 +1,179 @@
+// Blocks as a spreadsheet or a script has them, their faults, answers, and the sample's first lines.
+ghost use Rattle.std.specs.Prelude.{◌≤◌, length};
+
+use super::{BatchKind, CsvFault, Sample, answer_bytes, read_batch};
+use std::alloc::Global;
+use std::test::Fail;
+use tl_types::{
+    Answer, Batch, Cell, Column, ColumnKind, Field, Limits, NoMemory, Opened, Schema, Seq, Text,
+};
+
+fn column(alloc: Global, name: &str, kind: ColumnKind) -> Result<Column, NoMemory>
+    requires { length name.now ≤ 65535 }
+{
+    Ok(Column {
+        name: Text::new(alloc, name)?,
+        kind,
+    })
+}
+
+// A table `p (id INT, name TEXT, pay INT) KEY id`.
+fn people(alloc: Global) -> Result<Option<Schema>, NoMemory> {
+    let mut columns = Vec::new(alloc);
+    columns.push(column(alloc, "id", ColumnKind::IntKind)?)?;
+    columns.push(column(alloc, "name", ColumnKind::TextKind)?)?;
+    columns.push(column(alloc, "pay", ColumnKind::IntKind)?)?;
+    Ok(Schema::new(Text::new(alloc, "p")?, Seq::from_vec(columns), 0, false))
+}
+
+fn person(alloc: Global, id: i64, name: &str, pay: i64) -> Result<Opened, NoMemory>
+    requires { length name.now ≤ 65535 }
+{
+    let mut cells = Vec::new(alloc);
+    cells.push(Cell::Int(id))?;
+    cells.push(Cell::Text(Text::new(alloc, name)?))?;
+    cells.push(Cell::Int(pay))?;
+    Ok(Opened::new(Seq::from_vec(cells), None))
+}
+
+// What a block of people is read as.
+fn read(
+    alloc: Global,
+    block: &[u8],
+    limits: &Limits,
+) -> Result<Option<Result<Batch, CsvFault>>, NoMemory> {
+    match people(alloc)? {
+        Some(schema) if !schema.valid() && limits.text <= 65_535 && limits.batch <= 1_000_000 => {
+            Ok(Some(read_batch(alloc, block, &schema, BatchKind::PutKind, limits)))
+        }
+        _ => Ok(None),
+    }
+}
+
+fn rows_of(alloc: Global, block: &[u8]) -> Result<Option<Seq<Opened>>, NoMemory> {
+    match read(alloc, block, &Limits::standard())? {
+        Some(Ok(Batch::Put { lines, .. })) => Ok(Some(lines)),
+        _ => Ok(None),
+    }
+}
+
+fn fault_of(alloc: Global, block: &[u8], limits: &Limits) -> Result<Option<CsvFault>, NoMemory> {
+    match read(alloc, block, limits)? {
+        Some(Err(fault)) => Ok(Some(fault)),
+        _ => Ok(None),
+    }
+}
+
+#[test]
+fn a_spreadsheet_file(rt: HostRuntime) -> Result<(), Fail> {
+    let alloc = rt.alloc();
+    let block = b"\xEF\xBB\xBFpay,id,name\r\n100,1,\"Doe, J.\"\r\n";
+    let mut rows = Seq::new(alloc);
+    rows.push(person(alloc, 1, "Doe, J.", 100)?)?;
+    assert!(rt; rows_of(alloc, block)? == Some(rows));
+    Ok(())
+}
+
+#[test]
+fn rows_of_blocks(rt: HostRuntime) -> Result<(), Fail> {
+    let alloc = rt.alloc();
+    let ends = b"id,name,pay\n-9223372036854775808,x,+7\n9223372036854775807,,-0\n";
+    let mut rows = Seq::new(alloc);
+    rows.push(person(alloc, i64::MIN, "x", 7)?)?;
+    rows.push(person(alloc, i64::MAX, "", 0)?)?;
+    assert!(rt; rows_of(alloc, ends)? == Some(rows));
+    let marked = b"\xEF\xBB\xBF\xEF\xBB\xBFname,id,pay\n\"a\n\"\"b\"\"\",1,2\n\xC3\xA4,2,3";
+    let mut rows = Seq::new(alloc);
+    rows.push(person(alloc, 1, "a\n\"b\"", 2)?)?;
+    rows.push(person(alloc, 2, "ä", 3)?)?;
+    assert!(rt; rows_of(alloc, marked)? == Some(rows));
+    assert!(rt; rows_of(alloc, b"id,name,pay\n")? == Some(Seq::new(alloc)));
+    Ok(())
+}
+
+#[test]
+fn faults_of_headers(rt: HostRuntime) -> Result<(), Fail> {
+    let alloc = rt.alloc();
+    let cases = [
+        (b"".as_slice(), CsvFault::HeaderMissing { column: 1 }),
+        (b"\xEF\xBB\xBF", CsvFault::HeaderMissing { column: 1 }),
+        (b"id,name\n", CsvFault::HeaderMissing { column: 3 }),
+        (b"pay,name\n", CsvFault::HeaderMissing { column: 1 }),
+        (b"id,nam,pay\n", CsvFault::HeaderName { column: 2 }),
+        (b"id,id,pay\n", CsvFault::HeaderTwice { column: 2 }),
+        (b"id,id,nam\n", CsvFault::HeaderTwice { column: 2 }),
+        (b"nam,id,id,\xFF\n", CsvFault::NotUtf8 { rec: 1, column: 4 }),
+    ];
+    for (block, fault) in cases.as_slice() {
+        assert!(rt; fault_of(alloc, block, &Limits::standard())? == Some(*fault));
+    }
+    Ok(())
+}
+
+#[test]
+fn faults_of_records(rt: HostRuntime) -> Result<(), Fail> {
+    let alloc = rt.alloc();
+    let limits = Limits {
+        batch: 2,
+        text: 3,
+        ..Limits::standard()
+    };
+    let cases = [
+        (b"1,x".as_slice(), CsvFault::FieldCount { rec: 2 }),
+        (b"1,x,1,1", CsvFault::FieldCount { rec: 2 }),
+        (b"1,\xFF,1", CsvFault::NotUtf8 { rec: 2, column: 2 }),
+        (b"1,abcd,1", CsvFault::TextTooLong { rec: 2, column: 2 }),
+        (
+            b"9223372036854775808,x,1",
+            CsvFault::NotInt { rec: 2, column: 1 },
+        ),
+        (
+            b"-9223372036854775809,x,1",
+            CsvFault::NotInt { rec: 2, column: 1 },
+        ),
+        (b"1,abc,", CsvFault::NotInt { rec: 2, column: 3 }),
+        (b"1,abc, 1", CsvFault::NotInt { rec: 2, column: 3 }),
+        (b"1,x,1\n2,y,-", CsvFault::NotInt { rec: 3, column: 3 }),
+        (b"1,x,1\n2,y,2\n3", CsvFault::BatchTooLong { rec: 4 }),
+    ];
+    for (lines, fault) in cases.as_slice() {
+        let mut block = Vec::new(alloc);
+        block.extend_from_slice(b"id,name,pay\n")?;
+        block.extend_from_slice(lines)?;
+        assert!(rt; fault_of(alloc, block.as_slice(), &limits)? == Some(*fault));
+    }
+    Ok(())
+}
+
+#[test]
+fn rows_of_an_answer(rt: HostRuntime) -> Result<(), Fail> {
+    let alloc = rt.alloc();
+    let mut person = Seq::new(alloc);
+    person.push(Field::Number(1))?;
+    person.push(Field::Text(Text::new(alloc, "Doe, J.")?))?;
+    person.push(Field::Number(-100))?;
+    let mut run = Seq::new(alloc);
+    run.push(Field::Number(9))?;
+    run.push(Field::Forever)?;
+    run.push(Field::Ratio { sum: 100, count: 2 })?;
+    run.push(Field::Empty)?;
+    let mut rows = Seq::new(alloc);
+    rows.push(person)?;
+    rows.push(run)?;
+    let bytes = answer_bytes(alloc, &Answer { rows })?;
+    assert!(rt; bytes.as_slice() == b"1,\"Doe, J.\",-100\n9,FOREVER,100/2,\n".as_slice());
+    Ok(())
+}
+
+#[test]
+fn a_sample_of_two_lines(rt: HostRuntime) -> Result<(), Fail> {
+    let alloc = rt.alloc();
+    let mut sample = Sample::new(2, 7);
+    let Some(block) = sample.next_block(alloc)? else {
+        assert!(rt; false);
+        return Ok(());
+    };
+    assert!(rt; block.as_slice() == b"id,grp,val\n0,4,19564\n1,6,9806\n".as_slice());
+    assert!(rt; sample.next_block(alloc)?.is_none());
+    Ok(())
+}

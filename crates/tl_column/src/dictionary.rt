@@ -31,6 +31,7 @@ impl Model for Dictionary {
 }
 
 impl Dictionary {
+    /// No texts. `alloc` is the memory that it will take, none as yet.
     pub fn none(alloc: Global) -> Dictionary
         ensures { result ≡ [] }
     {
@@ -40,7 +41,7 @@ impl Dictionary {
         }
     }
 
-    // The text of a code.
+    /// The text of a code.
     pub fn text(&self, code: u32) -> &str
         requires { code < length self.now }
         ensures { result.now ≡ text_of self.now code }
@@ -48,7 +49,7 @@ impl Dictionary {
         self.texts.at(code)
     }
 
-    // The code of a text, none where it is none of the texts.
+    /// The code of a text, none where it is none of the texts.
     pub fn code(&self, text: &str) -> Option<u32>
         ensures { result ≡ code_in self.now text.now }
     {
@@ -72,7 +73,7 @@ impl Dictionary {
         Ok(Dictionary { texts, runs })
     }
 
-    // The texts with this one among them, and its code.
+    /// The texts with this one among them, and its code.
     pub fn with(self, alloc: Global, text: &Text) -> Result<(Dictionary, u32), NoMemory>
         requires { length self < 2 ^ 32 }
         ensures texts { IfOk result (λ found. found.0 ≡ with_text self text.now) }
@@ -88,7 +89,7 @@ impl Dictionary {
         }
     }
 
-    // The same texts, all of them shared.
+    /// The same texts, all of them shared.
     pub fn settle(self, alloc: Global) -> Result<Dictionary, NoMemory>
         ensures { IfOk result (λ dictionary. dictionary ≡ self) }
     {

@@ -23,7 +23,7 @@ impl Model for SharedText {
 }
 
 impl SharedText {
-    // A copy of a text.
+    /// A copy of a text.
     pub fn new(alloc: Global, text: &Text) -> Result<SharedText, NoMemory>
         ensures { IfOk result (λ shared. shared ≡ text.now) }
     {
@@ -32,7 +32,7 @@ impl SharedText {
         })
     }
 
-    // The text, lent.
+    /// The text, lent.
     pub fn as_str(&self) -> &str
         ensures { result.now ≡ self.now }
     {

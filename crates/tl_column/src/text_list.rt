@@ -24,6 +24,7 @@ impl Model for TextList {
 }
 
 impl TextList {
+    /// No texts. `alloc` is the memory that it will take, none as yet.
     pub fn none(alloc: Global) -> TextList
         ensures { result ≡ [] }
     {
@@ -33,6 +34,7 @@ impl TextList {
         }
     }
 
+    /// How many texts there are.
     pub fn len(&self) -> u32
         requires { length self.now < 2 ^ 32 }
         ensures { result ≡ length self.now }
@@ -40,7 +42,7 @@ impl TextList {
         (self.settled.len() + self.fresh.len() as u64) as u32
     }
 
-    // The text at `code`, counted from 0.
+    /// The text at `code`, counted from 0.
     pub fn at(&self, code: u32) -> &str
         requires { code < length self.now }
         ensures { result.now ≡ text_of self.now code }
@@ -52,7 +54,7 @@ impl TextList {
         self.fresh[(code - self.settled.len()) as usize].as_str()
     }
 
-    // The list followed by a text.
+    /// The list followed by a text.
     pub fn followed_by(self, alloc: Global, text: &Text) -> Result<TextList, NoMemory>
         ensures { IfOk result (λ texts. texts ≡ self ++ text.now ∷ []) }
     {
@@ -61,7 +63,7 @@ impl TextList {
         Ok(TextList { settled, fresh })
     }
 
-    // The same texts, all of them shared.
+    /// The same texts, all of them shared.
     pub fn settle(self, alloc: Global) -> Result<TextList, NoMemory>
         ensures { IfOk result (λ texts. texts ≡ self) }
     {

@@ -23,7 +23,7 @@ fn int_cell(rec: u32, place: usize, text: &str) -> Result<Cell, CsvFault>
     }
 }
 
-// The cell of the field at a place (from 0) of a record, which is of this kind.
+/// The cell of the field at a place (from 0) of a record, which is of this kind.
 pub fn cell_of(
     alloc: Global,
     limits: &Limits,
@@ -49,7 +49,7 @@ pub fn cell_of(
     }
 }
 
-// The fault of the field at a place (from 0) of a record, which is of this kind, where it has one.
+/// The fault of the field at a place (from 0) of a record, which is of this kind, where it has one.
 pub fn field_fault(
     limits: &Limits,
     rec: u32,

@@ -146,7 +146,7 @@ fn placed_of(
     Ok(Ok(placed))
 }
 
-// The layout that a header gives the records behind it, or the header's first fault.
+/// The layout that a header gives the records behind it, or the header's first fault.
 pub fn layout_of(
     alloc: Global,
     columns: &[Column],

@@ -19,7 +19,7 @@ fn behind_mark(bytes: &[u8]) -> Option<&[u8]>
     }
 }
 
-// The bytes past the byte order marks at their start.
+/// The bytes past the byte order marks at their start.
 pub fn without_marks(block: &[u8]) -> &[u8]
     ensures { result.now ≡ without_marks block.now }
 {

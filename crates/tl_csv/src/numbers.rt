@@ -2,7 +2,7 @@
 ghost use Rattle.std.specs.Prelude.{◌≡◌};
 ghost use Rattle.tl_csv.specs.Numbers.{number_of};
 
-// The number that a field spells: an optional `-` or `+` and one or more digits, within 64 bits.
+/// The number that a field spells: an optional `-` or `+` and one or more digits, within 64 bits.
 #[tactic(auto, using(crate::proofs::NumberLemmas::number_parsed))]
 pub fn number_of(field: &str) -> Option<i64>
     ensures { result ≡ number_of field.now }

@@ -9,7 +9,7 @@ use crate::marks::without_marks;
 use csv::{ByteRecord, Reader, ReaderBuilder};
 use std::alloc::{AllocError, Global};
 
-// A reader of the records of a block past its byte order marks.
+/// A reader of the records of a block past its byte order marks.
 pub fn reader_of(alloc: Global, block: &[u8]) -> Reader<&[u8]>
     ensures whole { left result ≡ records default_config (without_marks block.now) }
     ensures reading { IsReading result }
@@ -20,7 +20,7 @@ pub fn reader_of(alloc: Global, block: &[u8]) -> Reader<&[u8]>
         .from_reader(alloc, without_marks(block))
 }
 
-// Reads the next record into `row`, and answers whether there was one.
+/// Reads the next record into `row`, and answers whether there was one.
 pub fn next_record(reader: &mut Reader<&[u8]>, row: &mut ByteRecord) -> Result<bool, AllocError>
     requires { IsReading reader.old }
     ensures found { IfOk result (λ found. found ≡ true → left reader.old ≡ fields_of row.new ∷ left reader.new) }

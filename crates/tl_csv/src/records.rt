@@ -6,7 +6,7 @@ ghost use Rattle.csv.specs.Records.{fields_of};
 
 use csv::ByteRecord;
 
-// The field at a place (from 0), where the record has so many.
+/// The field at a place (from 0), where the record has so many.
 pub fn field(row: &ByteRecord, place: usize) -> Option<&[u8]>
     ensures value { option_map (λ f. f.now) result ≡ slice_get (fields_of row.now) place }
     ensures counted { IfSome result (λ f. place + 1 < 2 ^ 64) }
@@ -14,7 +14,7 @@ pub fn field(row: &ByteRecord, place: usize) -> Option<&[u8]>
     row.get(place)
 }
 
-// The same, and the fields from there on.
+/// The same, and the fields from there on.
 #[tactic(auto, using(crate::proofs::FaultLemmas::drop_at, crate::proofs::FaultLemmas::drop_past, crate::proofs::FaultLemmas::within))]
 pub fn next_field(row: &ByteRecord, place: usize) -> Option<&[u8]>
     ensures found { IfSome result (λ f. drop place (fields_of row.now) ≡ f.now ∷ drop (place + 1) (fields_of row.now)) }
@@ -28,7 +28,7 @@ pub fn next_field(row: &ByteRecord, place: usize) -> Option<&[u8]>
     }
 }
 
-// The text of a field, where the field is UTF-8.
+/// The text of a field, where the field is UTF-8.
 #[tactic(auto, using(crate::proofs::FaultLemmas::is_text, crate::proofs::FaultLemmas::no_text))]
 pub fn text_of(field: &[u8]) -> Option<&str>
     ensures text { IfSome result (λ text. text.now ≡ field.now) }

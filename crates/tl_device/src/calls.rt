@@ -23,6 +23,7 @@ impl Model for Calls {
 }
 
 impl Calls {
+    /// No call so far; `failing` has the numbers, from 1, of the calls that are to fail.
     pub fn new(failing: Vec<u64>) -> Calls
         ensures failing { result.failing ≡ failing.items }
         ensures made { result.made ≡ 0 }
@@ -35,7 +36,7 @@ impl Calls {
         }
     }
 
-    // Counts one more call, and answers whether it is to fail.
+    /// Counts one more call, and answers whether it is to fail.
     pub fn next_fails(&mut self) -> bool
         ensures fails { result ≡ next_fails self.old }
         ensures after { self.new ≡ after_call self.old }
@@ -50,6 +51,7 @@ impl Calls {
         fails
     }
 
+    /// How many calls failed.
     pub fn faults(&self) -> u64
         ensures { result ≡ self.now.faults }
     {

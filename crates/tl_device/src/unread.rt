@@ -19,14 +19,15 @@ impl Model for Unread {
 }
 
 impl Unread {
+    /// All of these bytes, none of them read.
     pub fn new(bytes: Vec<u8>) -> Unread
         ensures { result ≡ bytes.items }
     {
         Unread { bytes, place: 0 }
     }
 
-    // Moves the next bytes into the front of `into`, and answers their number: as many as are left, as it has room
-    // for, and as `most` allows.
+    /// Moves the next bytes into the front of `into`, and answers their number: as many as are left, as it has room
+    /// for, and as `most` allows.
     pub fn read(&mut self, into: &mut [u8], most: usize) -> usize
         ensures number { result ≡ min (min (length self.old) (length into.old)) most }
         ensures moved { into.new ≡ take result self.old ++ drop result into.old }

@@ -24,6 +24,7 @@ impl Model for Written {
 }
 
 impl Written {
+    /// No byte written, and room for none. `alloc` is the memory that it will take.
     pub fn none(alloc: Global) -> Written
         ensures bytes { result.bytes ≡ [] }
         ensures spare { result.spare ≡ 0 }
@@ -34,13 +35,14 @@ impl Written {
         }
     }
 
+    /// The bytes written so far.
     pub fn bytes(&self) -> &[u8]
         ensures { result.now ≡ self.now.bytes }
     {
         &self.bytes
     }
 
-    // Appends `from`, for which there is room.
+    /// Appends `from`, for which there is room.
     pub fn append(&mut self, from: &[u8])
         requires { length from.now ≤ self.old.spare }
         ensures bytes { self.new.bytes ≡ self.old.bytes ++ from.now }
@@ -50,7 +52,7 @@ impl Written {
         self.bytes.extend_from_slice(from).unwrap();
     }
 
-    // Makes room for `bytes` bytes more, and keeps what there is.
+    /// Makes room for `bytes` bytes more, and keeps what there is.
     pub fn room(&mut self, bytes: u64) -> Result<(), NoMemory>
         ensures bytes { self.new.bytes ≡ self.old.bytes }
         ensures ok { OnOk result (self.new.spare ≡ max self.old.spare bytes) }

@@ -26,6 +26,7 @@ pub(super) struct Lines<'a> {
 impl<'a> Lines<'a> {
     ghost use Rattle.timeline.specs.Reading.{TakesLine, TakesBlock, TakesJob};
 
+    /// The lines of these bytes, from the first, numbered 1, on; `limit` is how many bytes of them there may be.
     pub fn new(bytes: &'a [u8], limit: u64) -> Lines<'a>
         ensures rest { result.rest.now ≡ bytes.now }
         ensures number { result.number ≡ 1 }
@@ -40,7 +41,7 @@ impl<'a> Lines<'a> {
         }
     }
 
-    // The next line, or None at the end.
+    /// The next line, or None at the end.
     pub fn next_line(&mut self) -> Result<Option<Line<'a>>, ScriptFault>
         ensures taken { TakesLine self.old result self.new }
         ensures split { IfOk result (λ found. IfSome found (λ line. self.old.rest.now ≡ line.bytes.now ++ self.new.rest.now)) }
@@ -76,7 +77,7 @@ impl<'a> Lines<'a> {
         Err(ScriptFault::BlockOpen { line: begun })
     }
 
-    // The job of the statement that was read last.
+    /// The job of the statement that was read last.
     pub fn job(
         &mut self,
         line: u64,

@@ -1,16 +1,18 @@
 -- Worked examples of the definitions, computed: a file as a spreadsheet writes it, and the first fault of headers
 -- and records. The table is `p (id INT, name TEXT, pay INT) KEY id`.
-use Rattle.std.specs.Prelude.{◌≡◌, ℕ, ◌∷◌, [], List, None, Ok, Err, refl, codes, pos, false, Result}
+use Rattle.std.specs.Prelude.{◌≡◌, ℕ, ◌∷◌, [], List, None, Ok, Err, refl, codes, pos, neg_ℤ, false, true, Result, Some}
 use Rattle.std.specs.Str.{is_utf8, chars}
 use Rattle.std.proofs.Math.Utf8.{encode}
 use Rattle.tl_types.specs.declared.cells.Cell.TheVariants as cell
 use Rattle.tl_types.specs.declared.cells.ColumnKind.TheVariants.{IntKind, TextKind}
+use Rattle.tl_types.specs.declared.batches.Batch.TheVariants as batch
 use Rattle.tl_types.specs.declared.limits.Limits.{Limits}
 use Rattle.tl_types.specs.Limits.{standard_limits}
 use Rattle.tl_types.specs.Plain as plain
 use Rattle.tl_csv.specs.declared.faults.CsvFault.{CsvFault}
 use Rattle.tl_csv.specs.declared.faults.CsvFault.TheVariants as fault
-use Rattle.tl_csv.specs.Block.{rows_of, without_marks}
+use Rattle.tl_csv.specs.declared.needs.BatchKind.TheVariants.{PutKind, RemoveKind}
+use Rattle.tl_csv.specs.Block.{rows_of, made, without_marks}
 
 people : plain.Schema
 people = record {
@@ -28,9 +30,9 @@ few : Limits
 few = record standard_limits { text = 3; batch = 2 }
 
 rows : List (List (List ℕ)) → Result (List plain.Opened) CsvFault
-rows records = rows_of few people records
+rows records = rows_of few people PutKind records
 
-file : rows_of standard_limits people ((codes "pay" ∷ codes "id" ∷ codes "name" ∷ []) ∷ (codes "100" ∷ codes "1" ∷ codes "Doe, J." ∷ []) ∷ [])
+file : rows_of standard_limits people PutKind ((codes "pay" ∷ codes "id" ∷ codes "name" ∷ []) ∷ (codes "100" ∷ codes "1" ∷ codes "Doe, J." ∷ []) ∷ [])
     ≡ Ok (record { cells = cell.Int (pos 1) ∷ cell.Text (codes "Doe, J.") ∷ cell.Int (pos 100) ∷ []; period = None } ∷ [])
 unfolding people is_utf8 chars encode
 file = refl
@@ -70,6 +72,53 @@ too_long = refl
 too_many : rows (header ∷ (codes "1" ∷ codes "x" ∷ codes "1" ∷ []) ∷ (codes "2" ∷ codes "y" ∷ codes "2" ∷ []) ∷ (codes "3" ∷ []) ∷ []) ≡ Err (fault.BatchTooLong 4)
 unfolding rows people header few is_utf8 chars encode
 too_many = refl
+
+-- a table with valid time: `q (k INT, x INT) KEY k VALID`
+timed : plain.Schema
+timed = record {
+  name = codes "q";
+  columns = record { name = codes "k"; kind = IntKind } ∷ record { name = codes "x"; kind = IntKind } ∷ [];
+  key = 0;
+  valid = true;
+}
+
+timed_header : List (List ℕ)
+timed_header = codes "k" ∷ codes "x" ∷ codes "valid_from" ∷ codes "valid_to" ∷ []
+
+-- a row without an end
+endless : rows_of standard_limits timed PutKind (timed_header ∷ (codes "1" ∷ codes "5" ∷ codes "-10" ∷ codes "FOREVER" ∷ []) ∷ [])
+    ≡ Ok (record { cells = cell.Int (pos 1) ∷ cell.Int (pos 5) ∷ []; period = Some (record { from = neg_ℤ (pos 10); to = pos 9223372036854775807 }) } ∷ [])
+unfolding timed timed_header is_utf8 chars encode
+endless = refl
+
+-- a period without a moment
+empty : rows_of standard_limits timed PutKind (timed_header ∷ (codes "2" ∷ codes "5" ∷ codes "5" ∷ codes "5" ∷ []) ∷ []) ≡ Err (fault.EmptyPeriod 2)
+unfolding timed timed_header is_utf8 chars encode
+empty = refl
+
+-- FOREVER is no first moment
+no_beginning : rows_of standard_limits timed PutKind (timed_header ∷ (codes "2" ∷ codes "5" ∷ codes "FOREVER" ∷ codes "5" ∷ []) ∷ []) ≡ Err (fault.NotInt 2 3)
+unfolding timed timed_header is_utf8 chars encode
+no_beginning = refl
+
+-- the end of the period is not named: it is the fourth of what a row needs, and the third of what a removal needs
+no_end : rows_of standard_limits timed PutKind ((codes "k" ∷ codes "x" ∷ codes "valid_from" ∷ []) ∷ []) ≡ Err (fault.HeaderMissing 4)
+unfolding timed is_utf8 chars encode
+no_end = refl
+
+no_end_of_key : rows_of standard_limits timed RemoveKind ((codes "k" ∷ codes "valid_from" ∷ []) ∷ []) ≡ Err (fault.HeaderMissing 3)
+unfolding timed is_utf8 chars encode
+no_end_of_key = refl
+
+-- a removal names the key and no other column
+other_column : rows_of standard_limits timed RemoveKind ((codes "k" ∷ codes "x" ∷ codes "valid_from" ∷ codes "valid_to" ∷ []) ∷ []) ≡ Err (fault.HeaderName 2)
+unfolding timed is_utf8 chars encode
+other_column = refl
+
+removal : made timed RemoveKind (rows_of standard_limits timed RemoveKind ((codes "valid_to" ∷ codes "k" ∷ codes "valid_from" ∷ []) ∷ (codes "5" ∷ codes "1" ∷ codes "0" ∷ []) ∷ []))
+    ≡ Ok (batch.Remove (codes "q") (record { key = cell.Int (pos 1); period = Some (record { from = pos 0; to = pos 5 }) } ∷ []))
+unfolding timed is_utf8 chars encode
+removal = refl
 
 marks : without_marks (239 ∷ 187 ∷ 191 ∷ 239 ∷ 187 ∷ 191 ∷ codes "id") ≡ codes "id"
 marks = refl

@@ -1,24 +1,29 @@
 -- The batch of a block, or its first fault.
-use Rattle.std.specs.Prelude.{ℕ, ◌≡◌, ◌≤◌, true, ◌+◌, ℤ, Bool, ◌&&◌, nat_le, nat_lt, ◌==◌, List, [], ◌∷◌, length, slice_get, Option, Some, None, Result, Ok, Err, if◌then◌else◌}
+use Rattle.std.specs.Prelude.{ℕ, ◌≡◌, ◌≤◌, true, ◌+◌, ℤ, pos, Bool, ◌&&◌, nat_le, nat_lt, int_lt, ◌==◌, List, [], ◌∷◌, length, map, slice_get, Option, Some, None, is_some, Result, Ok, Err, if◌then◌else◌}
+use Rattle.std.specs.Bool.{beq}
 use Rattle.std.specs.Str.{is_utf8}
 use Rattle.std.specs.List.{list_all}
 use Rattle.csv.specs.Reading.{default_config, records}
 use Rattle.tl_types.specs.declared.cells.Cell.{Cell}
 use Rattle.tl_types.specs.declared.cells.Cell.TheVariants as cell
-use Rattle.tl_types.specs.declared.cells.ColumnKind.{ColumnKind}
 use Rattle.tl_types.specs.declared.cells.ColumnKind.TheVariants.{IntKind, TextKind}
 use Rattle.tl_types.specs.declared.limits.Limits.{Limits}
+use Rattle.tl_types.specs.declared.batches.KeyLine.{KeyLine}
 use Rattle.tl_types.specs.declared.batches.Batch.{Batch}
 use Rattle.tl_types.specs.declared.batches.Batch.TheVariants as batch
 use Rattle.tl_types.specs.Plain as plain
-use Rattle.tl_types.specs.History.{matches}
+use Rattle.tl_types.specs.History.{matches, match_columns}
 use Rattle.tl_csv.specs.declared.faults.CsvFault.{CsvFault}
 use Rattle.tl_csv.specs.declared.faults.CsvFault.TheVariants as fault
+use Rattle.tl_csv.specs.declared.needs.BatchKind.{BatchKind}
+use Rattle.tl_csv.specs.declared.needs.BatchKind.TheVariants.{PutKind, RemoveKind}
+use Rattle.tl_csv.specs.declared.needs.FieldKind.{FieldKind}
+use Rattle.tl_csv.specs.declared.needs.FieldKind.TheVariants as kinds
 use Rattle.tl_csv.specs.declared.headers.Placed.{Placed}
 use Rattle.tl_csv.specs.declared.headers.Layout.{Layout}
-use Rattle.tl_csv.specs.Numbers.{number_of}
+use Rattle.tl_csv.specs.Numbers.{number_of, end_of}
 use Rattle.tl_csv.specs.Faults.{each_from, unless, fault_or}
-use Rattle.tl_csv.specs.Header.{layout_of}
+use Rattle.tl_csv.specs.Header.{columns_of, needed_of, layout_of}
 
 -- the three bytes of a byte order mark
 abbrev pub is_mark : ℕ → ℕ → ℕ → Bool
@@ -38,38 +43,60 @@ abbrev pub int_cell : ℕ → ℕ → Option ℤ → Result Cell CsvFault
 int_cell rec i None = Err (fault.NotInt rec (i + 1))
 int_cell rec i (Some number) = Ok (cell.Int number)
 
--- the cell of the i-th field of a record, which is of this kind
-abbrev pub cell_of : Limits → ℕ → ℕ → ColumnKind → List ℕ → Result Cell CsvFault
+-- the cell of the i-th field of a record, which is of this kind; an end of a period is a number
+abbrev pub cell_of : Limits → ℕ → ℕ → FieldKind → List ℕ → Result Cell CsvFault
 cell_of limits rec i kind field = if is_utf8 field then of_kind kind else Err (fault.NotUtf8 rec (i + 1)) where
-  of_kind : ColumnKind → Result Cell CsvFault
-  of_kind IntKind = int_cell rec i (number_of field)
-  of_kind TextKind = if nat_lt limits.text (length field) then Err (fault.TextTooLong rec (i + 1)) else Ok (cell.Text field)
+  of_kind : FieldKind → Result Cell CsvFault
+  of_kind kinds.From = int_cell rec i (number_of field)
+  of_kind kinds.To = int_cell rec i (end_of field)
+  of_kind (kinds.Cell IntKind) = int_cell rec i (number_of field)
+  of_kind (kinds.Cell TextKind) = if nat_lt limits.text (length field) then Err (fault.TextTooLong rec (i + 1)) else Ok (cell.Text field)
 
 -- RECORDS
 
 -- the first fault of the fields of a record, which are of these kinds; i is the number of fields before these
-abbrev pub fields_fault : Limits → ℕ → ℕ → List ColumnKind → List (List ℕ) → Option CsvFault
+abbrev pub fields_fault : Limits → ℕ → ℕ → List FieldKind → List (List ℕ) → Option CsvFault
 fields_fault limits rec i [] fields = None
-fields_fault limits rec i (kind ∷ kinds) [] = None
-fields_fault limits rec i (kind ∷ kinds) (field ∷ fields) = fault_or (cell_of limits rec i kind field) (fields_fault limits rec (i + 1) kinds fields)
+fields_fault limits rec i (kind ∷ later) [] = None
+fields_fault limits rec i (kind ∷ later) (field ∷ fields) = fault_or (cell_of limits rec i kind field) (fields_fault limits rec (i + 1) later fields)
 
--- the cell of a column: that of the field at the column's place
+-- the cell of a needed field: that of the field at its place
 abbrev pub picked : Limits → ℕ → List (List ℕ) → Placed → Result Cell CsvFault
 picked limits rec fields column = at (slice_get fields column.place) where
   at : Option (List ℕ) → Result Cell CsvFault
   at None = Err (fault.FieldCount rec)
   at (Some field) = cell_of limits rec column.place column.kind field
 
--- the row of these cells
-abbrev pub row_of_cells : Result (List Cell) CsvFault → Result plain.Opened CsvFault
-row_of_cells (Err e) = Err e
-row_of_cells (Ok cells) = Ok (record { cells = cells; period = None })
+-- the period between two moments, of which the first must be less than the second
+abbrev pub period_between : ℕ → Result Cell CsvFault → Result Cell CsvFault → Result plain.Period CsvFault
+period_between rec (Err e) to = Err e
+period_between rec (Ok from) (Err e) = Err e
+period_between rec (Ok (cell.Int from)) (Ok (cell.Int to)) = if int_lt from to then Ok (record { from = from; to = to }) else Err (fault.EmptyPeriod rec)
+period_between rec (Ok (cell.Int from)) (Ok (cell.Text t)) = Err (fault.EmptyPeriod rec)
+period_between rec (Ok (cell.Text s)) (Ok to) = Err (fault.EmptyPeriod rec)
 
--- the row of a record: it has as many fields as the header, and none has a fault
+-- some value
+abbrev pub some_of : {X : Type 0} → Result X CsvFault → Result (Option X) CsvFault
+some_of (Err e) = Err e
+some_of (Ok x) = Ok (Some x)
+
+-- the period of a record, where the table has valid time
+abbrev pub period_of : Limits → ℕ → List (List ℕ) → List Placed → Result (Option plain.Period) CsvFault
+period_of limits rec fields [] = Ok None
+period_of limits rec fields (from ∷ []) = Ok None
+period_of limits rec fields (from ∷ to ∷ more) = some_of (period_between rec (picked limits rec fields from) (picked limits rec fields to))
+
+-- the row of these cells and this period
+abbrev pub row_with : Result (List Cell) CsvFault → Result (Option plain.Period) CsvFault → Result plain.Opened CsvFault
+row_with (Err e) period = Err e
+row_with (Ok cells) (Err e) = Err e
+row_with (Ok cells) (Ok period) = Ok (record { cells = cells; period = period })
+
+-- the row of a record: it has as many fields as the header, none has a fault, and its period is not empty
 abbrev pub row_of : Limits → Layout → ℕ → List (List ℕ) → Result plain.Opened CsvFault
 row_of limits layout rec fields =
     if length fields == length layout.kinds
-    then unless (fields_fault limits rec 0 layout.kinds fields) (row_of_cells (each_from (λ n. picked limits rec fields) 0 layout.placed))
+    then unless (fields_fault limits rec 0 layout.kinds fields) (row_with (each_from (λ n. picked limits rec fields) 0 layout.columns) (period_of limits rec fields layout.times))
     else Err (fault.FieldCount rec)
 
 -- the row of the i-th record behind the header, which is not past the limit of records
@@ -78,33 +105,54 @@ line_of limits layout i fields = if nat_le limits.batch i then Err (fault.BatchT
 
 -- BATCHES
 
--- a batch of these rows
-abbrev pub put : plain.Schema → Result (List plain.Opened) CsvFault → Result Batch CsvFault
-put schema (Err e) = Err e
-put schema (Ok rows) = Ok (batch.Put schema.name rows)
-
--- the rows of the records behind the header
+-- the rows of the records behind the header; those of a removal have the key as their one cell
 abbrev pub rows_under : Limits → Result Layout CsvFault → List (List (List ℕ)) → Result (List plain.Opened) CsvFault
 rows_under limits (Err e) behind = Err e
 rows_under limits (Ok layout) behind = each_from (line_of limits layout) 0 behind
 
 -- the rows of the records, of which the first is the header; where there is none, the first column is not named
-abbrev pub rows_of : Limits → plain.Schema → List (List (List ℕ)) → Result (List plain.Opened) CsvFault
-rows_of limits schema [] = Err (fault.HeaderMissing 1)
-rows_of limits schema (header ∷ behind) = rows_under limits (layout_of schema.columns header) behind
+abbrev pub rows_of : Limits → plain.Schema → BatchKind → List (List (List ℕ)) → Result (List plain.Opened) CsvFault
+rows_of limits schema kind [] = Err (fault.HeaderMissing 1)
+rows_of limits schema kind (header ∷ behind) = rows_under limits (layout_of (needed_of schema kind) header) behind
 
--- the batch of a block of rows, or its first fault, over the records that csv's default reader gives for the
--- block past its byte order marks
-abbrev pub batch_of : Limits → plain.Schema → List ℕ → Result Batch CsvFault
-batch_of limits schema block = put schema (rows_of limits schema (records default_config (without_marks block)))
+-- the first cell; a row has one or more
+abbrev pub first_cell : List Cell → Cell
+first_cell [] = cell.Int (pos 0)
+first_cell (x ∷ xs) = x
+
+-- the line of a removal
+abbrev pub key_line : plain.Opened → KeyLine
+key_line row = record { key = first_cell row.cells; period = row.period }
+
+-- the batch of these rows
+abbrev pub made : plain.Schema → BatchKind → Result (List plain.Opened) CsvFault → Result Batch CsvFault
+made schema kind (Err e) = Err e
+made schema PutKind (Ok rows) = Ok (batch.Put schema.name rows)
+made schema RemoveKind (Ok rows) = Ok (batch.Remove schema.name (map key_line rows))
+
+-- the batch of a block that is read as this kind, or its first fault, over the records that csv's default reader
+-- gives for the block past its byte order marks
+abbrev pub batch_of : Limits → plain.Schema → BatchKind → List ℕ → Result Batch CsvFault
+batch_of limits schema kind block = made schema kind (rows_of limits schema kind (records default_config (without_marks block)))
+
+-- WHAT A BATCH IS
 
 -- what the rows of a batch are: rows of their table, and not too many
 pub record AreRowsFor (limits : Limits) (schema : plain.Schema) (rows : List plain.Opened) : Type 0 where
   pub matching : list_all (matches schema) rows ≡ true
   pub few : length rows ≤ limits.batch
 
--- the batch puts rows of the table into it, and not too many
-abbrev pub IsPutFor : Limits → plain.Schema → Batch → Type 0
-IsPutFor limits schema (batch.Create s) = ⊥
-IsPutFor limits schema (batch.Put name rows) = (name ≡ schema.name) × AreRowsFor limits schema rows
-IsPutFor limits schema (batch.Remove name keys) = ⊥
+-- the key is what the key's column holds, and there is a period exactly where the table has valid time
+abbrev pub is_key_for : plain.Schema → KeyLine → Bool
+is_key_for schema line = match_columns (columns_of schema RemoveKind) (line.key ∷ []) && beq schema.valid (is_some line.period)
+
+-- what the lines of a removal are: keys of their table, and not too many
+pub record AreKeysFor (limits : Limits) (schema : plain.Schema) (lines : List KeyLine) : Type 0 where
+  pub matching : list_all (is_key_for schema) lines ≡ true
+  pub few : length lines ≤ limits.batch
+
+-- the batch is one of the kind for the table, and not too long
+abbrev pub IsBatchFor : Limits → plain.Schema → BatchKind → Batch → Type 0
+IsBatchFor limits schema kind (batch.Create s) = ⊥
+IsBatchFor limits schema kind (batch.Put name rows) = (kind ≡ PutKind) × (name ≡ schema.name) × AreRowsFor limits schema rows
+IsBatchFor limits schema kind (batch.Remove name lines) = (kind ≡ RemoveKind) × (name ≡ schema.name) × AreKeysFor limits schema lines

@@ -1,10 +1,10 @@
 //! The batch of a block.
-ghost use Rattle.std.specs.Prelude.{◌≡◌, ◌≢◌, ◌≤◌, ◌<◌, ◌+◌, ◌^◌, false, IfOk, IfErr, OnOk, Ok, Err, length, drop};
+ghost use Rattle.std.specs.Prelude.{◌≡◌, ◌≢◌, ◌≤◌, ◌<◌, ◌+◌, ◌^◌, IfOk, IfErr, OnOk, Ok, Err, length, map, drop};
 ghost use Rattle.csv.specs.Records.{fields_of};
 ghost use Rattle.tl_csv.specs.declared.faults.CsvFault.TheVariants as fault;
-ghost use Rattle.tl_csv.specs.declared.batches.BatchKind.TheVariants as kinds;
 ghost use Rattle.tl_csv.specs.Faults.{each_from};
-ghost use Rattle.tl_csv.specs.Block.{batch_of, fields_fault, line_of, picked, put, row_of, rows_of, IsPutFor};
+ghost use Rattle.tl_csv.specs.Header.{columns_of};
+ghost use Rattle.tl_csv.specs.Block.{batch_of, fields_fault, key_line, line_of, made, period_between, period_of, picked, row_of, rows_of, IsBatchFor};
 ghost use Rattle.tl_csv.specs.Reading.{left, IsReading};
 ghost use Rattle.csv.specs.Reading.{default_config, records};
 ghost use Rattle.tl_csv.specs.Block.{without_marks};
@@ -12,20 +12,12 @@ ghost use Rattle.tl_csv.specs.Block.{without_marks};
 use crate::cells::{cell_of, field_fault};
 use crate::faults::CsvFault;
 use crate::headers::{Layout, Placed, layout_of};
+use crate::needs::{BatchKind, FieldKind, needed_of};
 use crate::reading::{next_record, reader_of};
 use crate::records::{field, next_field};
 use csv::{ByteRecord, Reader};
 use std::alloc::{AllocError, Global};
-use tl_types::{Batch, Cell, ColumnKind, Limits, Opened, Schema, Seq};
-
-/// What a block is read as.
-#[derive(Clone, Copy, Debug, PartialEq, Eq)]
-pub enum BatchKind {
-    /// Rows that take the place of the open rows of their keys.
-    PutKind,
-    /// Keys whose open rows are closed.
-    RemoveKind,
-}
+use tl_types::{Batch, Cell, KeyLine, Limits, Opened, Period, Schema, Seq};
 
 // The first fault of the fields of a record from a place (from 0) on, which are of these kinds.
 #[tactic(auto, using(crate::proofs::FaultLemmas::fault_first, crate::proofs::FaultLemmas::fault_later))]
@@ -33,7 +25,7 @@ fn fields_fault(
     limits: &Limits,
     rec: u32,
     place: usize,
-    kinds: &[ColumnKind],
+    kinds: &[FieldKind],
     row: &ByteRecord,
 ) -> Option<CsvFault>
     ensures { result ≡ fields_fault limits.now rec place kinds.now (drop place (fields_of row.now)) }
@@ -50,7 +42,7 @@ fn fields_fault(
     }
 }
 
-// The cell of a column: that of the field at the column's place.
+// The cell of a needed field: that of the field at its place.
 fn picked(
     alloc: Global,
     limits: &Limits,
@@ -91,6 +83,44 @@ fn cells_of(
     Ok(Ok(cells))
 }
 
+// The period between two moments, of which the first must be less than the second.
+fn period_between(rec: u32, from: &Cell, to: &Cell) -> Result<Period, CsvFault>
+    ensures { result ≡ period_between rec (Ok from.now) (Ok to.now) }
+{
+    match (from, to) {
+        (Cell::Int(from), Cell::Int(to)) if *from < *to => Ok(Period::new(*from, *to)),
+        _ => Err(CsvFault::EmptyPeriod { rec }),
+    }
+}
+
+// The period of a record, where the table has valid time.
+fn period_of(
+    alloc: Global,
+    limits: &Limits,
+    rec: u32,
+    row: &ByteRecord,
+    times: &[Placed],
+) -> Result<Result<Option<Period>, CsvFault>, AllocError>
+    requires { limits.now.text ≤ 65535 }
+    ensures { IfOk result (λ period. period ≡ period_of limits.now rec (fields_of row.now) times.now) }
+{
+    let [from, to, ..] = times else {
+        return Ok(Ok(None));
+    };
+    let from = match picked(alloc, limits, rec, row, from)? {
+        Ok(from) => from,
+        Err(fault) => return Ok(Err(fault)),
+    };
+    let to = match picked(alloc, limits, rec, row, to)? {
+        Ok(to) => to,
+        Err(fault) => return Ok(Err(fault)),
+    };
+    match period_between(rec, &from, &to) {
+        Ok(period) => Ok(Ok(Some(period))),
+        Err(fault) => Ok(Err(fault)),
+    }
+}
+
 fn row_of(
     alloc: Global,
     limits: &Limits,
@@ -99,8 +129,8 @@ fn row_of(
     row: &ByteRecord,
 ) -> Result<Result<Opened, CsvFault>, AllocError>
     requires text { limits.now.text ≤ 65535 }
-    requires some { 1 ≤ length layout.now.placed }
-    requires few { length layout.now.placed ≤ 16 }
+    requires some { 1 ≤ length layout.now.columns }
+    requires few { length layout.now.columns ≤ 16 }
     ensures { IfOk result (λ opened. opened ≡ row_of limits.now layout.now rec (fields_of row.now)) }
 {
     if row.len() != layout.kinds.len() {
@@ -109,8 +139,12 @@ fn row_of(
     if let Some(fault) = fields_fault(limits, rec, 0, layout.kinds.as_slice(), row) {
         return Ok(Err(fault));
     }
-    match cells_of(alloc, limits, rec, row, layout.placed.as_slice())? {
-        Ok(cells) => Ok(Ok(Opened::new(cells, None))),
+    let cells = match cells_of(alloc, limits, rec, row, layout.columns.as_slice())? {
+        Ok(cells) => cells,
+        Err(fault) => return Ok(Err(fault)),
+    };
+    match period_of(alloc, limits, rec, row, layout.times.as_slice())? {
+        Ok(period) => Ok(Ok(Opened::new(cells, period))),
         Err(fault) => Ok(Err(fault)),
     }
 }
@@ -126,8 +160,8 @@ fn line_of(
     requires text { limits.now.text ≤ 65535 }
     requires batch { limits.now.batch ≤ 1000000 }
     requires near { before ≤ limits.now.batch }
-    requires some { 1 ≤ length layout.now.placed }
-    requires few { length layout.now.placed ≤ 16 }
+    requires some { 1 ≤ length layout.now.columns }
+    requires few { length layout.now.columns ≤ 16 }
     ensures line { IfOk result (λ opened. opened ≡ line_of limits.now layout.now before (fields_of row.now)) }
     ensures within { IfOk result (λ opened. OnOk opened (before + 1 ≤ limits.now.batch)) }
 {
@@ -148,8 +182,8 @@ fn lines_of(
 ) -> Result<Result<Seq<Opened>, CsvFault>, AllocError>
     requires text { limits.now.text ≤ 65535 }
     requires batch { limits.now.batch ≤ 1000000 }
-    requires some { 1 ≤ length layout.now.placed }
-    requires few { length layout.now.placed ≤ 16 }
+    requires some { 1 ≤ length layout.now.columns }
+    requires few { length layout.now.columns ≤ 16 }
     requires reading { IsReading reader.old }
     ensures { IfOk result (λ rows. rows ≡ each_from (line_of limits.now layout.now) 0 (left reader.old)) }
 {
@@ -168,45 +202,84 @@ fn rows_of(
     alloc: Global,
     limits: &Limits,
     schema: &Schema,
+    kind: BatchKind,
     block: &[u8],
 ) -> Result<Result<Seq<Opened>, CsvFault>, AllocError>
     requires text { limits.now.text ≤ 65535 }
     requires batch { limits.now.batch ≤ 1000000 }
-    ensures { IfOk result (λ rows. rows ≡ rows_of limits.now schema.now (records default_config (without_marks block.now))) }
+    ensures rows { IfOk result (λ rows. rows ≡ rows_of limits.now schema.now kind (records default_config (without_marks block.now))) }
+    ensures keyed { IfOk result (λ rows. OnOk rows (1 ≤ length (columns_of schema.now kind))) }
 {
     let mut reader = reader_of(alloc, block);
     let mut header = ByteRecord::new(alloc);
     if !next_record(&mut reader, &mut header)? {
         return Ok(Err(CsvFault::HeaderMissing { column: 1 }));
     }
-    match layout_of(alloc, schema.columns(), &header)? {
+    let needed = needed_of(alloc, schema, kind)?;
+    match layout_of(alloc, &needed, &header)? {
         Ok(layout) => lines_of(alloc, limits, &layout, &mut reader),
         Err(fault) => Ok(Err(fault)),
     }
 }
 
-// A batch of these rows.
-fn put(schema: &Schema, rows: Seq<Opened>) -> Result<Batch, AllocError>
-    ensures { IfOk result (λ batch. Ok batch ≡ put schema.now (Ok rows)) }
+fn key_line(row: &Opened) -> Result<KeyLine, AllocError>
+    ensures { IfOk result (λ line. line ≡ key_line row.now) }
 {
-    Ok(Batch::Put {
-        table: schema.name().clone()?,
-        lines: rows,
-    })
+    match row.cells() {
+        [key, ..] => Ok(KeyLine {
+            key: key.clone()?,
+            period: row.period(),
+        }),
+        [] => Ok(KeyLine {
+            key: Cell::Int(0),
+            period: row.period(),
+        }),
+    }
 }
 
-/// The batch of a block, read as rows for the table of this schema, or the block's first fault. The limits are
-/// at most the standard ones: up to `limits.batch` records behind the header, and up to `limits.text` bytes of a
-/// text.
+fn key_lines(alloc: Global, rows: &[Opened]) -> Result<Seq<KeyLine>, AllocError>
+    ensures { IfOk result (λ lines. lines ≡ map key_line rows.now) }
+{
+    let mut lines = Seq::new(alloc);
+    for row in rows {
+        lines.push(key_line(row)?)?;
+    }
+    Ok(lines)
+}
+
+// The batch of these rows.
+fn made(
+    alloc: Global,
+    schema: &Schema,
+    kind: BatchKind,
+    rows: Seq<Opened>,
+) -> Result<Batch, AllocError>
+    ensures { IfOk result (λ batch. Ok batch ≡ made schema.now kind (Ok rows)) }
+{
+    let table = schema.name().clone()?;
+    match kind {
+        BatchKind::PutKind => Ok(Batch::Put { table, lines: rows }),
+        BatchKind::RemoveKind => {
+            let lines = key_lines(alloc, rows.as_slice())?;
+            Ok(Batch::Remove { table, lines })
+        }
+    }
+}
+
+/// The batch of a block, read as rows or as removals for the table of this schema, or the block's first fault.
+/// The limits are at most the standard ones: up to `limits.batch` records behind the header, and up to
+/// `limits.text` bytes of a text.
 ///
 /// The block's records are those that csv's default reader gives, without its byte order marks (EF BB BF, one or
-/// several); the first is the header and has number 1. The header names each column once, in any order, and
-/// nothing else, and each record has a field for each.
+/// several); the first is the header and has number 1. What is needed is all columns of the table for rows and the
+/// key for removals, and behind them `valid_from` and `valid_to` where the table has valid time. The header names
+/// each needed field once, in any order, and nothing else, and each record has a field for each.
 ///
 /// The faults, in their order: of the header `NotUtf8` at its first such field; then field by field `HeaderName`
-/// or `HeaderTwice`; then `HeaderMissing` at the first column that is not named, also where there is no record.
-/// Then record by record `BatchTooLong` past the limit of records, `FieldCount`, and field by field `NotUtf8`,
-/// `NotInt` and `TextTooLong`. `NoMemory` is want of memory.
+/// or `HeaderTwice`; then `HeaderMissing` at the first needed field that is not named, also where there is no
+/// record. Then record by record `BatchTooLong` past the limit of records, `FieldCount`, and field by field
+/// `NotUtf8`, `NotInt` and `TextTooLong`, and `EmptyPeriod` where `valid_from` is not less than `valid_to`, which
+/// may be `FOREVER`. `NoMemory` is want of memory.
 pub fn read_batch(
     alloc: Global,
     block: &[u8],
@@ -214,19 +287,14 @@ pub fn read_batch(
     kind: BatchKind,
     limits: &Limits,
 ) -> Result<Batch, CsvFault>
-    requires put { kind ≡ kinds.PutKind }
-    requires untimed { schema.now.valid ≡ false }
     requires text { limits.now.text ≤ 65535 }
     requires batch { limits.now.batch ≤ 1000000 }
-    ensures batch { IfOk result (λ batch. batch_of limits.now schema.now block.now ≡ Ok batch) }
-    ensures fault { IfErr result (λ e. e ≢ fault.NoMemory → batch_of limits.now schema.now block.now ≡ Err e) }
-    ensures rows { IfOk result (λ batch. IsPutFor limits.now schema.now batch) }
+    ensures batch { IfOk result (λ batch. batch_of limits.now schema.now kind block.now ≡ Ok batch) }
+    ensures fault { IfErr result (λ e. e ≢ fault.NoMemory → batch_of limits.now schema.now kind block.now ≡ Err e) }
+    ensures rows { IfOk result (λ batch. IsBatchFor limits.now schema.now kind batch) }
 {
-    let BatchKind::PutKind = kind else {
-        unreachable!()
-    };
-    match rows_of(alloc, limits, schema, block) {
-        Ok(Ok(rows)) => match put(schema, rows) {
+    match rows_of(alloc, limits, schema, kind, block) {
+        Ok(Ok(rows)) => match made(alloc, schema, kind, rows) {
             Ok(batch) => Ok(batch),
             Err(_) => Err(CsvFault::NoMemory),
         },

@@ -2,19 +2,19 @@
 ghost use Rattle.std.specs.Prelude.{◌≡◌, ◌≤◌, ◌<◌, ◌+◌, ◌^◌, IfOk, None, length};
 ghost use Rattle.tl_csv.specs.Faults.{fault_or};
 ghost use Rattle.tl_csv.specs.Block.{cell_of, int_cell};
-ghost use Rattle.tl_csv.specs.Numbers.{number_of};
 
 use crate::faults::CsvFault;
-use crate::numbers::number_of;
+use crate::needs::FieldKind;
+use crate::numbers::{end_of, number_of};
 use crate::records::text_of;
 use std::alloc::{AllocError, Global};
 use tl_types::{Cell, ColumnKind, Limits, Text};
 
-fn int_cell(rec: u32, place: usize, text: &str) -> Result<Cell, CsvFault>
+fn int_cell(rec: u32, place: usize, number: Option<i64>) -> Result<Cell, CsvFault>
     requires { place + 1 < 2 ^ 64 }
-    ensures { result ≡ int_cell rec place (number_of text.now) }
+    ensures { result ≡ int_cell rec place number }
 {
-    match number_of(text) {
+    match number {
         Some(number) => Ok(Cell::Int(number)),
         None => Err(CsvFault::NotInt {
             rec,
@@ -23,13 +23,13 @@ fn int_cell(rec: u32, place: usize, text: &str) -> Result<Cell, CsvFault>
     }
 }
 
-/// The cell of the field at a place (from 0) of a record, which is of this kind.
+/// The cell of the field at a place (from 0) of a record, which is of this kind; an end of a period as a number.
 pub fn cell_of(
     alloc: Global,
     limits: &Limits,
     rec: u32,
     place: usize,
-    kind: ColumnKind,
+    kind: FieldKind,
     field: &[u8],
 ) -> Result<Result<Cell, CsvFault>, AllocError>
     requires short { limits.now.text ≤ 65535 }
@@ -41,11 +41,13 @@ pub fn cell_of(
         return Ok(Err(CsvFault::NotUtf8 { rec, column }));
     };
     match kind {
-        ColumnKind::IntKind => Ok(int_cell(rec, place, text)),
-        ColumnKind::TextKind if text.len() as u64 > limits.text => {
+        FieldKind::From => Ok(int_cell(rec, place, number_of(text))),
+        FieldKind::To => Ok(int_cell(rec, place, end_of(text))),
+        FieldKind::Cell(ColumnKind::IntKind) => Ok(int_cell(rec, place, number_of(text))),
+        FieldKind::Cell(ColumnKind::TextKind) if text.len() as u64 > limits.text => {
             Ok(Err(CsvFault::TextTooLong { rec, column }))
         }
-        ColumnKind::TextKind => Ok(Ok(Cell::Text(Text::new(alloc, text)?))),
+        FieldKind::Cell(ColumnKind::TextKind) => Ok(Ok(Cell::Text(Text::new(alloc, text)?))),
     }
 }
 
@@ -54,7 +56,7 @@ pub fn field_fault(
     limits: &Limits,
     rec: u32,
     place: usize,
-    kind: ColumnKind,
+    kind: FieldKind,
     field: &[u8],
 ) -> Option<CsvFault>
     requires { place + 1 < 2 ^ 64 }
@@ -65,10 +67,12 @@ pub fn field_fault(
         return Some(CsvFault::NotUtf8 { rec, column });
     };
     match kind {
-        ColumnKind::IntKind => int_cell(rec, place, text).err(),
-        ColumnKind::TextKind if text.len() as u64 > limits.text => {
+        FieldKind::From => int_cell(rec, place, number_of(text)).err(),
+        FieldKind::To => int_cell(rec, place, end_of(text)).err(),
+        FieldKind::Cell(ColumnKind::IntKind) => int_cell(rec, place, number_of(text)).err(),
+        FieldKind::Cell(ColumnKind::TextKind) if text.len() as u64 > limits.text => {
             Some(CsvFault::TextTooLong { rec, column })
         }
-        ColumnKind::TextKind => None,
+        FieldKind::Cell(ColumnKind::TextKind) => None,
     }
 }

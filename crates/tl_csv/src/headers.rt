@@ -2,19 +2,20 @@
 ghost use Rattle.std.specs.Prelude.{◌≡◌, ◌≤◌, ◌<◌, ◌+◌, ◌^◌, IfOk, IfSome, length, drop};
 ghost use Rattle.csv.specs.Records.{fields_of};
 ghost use Rattle.tl_csv.specs.Faults.{each_from};
-ghost use Rattle.tl_csv.specs.Header.{both, kind_at, kind_named, layout_of, not_utf8, place_from, placed_at, is_before};
+ghost use Rattle.tl_csv.specs.Header.{all_of, kind_at, layout_of, not_utf8, place_from, placed_at, is_before};
 
 use crate::faults::CsvFault;
+use crate::needs::{FieldKind, Needed, Wanted, kind_needed};
 use crate::records::{next_field, text_of};
 use csv::ByteRecord;
 use std::alloc::{AllocError, Global};
-use tl_types::{Column, ColumnKind, Seq};
+use tl_types::Seq;
 
-/// A column, and the place of its field in each record, from 0.
+/// A field that the batch needs, and its place in each record, from 0.
 #[derive(Clone, Copy, Debug, PartialEq, Eq)]
 pub struct Placed {
-    /// What the cells are.
-    pub kind: ColumnKind,
+    /// What the field is.
+    pub kind: FieldKind,
     /// The place of the field.
     pub place: usize,
 }
@@ -23,9 +24,11 @@ pub struct Placed {
 #[derive(Debug, Drop, PartialEq, Eq)]
 pub struct Layout {
     /// What each field of a record is, in the order of the header.
-    pub kinds: Seq<ColumnKind>,
-    /// The columns, in the order of the table.
-    pub placed: Seq<Placed>,
+    pub kinds: Seq<FieldKind>,
+    /// The columns whose cells the batch gives, in the order of the table.
+    pub columns: Seq<Placed>,
+    /// The two ends of a period, where the table has valid time.
+    pub times: Seq<Placed>,
 }
 
 fn not_utf8(header: &ByteRecord) -> Option<CsvFault>
@@ -40,16 +43,6 @@ fn not_utf8(header: &ByteRecord) -> Option<CsvFault>
         i += 1;
     }
     None
-}
-
-fn kind_named(columns: &[Column], name: &[u8]) -> Option<ColumnKind>
-    ensures { result ≡ kind_named columns.now name.now }
-{
-    match columns {
-        [] => None,
-        [column, ..] if column.name.as_bytes() == name => Some(column.kind),
-        [_, rest @ ..] => kind_named(rest, name),
-    }
 }
 
 // The place (from 0) of the first field of the header with the name.
@@ -76,16 +69,16 @@ fn is_before(place: Option<usize>, i: usize) -> bool
 }
 
 fn kind_at(
-    columns: &[Column],
+    needed: &Needed,
     header: &ByteRecord,
     i: usize,
     name: &[u8],
-) -> Result<ColumnKind, CsvFault>
+) -> Result<FieldKind, CsvFault>
     requires { i + 1 < 2 ^ 64 }
-    ensures { result ≡ kind_at columns.now (fields_of header.now) i name.now }
+    ensures { result ≡ kind_at needed.now (fields_of header.now) i name.now }
 {
     let column = i as u64 + 1;
-    match kind_named(columns, name) {
+    match kind_needed(needed, name) {
         None => Err(CsvFault::HeaderName { column }),
         Some(_) if is_before(place_of(header, name), i) => Err(CsvFault::HeaderTwice { column }),
         Some(kind) => Ok(kind),
@@ -95,14 +88,14 @@ fn kind_at(
 #[tactic(auto, using(crate::proofs::FaultLemmas::one_behind, crate::proofs::FaultLemmas::fault_behind))]
 fn kinds_of(
     alloc: Global,
-    columns: &[Column],
+    needed: &Needed,
     header: &ByteRecord,
-) -> Result<Result<Seq<ColumnKind>, CsvFault>, AllocError>
-    ensures { IfOk result (λ kinds. kinds ≡ each_from (kind_at columns.now (fields_of header.now)) 0 (fields_of header.now)) }
+) -> Result<Result<Seq<FieldKind>, CsvFault>, AllocError>
+    ensures { IfOk result (λ kinds. kinds ≡ each_from (kind_at needed.now (fields_of header.now)) 0 (fields_of header.now)) }
 {
     let mut kinds = Seq::new(alloc);
     while let Some(name) = next_field(header, kinds.len()) {
-        match kind_at(columns, header, kinds.len(), name) {
+        match kind_at(needed, header, kinds.len(), name) {
             Ok(kind) => kinds.push(kind)?,
             Err(fault) => return Ok(Err(fault)),
         }
@@ -110,34 +103,37 @@ fn kinds_of(
     Ok(Ok(kinds))
 }
 
-fn placed_at(header: &ByteRecord, i: usize, column: &Column) -> Result<Placed, CsvFault>
+fn placed_at(header: &ByteRecord, i: usize, wanted: &Wanted) -> Result<Placed, CsvFault>
     requires { i + 1 < 2 ^ 64 }
-    ensures { result ≡ placed_at (fields_of header.now) i column.now }
+    ensures { result ≡ placed_at (fields_of header.now) i wanted.now }
 {
-    match place_of(header, column.name.as_bytes()) {
+    match place_of(header, wanted.name.as_bytes()) {
         None => Err(CsvFault::HeaderMissing {
             column: i as u64 + 1,
         }),
         Some(place) => Ok(Placed {
-            kind: column.kind,
+            kind: wanted.kind,
             place,
         }),
     }
 }
 
+// The needed fields with their places, where `first` others come before them.
 #[tactic(auto, using(crate::proofs::FaultLemmas::one_behind, crate::proofs::FaultLemmas::fault_behind))]
 fn placed_of(
     alloc: Global,
-    columns: &[Column],
+    wanted: &[Wanted],
     header: &ByteRecord,
+    first: usize,
 ) -> Result<Result<Seq<Placed>, CsvFault>, AllocError>
-    ensures placed { IfOk result (λ placed. placed ≡ each_from (placed_at (fields_of header.now)) 0 columns.now) }
-    ensures number { IfOk result (λ placed. IfOk placed (λ ps. length ps ≡ length columns.now)) }
+    requires { first ≤ 16 }
+    ensures placed { IfOk result (λ placed. placed ≡ each_from (placed_at (fields_of header.now)) first wanted.now) }
+    ensures number { IfOk result (λ placed. IfOk placed (λ ps. length ps ≡ length wanted.now)) }
 {
     let mut placed = Seq::new(alloc);
-    let mut rest = columns;
+    let mut rest = wanted;
     'columns: while let [column, behind @ ..] = rest {
-        match placed_at(header, placed.len(), column) {
+        match placed_at(header, first + placed.len(), column) {
             Ok(found) => placed.push(found)?,
             Err(fault) => return Ok(Err(fault)),
         }
@@ -149,22 +145,30 @@ fn placed_of(
 /// The layout that a header gives the records behind it, or the header's first fault.
 pub fn layout_of(
     alloc: Global,
-    columns: &[Column],
+    needed: &Needed,
     header: &ByteRecord,
 ) -> Result<Result<Layout, CsvFault>, AllocError>
-    ensures layout { IfOk result (λ layout. layout ≡ layout_of columns.now (fields_of header.now)) }
-    ensures number { IfOk result (λ layout. IfOk layout (λ a. length a.placed ≡ length columns.now)) }
+    requires { length needed.now.columns ≤ 16 }
+    ensures layout { IfOk result (λ layout. layout ≡ layout_of needed.now (fields_of header.now)) }
+    ensures number { IfOk result (λ layout. IfOk layout (λ a. length a.columns ≡ length needed.now.columns)) }
 {
     if let Some(fault) = not_utf8(header) {
         return Ok(Err(fault));
     }
-    let kinds = match kinds_of(alloc, columns, header)? {
+    let kinds = match kinds_of(alloc, needed, header)? {
         Ok(kinds) => kinds,
         Err(fault) => return Ok(Err(fault)),
     };
-    let placed = match placed_of(alloc, columns, header)? {
-        Ok(placed) => placed,
+    let columns = match placed_of(alloc, needed.columns.as_slice(), header, 0)? {
+        Ok(columns) => columns,
         Err(fault) => return Ok(Err(fault)),
     };
-    Ok(Ok(Layout { kinds, placed }))
+    match placed_of(alloc, needed.times.as_slice(), header, columns.len())? {
+        Ok(times) => Ok(Ok(Layout {
+            kinds,
+            columns,
+            times,
+        })),
+        Err(fault) => Ok(Err(fault)),
+    }
 }

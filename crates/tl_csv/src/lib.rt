@@ -1,5 +1,6 @@
 // Blocks of CSV as batches: the records that csv's default reader gives for a block, without its byte order
-// marks, are a header and the rows of a batch, or have a first fault. Answers are written as rows of CSV.
+// marks, are a header and the rows or removals of a batch, or have a first fault. Answers are written as rows of
+// CSV.
 #![tactic(auto)]
 
 mod answers;
@@ -8,6 +9,7 @@ mod cells;
 mod faults;
 mod headers;
 mod marks;
+mod needs;
 mod numbers;
 mod reading;
 mod records;
@@ -16,6 +18,7 @@ mod samples;
 mod tests;
 
 pub use answers::answer_bytes;
-pub use batches::{BatchKind, read_batch};
+pub use batches::read_batch;
 pub use faults::CsvFault;
+pub use needs::BatchKind;
 pub use samples::Sample;

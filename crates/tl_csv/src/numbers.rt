@@ -1,6 +1,8 @@
 //! The whole numbers that fields spell.
 ghost use Rattle.std.specs.Prelude.{◌≡◌};
-ghost use Rattle.tl_csv.specs.Numbers.{number_of};
+ghost use Rattle.tl_csv.specs.Numbers.{number_of, end_of};
+
+use tl_types::Period;
 
 /// The number that a field spells: an optional `-` or `+` and one or more digits, within 64 bits.
 #[tactic(auto, using(crate::proofs::NumberLemmas::number_parsed))]
@@ -8,4 +10,14 @@ pub fn number_of(field: &str) -> Option<i64>
     ensures { result ≡ number_of field.now }
 {
     field.parse::<i64>().ok()
+}
+
+/// The end of a period that a field spells: a number as above, or `FOREVER`.
+pub fn end_of(field: &str) -> Option<i64>
+    ensures { result ≡ end_of field.now }
+{
+    if field == "FOREVER" {
+        return Some(Period::FOREVER);
+    }
+    number_of(field)
 }

@@ -5,7 +5,8 @@ use super::{BatchKind, CsvFault, Sample, answer_bytes, read_batch};
 use std::alloc::Global;
 use std::test::Fail;
 use tl_types::{
-    Answer, Batch, Cell, Column, ColumnKind, Field, Limits, NoMemory, Opened, Schema, Seq, Text,
+    Answer, Batch, Cell, Column, ColumnKind, Field, KeyLine, Limits, NoMemory, Opened, Period,
+    Schema, Seq, Text,
 };
 
 fn column(alloc: Global, name: &str, kind: ColumnKind) -> Result<Column, NoMemory>
@@ -43,7 +44,7 @@ fn read(
     limits: &Limits,
 ) -> Result<Option<Result<Batch, CsvFault>>, NoMemory> {
     match people(alloc)? {
-        Some(schema) if !schema.valid() && limits.text <= 65_535 && limits.batch <= 1_000_000 => {
+        Some(schema) if limits.text <= 65_535 && limits.batch <= 1_000_000 => {
             Ok(Some(read_batch(alloc, block, &schema, BatchKind::PutKind, limits)))
         }
         _ => Ok(None),
@@ -142,6 +143,79 @@ fn faults_of_records(rt: HostRuntime) -> Result<(), Fail> {
         block.extend_from_slice(lines)?;
         assert!(rt; fault_of(alloc, block.as_slice(), &limits)? == Some(*fault));
     }
+    Ok(())
+}
+
+// What a block is read as, for a table `q (x INT, k INT) KEY k VALID`.
+fn read_timed(
+    alloc: Global,
+    block: &[u8],
+    kind: BatchKind,
+) -> Result<Option<Result<Batch, CsvFault>>, NoMemory> {
+    let mut columns = Vec::new(alloc);
+    columns.push(column(alloc, "x", ColumnKind::IntKind)?)?;
+    columns.push(column(alloc, "k", ColumnKind::IntKind)?)?;
+    match Schema::new(Text::new(alloc, "q")?, Seq::from_vec(columns), 1, true) {
+        Some(schema) => Ok(Some(read_batch(alloc, block, &schema, kind, &Limits::standard()))),
+        None => Ok(None),
+    }
+}
+
+#[test]
+fn rows_with_periods(rt: HostRuntime) -> Result<(), Fail> {
+    let alloc = rt.alloc();
+    let block = b"valid_to,k,x,valid_from\nFOREVER,1,5,-10\n";
+    let mut cells = Seq::new(alloc);
+    cells.push(Cell::Int(5))?;
+    cells.push(Cell::Int(1))?;
+    let mut lines = Seq::new(alloc);
+    lines.push(Opened::new(cells, Some(Period::new(-10, Period::FOREVER))))?;
+    let table = Text::new(alloc, "q")?;
+    let read = read_timed(alloc, block, BatchKind::PutKind)?;
+    assert!(rt; read == Some(Ok(Batch::Put { table, lines })));
+    Ok(())
+}
+
+#[test]
+fn removals(rt: HostRuntime) -> Result<(), Fail> {
+    let alloc = rt.alloc();
+    let block = b"k,valid_from,valid_to\n1,0,5\n2,5,9223372036854775807\n";
+    let mut lines = Seq::new(alloc);
+    lines.push(KeyLine {
+        key: Cell::Int(1),
+        period: Some(Period::new(0, 5)),
+    })?;
+    lines.push(KeyLine {
+        key: Cell::Int(2),
+        period: Some(Period::new(5, Period::FOREVER)),
+    })?;
+    let table = Text::new(alloc, "q")?;
+    let read = read_timed(alloc, block, BatchKind::RemoveKind)?;
+    assert!(rt; read == Some(Ok(Batch::Remove { table, lines })));
+    Ok(())
+}
+
+#[test]
+fn faults_of_periods(rt: HostRuntime) -> Result<(), Fail> {
+    let alloc = rt.alloc();
+    let cases = [
+        (b"2,5,5".as_slice(), CsvFault::EmptyPeriod { rec: 2 }),
+        (b"2,6,5", CsvFault::EmptyPeriod { rec: 2 }),
+        (b"2,FOREVER,5", CsvFault::NotInt { rec: 2, column: 2 }),
+        (b"2,5,forever", CsvFault::NotInt { rec: 2, column: 3 }),
+        (b"2,6", CsvFault::FieldCount { rec: 2 }),
+        (b"2,0,1\n2,1,1", CsvFault::EmptyPeriod { rec: 3 }),
+    ];
+    for (lines, fault) in cases.as_slice() {
+        let mut block = Vec::new(alloc);
+        block.extend_from_slice(b"k,valid_from,valid_to\n")?;
+        block.extend_from_slice(lines)?;
+        let read = read_timed(alloc, block.as_slice(), BatchKind::RemoveKind)?;
+        assert!(rt; read == Some(Err(*fault)));
+    }
+    let missing = CsvFault::HeaderMissing { column: 4 };
+    let read = read_timed(alloc, b"k,x,valid_from", BatchKind::PutKind)?;
+    assert!(rt; read == Some(Err(missing)));
     Ok(())
 }
 

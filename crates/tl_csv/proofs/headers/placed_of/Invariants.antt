@@ -7,8 +7,8 @@ use Rattle.tl_csv.proofs.headers.placed_of.Given as goal
 
 abbrev pub invariant-columns : goal.invariant-columns
 invariant-columns l = record {
-  placed : behind l.placed (each_from (placed_at (fields_of l.header)) (length l.placed) l.rest) ≡ each_from (placed_at (fields_of l.header)) 0 l.columns;
-  number : length l.placed + length l.rest ≡ length l.columns;
+  placed : behind l.placed (each_from (placed_at (fields_of l.header)) (l.first + length l.placed) l.rest) ≡ each_from (placed_at (fields_of l.header)) l.first l.wanted;
+  number : length l.placed + length l.rest ≡ length l.wanted;
 }
 
 abbrev pub decreases-columns : goal.decreases-columns

@@ -1,15 +1,15 @@
 -- A script that is too long has its first fault within the bytes that are read of it.
-use Rattle.std.proofs.Common.{◌≡◌, ℕ, ◌+◌, ◌<◌, ◌≤◌, nat_lt, ◌==◌, Bool, true, false, cond, List, [], ◌∷◌, ◌++◌, length, Option, Some, None, Result, Ok, Err, IfSome, refl, ap, arith, sym, ◌∙◌, subst, ◌⊎◌, inl, inr, append-nil, length-append}
-use Rattle.std.proofs.lemmas.Bool.{ltb-true, ltb-false}
+use Rattle.std.proofs.Common.{◌≡◌, ℕ, ◌+◌, ◌<◌, ◌≤◌, nat_lt, ◌==◌, Bool, true, false, cond, List, [], ◌∷◌, ◌++◌, length, Option, Some, None, Result, Ok, Err, IfSome, refl, ap, arith, sym, ◌∙◌, subst, inl, inr, append-nil, length-append}
+use Rattle.std.proofs.lemmas.Bool.{ltb-false}
 use Rattle.std.proofs.lemmas.Grind.{common_steps}
-use Rattle.tl_device.specs.Known.{prepend_known, append_known, Rose}
+use Rattle.tl_device.specs.Known.{prepend_known}
 use Rattle.tl_device.specs.Whole.{IsFront}
 use Rattle.timeline.specs.declared.statuses.Status.{Status}
 use Rattle.timeline.specs.declared.statuses.Status.TheVariants as status
 use Rattle.timeline.specs.declared.jobs.ScriptFault.{ScriptFault}
 use Rattle.timeline.specs.declared.jobs.ScriptFault.TheVariants as fault
 use Rattle.timeline.specs.Script.{Job, Stand, lines_of, before_lines, and_then, with_jobs, after_line, jobs_from, at_start, jobs_of}
-use Rattle.timeline.specs.Ending.{are_words, most_bytes, Outside, IsTranscript, RunsScript, Ends, IsWhole}
+use Rattle.timeline.specs.Ending.{are_words, most_bytes, Outside, IsTranscript, RunsScript, Ends}
 
 -- the second lines are the first, but for what may stand behind the last of the first
 data Extends : List (List ℕ) → List (List ℕ) → Type 0 where

@@ -1,4 +1,3 @@
-pub mod BlockLemmas
 pub mod CheckingLemmas
 pub mod FrontLemmas
 pub mod KeyLemmas
@@ -9,4 +8,5 @@ pub mod ResolvingExamples
 pub mod ResolvingLemmas
 pub mod ScriptLemmas
 pub mod TopLemmas
+pub mod UntimedLemmas
 pub mod Worked

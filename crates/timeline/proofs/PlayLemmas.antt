@@ -1,22 +1,28 @@
 -- Tables found by name, and statements done one after the other.
-use Rattle.std.proofs.Common.{◌≡◌, ℕ, zero, suc, ◌+◌, ◌-◌, ◌<◌, ◌≤◌, Bool, true, false, List, [], ◌∷◌, ◌++◌, length, Option, Some, None, refl, ap, arith, sym, ◌∙◌, slice_get, IfSome, append_assoc, append-nil, drop, map, get_or, subst, add-one, drop-cons}
+use Rattle.std.proofs.Common.{◌≡◌, ℕ, zero, suc, ◌+◌, ◌-◌, ◌<◌, ◌≤◌, Bool, true, false, List, [], ◌∷◌, ◌++◌, length, Option, Some, None, Result, Ok, Err, refl, ap, arith, sym, ◌∙◌, slice_get, IfSome, append_assoc, append-nil, drop, map, get_or, subst, add-one, drop-cons}
 use Rattle.std.proofs.lemmas.Option.{slice_get_within}
+use Rattle.std.proofs.lemmas.Slice.Eq.{bytes_eq-Decides}
+use Rattle.std.specs.List.{list_all}
 use Rattle.std.specs.Option.{option_map}
+use Rattle.tl_types.specs.declared.batches.Batch.{Batch}
+use Rattle.tl_types.specs.declared.batches.Batch.TheVariants as batch
 use Rattle.tl_types.specs.declared.batches.BatchFault.TheVariants as batch_fault
 use Rattle.tl_types.specs.Limits.{standard_limits}
 use Rattle.tl_types.specs.Plain as plain
-use Rattle.tl_types.specs.History.{has_name}
-use Rattle.tl_types.specs.Resolving.{find_from, find_table, resolved_change, said_by_rows}
+use Rattle.tl_types.specs.History.{has_name, matches}
+use Rattle.tl_types.specs.Names.{same_bytes}
+use Rattle.tl_types.specs.Resolving.{find_from, find_table, resolved, resolved_change, said_by_rows}
+use Rattle.tl_csv.specs.declared.faults.CsvFault.{CsvFault}
+use Rattle.tl_csv.specs.Block.{batch_of}
 use Rattle.tl_query.specs.declared.forms.Name.{Name}
 use Rattle.tl_query.specs.Checking.{table_named}
 use Rattle.timeline.specs.declared.replies.Refusal.TheVariants as refusal
-use Rattle.timeline.specs.Block.{rows_of_block, AreRowsFor}
 use Rattle.timeline.specs.Keys.{resolved_rows}
 use Rattle.timeline.specs.Replies.{reply_bytes}
 use Rattle.timeline.specs.Script.{Job}
 use Rattle.timeline.specs.Reading.{job_of}
 use Rattle.timeline.specs.declared.jobs.Job.{Job as LentJob}
-use Rattle.timeline.specs.Play.{Turn, IsTurn, IsPlay, IsPlayed, refused, settled, author, most_rows, put_rows, put_block}
+use Rattle.timeline.specs.Play.{Turn, IsTurn, IsPlay, IsPlayed, refused, settled, author, put_batch, put_block}
 
 abbrev number_of : Option (ℕ × plain.Table) → ℕ
 number_of None = 0
@@ -25,6 +31,10 @@ number_of (Some x) = x.0
 abbrev table_of : plain.Table → Option (ℕ × plain.Table) → plain.Table
 table_of d None = d
 table_of d (Some x) = x.1
+
+-- names that are the same are equal
+same_names : (xs ys : List ℕ) → same_bytes xs ys ≡ true → xs ≡ ys
+same_names xs ys h = (bytes_eq-Decides xs ys).0 h
 
 -- the table with a name is the one at its number
 found_from : (k : ℕ) (name : List ℕ) (ts : List plain.Table) (n : ℕ) (t : plain.Table) → find_from k name ts ≡ Some (n, t) → (k ≤ n) × (slice_get ts (n - k) ≡ Some t)
@@ -81,31 +91,46 @@ numbered_none None h = refl
 numbered_none (Some x) h = absurd (cc)
 
 -- a table that no name means
-pub put_unknown : (db : plain.Database) (name block : List ℕ) → option_map (λ found. found.0) (find_table name db.tables) ≡ None → put_block db name (find_table name db.tables) block ≡ refused db (refusal.BatchFault batch_fault.UnknownTable)
+pub put_unknown : (db : plain.Database) (name block : List ℕ) → option_map (λ found. found.0) (find_table name db.tables) ≡ None → put_block db (find_table name db.tables) block ≡ refused db (refusal.BatchFault batch_fault.UnknownTable)
 put_unknown db name block h = rw (numbered_none (find_table name db.tables) h) refl
 
--- a block of another form
-pub put_not_built : (db : plain.Database) (name block : List ℕ) (number : ℕ) (schema : plain.Schema) → option_map (λ found. found.0) (find_table name db.tables) ≡ Some number → Some schema ≡ option_map (λ u. u.schema) (slice_get db.tables number) → rows_of_block most_rows schema block ≡ None → put_block db name (find_table name db.tables) block ≡ refused db refusal.NotBuilt
-put_not_built db name block number schema h e none =
+-- what a block for the table with a name becomes is what its batch becomes
+pub put_of : (db : plain.Database) (name block : List ℕ) (number : ℕ) (schema : plain.Schema) (batch : Result Batch CsvFault) → option_map (λ found. found.0) (find_table name db.tables) ≡ Some number → Some schema ≡ option_map (λ u. u.schema) (slice_get db.tables number) → batch_of standard_limits schema block ≡ batch → put_block db (find_table name db.tables) block ≡ put_batch db batch
+put_of db name block number schema batch h e is =
     let f = table_found db name number h in
     let s = schema_found db name number schema f e in
-    let n : rows_of_block most_rows f.table.schema block ≡ None = rw s at none in
-    rw (f.named, n) refl
+    ap (λ o. put_block db o block) f.named ∙ (ap (λ t. put_batch db (batch_of standard_limits t block)) (sym s) ∙ ap (put_batch db) is)
+
+-- a block that is no batch
+pub put_refused : (db : plain.Database) (name block : List ℕ) (number : ℕ) (schema : plain.Schema) (fault : CsvFault) → option_map (λ found. found.0) (find_table name db.tables) ≡ Some number → Some schema ≡ option_map (λ u. u.schema) (slice_get db.tables number) → batch_of standard_limits schema block ≡ Err fault → put_block db (find_table name db.tables) block ≡ refused db (refusal.CsvFault fault)
+put_refused db name block number schema fault h e is = put_of db name block number schema (Err fault) h e is
+
+-- the found table has the name
+name_found : (k : ℕ) (name : List ℕ) (ts : List plain.Table) (n : ℕ) (t : plain.Table) → find_from k name ts ≡ Some (n, t) → t.schema.name ≡ name
+name_found k name [] n t h = absurd (cc)
+name_found k name (x ∷ xs) n t h = by_test (has_name name x) refl (name_found (k + 1) name xs n t) where
+  by_test : (b : Bool) → has_name name x ≡ b → (find_from (k + 1) name xs ≡ Some (n, t) → t.schema.name ≡ name) → t.schema.name ≡ name
+  by_test true e more =
+      let f : Some (k, x) ≡ Some (n, t) = rw e at h in
+      let here : x ≡ t = ap (table_of x) f in
+      rw (← here) (same_names x.schema.name name e)
+  by_test false e more = more (rw e at h)
 
 -- rows for the table with a name are rows for the table with its number
-pub put_same : (db : plain.Database) (name block : List ℕ) (number : ℕ) (schema : plain.Schema) (rows : List plain.Opened) → option_map (λ found. found.0) (find_table name db.tables) ≡ Some number → Some schema ≡ option_map (λ u. u.schema) (slice_get db.tables number) → rows_of_block most_rows schema block ≡ Some rows → put_block db name (find_table name db.tables) block ≡ settled db (resolved_rows standard_limits db author number rows)
-put_same db name block number schema rows h e some =
+pub put_same : (db : plain.Database) (name block own : List ℕ) (number : ℕ) (schema : plain.Schema) (rows : List plain.Opened) → option_map (λ found. found.0) (find_table name db.tables) ≡ Some number → Some schema ≡ option_map (λ u. u.schema) (slice_get db.tables number) → batch_of standard_limits schema block ≡ Ok (batch.Put own rows) → own ≡ schema.name
+    → put_block db (find_table name db.tables) block ≡ settled db (resolved_rows standard_limits db author number rows)
+put_same db name block own number schema rows h e is owned =
     let f = table_found db name number h in
     let s = schema_found db name number schema f e in
-    let r : rows_of_block most_rows f.table.schema block ≡ Some rows = rw s at some in
-    ap (λ o. put_block db name o block) f.named
-    ∙ (ap (λ o. put_rows db name o) r
+    let named : own ≡ name = owned ∙ (ap (λ (t : plain.Schema). t.name) s ∙ name_found 0 name db.tables number f.table f.named) in
+    put_of db name block number schema (Ok (batch.Put own rows)) h e is
+    ∙ (ap (λ (n : List ℕ). settled db (resolved standard_limits db author (batch.Put n rows))) named
     ∙ (ap (λ o. settled db (resolved_change standard_limits db author o (λ schema. said_by_rows schema rows))) f.named
     ∙ sym (ap (λ o. settled db (resolved_change standard_limits db author (option_map (λ t. (number, t)) o) (λ schema. said_by_rows schema rows))) f.at)))
 
 -- rows for the schema of a table are rows for the table at its number
-pub rows_fit : (db : plain.Database) (name : List ℕ) (number : ℕ) (schema : plain.Schema) (rows : List plain.Opened) → option_map (λ found. found.0) (find_table name db.tables) ≡ Some number → Some schema ≡ option_map (λ u. u.schema) (slice_get db.tables number) → AreRowsFor most_rows schema rows → IfSome (slice_get db.tables number) (λ t. AreRowsFor most_rows t.schema rows)
-rows_fit db name number schema rows h e fit =
+pub rows_match : (db : plain.Database) (name : List ℕ) (number : ℕ) (schema : plain.Schema) (rows : List plain.Opened) → option_map (λ found. found.0) (find_table name db.tables) ≡ Some number → Some schema ≡ option_map (λ u. u.schema) (slice_get db.tables number) → list_all (matches schema) rows ≡ true → IfSome (slice_get db.tables number) (λ t. list_all (matches t.schema) rows ≡ true)
+rows_match db name number schema rows h e fit =
     let f = table_found db name number h in
     let s = schema_found db name number schema f e in
     rw (f.at, ← s) fit

@@ -1,4 +1,3 @@
-pub mod Block
 pub mod Ending
 pub mod Keys
 pub mod Known
@@ -7,3 +6,4 @@ pub mod Reading
 pub mod Replies
 pub mod Script
 pub mod Status
+pub mod Untimed

@@ -1,5 +1,6 @@
 -- What the jobs of a script do, one after the other, and the replies that are written.
 use Rattle.std.specs.Prelude.{◌≡◌, ℕ, ◌+◌, ◌⊎◌, List, [], ◌∷◌, ◌++◌, Option, Some, None, Result, Ok, Err}
+use Rattle.tl_types.specs.declared.batches.Batch.{Batch}
 use Rattle.tl_types.specs.declared.batches.Batch.TheVariants as batch
 use Rattle.tl_types.specs.declared.batches.BatchFault.{BatchFault}
 use Rattle.tl_types.specs.declared.batches.BatchFault.TheVariants as batch_fault
@@ -8,6 +9,8 @@ use Rattle.tl_types.specs.Limits.{standard_limits}
 use Rattle.tl_types.specs.Plain as plain
 use Rattle.tl_types.specs.History.{after_commit}
 use Rattle.tl_types.specs.Resolving.{find_table, resolved}
+use Rattle.tl_csv.specs.declared.faults.CsvFault.{CsvFault}
+use Rattle.tl_csv.specs.Block.{batch_of}
 use Rattle.tl_query.specs.declared.faults.TextFault.{TextFault}
 use Rattle.tl_query.specs.declared.check_faults.CheckFault.{CheckFault}
 use Rattle.tl_query.specs.declared.forms.Query.TheVariants as query
@@ -21,7 +24,6 @@ use Rattle.timeline.specs.declared.replies.Refusal.{Refusal}
 use Rattle.timeline.specs.declared.replies.Refusal.TheVariants as refusal
 use Rattle.timeline.specs.declared.replies.ReplyBody.TheVariants as body
 use Rattle.timeline.specs.declared.replies.Reply.{Reply}
-use Rattle.timeline.specs.Block.{rows_of_block}
 use Rattle.timeline.specs.Replies.{reply_bytes}
 use Rattle.timeline.specs.Script.{Job}
 
@@ -43,24 +45,20 @@ settled db (Err f) = refused db (refusal.BatchFault f)
 abbrev pub author : ℕ
 author = 0
 
--- how many rows a block may have
-abbrev pub most_rows : ℕ
-most_rows = 1000000
-
 -- a new table
 abbrev pub created : plain.Database → Result plain.Schema CheckFault → Turn
 created db (Err f) = refused db (refusal.CheckFault f)
 created db (Ok schema) = settled db (resolved standard_limits db author (batch.Create schema))
 
--- rows for a table with this name
-abbrev pub put_rows : plain.Database → List ℕ → Option (List plain.Opened) → Turn
-put_rows db name None = refused db refusal.NotBuilt
-put_rows db name (Some rows) = settled db (resolved standard_limits db author (batch.Put name rows))
+-- the batch of a block
+abbrev pub put_batch : plain.Database → Result Batch CsvFault → Turn
+put_batch db (Err f) = refused db (refusal.CsvFault f)
+put_batch db (Ok batch) = settled db (resolved standard_limits db author batch)
 
--- a block for the table with this name
-abbrev pub put_block : plain.Database → List ℕ → Option (ℕ × plain.Table) → List ℕ → Turn
-put_block db name None block = refused db (refusal.BatchFault batch_fault.UnknownTable)
-put_block db name (Some t) block = put_rows db name (rows_of_block most_rows t.1.schema block)
+-- a block for a table: its batch is that of the block under the table's columns
+abbrev pub put_block : plain.Database → Option (ℕ × plain.Table) → List ℕ → Turn
+put_block db None block = refused db (refusal.BatchFault batch_fault.UnknownTable)
+put_block db (Some t) block = put_batch db (batch_of standard_limits t.1.schema block)
 
 -- the rows that a question is answered with, at the version that is there
 abbrev pub asked : plain.Database → Result Typed CheckFault → Turn
@@ -75,7 +73,7 @@ block_of (Some block) = block
 -- what a statement does; those that are no statements of the language yet are spelled by no text
 abbrev pub answered : plain.Database → Statement → Option (List ℕ) → Turn
 answered db (statement.Create form) block = created db (checked_create form)
-answered db (statement.Put name) block = put_block db name.text (find_table name.text db.tables) (block_of block)
+answered db (statement.Put name) block = put_block db (find_table name.text db.tables) (block_of block)
 answered db (statement.Remove name) block = refused db refusal.NotBuilt
 answered db (statement.Ask (query.Select form)) block = asked db (checked_select db.version (table_named db form.table) form)
 answered db (statement.Ask (query.Agg form)) block = refused db refusal.NotBuilt

@@ -1,43 +1,20 @@
 -- How replies are spelled.
-use Rattle.std.specs.Prelude.{ℕ, List, [], ◌∷◌, ◌++◌, length, codes}
-use Rattle.std.specs.List.{flat_map}
-use Rattle.std.specs.Fmt.{decimal, signed_decimal}
-use Rattle.tl_types.specs.declared.answers.Field.{Field}
-use Rattle.tl_types.specs.declared.answers.Field.TheVariants as field
+use Rattle.std.specs.Prelude.{ℕ, List, [], ◌++◌, length, codes}
+use Rattle.std.specs.Fmt.{decimal}
 use Rattle.tl_types.specs.declared.batches.BatchFault.{BatchFault}
 use Rattle.tl_types.specs.declared.batches.BatchFault.TheVariants as batch
 use Rattle.tl_query.specs.declared.faults.TextFault.{TextFault}
 use Rattle.tl_query.specs.declared.faults.TextFault.TheVariants as text
 use Rattle.tl_query.specs.declared.check_faults.CheckFault.{CheckFault}
 use Rattle.tl_query.specs.declared.check_faults.CheckFault.TheVariants as check
+use Rattle.tl_csv.specs.declared.faults.CsvFault.{CsvFault}
+use Rattle.tl_csv.specs.declared.faults.CsvFault.TheVariants as csv
+use Rattle.tl_csv.specs.Answers.{answer_text}
 use Rattle.timeline.specs.declared.replies.Refusal.{Refusal}
 use Rattle.timeline.specs.declared.replies.Refusal.TheVariants as refusal
 use Rattle.timeline.specs.declared.replies.ReplyBody.{ReplyBody}
 use Rattle.timeline.specs.declared.replies.ReplyBody.TheVariants as body
 use Rattle.timeline.specs.declared.replies.Reply.{Reply}
-
--- ROWS
-
--- a field: a number in decimal, a sum over a count, nothing for the value over no row
-abbrev pub field_bytes : Field → List ℕ
-field_bytes (field.Number z) = signed_decimal z
-field_bytes (field.Text bytes) = bytes
-field_bytes (field.Ratio sum count) = signed_decimal sum ++ (codes "/" ++ decimal count)
-field_bytes field.Empty = []
-field_bytes field.Forever = codes "FOREVER"
-
--- a field behind a comma
-abbrev pub behind_comma : Field → List ℕ
-behind_comma f = 44 ∷ field_bytes f
-
--- a row: its fields parted by commas, and LF
-abbrev pub row_bytes : List Field → List ℕ
-row_bytes [] = 10 ∷ []
-row_bytes (f ∷ fs) = field_bytes f ++ flat_map behind_comma fs ++ 10 ∷ []
-
--- rows, one after the other
-abbrev pub rows_bytes : List (List Field) → List ℕ
-rows_bytes rows = flat_map row_bytes rows
 
 -- THE WORDS OF FAULTS: the fault's name and, after one space each, its fields
 
@@ -59,6 +36,18 @@ check_fault_words (check.EmptyRange at) = codes "EmptyRange " ++ decimal at
 check_fault_words (check.ColumnTwice at) = codes "ColumnTwice " ++ decimal at
 check_fault_words check.NoMemory = []
 
+abbrev pub csv_fault_words : CsvFault → List ℕ
+csv_fault_words (csv.NotUtf8 rec column) = codes "NotUtf8 " ++ (decimal rec ++ (codes " " ++ decimal column))
+csv_fault_words (csv.HeaderMissing column) = codes "HeaderMissing " ++ decimal column
+csv_fault_words (csv.HeaderName column) = codes "HeaderName " ++ decimal column
+csv_fault_words (csv.HeaderTwice column) = codes "HeaderTwice " ++ decimal column
+csv_fault_words (csv.FieldCount rec) = codes "FieldCount " ++ decimal rec
+csv_fault_words (csv.NotInt rec column) = codes "NotInt " ++ (decimal rec ++ (codes " " ++ decimal column))
+csv_fault_words (csv.TextTooLong rec column) = codes "TextTooLong " ++ (decimal rec ++ (codes " " ++ decimal column))
+csv_fault_words (csv.EmptyPeriod rec) = codes "EmptyPeriod " ++ decimal rec
+csv_fault_words (csv.BatchTooLong rec) = codes "BatchTooLong " ++ decimal rec
+csv_fault_words csv.NoMemory = []
+
 abbrev pub batch_fault_words : BatchFault → List ℕ
 batch_fault_words batch.UnknownTable = codes "UnknownTable"
 batch_fault_words batch.TableExists = codes "TableExists"
@@ -72,6 +61,7 @@ batch_fault_words batch.NoMemory = []
 abbrev pub refusal_words : Refusal → List ℕ
 refusal_words (refusal.TextFault f) = text_fault_words f
 refusal_words (refusal.CheckFault f) = check_fault_words f
+refusal_words (refusal.CsvFault f) = csv_fault_words f
 refusal_words (refusal.BatchFault f) = batch_fault_words f
 refusal_words refusal.NotBuilt = codes "NotBuilt"
 
@@ -81,9 +71,9 @@ refusal_words refusal.NotBuilt = codes "NotBuilt"
 abbrev pub named : List ℕ → ℕ → List ℕ → List ℕ
 named name version rest = name ++ (codes " @" ++ (decimal version ++ rest))
 
--- a reply: NAME @V rows N and the rows, NAME @V ok, or NAME @V ! and the fault's words
+-- a reply: NAME @V rows N and the rows as CSV, NAME @V ok, or NAME @V ! and the fault's words
 abbrev pub body_bytes : List ℕ → ℕ → ReplyBody → List ℕ
-body_bytes name version (body.Rows answer) = named name version (codes " rows " ++ (decimal (length answer.rows) ++ codes "\n")) ++ rows_bytes answer.rows
+body_bytes name version (body.Rows answer) = named name version (codes " rows " ++ (decimal (length answer.rows) ++ codes "\n")) ++ answer_text answer
 body_bytes name version body.Done = named name version (codes " ok\n")
 body_bytes name version (body.Refused r) = named name version (codes " ! " ++ (refusal_words r ++ codes "\n"))
 

@@ -2,7 +2,6 @@
 // history of commits, and writes one reply for each. The top call `timeline` carries what is proved of it all.
 #![tactic(auto)]
 
-mod blocks;
 mod checks;
 mod jobs;
 mod plays;

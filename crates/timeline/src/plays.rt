@@ -1,5 +1,5 @@
 //! What the jobs of a script do, one after the other.
-ghost use Rattle.std.specs.Prelude.{◌⊎◌, ◌≡◌, ◌≢◌, ◌+◌, ◌<◌, ◌≤◌, ◌^◌, IfOk, IfErr, IfSome, OnOk, IsTrue, MatchResult, length, map, Option, Some, None, Ok, Err, slice_get};
+ghost use Rattle.std.specs.Prelude.{◌⊎◌, ◌≡◌, ◌≢◌, ◌+◌, ◌<◌, ◌≤◌, ◌^◌, IfOk, IfErr, IfSome, OnOk, IsTrue, MatchResult, length, map, Option, Some, None, Ok, Err, slice_get, false};
 ghost use Rattle.std.specs.List.{list_all};
 ghost use Rattle.std.specs.Option.{ForSome, option_map};
 ghost use Rattle.std.specs.Int.{IsNonNegative};
@@ -12,31 +12,30 @@ ghost use Rattle.tl_types.specs.declared.batches.BatchFault.TheVariants as batch
 ghost use Rattle.tl_query.specs.Answers.{answer_of};
 ghost use Rattle.tl_query.specs.Checking.{IsBareSelect, IsWellNamed, table_named, checked_create, checked_select};
 ghost use Rattle.tl_query.specs.Texts.{Spells, IsFault};
-ghost use Rattle.timeline.specs.Block.{rows_of_block, AreRowsFor};
+ghost use Rattle.tl_csv.specs.Block.{batch_of};
+ghost use Rattle.tl_csv.specs.declared.faults.CsvFault.TheVariants as csv_fault;
 ghost use Rattle.timeline.specs.Keys.{resolved_rows};
 ghost use Rattle.timeline.specs.Known.{known, IsReady};
-ghost use Rattle.timeline.specs.Play.{refused, settled, author, most_rows, created, put_rows, put_block, asked, block_of, answered, IsTurn, IsPlayed};
+ghost use Rattle.timeline.specs.Play.{refused, settled, author, created, put_block, asked, block_of, answered, IsTurn, IsPlayed};
 ghost use Rattle.timeline.specs.Reading.{job_of};
+ghost use Rattle.timeline.specs.Untimed.{AreUntimed};
 ghost use Rattle.timeline.specs.declared.replies.Refusal.TheVariants as refusal;
 ghost use Rattle.tl_query.specs.declared.faults.TextFault.TheVariants as text_fault;
 ghost use Rattle.timeline.specs.declared.replies.ReplyBody.TheVariants as body;
 
-use crate::blocks::read_block;
 use crate::checks::{check_create, check_select};
 use crate::jobs::Job;
 use crate::replies::{Refusal, Reply, ReplyBody, put_reply};
 use crate::resolving::{resolve_create, resolve_rows};
 use std::alloc::{AllocError, Global};
+use tl_csv::{BatchKind, CsvFault, read_batch};
 use tl_device::{Gate, Place};
 use tl_plain::{Tables, answer_plain};
 use tl_query::{CheckFault, CreateForm, Name, Query, SelectForm, Statement, TextFault, parse};
-use tl_types::{BatchFault, Commit, Limits, Opened, Schema, Seq};
+use tl_types::{Batch, BatchFault, Commit, Limits, Opened, Schema, Seq};
 
 // The number of the one session: the author of its commits.
 const AUTHOR: u32 = 0;
-
-// How many rows a block may have.
-const MOST_ROWS: u64 = 1_000_000;
 
 fn refused(version: u32, why: Refusal) -> Reply
     ensures { result ≡ record { version = version; body = body.Refused why } }
@@ -74,15 +73,17 @@ fn put_rows(
     alloc: Global,
     tables: &mut Tables,
     number: u16,
-    rows: Vec<Opened>,
+    rows: Seq<Opened>,
 ) -> Result<Reply, AllocError>
     requires exists { number < length tables.old.tables }
-    requires fitting { IfSome (slice_get tables.old.tables number) (λ t. AreRowsFor most_rows t.schema rows.items) }
+    requires untimed { IfSome (slice_get tables.old.tables number) (λ t. t.schema.valid ≡ false) }
+    requires matching { IfSome (slice_get tables.old.tables number) (λ t. IsTrue (list_all (matches t.schema) rows)) }
+    requires few { length rows ≤ 1000000 }
     ensures { IfOk result (λ reply. record { reply = reply; after = tables.new }
-        ≡ settled tables.old (resolved_rows standard_limits tables.old author number rows.items)) }
+        ≡ settled tables.old (resolved_rows standard_limits tables.old author number rows)) }
 {
     let limits = Limits::standard();
-    match resolve_rows(alloc, tables, AUTHOR, number, Seq::from_vec(rows), &limits) {
+    match resolve_rows(alloc, tables, AUTHOR, number, rows, &limits) {
         Ok(commit) => done(alloc, tables, &commit),
         Err(fault) => Ok(refused(tables.version(), batch_refusal(fault)?)),
     }
@@ -148,17 +149,44 @@ fn ask(alloc: Global, tables: &Tables, form: &SelectForm) -> Result<Reply, Alloc
     })
 }
 
+// The rows of a block for the table of this schema, or the block's first fault.
+fn read_rows(alloc: Global, schema: &Schema, block: &[u8]) -> Result<Seq<Opened>, CsvFault>
+    requires { schema.now.valid ≡ false }
+    ensures rows { IfOk result (λ rows. batch_of standard_limits schema.now block.now ≡ Ok (batch.Put schema.now.name rows)) }
+    ensures matching { IfOk result (λ rows. IsTrue (list_all (matches schema.now) rows)) }
+    ensures few { IfOk result (λ rows. length rows ≤ 1000000) }
+    ensures fault { IfErr result (λ e. e ≢ csv_fault.NoMemory → batch_of standard_limits schema.now block.now ≡ Err e) }
+{
+    let limits = Limits::standard();
+    match read_batch(alloc, block, schema, BatchKind::PutKind, &limits)? {
+        Batch::Put { lines, .. } => Ok(lines),
+        _ => unreachable!(),
+    }
+}
+
+// The refusal of a block; want of memory is none.
+fn csv_refusal(fault: CsvFault) -> Result<Refusal, AllocError>
+    ensures why { IfOk result (λ why. why ≡ refusal.CsvFault fault) }
+    ensures told { OnOk result (fault ≢ csv_fault.NoMemory) }
+{
+    match fault {
+        CsvFault::NoMemory => Err(AllocError),
+        _ => Ok(Refusal::CsvFault(fault)),
+    }
+}
+
 fn put(alloc: Global, tables: &mut Tables, name: &Name, block: &[u8]) -> Result<Reply, AllocError>
+    requires { AreUntimed tables.old }
     ensures { IfOk result (λ reply. record { reply = reply; after = tables.new }
-        ≡ put_block tables.old name.now.text (find_table name.now.text tables.old.tables) block.now) }
+        ≡ put_block tables.old (find_table name.now.text tables.old.tables) block.now) }
 {
     let Some(number) = tables.find(name.text.as_str()) else {
         let unknown = Refusal::BatchFault(BatchFault::UnknownTable);
         return Ok(refused(tables.version(), unknown));
     };
-    match read_block(alloc, tables.schema(number), block, MOST_ROWS)? {
-        None => Ok(refused(tables.version(), Refusal::NotBuilt)),
-        Some(rows) => put_rows(alloc, tables, number, rows),
+    match read_rows(alloc, tables.schema(number), block) {
+        Ok(rows) => put_rows(alloc, tables, number, rows),
+        Err(fault) => Ok(refused(tables.version(), csv_refusal(fault)?)),
     }
 }
 
@@ -169,7 +197,8 @@ fn answered(
     statement: &Statement,
     block: &[u8],
 ) -> Result<Reply, AllocError>
-    requires { IsReady statement.now }
+    requires ready { IsReady statement.now }
+    requires untimed { AreUntimed tables.old }
     ensures { IfOk result (λ reply. record { reply = reply; after = tables.new } ≡ answered tables.old statement.now (Some block.now)) }
 {
     match statement {
@@ -202,7 +231,9 @@ fn text_refusal(fault: TextFault) -> Result<Refusal, AllocError>
 
 // The reply to a job, whose block is empty where it has none.
 fn turn(alloc: Global, tables: &mut Tables, job: &Job) -> Result<Reply, AllocError>
-    ensures { IfOk result (λ reply. IsTurn tables.old (job_of job.now) (record { reply = reply; after = tables.new })) }
+    requires { AreUntimed tables.old }
+    ensures untimed { OnOk result (AreUntimed tables.new) }
+    ensures turn { IfOk result (λ reply. IsTurn tables.old (job_of job.now) (record { reply = reply; after = tables.new })) }
 {
     match parsed(alloc, job.text) {
         Ok(statement) => answered(alloc, tables, &statement, job.block.unwrap_or(&[])),

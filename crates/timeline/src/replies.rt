@@ -1,12 +1,12 @@
 //! What a statement is answered with, and how the answer is spelled.
-ghost use Rattle.std.specs.Prelude.{◌≡◌, ◌++◌, ◌∷◌, [], length, codes, IfOk, OnOk};
+ghost use Rattle.std.specs.Prelude.{◌≡◌, ◌++◌, IfOk, OnOk};
 ghost use Rattle.std.specs.String.{string_bytes};
-ghost use Rattle.std.specs.List.{flat_map};
-ghost use Rattle.timeline.specs.Replies.{field_bytes, behind_comma, row_bytes, rows_bytes, text_fault_words, check_fault_words, batch_fault_words, refusal_words, reply_bytes};
+ghost use Rattle.timeline.specs.Replies.{text_fault_words, check_fault_words, csv_fault_words, batch_fault_words, refusal_words, reply_bytes};
 
 use std::alloc::{AllocError, Global};
+use tl_csv::{CsvFault, answer_bytes};
 use tl_query::{CheckFault, TextFault};
-use tl_types::{Answer, BatchFault, Field, Seq};
+use tl_types::{Answer, BatchFault};
 
 /// Why a statement is refused.
 #[derive(Clone, Copy, Debug, PartialEq, Eq)]
@@ -15,9 +15,11 @@ pub enum Refusal {
     TextFault(TextFault),
     /// It does not fit the tables.
     CheckFault(CheckFault),
+    /// Its block is no batch for its table.
+    CsvFault(CsvFault),
     /// Its batch becomes no commit.
     BatchFault(BatchFault),
-    /// Its block has another form than the one that is read today.
+    /// It is no statement of the language yet; no text spells one.
     NotBuilt,
 }
 
@@ -39,56 +41,6 @@ pub struct Reply {
     pub version: u32,
     /// What the statement is answered with.
     pub body: ReplyBody,
-}
-
-fn field_text(alloc: Global, field: &Field) -> Result<String, AllocError>
-    ensures { IfOk result (λ text. string_bytes text ≡ field_bytes field.now) }
-{
-    match field {
-        Field::Number(number) => format!(in alloc; "{number}"),
-        Field::Text(text) => String::from_str(alloc, text.as_str()),
-        Field::Ratio { sum, count } => format!(in alloc; "{sum}/{count}"),
-        Field::Empty => Ok(String::new(alloc)),
-        Field::Forever => String::from_str(alloc, "FOREVER"),
-    }
-}
-
-fn put_field(alloc: Global, out: &mut Vec<u8>, field: &Field) -> Result<(), AllocError>
-    ensures { OnOk result (out.new.items ≡ out.old.items ++ field_bytes field.now) }
-{
-    let text = field_text(alloc, field)?;
-    out.extend_from_slice(text.as_bytes())?;
-    Ok(())
-}
-
-fn put_more(alloc: Global, out: &mut Vec<u8>, fields: &[Field]) -> Result<(), AllocError>
-    ensures { OnOk result (out.new.items ≡ out.old.items ++ flat_map behind_comma fields.now) }
-{
-    for field in fields {
-        out.push(b',')?;
-        put_field(alloc, out, field)?;
-    }
-    Ok(())
-}
-
-fn put_row(alloc: Global, out: &mut Vec<u8>, fields: &[Field]) -> Result<(), AllocError>
-    ensures { OnOk result (out.new.items ≡ out.old.items ++ row_bytes fields.now) }
-{
-    if let [first, rest @ ..] = fields {
-        put_field(alloc, out, first)?;
-        put_more(alloc, out, rest)?;
-    }
-    out.push(b'\n')?;
-    Ok(())
-}
-
-fn put_rows(alloc: Global, out: &mut Vec<u8>, rows: &[Seq<Field>]) -> Result<(), AllocError>
-    ensures { OnOk result (out.new.items ≡ out.old.items ++ rows_bytes rows.now) }
-{
-    for row in rows {
-        put_row(alloc, out, row.as_slice())?;
-    }
-    Ok(())
 }
 
 fn text_fault_words(alloc: Global, fault: &TextFault) -> Result<String, AllocError>
@@ -121,6 +73,23 @@ fn check_fault_words(alloc: Global, fault: &CheckFault) -> Result<String, AllocE
     }
 }
 
+fn csv_fault_words(alloc: Global, fault: &CsvFault) -> Result<String, AllocError>
+    ensures { IfOk result (λ text. string_bytes text ≡ csv_fault_words fault.now) }
+{
+    match fault {
+        CsvFault::NotUtf8 { rec, column } => format!(in alloc; "NotUtf8 {rec} {column}"),
+        CsvFault::HeaderMissing { column } => format!(in alloc; "HeaderMissing {column}"),
+        CsvFault::HeaderName { column } => format!(in alloc; "HeaderName {column}"),
+        CsvFault::HeaderTwice { column } => format!(in alloc; "HeaderTwice {column}"),
+        CsvFault::FieldCount { rec } => format!(in alloc; "FieldCount {rec}"),
+        CsvFault::NotInt { rec, column } => format!(in alloc; "NotInt {rec} {column}"),
+        CsvFault::TextTooLong { rec, column } => format!(in alloc; "TextTooLong {rec} {column}"),
+        CsvFault::EmptyPeriod { rec } => format!(in alloc; "EmptyPeriod {rec}"),
+        CsvFault::BatchTooLong { rec } => format!(in alloc; "BatchTooLong {rec}"),
+        CsvFault::NoMemory => Ok(String::new(alloc)),
+    }
+}
+
 fn batch_fault_words(alloc: Global, fault: &BatchFault) -> Result<String, AllocError>
     ensures { IfOk result (λ text. string_bytes text ≡ batch_fault_words fault.now) }
 {
@@ -142,6 +111,7 @@ fn refusal_words(alloc: Global, refusal: &Refusal) -> Result<String, AllocError>
     match refusal {
         Refusal::TextFault(fault) => text_fault_words(alloc, fault),
         Refusal::CheckFault(fault) => check_fault_words(alloc, fault),
+        Refusal::CsvFault(fault) => csv_fault_words(alloc, fault),
         Refusal::BatchFault(fault) => batch_fault_words(alloc, fault),
         Refusal::NotBuilt => String::from_str(alloc, "NotBuilt"),
     }
@@ -154,7 +124,7 @@ fn put_text(out: &mut Vec<u8>, text: &str) -> Result<(), AllocError>
     Ok(())
 }
 
-/// Appends a reply of the session `name`: its line and, for a query, its rows. After an error, which is want of
+/// Appends a reply of the session `name`: its line and, for a query, its rows as CSV. After an error, which is want of
 /// memory, a part of it may stand there.
 pub fn put_reply(
     alloc: Global,
@@ -171,7 +141,7 @@ pub fn put_reply(
             let rows = answer.rows.len();
             let line = format!(in alloc; " @{version} rows {rows}\n")?;
             put_text(out, line.as_str())?;
-            put_rows(alloc, out, answer.rows.as_slice())?;
+            out.extend_from_slice(answer_bytes(alloc, answer)?.as_slice())?;
         }
         ReplyBody::Done => {
             let line = format!(in alloc; " @{version} ok\n")?;

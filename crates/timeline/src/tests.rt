@@ -124,29 +124,80 @@ fn scripts_and_their_replies(rt: HostRuntime) -> Result<(), Fail> {
     Ok(())
 }
 
+// The replies to a block of numbers that is put into a new table `t`, and to a question for its rows.
+fn replies_to_block<R: Threads + Wait + Sync + AllocGlobal>(
+    rt: &R,
+    block: &[u8],
+) -> Result<Vec<u8>, AllocError> {
+    let alloc = rt.alloc();
+    let mut script = Vec::new(alloc);
+    script.extend_from_slice(b"a> CREATE TABLE t (k INT, x INT) KEY k\na> PUT t\n")?;
+    script.extend_from_slice(block)?;
+    script.extend_from_slice(b"\\.\na> SELECT k, x FROM t\n")?;
+    let mut source = source(alloc, script.as_slice(), 64, &[])?;
+    let (_, written) = run(rt, &["run"], &mut source, &[])?;
+    Ok(written)
+}
+
 #[test]
-fn batches_and_their_replies(rt: HostRuntime) -> Result<(), Fail> {
-    let cases = [
-        ("k,x\n1,1\n1,2\n\\.\n", "a @1 ! KeyTwice 3\n"),
-        ("k,x\n\\.\n", "a @2 ok\n"),
-        ("k,x\n-9223372036854775808,+5\n\\.\n", "a @2 ok\n"),
-        ("k,x\n9223372036854775808,5\n\\.\n", "a @1 ! NotBuilt\n"),
-        ("x,k\n1,5\n\\.\n", "a @1 ! NotBuilt\n"),
-        ("k,x\n1,\n\\.\n", "a @1 ! NotBuilt\n"),
-        ("k,x\n1\n\\.\n", "a @1 ! NotBuilt\n"),
-        ("k,x\r\n1,5\r\n\\.\n", "a @1 ! NotBuilt\n"),
-        ("\\.\n", "a @1 ! NotBuilt\n"),
+fn blocks_and_their_rows(rt: HostRuntime) -> Result<(), Fail> {
+    let cases: [(&[u8], &str); 10] = [
+        (b"k,x\n", "rows 0\n"),
+        (
+            b"k,x\n-9223372036854775808,+5\n",
+            "rows 1\n-9223372036854775808,5\n",
+        ),
+        (
+            b"k,x\n9223372036854775807,-0\n",
+            "rows 1\n9223372036854775807,0\n",
+        ),
+        (b"x,k\n1,5\n2,4\n", "rows 2\n5,1\n4,2\n"),
+        (b"k,x\r\n1,5\r\n", "rows 1\n1,5\n"),
+        (b"\xEF\xBB\xBFk,x\n1,5\n", "rows 1\n1,5\n"),
+        (b"\xEF\xBB\xBF\xEF\xBB\xBFk,x\r\n1,5\n", "rows 1\n1,5\n"),
+        (b"\"k\",\"x\"\n\"1\",\"5\"\n", "rows 1\n1,5\n"),
+        (b"k,x\n001,+05\n", "rows 1\n1,5\n"),
+        (b"k,x\n1,5\n\"2\",6\n", "rows 2\n1,5\n2,6\n"),
     ];
-    for (block, reply) in cases {
+    for (block, rows) in cases {
         let alloc = rt.alloc();
-        let script = format!(in alloc;
-            "a> CREATE TABLE t (k INT, x INT) KEY k\na> PUT t\n{block}"
-        )?;
-        let replies = format!(in alloc; "a @1 ok\n{reply}")?;
-        let mut source = source(alloc, script.as_bytes(), 64, &[])?;
-        let (status, written) = run(&rt, &["run"], &mut source, &[])?;
-        assert_eq!(rt; status, 0, "{block}");
-        assert_eq!(rt; written.as_slice(), replies.as_bytes(), "{block}");
+        let replies = format!(in alloc; "a @1 ok\na @2 ok\na @2 {rows}")?;
+        let written = replies_to_block(&rt, block)?;
+        assert_eq!(rt; written.as_slice(), replies.as_bytes(), "{block:?}");
+    }
+    Ok(())
+}
+
+#[test]
+fn blocks_and_their_faults(rt: HostRuntime) -> Result<(), Fail> {
+    let cases: [(&[u8], &str); 21] = [
+        (b"", "HeaderMissing 1"),
+        (b"k\n1\n", "HeaderMissing 2"),
+        (b"k,y\n", "HeaderName 2"),
+        (b"k, x\n", "HeaderName 2"),
+        (b"k,k\n", "HeaderTwice 2"),
+        (b"k,x\xFF\n", "NotUtf8 1 2"),
+        (b"k,x\n1\n", "FieldCount 2"),
+        (b"k,x\n1,2,3\n", "FieldCount 2"),
+        (b"k,x\n1,5\n2\n", "FieldCount 3"),
+        (b"k,x\n1,\xFF\n", "NotUtf8 2 2"),
+        (b"k,x\n1,\n", "NotInt 2 2"),
+        (b"k,x\n1, 5\n", "NotInt 2 2"),
+        (b"k,x\n1,+\n", "NotInt 2 2"),
+        (b"k,x\n9223372036854775808,5\n", "NotInt 2 1"),
+        (b"k,x\n1,-9223372036854775809\n", "NotInt 2 2"),
+        (b"k,x\n\"1,5\",2\n", "NotInt 2 1"),
+        (b"k,x\n1,\"5\n6\"\n", "NotInt 2 2"),
+        (b"k,x\n1,\"5\"\"\"\n", "NotInt 2 2"),
+        (b"k,x\n1,\xC3\xA4\n", "NotInt 2 2"),
+        (b"k,x\n1,1\n2,2\n+1,3\n", "KeyTwice 4"),
+        (b"k,x\n1,1\n1,x\n", "NotInt 3 2"),
+    ];
+    for (block, fault) in cases {
+        let alloc = rt.alloc();
+        let replies = format!(in alloc; "a @1 ok\na @1 ! {fault}\na @1 rows 0\n")?;
+        let written = replies_to_block(&rt, block)?;
+        assert_eq!(rt; written.as_slice(), replies.as_bytes(), "{block:?}");
     }
     Ok(())
 }

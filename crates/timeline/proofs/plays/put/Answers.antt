@@ -1,19 +1,26 @@
-use Rattle.std.proofs.Common.{sym}
-use Rattle.timeline.proofs.PlayLemmas.{table_found, put_not_built, put_same}
+use Rattle.std.proofs.Common.{refl, sym}
+use Rattle.timeline.proofs.PlayLemmas.{table_found, put_refused, put_same}
+use Rattle.timeline.proofs.UntimedLemmas.{untimed_at, untimed_schema}
 use Rattle.timeline.proofs.plays.put.Goals as goal
 
 pub schema-requires : goal.schema-requires
 schema-requires c = (table_found c.args.tables.now c.args.name.now.text c.in-Some.number (rw c.as_str.ensures.bytes at (sym c.in-Some.ensures))).within
 
+pub read_rows-requires : goal.read_rows-requires
+read_rows-requires c = untimed_schema c.args.tables.now.tables c.in-Some.number c.schema.result.now c.requires c.schema.ensures
+
 pub put_rows-requires-clause-exists : goal.put_rows-requires-clause-exists
 put_rows-requires-clause-exists c = (table_found c.args.tables.now c.args.name.now.text c.in-Some.number (rw c.as_str.ensures.bytes at (sym c.in-Some.ensures))).within
 
-pub returns-in-None : goal.returns-in-None
-returns-in-None c =
-    let none = put_not_built c.args.tables.now c.args.name.now.text c.args.block.now c.in-Some.number c.schema.result.now (rw c.as_str.ensures.bytes at (sym c.in-Some.ensures)) c.schema.ensures (sym (rw c.in-None.is at c.in_ok-read_block.ensures.rows)) in
-    rw (c.refused-in-None.ensures, c.version-in-None.ensures) (sym none)
+pub put_rows-requires-clause-untimed : goal.put_rows-requires-clause-untimed
+put_rows-requires-clause-untimed c = untimed_at c.args.tables.now.tables c.in-Some.number c.requires
 
-pub returns-in-Some-2 : goal.returns-in-Some-2
-returns-in-Some-2 c =
-    let same = put_same c.args.tables.now c.args.name.now.text c.args.block.now c.in-Some.number c.schema.result.now c.in-Some-2.rows.items (rw c.as_str.ensures.bytes at (sym c.in-Some.ensures)) c.schema.ensures (sym (rw c.in-Some-2.is at c.in_ok-read_block.ensures.rows)) in
+pub returns-in-Ok : goal.returns-in-Ok
+returns-in-Ok c =
+    let same = put_same c.args.tables.now c.args.name.now.text c.args.block.now c.schema.result.now.name c.in-Some.number c.schema.result.now c.in-Ok.rows (rw c.as_str.ensures.bytes at (sym c.in-Some.ensures)) c.schema.ensures c.in-Ok.ensures.rows refl in
     rw same c.put_rows.ensures
+
+pub returns-in_ok-csv_refusal-in-Err : goal.returns-in_ok-csv_refusal-in-Err
+returns-in_ok-csv_refusal-in-Err c =
+    let none = put_refused c.args.tables.now c.args.name.now.text c.args.block.now c.in-Some.number c.schema.result.now c.in-Err.fault (rw c.as_str.ensures.bytes at (sym c.in-Some.ensures)) c.schema.ensures (c.in-Err.ensures.fault c.in_ok-csv_refusal-in-Err.ensures.told) in
+    rw (c.refused-in-Err.ensures, c.version-in-Err.ensures, c.in_ok-csv_refusal-in-Err.ensures.why) (sym none)

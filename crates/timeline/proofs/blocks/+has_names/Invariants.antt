@@ -1,5 +1,0 @@
-use Rattle.std.proofs.Common.{length}
-use Rattle.timeline.proofs.blocks.+has_names.Given as goal
-
-abbrev pub decreases-has_names : goal.decreases-has_names
-decreases-has_names l = length l.columns.now

@@ -1,6 +1,0 @@
-use Rattle.std.proofs.Common.{◌≡◌, ◌++◌, take}
-use Rattle.timeline.specs.Replies.{rows_bytes}
-use Rattle.timeline.proofs.replies.put_rows.Given as goal
-
-abbrev pub invariant-loop-row : goal.invariant-loop-row
-invariant-loop-row l = l.out.items ≡ l.fn.out.items ++ rows_bytes (take l.row-index l.rows)

@@ -13,6 +13,7 @@ use Rattle.tl_types.specs.History.{has_name, matches}
 use Rattle.tl_types.specs.Names.{same_bytes}
 use Rattle.tl_types.specs.Resolving.{find_from, find_table, resolved, resolved_change, said_by_rows}
 use Rattle.tl_csv.specs.declared.faults.CsvFault.{CsvFault}
+use Rattle.tl_csv.specs.declared.needs.BatchKind.TheVariants.{PutKind}
 use Rattle.tl_csv.specs.Block.{batch_of}
 use Rattle.tl_query.specs.declared.forms.Name.{Name}
 use Rattle.tl_query.specs.Checking.{table_named}
@@ -95,14 +96,14 @@ pub put_unknown : (db : plain.Database) (name block : List ℕ) → option_map (
 put_unknown db name block h = rw (numbered_none (find_table name db.tables) h) refl
 
 -- what a block for the table with a name becomes is what its batch becomes
-pub put_of : (db : plain.Database) (name block : List ℕ) (number : ℕ) (schema : plain.Schema) (batch : Result Batch CsvFault) → option_map (λ found. found.0) (find_table name db.tables) ≡ Some number → Some schema ≡ option_map (λ u. u.schema) (slice_get db.tables number) → batch_of standard_limits schema block ≡ batch → put_block db (find_table name db.tables) block ≡ put_batch db batch
+pub put_of : (db : plain.Database) (name block : List ℕ) (number : ℕ) (schema : plain.Schema) (batch : Result Batch CsvFault) → option_map (λ found. found.0) (find_table name db.tables) ≡ Some number → Some schema ≡ option_map (λ u. u.schema) (slice_get db.tables number) → batch_of standard_limits schema PutKind block ≡ batch → put_block db (find_table name db.tables) block ≡ put_batch db batch
 put_of db name block number schema batch h e is =
     let f = table_found db name number h in
     let s = schema_found db name number schema f e in
-    ap (λ o. put_block db o block) f.named ∙ (ap (λ t. put_batch db (batch_of standard_limits t block)) (sym s) ∙ ap (put_batch db) is)
+    ap (λ o. put_block db o block) f.named ∙ (ap (λ t. put_batch db (batch_of standard_limits t PutKind block)) (sym s) ∙ ap (put_batch db) is)
 
 -- a block that is no batch
-pub put_refused : (db : plain.Database) (name block : List ℕ) (number : ℕ) (schema : plain.Schema) (fault : CsvFault) → option_map (λ found. found.0) (find_table name db.tables) ≡ Some number → Some schema ≡ option_map (λ u. u.schema) (slice_get db.tables number) → batch_of standard_limits schema block ≡ Err fault → put_block db (find_table name db.tables) block ≡ refused db (refusal.CsvFault fault)
+pub put_refused : (db : plain.Database) (name block : List ℕ) (number : ℕ) (schema : plain.Schema) (fault : CsvFault) → option_map (λ found. found.0) (find_table name db.tables) ≡ Some number → Some schema ≡ option_map (λ u. u.schema) (slice_get db.tables number) → batch_of standard_limits schema PutKind block ≡ Err fault → put_block db (find_table name db.tables) block ≡ refused db (refusal.CsvFault fault)
 put_refused db name block number schema fault h e is = put_of db name block number schema (Err fault) h e is
 
 -- the found table has the name
@@ -117,7 +118,7 @@ name_found k name (x ∷ xs) n t h = by_test (has_name name x) refl (name_found 
   by_test false e more = more (rw e at h)
 
 -- rows for the table with a name are rows for the table with its number
-pub put_same : (db : plain.Database) (name block own : List ℕ) (number : ℕ) (schema : plain.Schema) (rows : List plain.Opened) → option_map (λ found. found.0) (find_table name db.tables) ≡ Some number → Some schema ≡ option_map (λ u. u.schema) (slice_get db.tables number) → batch_of standard_limits schema block ≡ Ok (batch.Put own rows) → own ≡ schema.name
+pub put_same : (db : plain.Database) (name block own : List ℕ) (number : ℕ) (schema : plain.Schema) (rows : List plain.Opened) → option_map (λ found. found.0) (find_table name db.tables) ≡ Some number → Some schema ≡ option_map (λ u. u.schema) (slice_get db.tables number) → batch_of standard_limits schema PutKind block ≡ Ok (batch.Put own rows) → own ≡ schema.name
     → put_block db (find_table name db.tables) block ≡ settled db (resolved_rows standard_limits db author number rows)
 put_same db name block own number schema rows h e is owned =
     let f = table_found db name number h in

@@ -22,7 +22,8 @@ use Rattle.tl_query.specs.declared.plans.Typed.{Typed}
 use Rattle.tl_query.specs.Checking.{checked_create, checked_select, create_fault, table_named}
 use Rattle.tl_query.specs.Texts.{Spells}
 use Rattle.tl_csv.specs.declared.faults.CsvFault.{CsvFault}
-use Rattle.tl_csv.specs.Block.{put}
+use Rattle.tl_csv.specs.declared.needs.BatchKind.TheVariants.{PutKind}
+use Rattle.tl_csv.specs.Block.{made}
 use Rattle.timeline.specs.declared.replies.Reply.{Reply}
 use Rattle.timeline.specs.Play.{Turn, answered, asked, author, block_of, created, put_batch, put_block, settled}
 use Rattle.timeline.specs.Untimed.{is_untimed, AreUntimed, MakesUntimed}
@@ -115,7 +116,7 @@ untimed_created db form v h = by_fault (create_fault form) refl where
   by_fault (Some f) e = rw e h
   by_fault None e = rw e (untimed_settled db (resolved standard_limits db author (batch.Create _)) (create_keeps standard_limits db author _ v) h)
 
-untimed_put : (db : plain.Database) (schema : plain.Schema) (rows : Result (List plain.Opened) CsvFault) → AreUntimed db → AreUntimed (put_batch db (put schema rows)).after
+untimed_put : (db : plain.Database) (schema : plain.Schema) (rows : Result (List plain.Opened) CsvFault) → AreUntimed db → AreUntimed (put_batch db (made schema PutKind rows)).after
 untimed_put db schema (Err f) h = h
 untimed_put db schema (Ok rows) h =
     untimed_settled db (resolved standard_limits db author (batch.Put schema.name rows)) (change_keeps standard_limits db author (find_table schema.name db.tables) (λ s. said_by_rows s rows)) h

@@ -10,6 +10,7 @@ use Rattle.tl_types.specs.Plain as plain
 use Rattle.tl_types.specs.History.{after_commit}
 use Rattle.tl_types.specs.Resolving.{find_table, resolved}
 use Rattle.tl_csv.specs.declared.faults.CsvFault.{CsvFault}
+use Rattle.tl_csv.specs.declared.needs.BatchKind.TheVariants.{PutKind}
 use Rattle.tl_csv.specs.Block.{batch_of}
 use Rattle.tl_query.specs.declared.faults.TextFault.{TextFault}
 use Rattle.tl_query.specs.declared.check_faults.CheckFault.{CheckFault}
@@ -58,7 +59,7 @@ put_batch db (Ok batch) = settled db (resolved standard_limits db author batch)
 -- a block for a table: its batch is that of the block under the table's columns
 abbrev pub put_block : plain.Database → Option (ℕ × plain.Table) → List ℕ → Turn
 put_block db None block = refused db (refusal.BatchFault batch_fault.UnknownTable)
-put_block db (Some t) block = put_batch db (batch_of standard_limits t.1.schema block)
+put_block db (Some t) block = put_batch db (batch_of standard_limits t.1.schema PutKind block)
 
 -- the rows that a question is answered with, at the version that is there
 abbrev pub asked : plain.Database → Result Typed CheckFault → Turn

@@ -14,6 +14,7 @@ ghost use Rattle.tl_query.specs.Checking.{IsBareSelect, IsWellNamed, table_named
 ghost use Rattle.tl_query.specs.Texts.{Spells, IsFault};
 ghost use Rattle.tl_csv.specs.Block.{batch_of};
 ghost use Rattle.tl_csv.specs.declared.faults.CsvFault.TheVariants as csv_fault;
+ghost use Rattle.tl_csv.specs.declared.needs.BatchKind.TheVariants.{PutKind};
 ghost use Rattle.timeline.specs.Keys.{resolved_rows};
 ghost use Rattle.timeline.specs.Known.{known, IsReady};
 ghost use Rattle.timeline.specs.Play.{refused, settled, author, created, put_block, asked, block_of, answered, IsTurn, IsPlayed};
@@ -151,11 +152,10 @@ fn ask(alloc: Global, tables: &Tables, form: &SelectForm) -> Result<Reply, Alloc
 
 // The rows of a block for the table of this schema, or the block's first fault.
 fn read_rows(alloc: Global, schema: &Schema, block: &[u8]) -> Result<Seq<Opened>, CsvFault>
-    requires { schema.now.valid ≡ false }
-    ensures rows { IfOk result (λ rows. batch_of standard_limits schema.now block.now ≡ Ok (batch.Put schema.now.name rows)) }
+    ensures rows { IfOk result (λ rows. batch_of standard_limits schema.now PutKind block.now ≡ Ok (batch.Put schema.now.name rows)) }
     ensures matching { IfOk result (λ rows. IsTrue (list_all (matches schema.now) rows)) }
     ensures few { IfOk result (λ rows. length rows ≤ 1000000) }
-    ensures fault { IfErr result (λ e. e ≢ csv_fault.NoMemory → batch_of standard_limits schema.now block.now ≡ Err e) }
+    ensures fault { IfErr result (λ e. e ≢ csv_fault.NoMemory → batch_of standard_limits schema.now PutKind block.now ≡ Err e) }
 {
     let limits = Limits::standard();
     match read_batch(alloc, block, schema, BatchKind::PutKind, &limits)? {

@@ -1,13 +1,10 @@
 use Rattle.std.proofs.Common.{refl, sym}
 use Rattle.timeline.proofs.PlayLemmas.{table_found, put_refused, put_same}
-use Rattle.timeline.proofs.UntimedLemmas.{untimed_at, untimed_schema}
+use Rattle.timeline.proofs.UntimedLemmas.{untimed_at}
 use Rattle.timeline.proofs.plays.put.Goals as goal
 
 pub schema-requires : goal.schema-requires
 schema-requires c = (table_found c.args.tables.now c.args.name.now.text c.in-Some.number (rw c.as_str.ensures.bytes at (sym c.in-Some.ensures))).within
-
-pub read_rows-requires : goal.read_rows-requires
-read_rows-requires c = untimed_schema c.args.tables.now.tables c.in-Some.number c.schema.result.now c.requires c.schema.ensures
 
 pub put_rows-requires-clause-exists : goal.put_rows-requires-clause-exists
 put_rows-requires-clause-exists c = (table_found c.args.tables.now c.args.name.now.text c.in-Some.number (rw c.as_str.ensures.bytes at (sym c.in-Some.ensures))).within

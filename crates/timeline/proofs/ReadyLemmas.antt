@@ -36,7 +36,7 @@ ready_by text (statement.Put n) spelled h = tt
 ready_by text (statement.Remove n) spelled h = spelled.spelled
 ready_by text (statement.Ask (query.Select f)) spelled h =
     let bare = spelled.spelled.0 in
-    ((bare.plain, ap (λ (p : Pred). p.any) bare.untested, bare.timeless), version_ready f.as_of h.2)
+    ((ap (λ (p : Pred). p.any) bare.untested, bare.timeless), version_ready f.as_of h.2)
 ready_by text (statement.Ask (query.Agg f)) spelled h = spelled.spelled
 ready_by text (statement.Ask (query.Join f)) spelled h = spelled.spelled
 

@@ -2,11 +2,12 @@
 ghost use Rattle.std.specs.Prelude.{IfOk, ◌≡◌, ◌≤◌, ◌<◌, ℕ, length, Option, Some, None, IsTrue, map, take, slice_get, Ok};
 ghost use Rattle.std.specs.Option.{ForSome, ForNone};
 ghost use Rattle.std.specs.Int.{IsNonNegative};
-ghost use Rattle.std.specs.List.{list_any, position, list_all};
+ghost use Rattle.std.specs.List.{list_any, position, list_all, enumerate_from};
 ghost use Rattle.tl_types.specs.Names.{same_bytes, is_name};
 ghost use Rattle.tl_types.specs.Plain as plain;
 ghost use Rattle.tl_types.specs.Facts.{is_schema};
-ghost use Rattle.tl_query.specs.Checking.{comes_before, earlier, first_of, item_fault, version_fault, name_fault, select_fault, typed_item_of, version_of, typed_select, checked_select, IsBareSelect, IsWellNamed, twice_at, twice_fault, columns_of, key_of, create_fault, checked_create, place_among, place_of, rank_of, or_zero, IsUnlessMemory};
+ghost use Rattle.tl_query.specs.Checking.{comes_before, earlier, first_of, item_fault, version_fault, name_fault, select_fault, typed_item_of, all_items, typed_items_of, version_of, typed_select, checked_select, IsBareSelect, IsWellNamed, twice_at, twice_fault, columns_of, key_of, create_fault, checked_create, place_among, place_of, rank_of, or_zero, IsUnlessMemory};
+ghost use Rattle.tl_query.specs.declared.plans.TypedItem.TheVariants as typed_item;
 ghost use Rattle.timeline.specs.Known.{known};
 
 use std::alloc::{AllocError, Global};
@@ -163,6 +164,45 @@ fn typed_items(alloc: Global, schema: &Schema, items: &[Item]) -> Result<Seq<Typ
     Ok(Seq::from_vec(typed))
 }
 
+// Each column by its place.
+fn column_items(alloc: Global, columns: &[Column]) -> Result<Vec<TypedItem>, AllocError>
+    requires { length columns.now ≤ 16 }
+    ensures { IfOk result (λ typed. typed.items ≡ map (λ c. typed_item.Column c.0) (enumerate_from 0 columns.now)) }
+{
+    let mut typed = Vec::new(alloc);
+    for (place, _column) in columns.iter().enumerate() {
+        typed.push(TypedItem::Column(place as u8))?;
+    }
+    Ok(typed)
+}
+
+// What `*` stands for.
+fn all_items(alloc: Global, schema: &Schema) -> Result<Seq<TypedItem>, AllocError>
+    ensures { IfOk result (λ typed. typed ≡ all_items schema.now) }
+{
+    let mut typed = column_items(alloc, schema.columns())?;
+    if schema.valid() {
+        typed.push(TypedItem::ValidFrom)?;
+        typed.push(TypedItem::ValidTo)?;
+    }
+    Ok(Seq::from_vec(typed))
+}
+
+// The items that are asked for.
+fn typed_items_of(
+    alloc: Global,
+    schema: &Schema,
+    form: &SelectForm,
+) -> Result<Seq<TypedItem>, AllocError>
+    ensures { IfOk result (λ typed. typed ≡ typed_items_of schema.now form.now) }
+{
+    if form.all {
+        all_items(alloc, schema)
+    } else {
+        typed_items(alloc, schema, form.items.as_slice())
+    }
+}
+
 fn version_of(now: u32, asked: Option<Stamp>) -> u32
     requires positive { ForSome asked (λ stamp. IsNonNegative stamp.value) }
     requires reached { version_fault now asked ≡ None }
@@ -177,7 +217,8 @@ fn version_of(now: u32, asked: Option<Stamp>) -> u32
 /// The question by numbers at `now` commits, over the table that its name means if it means one, or its first
 /// fault: the one that stands furthest to the left. `UnknownTable` stands at the table's name; `UnknownColumn` at
 /// an item that the known table lacks; `VersionAhead` at a version after the last commit. `NoMemory` is want of
-/// memory. The form is one of the language as it is: named items, no predicate, no valid time.
+/// memory. `*` stands for all columns in order, and then the ends of the valid period where the table's rows have
+/// one. The form is one of the language as it is: no predicate, no valid time.
 pub fn check_select(
     alloc: Global,
     now: u32,
@@ -193,7 +234,7 @@ pub fn check_select(
         (None, None) => Err(CheckFault::UnknownTable { at: form.table.at }),
         (None, Some((number, schema))) => Ok(Typed::Select {
             table: number,
-            items: typed_items(alloc, schema, form.items.as_slice())?,
+            items: typed_items_of(alloc, schema, form)?,
             pred: TypedPred {
                 any: Seq::new(alloc),
             },
@@ -291,3 +332,6 @@ pub fn check_create(alloc: Global, form: &CreateForm) -> Result<Schema, CheckFau
         None => Ok(schema_of(alloc, form)?),
     }
 }
+
+#[cfg(test)]
+mod tests;

@@ -107,6 +107,16 @@ fn scripts_and_their_replies(rt: HostRuntime) -> Result<(), Fail> {
             0,
             "a @0 ! UnknownColumn 27\n",
         ),
+        (
+            "a> CREATE TABLE t (k TEXT, x INT) KEY k\na> SELECT * FROM t",
+            0,
+            "a @1 ok\na @1 rows 0\n",
+        ),
+        (
+            "a> CREATE TABLE t (k INT, x INT) KEY x\na> PUT t\nk,x\n1,2\n\\.\na> SELECT*FROM t",
+            0,
+            "a @1 ok\na @2 ok\na @2 rows 1\n1,2\n",
+        ),
         ("a> SELECT $ FROM t", 0, "a @0 ! BadByte 7\n"),
         ("a> SELECT 'x FROM t", 0, "a @0 ! OpenText 7\n"),
         (

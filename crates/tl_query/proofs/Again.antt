@@ -1,7 +1,9 @@
 -- What is spelled is read again.
-use Rattle.std.proofs.Common.{◌≡◌, ℕ, ◌≤◌, zero, suc, true, false, cond, List, [], ◌∷◌, ◌++◌, length, Option, Some, None, Result, Ok, Err, refl, sym, ◌∙◌, ap, arith}
+use Rattle.std.proofs.Common.{◌≡◌, ℕ, ◌≤◌, zero, suc, Bool, true, false, cond, List, [], ◌∷◌, ◌++◌, length, Option, Some, None, Result, Ok, Err, refl, sym, ◌∙◌, ap, arith}
 use Rattle.std.specs.List.{AllByRecursion}
 use Rattle.std.proofs.lemmas.Bool.{eq-eqb}
+use Rattle.tl_types.specs.declared.cells.ColumnKind.{ColumnKind}
+use Rattle.tl_types.specs.declared.cells.ColumnKind.TheVariants as kinds
 use Rattle.tl_query.specs.declared.marks.Mark.{Mark}
 use Rattle.tl_query.specs.declared.marks.Mark.TheVariants as marks
 use Rattle.tl_query.specs.declared.tokens.Token.{Token}
@@ -18,8 +20,8 @@ use Rattle.tl_query.specs.declared.forms.Query.TheVariants as queries
 use Rattle.tl_query.specs.declared.forms.Statement.{Statement}
 use Rattle.tl_query.specs.declared.forms.Statement.TheVariants as statements
 use Rattle.tl_query.specs.Marks.{place}
-use Rattle.tl_query.specs.Grammar.{IsSpelling, IsCreate, IsSelect, IsNumbers, IsColumn, column_parts, further_columns, columns_parts, create_parts, further_items, items_parts, as_of_parts, select_parts}
-use Rattle.tl_query.specs.Reading.{◌>>=◌, place_of, is_fixed, after, expect, name_of, version_of, name_at, version_at, ended, column_at, in_front, before, further_columns_at, columns_at, create_at, put_at, items_at, as_of_at, select_at, statement_at, where_some}
+use Rattle.tl_query.specs.Grammar.{IsSpelling, IsCreate, IsSelect, IsColumn, IsAsked, kind_mark, column_parts, further_columns, columns_parts, create_parts, further_items, items_parts, asked_parts, as_of_parts, select_parts}
+use Rattle.tl_query.specs.Reading.{◌>>=◌, place_of, is_fixed, after, expect, name_of, version_of, name_at, version_at, ended, text_kind_at, kind_at, column_at, in_front, before, further_columns_at, columns_at, create_at, put_at, items_at, asked_at, as_of_at, select_at, statement_at, where_some}
 use Rattle.tl_query.proofs.Laws.{words_of}
 use Rattle.tl_query.proofs.Readers.{items_comma, items_end, item_first}
 
@@ -74,12 +76,23 @@ ended_again s (p ∷ ts) e = absurd (cc)
 pub then_again : {A B : Type 0} (r : Result A (Option ℕ)) (x : A) (f : A → Result B (Option ℕ)) (y : Result B (Option ℕ)) → r ≡ Ok x → f x ≡ y → r >>= f ≡ y
 then_again r x f y e h = ap (λ r. r >>= f) e ∙ h
 
-pub column_again : (c : ColumnForm) → IsNumbers c → (ts : List Placed) (w : List Token) → words_of ts ≡ column_parts c ++ w → (rest : List Placed) × (words_of rest ≡ w) × (column_at ts ≡ Ok (c, rest))
+kind_again : (k : ColumnKind) (ts : List Placed) (w : List Token) → words_of ts ≡ Fixed (kind_mark k) ∷ w → (rest : List Placed) × (words_of rest ≡ w) × (kind_at ts ≡ Ok (k, rest))
+unfolding kind_at text_kind_at
+kind_again kinds.IntKind ts w e = let a = after_again marks.Int ts w e in (a.0, a.1, ap (λ o. where_some o (text_kind_at ts) (λ rest. Ok (kinds.IntKind, rest))) a.2)
+kind_again kinds.TextKind ts w e =
+    let a = after_again marks.Text ts w e in (
+      a.0,
+      a.1,
+      ap (λ o. where_some o (text_kind_at ts) (λ rest. Ok (kinds.IntKind, rest))) (after_none marks.Int ts _ _ e refl)
+          ∙ ap (λ o. where_some o (Err (place_of ts)) (λ rest. Ok (kinds.TextKind, rest))) a.2,
+    )
+
+pub column_again : (c : ColumnForm) (ts : List Placed) (w : List Token) → words_of ts ≡ column_parts c ++ w → (rest : List Placed) × (words_of rest ≡ w) × (column_at ts ≡ Ok (c, rest))
 unfolding column_at
-column_again c numbers ts w e =
-    let n = name_again c.name ts (Fixed marks.Int ∷ w) e in
-    let i = expect_again marks.Int n.0 w n.1 in
-    (i.0, i.1, then_again (name_at ts) (c.name, n.0) _ _ n.2 (then_again (expect marks.Int n.0) i.0 _ _ i.2 (ap (λ k. Ok (record { name = c.name; kind = k }, i.0)) (sym numbers))))
+column_again c ts w e =
+    let n = name_again c.name ts (Fixed (kind_mark c.kind) ∷ w) e in
+    let k = kind_again c.kind n.0 w n.1 in
+    (k.0, k.1, then_again (name_at ts) (c.name, n.0) _ _ n.2 (then_again (kind_at n.0) (c.kind, k.0) _ _ k.2 refl))
 
 -- nothing that would go on a list of columns or items: no comma comes
 abbrev pub NoComma : List Token → Type 0
@@ -90,27 +103,27 @@ comma_none : (ts : List Placed) (w : List Token) → words_of ts ≡ w → NoCom
 comma_none ts [] e h = after_end marks.Comma ts e
 comma_none ts (t ∷ w) e h = after_none marks.Comma ts t w e h
 
-pub further_columns_again : (cs : List ColumnForm) (room : ℕ) → length cs ≤ room → AllByRecursion IsNumbers cs → (ts : List Placed) (w : List Token) → NoComma w → words_of ts ≡ further_columns cs ++ w → (rest : List Placed) × (words_of rest ≡ w) × (further_columns_at room ts ≡ Ok (cs, rest))
+pub further_columns_again : (cs : List ColumnForm) (room : ℕ) → length cs ≤ room → (ts : List Placed) (w : List Token) → NoComma w → words_of ts ≡ further_columns cs ++ w → (rest : List Placed) × (words_of rest ≡ w) × (further_columns_at room ts ≡ Ok (cs, rest))
 unfolding further_columns_at
-further_columns_again [] zero few all ts w stop e = (ts, e, refl)
-further_columns_again [] (suc room) few all ts w stop e = (ts, e, ap (λ o. where_some o (Ok ([], ts)) (λ rest. column_at rest >>= λ c. in_front c.0 (further_columns_at room c.1))) (comma_none ts w e stop))
-further_columns_again (c ∷ cs) zero few all ts w stop e = absurd (omega arith)
-further_columns_again (c ∷ cs) (suc room) few all ts w stop e =
+further_columns_again [] zero few ts w stop e = (ts, e, refl)
+further_columns_again [] (suc room) few ts w stop e = (ts, e, ap (λ o. where_some o (Ok ([], ts)) (λ rest. column_at rest >>= λ c. in_front c.0 (further_columns_at room c.1))) (comma_none ts w e stop))
+further_columns_again (c ∷ cs) zero few ts w stop e = absurd (omega arith)
+further_columns_again (c ∷ cs) (suc room) few ts w stop e =
     let a = after_again marks.Comma ts (column_parts c ++ (further_columns cs ++ w)) e in
-    let x = column_again c all.0 a.0 (further_columns cs ++ w) a.1 in
-    let y = further_columns_again cs room (omega arith) all.1 x.0 w stop x.1 in (
+    let x = column_again c a.0 (further_columns cs ++ w) a.1 in
+    let y = further_columns_again cs room (omega arith) x.0 w stop x.1 in (
       y.0,
       y.1,
       ap (λ o. where_some o (Ok ([], ts)) (λ rest. column_at rest >>= λ c. in_front c.0 (further_columns_at room c.1))) a.2
           ∙ then_again (column_at a.0) (c, x.0) (λ c. in_front c.0 (further_columns_at room c.1)) _ x.2 (ap (in_front c) y.2),
     )
 
-pub columns_again : (cs : List ColumnForm) → 1 ≤ length cs → length cs ≤ 16 → AllByRecursion IsNumbers cs → (ts : List Placed) (w : List Token) → NoComma w → words_of ts ≡ columns_parts cs ++ w → (rest : List Placed) × (words_of rest ≡ w) × (columns_at ts ≡ Ok (cs, rest))
+pub columns_again : (cs : List ColumnForm) → 1 ≤ length cs → length cs ≤ 16 → (ts : List Placed) (w : List Token) → NoComma w → words_of ts ≡ columns_parts cs ++ w → (rest : List Placed) × (words_of rest ≡ w) × (columns_at ts ≡ Ok (cs, rest))
 unfolding columns_at
-columns_again [] some few all ts w stop e = absurd (omega arith)
-columns_again (c ∷ cs) some few all ts w stop e =
-    let x = column_again c all.0 ts (further_columns cs ++ w) e in
-    let y = further_columns_again cs 15 (omega arith) all.1 x.0 w stop x.1 in
+columns_again [] some few ts w stop e = absurd (omega arith)
+columns_again (c ∷ cs) some few ts w stop e =
+    let x = column_again c ts (further_columns cs ++ w) e in
+    let y = further_columns_again cs 15 (omega arith) x.0 w stop x.1 in
     (y.0, y.1, then_again (column_at ts) (c, x.0) (λ c. in_front c.0 (further_columns_at 15 c.1)) _ x.2 (ap (in_front c) y.2))
 
 further_items_again : (xs : List Item) → AllByRecursion IsColumn xs → (ts : List Placed) (w : List Token) → NoComma w → words_of ts ≡ further_items xs ++ w → (rest : List Placed) × (words_of rest ≡ w) × (items_at false ts ≡ Ok (xs, rest))
@@ -131,6 +144,21 @@ items_again (items.Column n ∷ xs) some all ts w stop e =
     (y.0, y.1, item_first ts x.0 n x.2 ∙ ap (before (items.Column n ∷ [])) y.2)
 items_again (items.ValidFrom at ∷ xs) some all ts w stop e = absurd all.0
 items_again (items.ValidTo at ∷ xs) some all ts w stop e = absurd all.0
+
+asked_again : (all : Bool) (xs : List Item) → IsAsked all xs → (ts : List Placed) (w : List Token) → NoComma w → words_of ts ≡ asked_parts all xs ++ w → (rest : List Placed) × (words_of rest ≡ w) × (asked_at ts ≡ Ok ((all, xs), rest))
+unfolding asked_at
+asked_again true [] is ts w stop e = let a = after_again marks.Star ts w e in (a.0, a.1, ap (λ o. where_some o (items_at true ts >>= λ x. Ok ((false, x.0), x.1)) (λ rest. Ok ((true, []), rest))) a.2)
+asked_again true (x ∷ xs) is ts w stop e = absurd (cc)
+asked_again false [] is ts w stop e = absurd (omega (arith, is.0))
+asked_again false (items.Column n ∷ xs) is ts w stop e =
+    let a = items_again (items.Column n ∷ xs) is.0 is.1 ts w stop e in (
+      a.0,
+      a.1,
+      ap (λ o. where_some o (items_at true ts >>= λ x. Ok ((false, x.0), x.1)) (λ rest. Ok ((true, []), rest))) (after_none marks.Star ts _ _ e refl)
+          ∙ then_again (items_at true ts) (items.Column n ∷ xs, a.0) _ _ a.2 refl,
+    )
+asked_again false (items.ValidFrom at ∷ xs) is ts w stop e = absurd is.1.0
+asked_again false (items.ValidTo at ∷ xs) is ts w stop e = absurd is.1.0
 
 pub as_of_again : (o : Option Stamp) (ts : List Placed) → words_of ts ≡ as_of_parts o → (rest : List Placed) × (words_of rest ≡ []) × (as_of_at ts ≡ Ok (o, rest))
 unfolding as_of_at
@@ -158,7 +186,7 @@ create_again f is ts e =
     let table = expect_again marks.Table ts _ k in
     let name = name_again f.name table.0 _ table.1 in
     let opened = expect_again marks.Open name.0 _ name.1 in
-    let columns = columns_again f.columns is.some is.few is.numbers opened.0 (Fixed marks.Close ∷ Fixed marks.Key ∷ Word f.key ∷ []) refl opened.1 in
+    let columns = columns_again f.columns is.some is.few opened.0 (Fixed marks.Close ∷ Fixed marks.Key ∷ Word f.key ∷ []) refl opened.1 in
     let closed = expect_again marks.Close columns.0 _ columns.1 in
     let word = expect_again marks.Key closed.0 _ closed.1 in
     let key = name_again f.key word.0 [] word.1 in
@@ -167,23 +195,22 @@ create_again f is ts e =
     (then_again (name_at word.0) (f.key, key.0) _ _ key.2 (ended_again (statements.Create (record { name = f.name; columns = f.columns; key = f.key; valid = false })) key.0 key.1
     ∙ ap (λ v. Ok (statements.Create (record { name = f.name; columns = f.columns; key = f.key; valid = v }))) (sym is.plain))))))))
 
-select_same : (f : SelectForm) → f.all ≡ false → f.pred ≡ record { any = [] } → f.valid_at ≡ None → record { all = false; items = f.items; table = f.table; pred = record { any = [] }; valid_at = None; as_of = f.as_of } ≡ f
-select_same f a b c =
-    ap (λ x. record { all = x; items = f.items; table = f.table; pred = record { any = [] }; valid_at = None; as_of = f.as_of }) (sym a)
-    ∙ ap (λ x. record { all = f.all; items = f.items; table = f.table; pred = x; valid_at = None; as_of = f.as_of }) (sym b)
+select_same : (f : SelectForm) → f.pred ≡ record { any = [] } → f.valid_at ≡ None → record { all = f.all; items = f.items; table = f.table; pred = record { any = [] }; valid_at = None; as_of = f.as_of } ≡ f
+select_same f b c =
+    ap (λ x. record { all = f.all; items = f.items; table = f.table; pred = x; valid_at = None; as_of = f.as_of }) (sym b)
     ∙ ap (λ x. record { all = f.all; items = f.items; table = f.table; pred = f.pred; valid_at = x; as_of = f.as_of }) (sym c)
 
 select_again : (f : SelectForm) → IsSelect f → (ts : List Placed) → Fixed marks.Select ∷ words_of ts ≡ select_parts f → select_at ts ≡ Ok (statements.Ask (queries.Select f))
 unfolding select_at
 select_again f is ts e =
-    let k : words_of ts ≡ items_parts f.items ++ (Fixed marks.From ∷ Word f.table ∷ as_of_parts f.as_of) = cc in
-    let items = items_again f.items is.some is.columns ts (Fixed marks.From ∷ Word f.table ∷ as_of_parts f.as_of) refl k in
-    let from = expect_again marks.From items.0 _ items.1 in
+    let k : words_of ts ≡ asked_parts f.all f.items ++ (Fixed marks.From ∷ Word f.table ∷ as_of_parts f.as_of) = cc in
+    let asked = asked_again f.all f.items is.asked ts (Fixed marks.From ∷ Word f.table ∷ as_of_parts f.as_of) refl k in
+    let from = expect_again marks.From asked.0 _ asked.1 in
     let table = name_again f.table from.0 _ from.1 in
     let as_of = as_of_again f.as_of table.0 table.1 in
-    let same : record { all = false; items = f.items; table = f.table; pred = record { any = [] }; valid_at = None; as_of = f.as_of } ≡ f = select_same f is.plain is.untested is.timeless in
-    then_again (items_at true ts) (f.items, items.0) _ _ items.2 (then_again (expect marks.From items.0) from.0 _ _ from.2 (then_again (name_at from.0) (f.table, table.0) _ _ table.2
-    (then_again (as_of_at table.0) (f.as_of, as_of.0) _ _ as_of.2 (ended_again (statements.Ask (queries.Select (record { all = false; items = f.items; table = f.table; pred = record { any = [] }; valid_at = None; as_of = f.as_of }))) as_of.0 as_of.1
+    let same : record { all = f.all; items = f.items; table = f.table; pred = record { any = [] }; valid_at = None; as_of = f.as_of } ≡ f = select_same f is.untested is.timeless in
+    then_again (asked_at ts) ((f.all, f.items), asked.0) _ _ asked.2 (then_again (expect marks.From asked.0) from.0 _ _ from.2 (then_again (name_at from.0) (f.table, table.0) _ _ table.2
+    (then_again (as_of_at table.0) (f.as_of, as_of.0) _ _ as_of.2 (ended_again (statements.Ask (queries.Select (record { all = f.all; items = f.items; table = f.table; pred = record { any = [] }; valid_at = None; as_of = f.as_of }))) as_of.0 as_of.1
     ∙ ap (λ g. Ok (statements.Ask (queries.Select g))) same))))
 
 -- what is spelled is read

@@ -15,7 +15,7 @@ use Rattle.tl_query.specs.declared.forms.Item.TheVariants as items
 use Rattle.tl_query.specs.declared.forms.Query.TheVariants as queries
 use Rattle.tl_query.specs.declared.forms.Statement.{Statement}
 use Rattle.tl_query.specs.declared.forms.Statement.TheVariants as statements
-use Rattle.tl_query.specs.Grammar.{IsSpelling, IsNamed, IsVersion, IsNamedItem, HasNames, IsColumn, further_columns, columns_parts, create_parts, put_parts, further_items, items_parts, as_of_parts, select_parts}
+use Rattle.tl_query.specs.Grammar.{IsSpelling, IsNamed, IsVersion, IsNamedItem, HasNames, IsColumn, IsAsked, further_columns, columns_parts, create_parts, put_parts, further_items, items_parts, asked_parts, as_of_parts, select_parts}
 use Rattle.tl_query.specs.Scanning.{Tokens, scan, with_piece, is_blank, number_of, keyword_of, word_token, word_piece, piece_at, number_piece, negative_piece, quoted_piece, less_piece, greater_piece, symbol_piece, closing, placed}
 use Rattle.tl_query.specs.Texts.{tokens_of, words_of, Spells, text_read, Answers}
 use Rattle.tl_query.proofs.Deciding.{read_spelled}
@@ -118,6 +118,11 @@ items_named (items.Column n ∷ xs) w a h = let k = further_items_named xs w a.1
 items_named (items.ValidFrom at ∷ xs) w a h = absurd a.0
 items_named (items.ValidTo at ∷ xs) w a h = absurd a.0
 
+asked_named : (all : Bool) (xs : List Item) (w : List Token) → IsAsked all xs → AllByRecursion IsRight (asked_parts all xs ++ w) → AllByRecursion IsNamedItem xs × AllByRecursion IsRight w
+asked_named true [] w a h = (tt, h.1)
+asked_named true (x ∷ xs) w a h = absurd (cc)
+asked_named false xs w a h = items_named xs w a.1 h
+
 as_of_named : (o : Option Stamp) → AllByRecursion IsRight (as_of_parts o) → IfSome o IsVersion
 as_of_named None h = tt
 as_of_named (Some s) h = h.1.1.0
@@ -131,7 +136,7 @@ spelled_named ts (statements.Put n) h k = let all : AllByRecursion IsRight (put_
 spelled_named ts (statements.Remove n) h k = absurd k
 spelled_named ts (statements.Ask (queries.Select f)) h k =
     let all : AllByRecursion IsRight (select_parts f) = subst (λ x. AllByRecursion IsRight x) k.1 h in
-    let found = items_named f.items (Fixed marks.From ∷ Word f.table ∷ as_of_parts f.as_of) k.0.columns all.1 in
+    let found = asked_named f.all f.items (Fixed marks.From ∷ Word f.table ∷ as_of_parts f.as_of) k.0.asked all.1 in
     (found.0, found.1.1.0, as_of_named f.as_of found.1.1.1)
 spelled_named ts (statements.Ask (queries.Agg f)) h k = absurd k
 spelled_named ts (statements.Ask (queries.Join f)) h k = absurd k

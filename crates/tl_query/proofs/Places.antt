@@ -2,7 +2,7 @@
 use Rattle.std.proofs.Common.{◌≡◌, true, List, [], ◌∷◌, get_or, refl, sym, ◌∙◌, ap, Some}
 use Rattle.std.proofs.lemmas.Bool.Decides.{Decides-eqb}
 use Rattle.tl_query.specs.declared.marks.Mark.{Mark}
-use Rattle.tl_query.specs.declared.marks.Mark.TheVariants.{Create, Table, Key, Int, Put, Select, From, As, Of, Open, Close, Comma, Semicolon, Star, Equal, Unequal, Less, AtMost, Greater, AtLeast}
+use Rattle.tl_query.specs.declared.marks.Mark.TheVariants.{Create, Table, Key, Int, Text, Put, Select, From, As, Of, Open, Close, Comma, Semicolon, Star, Equal, Unequal, Less, AtMost, Greater, AtLeast}
 use Rattle.tl_query.specs.declared.tokens.Token.{Token}
 use Rattle.tl_query.specs.declared.tokens.Token.TheVariants.{Fixed, Word, Number, Negative, Quoted, Stray}
 use Rattle.tl_query.specs.declared.forms.Name.{Name}
@@ -11,7 +11,7 @@ use Rattle.tl_query.specs.Marks.{place, same_mark}
 use Rattle.tl_query.specs.Reading.{is_fixed, name_of, version_of}
 
 every : List Mark
-every = Create ∷ Table ∷ Key ∷ Int ∷ Put ∷ Select ∷ From ∷ As ∷ Of ∷ Open ∷ Close ∷ Comma ∷ Semicolon ∷ Star ∷ Equal ∷ Unequal ∷ Less ∷ AtMost ∷ Greater ∷ AtLeast ∷ []
+every = Create ∷ Table ∷ Key ∷ Int ∷ Text ∷ Put ∷ Select ∷ From ∷ As ∷ Of ∷ Open ∷ Close ∷ Comma ∷ Semicolon ∷ Star ∷ Equal ∷ Unequal ∷ Less ∷ AtMost ∷ Greater ∷ AtLeast ∷ []
 
 there : (m : Mark) → get_or every (place m) Create ≡ m
 unfolding every
@@ -19,6 +19,7 @@ there Create = refl
 there Table = refl
 there Key = refl
 there Int = refl
+there Text = refl
 there Put = refl
 there Select = refl
 there From = refl

@@ -112,6 +112,19 @@ typed_item_of schema (item.Column name) = typed_item.Column (or_zero (column_of 
 typed_item_of schema (item.ValidFrom at) = typed_item.ValidFrom
 typed_item_of schema (item.ValidTo at) = typed_item.ValidTo
 
+-- the ends of the valid period, where rows have one
+abbrev pub period_items : Bool → List TypedItem
+period_items true = typed_item.ValidFrom ∷ typed_item.ValidTo ∷ []
+period_items false = []
+
+-- what `*` stands for: all columns in order, then the ends of the valid period where the table's rows have one
+abbrev pub all_items : plain.Schema → List TypedItem
+all_items schema = map (λ c. typed_item.Column c.0) (enumerate_from 0 schema.columns) ++ period_items schema.valid
+
+-- the items that are asked for, by number
+abbrev pub typed_items_of : plain.Schema → SelectForm → List TypedItem
+typed_items_of schema form = if form.all then all_items schema else map (typed_item_of schema) form.items
+
 -- the version that is asked for: the last one where none is given
 abbrev pub version_of : ℕ → Option Stamp → ℕ
 version_of now None = now
@@ -120,7 +133,7 @@ version_of now (Some stamp) = nat_abs stamp.value
 -- a SELECT by numbers, over the table that its name means
 abbrev pub typed_select : ℕ → ℕ × plain.Schema → SelectForm → Typed
 typed_select now table form =
-    typed.Select table.0 (map (typed_item_of table.1) form.items) (record { any = [] }) None (version_of now form.as_of)
+    typed.Select table.0 (typed_items_of table.1 form) (record { any = [] }) None (version_of now form.as_of)
 
 -- the SELECT by numbers at so many commits, over the table that its name means if it means one, or its first fault
 abbrev pub checked_select : ℕ → Option (ℕ × plain.Schema) → SelectForm → Result Typed CheckFault
@@ -130,9 +143,9 @@ checked_select now table form = unless (select_fault now table form) table where
   unless None None = Err (fault.UnknownTable form.table.at)
   unless None (Some t) = Ok (typed_select now t form)
 
--- a SELECT of the language as it is: named items, no predicate, no valid time
+-- a SELECT of the language as it is: no predicate, no valid time
 abbrev pub IsBareSelect : SelectForm → Type 0
-IsBareSelect form = (form.all ≡ false) × (form.pred.any ≡ []) × (form.valid_at ≡ None)
+IsBareSelect form = (form.pred.any ≡ []) × (form.valid_at ≡ None)
 
 -- NEW TABLES
 

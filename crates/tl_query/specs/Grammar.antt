@@ -1,8 +1,10 @@
 -- Which lists of tokens spell a statement.
-use Rattle.std.specs.Prelude.{◌≡◌, ℕ, ◌≤◌, ◌<◌, ◌^◌, IfSome, pos, true, false, List, [], ◌∷◌, ◌++◌, length, flat_map, Option, Some, None}
+use Rattle.std.specs.Prelude.{◌≡◌, ℕ, ◌≤◌, ◌<◌, ◌^◌, IfSome, pos, Bool, true, false, List, [], ◌∷◌, ◌++◌, length, flat_map, Option, Some, None}
 use Rattle.std.specs.List.{AllByRecursion}
 use Rattle.tl_types.specs.Names.{is_name}
+use Rattle.tl_types.specs.declared.cells.ColumnKind.{ColumnKind}
 use Rattle.tl_types.specs.declared.cells.ColumnKind.TheVariants as kinds
+use Rattle.tl_query.specs.declared.marks.Mark.{Mark}
 use Rattle.tl_query.specs.declared.marks.Mark.TheVariants as marks
 use Rattle.tl_query.specs.declared.tokens.Token.{Token}
 use Rattle.tl_query.specs.declared.tokens.Token.TheVariants.{Fixed, Word, Number}
@@ -17,9 +19,14 @@ use Rattle.tl_query.specs.declared.forms.Query.TheVariants as queries
 use Rattle.tl_query.specs.declared.forms.Statement.{Statement}
 use Rattle.tl_query.specs.declared.forms.Statement.TheVariants as statements
 
--- a column: its name, then INT
+-- the word of a kind of cells
+abbrev pub kind_mark : ColumnKind → Mark
+kind_mark kinds.IntKind = marks.Int
+kind_mark kinds.TextKind = marks.Text
+
+-- a column: its name, then INT or TEXT
 abbrev pub column_parts : ColumnForm → List Token
-column_parts c = Word c.name ∷ Fixed marks.Int ∷ []
+column_parts c = Word c.name ∷ Fixed (kind_mark c.kind) ∷ []
 
 -- each column behind a comma
 abbrev pub further_columns : List ColumnForm → List Token
@@ -34,15 +41,10 @@ columns_parts (c ∷ cs) = column_parts c ++ further_columns cs
 abbrev pub create_parts : CreateForm → List Token
 create_parts f = Fixed marks.Create ∷ Fixed marks.Table ∷ Word f.name ∷ Fixed marks.Open ∷ (columns_parts f.columns ++ (Fixed marks.Close ∷ Fixed marks.Key ∷ Word f.key ∷ []))
 
--- a column of numbers
-abbrev pub IsNumbers : ColumnForm → Type 0
-IsNumbers c = c.kind ≡ kinds.IntKind
-
--- a table with 1 to 16 columns of numbers, whose rows have no valid period
+-- a table with 1 to 16 columns, whose rows have no valid period
 pub record IsCreate (f : CreateForm) : Type 0 where
   pub some : 1 ≤ length f.columns
   pub few : length f.columns ≤ 16
-  pub numbers : AllByRecursion IsNumbers f.columns
   pub plain : f.valid ≡ false
 
 -- PUT name
@@ -70,20 +72,28 @@ abbrev pub items_parts : List Item → List Token
 items_parts [] = []
 items_parts (x ∷ xs) = item_parts x ++ further_items xs
 
+-- what is asked for: `*` for all, or items
+abbrev pub asked_parts : Bool → List Item → List Token
+asked_parts true xs = Fixed marks.Star ∷ []
+asked_parts false xs = items_parts xs
+
+-- all and no items, or one or more columns
+abbrev pub IsAsked : Bool → List Item → Type 0
+IsAsked true xs = xs ≡ []
+IsAsked false xs = (1 ≤ length xs) × AllByRecursion IsColumn xs
+
 -- AS OF version, or nothing
 abbrev pub as_of_parts : Option Stamp → List Token
 as_of_parts None = []
 as_of_parts (Some s) = Fixed marks.As ∷ Fixed marks.Of ∷ Number s ∷ []
 
--- SELECT items FROM name, and a version where there is one
+-- SELECT, `*` or items, FROM name, and a version where there is one
 abbrev pub select_parts : SelectForm → List Token
-select_parts f = Fixed marks.Select ∷ (items_parts f.items ++ (Fixed marks.From ∷ Word f.table ∷ as_of_parts f.as_of))
+select_parts f = Fixed marks.Select ∷ (asked_parts f.all f.items ++ (Fixed marks.From ∷ Word f.table ∷ as_of_parts f.as_of))
 
--- a question for one or more columns, with no test of rows
+-- a question for all that a row has, or for one or more columns, with no test of rows
 pub record IsSelect (f : SelectForm) : Type 0 where
-  pub plain : f.all ≡ false
-  pub some : 1 ≤ length f.items
-  pub columns : AllByRecursion IsColumn f.items
+  pub asked : IsAsked f.all f.items
   pub untested : f.pred ≡ record { any = [] }
   pub timeless : f.valid_at ≡ None
 

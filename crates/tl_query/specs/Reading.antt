@@ -1,6 +1,7 @@
 -- Reading the tokens of a statement from the left. Each reader gives a value and the tokens behind it, or
 -- where it stops: at the offset of a token, or at the end.
 use Rattle.std.specs.Prelude.{◌≡◌, ℕ, Bool, true, false, suc, zero, if◌then◌else◌, List, [], ◌∷◌, ◌++◌, Option, Some, None, Result, Ok, Err}
+use Rattle.tl_types.specs.declared.cells.ColumnKind.{ColumnKind}
 use Rattle.tl_types.specs.declared.cells.ColumnKind.TheVariants as kinds
 use Rattle.tl_query.specs.declared.marks.Mark.{Mark}
 use Rattle.tl_query.specs.declared.marks.Mark.TheVariants as marks
@@ -90,12 +91,20 @@ unfoldable pub ended : Statement → List Placed → Result Statement (Option �
 ended s [] = Ok s
 ended s (p ∷ ts) = Err (Some p.at)
 
+-- TEXT, which has to come
+unfoldable pub text_kind_at : List Placed → Result (ColumnKind × List Placed) (Option ℕ)
+text_kind_at ts = where_some (after marks.Text ts) (Err (place_of ts)) (λ rest. Ok (kinds.TextKind, rest))
+
+-- INT or TEXT
+unfoldable pub kind_at : List Placed → Result (ColumnKind × List Placed) (Option ℕ)
+kind_at ts = where_some (after marks.Int ts) (text_kind_at ts) (λ rest. Ok (kinds.IntKind, rest))
+
 -- a column
 unfoldable pub column_at : List Placed → Result (ColumnForm × List Placed) (Option ℕ)
 column_at ts = do
   name ← name_at ts
-  rest ← expect marks.Int name.1
-  Ok (record { name = name.0; kind = kinds.IntKind }, rest)
+  kind ← kind_at name.1
+  Ok (record { name = name.0; kind = kind.0 }, kind.1)
 
 -- a value in front of those that are read
 abbrev pub in_front : {A : Type 0} → A → Result (List A × List Placed) (Option ℕ) → Result (List A × List Placed) (Option ℕ)
@@ -141,6 +150,10 @@ items_at true (p ∷ ts) = where_some (name_of p.token) (Err (Some p.at)) (λ n.
 items_at false [] = Ok ([], [])
 items_at false (p ∷ ts) = if is_fixed marks.Comma p.token then items_at true ts else Ok ([], p ∷ ts)
 
+-- what is asked for: whether it is all, and items
+unfoldable pub asked_at : List Placed → Result ((Bool × List Item) × List Placed) (Option ℕ)
+asked_at ts = where_some (after marks.Star ts) (items_at true ts >>= λ x. Ok ((false, x.0), x.1)) (λ rest. Ok ((true, []), rest))
+
 -- the version behind AS OF, where AS comes
 unfoldable pub as_of_at : List Placed → Result (Option Stamp × List Placed) (Option ℕ)
 as_of_at ts = where_some (after marks.As ts) (Ok (None, ts)) (λ rest. expect marks.Of rest >>= λ next. version_at next >>= λ s. Ok (Some s.0, s.1))
@@ -148,11 +161,11 @@ as_of_at ts = where_some (after marks.As ts) (Ok (None, ts)) (λ rest. expect ma
 -- what follows SELECT
 unfoldable pub select_at : List Placed → Result Statement (Option ℕ)
 select_at ts = do
-  items ← items_at true ts
-  from ← expect marks.From items.1
+  asked ← asked_at ts
+  from ← expect marks.From asked.1
   table ← name_at from
   as_of ← as_of_at table.1
-  ended (statements.Ask (queries.Select (record { all = false; items = items.0; table = table.0; pred = record { any = [] }; valid_at = None; as_of = as_of.0 }))) as_of.1
+  ended (statements.Ask (queries.Select (record { all = asked.0.0; items = asked.0.1; table = table.0; pred = record { any = [] }; valid_at = None; as_of = as_of.0 }))) as_of.1
 
 -- the statement that the tokens spell, or where reading it stops
 unfoldable pub statement_at : List Placed → Result Statement (Option ℕ)

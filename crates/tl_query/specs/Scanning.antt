@@ -27,6 +27,7 @@ keyword_of word =
     if same_bytes word (codes "TABLE") then Some marks.Table else
     if same_bytes word (codes "KEY") then Some marks.Key else
     if same_bytes word (codes "INT") then Some marks.Int else
+    if same_bytes word (codes "TEXT") then Some marks.Text else
     if same_bytes word (codes "PUT") then Some marks.Put else
     if same_bytes word (codes "SELECT") then Some marks.Select else
     if same_bytes word (codes "FROM") then Some marks.From else

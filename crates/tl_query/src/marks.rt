@@ -9,6 +9,7 @@ pub(crate) enum Mark {
     Table,
     Key,
     Int,
+    Text,
     Put,
     Select,
     From,

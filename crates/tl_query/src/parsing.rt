@@ -71,6 +71,7 @@ mod tests {
     use super::*;
     use crate::forms::Query;
     use std::test::Fail;
+    use tl_types::ColumnKind;
 
     #[test]
     fn faults(rt: HostRuntime) -> Result<(), Fail> {
@@ -96,9 +97,16 @@ mod tests {
             ("PUT 1a", TextFault::Unexpected { at: 4 }),
             ("DROP t", TextFault::Unexpected { at: 0 }),
             (
-                "CREATE TABLE t (k TEXT) KEY k",
+                "CREATE TABLE t (k BLOB) KEY k",
                 TextFault::Unexpected { at: 18 },
             ),
+            (
+                "CREATE TABLE t (k TEXT INT) KEY k",
+                TextFault::Unexpected { at: 23 },
+            ),
+            ("SELECT *, k FROM t", TextFault::Unexpected { at: 8 }),
+            ("SELECT k, * FROM t", TextFault::Unexpected { at: 10 }),
+            ("SELECT FROM t", TextFault::Unexpected { at: 7 }),
             ("", TextFault::Unexpected { at: 0 }),
         ];
         for (text, fault) in cases.iter() {
@@ -117,10 +125,14 @@ mod tests {
 
     #[test]
     fn creates(rt: HostRuntime) -> Result<(), Fail> {
-        let create = parse(rt.alloc(), "CREATE TABLE t (k INT, x INT) KEY k")
+        let create = parse(rt.alloc(), "CREATE TABLE t (k INT, x TEXT) KEY k")
             .ok()
             .ok_or("create")?;
-        assert!(rt; matches!(&create, Statement::Create(form) if form.columns.len() == 2));
+        assert!(rt;
+            matches!(&create, Statement::Create(form)
+            if matches!(form.columns.as_slice(), [first, second]
+                if first.kind == ColumnKind::IntKind && second.kind == ColumnKind::TextKind))
+        );
         Ok(())
     }
 
@@ -130,7 +142,16 @@ mod tests {
             .ok()
             .ok_or("select")?;
         assert!(rt;
-            matches!(&select, Statement::Ask(Query::Select(form)) if form.items.len() == 2)
+            matches!(&select, Statement::Ask(Query::Select(form)) if form.items.len() == 2 && !form.all)
+        );
+        Ok(())
+    }
+
+    #[test]
+    fn selects_all(rt: HostRuntime) -> Result<(), Fail> {
+        let select = parse(rt.alloc(), "SELECT*FROM t").ok().ok_or("select")?;
+        assert!(rt;
+            matches!(&select, Statement::Ask(Query::Select(form)) if form.items.is_empty() && form.all)
         );
         Ok(())
     }

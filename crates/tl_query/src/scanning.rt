@@ -79,6 +79,9 @@ fn keyword_of(word: &str) -> Option<Mark>
     if word == "INT" {
         return Some(Mark::Int);
     }
+    if word == "TEXT" {
+        return Some(Mark::Text);
+    }
     if word == "PUT" {
         return Some(Mark::Put);
     }

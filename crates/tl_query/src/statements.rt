@@ -1,6 +1,6 @@
 //! Reading the tokens of a statement, from left to right.
 ghost use Rattle.std.specs.Prelude.{◌≡◌, ◌+◌, ◌-◌, ◌<◌, ◌≤◌, length, Some, None, Ok, Err, IfOk, IfSome, MatchOption, true, false};
-ghost use Rattle.tl_query.specs.Reading.{IsStopAt, Gives, place_of, is_fixed, after, expect, name_at, version_at, ended, column_at, columns_at, create_at, put_at, items_at, as_of_at, select_at, statement_at};
+ghost use Rattle.tl_query.specs.Reading.{IsStopAt, Gives, place_of, is_fixed, after, expect, name_at, version_at, ended, text_kind_at, kind_at, column_at, columns_at, create_at, put_at, items_at, asked_at, as_of_at, select_at, statement_at};
 
 use crate::forms::{ColumnForm, CreateForm, Item, Name, Pred, Query, SelectForm, Stamp, Statement};
 use crate::marks::{Mark, same_mark};
@@ -125,13 +125,32 @@ fn ended(statement: Statement, tokens: &[Placed]) -> Result<Statement, Stop>
     }
 }
 
+#[tactic(auto, using(crate::proofs::Readers::fails_by), unfolding(crate::specs::Reading::text_kind_at))]
+fn text_kind_at(tokens: &[Placed]) -> Result<(ColumnKind, &[Placed]), Stop>
+    ensures { Gives (λ x. (x.0, x.1.now)) result (text_kind_at tokens.now) }
+{
+    match after(tokens, Mark::Text) {
+        Some(rest) => Ok((ColumnKind::TextKind, rest)),
+        None => Err(stop_at(tokens)),
+    }
+}
+
+#[tactic(auto, unfolding(crate::specs::Reading::kind_at))]
+fn kind_at(tokens: &[Placed]) -> Result<(ColumnKind, &[Placed]), Stop>
+    ensures { Gives (λ x. (x.0, x.1.now)) result (kind_at tokens.now) }
+{
+    match after(tokens, Mark::Int) {
+        Some(rest) => Ok((ColumnKind::IntKind, rest)),
+        None => text_kind_at(tokens),
+    }
+}
+
 #[tactic(auto, unfolding(crate::specs::Reading::column_at))]
 fn column_at(tokens: &[Placed]) -> Result<(ColumnForm, &[Placed]), Stop>
     ensures { Gives (λ x. (x.0, x.1.now)) result (column_at tokens.now) }
 {
     let (name, rest) = name_at(tokens)?;
-    let rest = expect(rest, Mark::Int)?;
-    let kind = ColumnKind::IntKind;
+    let (kind, rest) = kind_at(rest)?;
     Ok((ColumnForm { name, kind }, rest))
 }
 
@@ -199,6 +218,17 @@ fn items_at(alloc: Global, tokens: &[Placed]) -> Result<(Seq<Item>, &[Placed]), 
     Ok((Seq::from_vec(items), rest))
 }
 
+#[tactic(auto, unfolding(crate::specs::Reading::asked_at))]
+fn asked_at(alloc: Global, tokens: &[Placed]) -> Result<(bool, Seq<Item>, &[Placed]), Stop>
+    ensures { Gives (λ x. ((x.0, x.1), x.2.now)) result (asked_at tokens.now) }
+{
+    if let Some(rest) = after(tokens, Mark::Star) {
+        return Ok((true, Seq::new(alloc), rest));
+    }
+    let (items, rest) = items_at(alloc, tokens)?;
+    Ok((false, items, rest))
+}
+
 #[tactic(auto, unfolding(crate::specs::Reading::as_of_at))]
 fn as_of_at(tokens: &[Placed]) -> Result<(Option<Stamp>, &[Placed]), Stop>
     ensures { Gives (λ x. (x.0, x.1.now)) result (as_of_at tokens.now) }
@@ -215,12 +245,12 @@ fn as_of_at(tokens: &[Placed]) -> Result<(Option<Stamp>, &[Placed]), Stop>
 fn select_at(alloc: Global, tokens: &[Placed]) -> Result<Statement, Stop>
     ensures { Gives (λ s. s) result (select_at tokens.now) }
 {
-    let (items, rest) = items_at(alloc, tokens)?;
+    let (all, items, rest) = asked_at(alloc, tokens)?;
     let rest = expect(rest, Mark::From)?;
     let (table, rest) = name_at(rest)?;
     let (as_of, rest) = as_of_at(rest)?;
     let form = SelectForm {
-        all: false,
+        all,
         items,
         table,
         pred: Pred {

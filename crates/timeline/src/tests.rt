@@ -134,6 +134,79 @@ fn scripts_and_their_replies(rt: HostRuntime) -> Result<(), Fail> {
     Ok(())
 }
 
+// The replies to blocks that are put, one after the other, into a new table `p` of people, each with a question
+// for its rows behind it.
+fn replies_to_people<R: Threads + Wait + Sync + AllocGlobal>(
+    rt: &R,
+    blocks: &[&[u8]],
+) -> Result<Vec<u8>, AllocError> {
+    let alloc = rt.alloc();
+    let mut script = Vec::new(alloc);
+    script.extend_from_slice(b"a> CREATE TABLE p (id INT, name TEXT, pay INT) KEY id\n")?;
+    for block in blocks {
+        script.extend_from_slice(b"a> PUT p\n")?;
+        script.extend_from_slice(block)?;
+        script.extend_from_slice(b"\\.\na> SELECT * FROM p\n")?;
+    }
+    let mut source = source(alloc, script.as_slice(), 64, &[])?;
+    let (_, written) = run(rt, &["run"], &mut source, &[])?;
+    Ok(written)
+}
+
+#[test]
+fn a_spreadsheet_file(rt: HostRuntime) -> Result<(), Fail> {
+    let blocks: [&[u8]; 4] = [
+        b"\xEF\xBB\xBFpay,id,name\r\n100,1,\"Doe, J.\"\r\n",
+        b"id,name,pay\n9223372036854775808,x,1\n",
+        b"id,name,pay\n-9223372036854775808,x,1\n",
+        b"name,id,pay\n\"a\n\"\"b\"\"\",1,2\n\xC3\xA4,2,3\n,3,4\n",
+    ];
+    let written = replies_to_people(&rt, &blocks)?;
+    let first =
+        "a @1 ok\na @2 ok\na @2 rows 1\n1,\"Doe, J.\",100\na @2 ! NotInt 2 1\na @2 rows 1\n1,\"Doe, J.\",100\n";
+    let second = "a @3 ok\na @3 rows 2\n1,\"Doe, J.\",100\n-9223372036854775808,x,1\n";
+    let third =
+        "a @4 ok\na @4 rows 4\n-9223372036854775808,x,1\n1,\"a\n\"\"b\"\"\",2\n2,ä,3\n3,,4\n";
+    let replies = format!(in rt.alloc(); "{first}{second}{third}")?;
+    assert_eq!(rt;
+        str::from_utf8(written.as_slice()).ok(),
+        Some(replies.as_str())
+    );
+    Ok(())
+}
+
+// A block with one person, whose name has so many bytes.
+fn long_name(alloc: Global, bytes: usize) -> Result<Vec<u8>, AllocError> {
+    let mut block = Vec::new(alloc);
+    block.extend_from_slice(b"id,name,pay\n1,")?;
+    for _ in 0..bytes {
+        block.push(b'n')?;
+    }
+    block.extend_from_slice(b",2\n")?;
+    Ok(block)
+}
+
+#[test]
+fn faults_of_a_spreadsheet_file(rt: HostRuntime) -> Result<(), Fail> {
+    let alloc = rt.alloc();
+    let too_long = long_name(alloc, 65_536)?;
+    let cases: [(&[u8], &str); 7] = [
+        (b"", "HeaderMissing 1"),
+        (b"id,name\n", "HeaderMissing 3"),
+        (b"id,nam,pay\n", "HeaderName 2"),
+        (b"id,id,pay\n", "HeaderTwice 2"),
+        (b"id,name,pay\n1,x\n", "FieldCount 2"),
+        (b"id,name,pay\n1,\xFF,2\n", "NotUtf8 2 2"),
+        (too_long.as_slice(), "TextTooLong 2 2"),
+    ];
+    for (block, fault) in cases {
+        let replies = format!(in alloc; "a @1 ok\na @1 ! {fault}\na @1 rows 0\n")?;
+        let written = replies_to_people(&rt, &[block])?;
+        assert_eq!(rt; written.as_slice(), replies.as_bytes(), "{fault}");
+    }
+    Ok(())
+}
+
 // The replies to a block of numbers that is put into a new table `t`, and to a question for its rows.
 fn replies_to_block<R: Threads + Wait + Sync + AllocGlobal>(
     rt: &R,

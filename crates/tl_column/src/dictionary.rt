@@ -1,5 +1,5 @@
 // Distinct texts by code.
-ghost use Rattle.std.specs.Prelude.{◌≡◌, ℕ, ◌+◌, ◌<◌, ◌^◌, ◌++◌, ◌∷◌, [], false, length, IfOk};
+ghost use Rattle.std.specs.Prelude.{◌≡◌, ℕ, ◌+◌, ◌<◌, ◌≤◌, ◌^◌, ◌++◌, ◌∷◌, [], false, length, IfOk};
 ghost use Rattle.tl_column.specs.Dictionary.{text_of, contains_text, code_in, with_text};
 
 use crate::runs::{add_run, code_in_run, shared_runs};
@@ -44,7 +44,8 @@ impl Dictionary {
     /// The text of a code.
     pub fn text(&self, code: u32) -> &str
         requires { code < length self.now }
-        ensures { result.now ≡ text_of self.now code }
+        ensures text { result.now ≡ text_of self.now code }
+        ensures short { length result.now ≤ 65535 }
     {
         self.texts.at(code)
     }

@@ -1,5 +1,5 @@
 // A text with any number of owners.
-ghost use Rattle.std.specs.Prelude.{◌≡◌, IfOk};
+ghost use Rattle.std.specs.Prelude.{◌≡◌, ◌≤◌, length, IfOk};
 
 use std::alloc::Global;
 use std::marker::Model;
@@ -34,7 +34,8 @@ impl SharedText {
 
     /// The text, lent.
     pub fn as_str(&self) -> &str
-        ensures { result.now ≡ self.now }
+        ensures text { result.now ≡ self.now }
+        ensures short { length result.now ≤ 65535 }
     {
         self.text.as_str()
     }

@@ -1,5 +1,5 @@
 // A column of texts.
-ghost use Rattle.std.specs.Prelude.{◌≡◌, ℕ, ◌+◌, ◌<◌, ◌^◌, ◌++◌, [], Some, false, length, fold, slice_index_or, IfOk, IfSome, IsNone, ◌↔◌};
+ghost use Rattle.std.specs.Prelude.{◌≡◌, ℕ, ◌+◌, ◌<◌, ◌≤◌, ◌^◌, ◌++◌, [], Some, false, length, fold, slice_index_or, IfOk, IfSome, IsNone, ◌↔◌};
 ghost use Rattle.tl_column.specs.Dictionary.{text_of, contains_text, code_in, with_text, dictionary_of, texts_of, AreCodes};
 
 use crate::dictionary::Dictionary;
@@ -63,7 +63,8 @@ impl TextColumn {
     /// The cell of row `row`, counted from 0.
     pub fn at(&self, row: u32) -> &str
         requires { row < length self.now }
-        ensures { result.now ≡ slice_index_or self.now row [] }
+        ensures cell { result.now ≡ slice_index_or self.now row [] }
+        ensures short { length result.now ≤ 65535 }
     {
         self.dictionary.text(*self.codes.at(row as u64))
     }
@@ -92,6 +93,7 @@ impl TextColumn {
         requires { code < length (dictionary_of self.now) }
         ensures text { result.now ≡ text_of (dictionary_of self.now) code }
         ensures code { code_in (dictionary_of self.now) result.now ≡ Some code }
+        ensures short { length result.now ≤ 65535 }
     {
         self.dictionary.text(code)
     }

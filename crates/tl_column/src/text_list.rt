@@ -1,5 +1,5 @@
 // A list of texts that grows at its end.
-ghost use Rattle.std.specs.Prelude.{◌≡◌, ◌<◌, ◌^◌, ◌++◌, ◌∷◌, [], length, IfOk};
+ghost use Rattle.std.specs.Prelude.{◌≡◌, ◌<◌, ◌≤◌, ◌^◌, ◌++◌, ◌∷◌, [], length, IfOk};
 ghost use Rattle.tl_column.specs.Dictionary.{text_of};
 
 use crate::shared_text::SharedText;
@@ -45,7 +45,8 @@ impl TextList {
     /// The text at `code`, counted from 0.
     pub fn at(&self, code: u32) -> &str
         requires { code < length self.now }
-        ensures { result.now ≡ text_of self.now code }
+        ensures text { result.now ≡ text_of self.now code }
+        ensures short { length result.now ≤ 65535 }
     {
         let code = code as u64;
         if code < self.settled.len() {

@@ -1,5 +1,5 @@
 -- A list in chunks.
-use Rattle.std.specs.Prelude.{◌≡◌, ℕ, ◌<◌, ◌≤◌, List, [], ◌∷◌, map, length, slice_index_or}
+use Rattle.std.specs.Prelude.{◌≡◌, ℕ, ◌%◌, ◌<◌, ◌≤◌, List, [], ◌∷◌, map, fold, length, slice_index_or, slice_set}
 use Rattle.std.specs.List.{flat_map}
 use Rattle.std.specs.declared.sync.Arc.{Arc}
 use Rattle.std.specs.declared.vec.Vec.{Vec}
@@ -26,3 +26,11 @@ IsChunked size (piece ∷ next ∷ rest) = (length piece ≡ size) × IsChunked 
 -- piece `i`, the empty list where there is none
 abbrev pub piece_or_nil : {X : Type 0} → ℕ → List (List X) → List X
 piece_or_nil i pieces = slice_index_or pieces i []
+
+-- the list with the item at each of these places
+abbrev pub set_each : {X : Type 0} → X → List X → List ℕ → List X
+set_each item xs places = fold (λ items place. slice_set items place item) xs places
+
+-- the piece with the item at each of these places of a list in pieces of `size`
+abbrev pub set_within : {X : Type 0} → ℕ → X → List X → List ℕ → List X
+set_within size item xs places = fold (λ items place. slice_set items (place % size) item) xs places

@@ -1,7 +1,10 @@
 // The list.
-ghost use Rattle.std.specs.Prelude.{◌≡◌, ℕ, ◌+◌, ◌*◌, ◌<◌, ◌≤◌, ◌++◌, [], length, take, drop, slice_index_or, slice_set, IfOk};
+ghost use Rattle.std.specs.Prelude.{◌≡◌, ℕ, ◌+◌, ◌*◌, ◌<◌, ◌≤◌, ◌++◌, [], length, take, drop, slice_index_or, slice_set, All, IfOk};
+ghost use Rattle.tl_shared.specs.Chunks.{set_each};
 
-use crate::chunks::{CHUNK, items_of_chunk, push_chunk, push_pieces, share_items, shared_front};
+use crate::chunks::{
+    CHUNK, change_chunks, items_of_chunk, push_chunk, push_pieces, share_items, shared_front,
+};
 use crate::shareable::{NoMemory, Shareable};
 use std::alloc::{AllocError, Global};
 use std::marker::Model;
@@ -77,6 +80,26 @@ impl<T: Shareable> SharedList<T> {
         items[(at % CHUNK as u64) as usize] = item;
         let mut chunks = shared_front(alloc, &self.chunks, self.chunks.len())?;
         chunks[i] = Arc::new(alloc, items)?;
+        Ok(SharedList {
+            chunks,
+            len: self.len,
+        })
+    }
+
+    /// The list with `item` at each of these places, counted from 0. It shares with this one each chunk that
+    /// has none of the places, and copies a chunk once for places of it that stand next to each other. This
+    /// one stays as it was. `NoMemory` comes only for want of memory.
+    pub fn with_each(
+        &self,
+        alloc: Global,
+        places: &[u32],
+        item: &T,
+    ) -> Result<SharedList<T>, NoMemory>
+        requires { All (λ place. place < length self.now) places.now }
+        ensures { IfOk result (λ list. list ≡ set_each item.now self.now places.now) }
+    {
+        let mut chunks = shared_front(alloc, &self.chunks, self.chunks.len())?;
+        change_chunks(alloc, &mut chunks, places, item)?;
         Ok(SharedList {
             chunks,
             len: self.len,

@@ -69,6 +69,28 @@ fn a_changed_item_leaves_the_older_list(rt: HostRuntime) -> Result<(), Fail> {
     Ok(())
 }
 
+#[test]
+fn changed_items_leave_the_older_list(rt: HostRuntime) -> Result<(), Fail> {
+    let alloc = rt.alloc();
+    let older = SharedList::none(alloc).push_all(alloc, numbers(alloc, 0, 2050)?.as_slice())?;
+    assert_eq!(rt; older.len(), 2050);
+    let places = [0u32, 5, 1023, 1024, 2049, 3];
+    let newer = older.with_each(alloc, places.as_slice(), &7777)?;
+    assert_eq!(rt; newer.len(), 2050);
+    let mut changed = 0u64;
+    for at in 0u64..2050 {
+        if *newer.at(at) == 7777 {
+            changed = changed.wrapping_add(1);
+        } else {
+            assert_eq!(rt; *newer.at(at), at);
+        }
+    }
+    assert_eq!(rt; changed, 6);
+    assert_eq!(rt; (*newer.at(3), *newer.at(2049)), (7777, 7777));
+    assert!(rt; counts_up(&older, 2050));
+    Ok(())
+}
+
 // Takes what threads may share.
 fn shared_by_threads<T: Send + Sync>(_value: &T) {}
 

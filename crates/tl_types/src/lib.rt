@@ -11,11 +11,13 @@ mod commits;
 mod keywords;
 mod limits;
 mod lines;
+mod matching;
 mod periods;
 mod rows;
 mod runs;
 mod schemas;
 mod sequences;
+mod steps;
 mod texts;
 
 pub use answers::{Answer, Field};
@@ -26,11 +28,13 @@ pub use commits::{Body, Change, Commit, Entry};
 pub use keywords::{begins_word, continues_word, is_keyword, is_name};
 pub use limits::Limits;
 pub use lines::Line;
+pub use matching::all_match;
 pub use periods::Period;
 pub use rows::{OPEN, Opened};
 pub use runs::{Pair, Piece, Run};
 pub use schemas::{Column, Schema};
 pub use sequences::Seq;
+pub use steps::Steps;
 pub use texts::Text;
 
 /// Want of memory, where it is the whole error of a call.

@@ -1,0 +1,4 @@
+pub mod PeriodLemmas
+pub mod RowLemmas
+pub mod ChangeLemmas
+pub mod LogLemmas

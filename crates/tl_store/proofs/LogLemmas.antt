@@ -1,0 +1,372 @@
+-- A log with one commit more.
+use Rattle.std.proofs.Common.{◌≡◌, ◌≢◌, ℕ, zero, suc, ◌+◌, ◌<◌, ◌≤◌, Bool, true, false, ◌&&◌, ◌||◌, not, cond, nat_eq, nat_lt, List, [], ◌∷◌, ◌++◌, length, map, get_or, set, take, drop, fold, Option, Some, refl, sym, ap, ◌∙◌, subst, arith, slice_get, length-append}
+use Rattle.std.specs.List.{list_any, enumerate_from, position_from}
+use Rattle.std.specs.Option.{option_map}
+use Rattle.std.proofs.lemmas.Option.{slice_get-get_or, slice_get-map}
+use Rattle.std.proofs.lemmas.List.{length-map, length-set, length-drop, length_push, map_push, map-set, take-map, drop-map, drop_at, take-append-le, drop-append-le, take_all, get_or_append_left, get_or_at, get_or-set_same, get_or-set_other, get_or-map, get_or_default}
+use Rattle.std.proofs.lemmas.List.FromFn.{length-enumerate_from}
+use Rattle.std.proofs.lemmas.List.Sums.{fold-append}
+use Rattle.std.proofs.lemmas.Bool.Decides.{nat_tests}
+use Rattle.tl_types.specs.declared.commits.Commit.{Commit}
+use Rattle.tl_types.specs.declared.commits.Body.{Body}
+use Rattle.tl_types.specs.declared.commits.Body.TheVariants as body
+use Rattle.tl_types.specs.Facts.{IsChange}
+use Rattle.tl_types.specs.Resolving.{find_from, find_table}
+use Rattle.tl_types.specs.History.{database_of, database_at, nothing, after_commit, after_body, at_place, changed, ended, begun, fits, fits_body, fits_table, has_name}
+use Rattle.tl_types.specs.Limits.{standard_limits}
+use Rattle.tl_types.specs.declared.limits.Limits.{Limits}
+use Rattle.tl_types.specs.Plain as plain
+use Rattle.tl_store.specs.declared.log.Deed.{Deed}
+use Rattle.tl_store.specs.declared.log.Deed.TheVariants as deed
+use Rattle.tl_store.specs.declared.log.LogEntry.{LogEntry}
+use Rattle.tl_store.specs.Kept.{Kept, table_of, kept_new, kept_after, kept_none}
+use Rattle.tl_store.specs.Reading.{columns_of, columns_of_table, has_periods, has_periods_table}
+use Rattle.tl_store.specs.Log.{opened_of, part, body_of, kept_at, commit_of, history_of, AllFit, IsDeed, AreEntries, IsHistory, deed_of}
+use Rattle.tl_store.proofs.RowLemmas.{and_left, and_right}
+
+-- COMMITS THAT FIT
+
+pub all_fit_more : (db : plain.Database) (commits : List Commit) (commit : Commit) → AllFit db commits → fits standard_limits (fold after_commit db commits) commit ≡ true → AllFit db (commits ++ commit ∷ [])
+all_fit_more db [] commit h fit = (fit, tt)
+all_fit_more db (c ∷ cs) commit h fit = (h.0, all_fit_more (after_commit db c) cs commit h.1 fit)
+
+pub fit_at : (db : plain.Database) (commits : List Commit) (k : ℕ) (d : Commit) → AllFit db commits → k < length commits → fits standard_limits (fold after_commit db (take k commits)) (get_or commits k d) ≡ true
+fit_at db [] k d h l = absurd (omega arith)
+fit_at db (c ∷ cs) zero d h l = h.0
+fit_at db (c ∷ cs) (suc k) d h l = fit_at (after_commit db c) cs k d h.1 (omega arith)
+
+-- WHAT STAYS OF A TABLE
+
+-- the second keeps what the first has, and has more behind it
+pub record Grows (kept more : Kept) : Type 0 where
+  pub schema : more.schema ≡ kept.schema
+  pub ids : List ℕ
+  pub closed : more.closed ≡ kept.closed ++ ids
+  pub opens : List plain.Opened
+  pub rows : map opened_of more.rows ≡ map opened_of kept.rows ++ opens
+
+pub grows_same : (kept more : Kept) → more ≡ kept → Grows kept more
+grows_same kept more e = record { schema = ap (λ (k : Kept). k.schema) e; ids = []; closed = ap (λ (k : Kept). k.closed) e ∙ sym (nil kept.closed); opens = []; rows = ap (λ (k : Kept). map opened_of k.rows) e ∙ sym (nil (map opened_of kept.rows)) } where
+  nil : {X : Type 0} (xs : List X) → xs ++ [] ≡ xs
+  nil [] = refl
+  nil (x ∷ xs) = ap (λ t. x ∷ t) (nil xs)
+
+part_front : {X : Type 0} (xs ys : List X) (from count : ℕ) → from + count ≤ length xs → part from count (xs ++ ys) ≡ part from count xs
+part_front xs ys from count h =
+    ap (take count) (drop-append-le from xs ys (omega arith)) ∙ take-append-le count (drop from xs) ys (omega (arith, length-drop from xs))
+
+part_map : {X Y : Type 0} (f : X → Y) (xs : List X) (from count : ℕ) → map f (part from count xs) ≡ part from count (map f xs)
+part_map f xs from count = sym (ap (take count) (drop-map f from xs) ∙ take-map f count (drop from xs))
+
+part_back : {X : Type 0} (xs ys : List X) (from count : ℕ) → length xs ≡ from → length ys ≡ count → part from count (xs ++ ys) ≡ ys
+part_back xs ys from count h l = ap (take count) (drop_at xs ys from h) ∙ take_all count ys (omega arith)
+
+length_rows : (kept more : Kept) → Grows kept more → length kept.rows ≤ length more.rows
+length_rows kept more g = omega (arith, ap length g.rows, length-append (map opened_of kept.rows) g.opens, length-map kept.rows opened_of, length-map more.rows opened_of)
+
+length_closed : (kept more : Kept) → Grows kept more → length kept.closed ≤ length more.closed
+length_closed kept more g = omega (arith, ap length g.closed, length-append kept.closed g.ids)
+
+closes_kept : (kept more : Kept) (from count : ℕ) → Grows kept more → from + count ≤ length kept.closed → part from count more.closed ≡ part from count kept.closed
+closes_kept kept more from count g h = ap (part from count) g.closed ∙ part_front kept.closed g.ids from count h
+
+body_kept : (table : ℕ) (what : Deed) (kept more : Kept) → Grows kept more → IsDeed what kept → body_of table what more ≡ body_of table what kept
+body_kept table deed.Create kept more g h = ap body.Create g.schema
+body_kept table (deed.Change first_close closes first_open opens) kept more g h =
+    let ids = closes_kept kept more first_close closes g h.0 in
+    let rows : map opened_of (part first_open opens more.rows) ≡ map opened_of (part first_open opens kept.rows) =
+    part_map opened_of more.rows first_open opens ∙ ap (part first_open opens) g.rows ∙ part_front (map opened_of kept.rows) g.opens first_open opens (omega (arith, h.1, length-map kept.rows opened_of)) ∙ sym (part_map opened_of kept.rows first_open opens) in
+    rw (ids, rows) refl
+
+deed_kept : (what : Deed) (kept more : Kept) → Grows kept more → IsDeed what kept → IsDeed what more
+deed_kept deed.Create kept more g h = tt
+deed_kept (deed.Change first_close closes first_open opens) kept more g h =
+    (omega (arith, h.0, length_closed kept more g), omega (arith, h.1, length_rows kept more g), h.2, h.3, rw (closes_kept kept more first_close closes g h.0) h.4)
+
+module _ (tables more : List Kept) (grow : (i : ℕ) → i < length tables → Grows (kept_at tables i) (kept_at more i)) (long : length tables ≤ length more) where
+  pub history_kept : (log : List LogEntry) → AreEntries tables log → history_of more log ≡ history_of tables log
+  history_kept [] h = refl
+  history_kept (entry ∷ log) h =
+      let what = body_kept entry.table entry.deed (kept_at tables entry.table) (kept_at more entry.table) (grow entry.table h.0) h.1 in
+      let later = history_kept log h.2 in
+      rw (what, later) refl
+
+  pub entries_kept : (log : List LogEntry) (entry : LogEntry) → AreEntries tables log → entry.table < length more → IsDeed entry.deed (kept_at more entry.table) → AreEntries more (log ++ entry ∷ [])
+  entries_kept [] entry h there what = (there, what, tt)
+  entries_kept (e ∷ log) entry h there what =
+      (omega (arith, h.0), deed_kept e.deed (kept_at tables e.table) (kept_at more e.table) (grow e.table h.0) h.1, entries_kept log entry h.2 there what)
+
+-- ONE COMMIT MORE
+
+module _ (tables : List Kept) (log : List LogEntry) (history : IsHistory tables log) (commit : Commit) (fit : fits standard_limits (database_of (history_of tables log)) commit ≡ true) where
+  version_is : (database_of (history_of tables log)).version ≡ length log
+  version_is = ap (λ (db : plain.Database). db.version) history.stands
+
+  tables_are : (database_of (history_of tables log)).tables ≡ map table_of tables
+  tables_are = ap (λ (db : plain.Database). db.tables) history.stands
+
+  pub room : length log < 16777215
+  room =
+      let some : nat_lt (database_of (history_of tables log)).version 16777215 ≡ true = and_left (nat_lt (database_of (history_of tables log)).version 16777215) (fits_body standard_limits (database_of (history_of tables log)).tables commit.body) fit in
+      let test : nat_lt (length log) 16777215 ≡ true = rw version_is at some in
+      grind (arith, nat_tests)
+
+  pub body_fits : fits_body standard_limits (map table_of tables) commit.body ≡ true
+  body_fits =
+      let some : fits_body standard_limits (database_of (history_of tables log)).tables commit.body ≡ true = and_right (nat_lt (database_of (history_of tables log)).version 16777215) (fits_body standard_limits (database_of (history_of tables log)).tables commit.body) fit in
+      rw tables_are at some
+
+  module _ (more : List Kept) (entry : LogEntry) (grow : (i : ℕ) → i < length tables → Grows (kept_at tables i) (kept_at more i)) (long : length tables ≤ length more) (there : entry.table < length more) (what : IsDeed entry.deed (kept_at more entry.table)) (is : commit_of more entry ≡ commit) (after : after_body (length log + 1) commit.body (map table_of tables) ≡ map table_of more) (few : length more ≤ 64) where
+    pub history_more : history_of more (log ++ entry ∷ []) ≡ history_of tables log ++ commit ∷ []
+    history_more =
+        map_push (commit_of more) log entry
+        ∙ ap (λ t. t ++ commit_of more entry ∷ []) (history_kept tables more grow long log history.entries)
+        ∙ ap (λ c. history_of tables log ++ c ∷ []) is
+
+    pub is_history_more : IsHistory more (log ++ entry ∷ [])
+    is_history_more =
+        let longer : length (log ++ entry ∷ []) ≡ length log + 1 = length_push log entry in
+        let step : database_of (history_of tables log ++ commit ∷ []) ≡ after_commit (database_of (history_of tables log)) commit = fold-append after_commit nothing (history_of tables log) (commit ∷ []) in
+        let made : after_commit (database_of (history_of tables log)) commit ≡ record { version = length (log ++ entry ∷ []); tables = map table_of more } =
+        ap (λ db. after_commit db commit) history.stands ∙ rw (after, longer) refl in
+        record {
+          stands = ap database_of history_more ∙ step ∙ made;
+          fitting = rw history_more (all_fit_more nothing (history_of tables log) commit history.fitting fit);
+          entries = entries_kept tables more grow long log entry history.entries there what;
+          few_tables = few;
+          few_commits = omega (arith, longer, room);
+        }
+
+-- ONE TABLE MORE
+
+kept_front : (tables : List Kept) (kept : Kept) (i : ℕ) → i < length tables → kept_at (tables ++ kept ∷ []) i ≡ kept_at tables i
+kept_front tables kept i h = get_or_append_left tables (kept ∷ []) kept_none i h
+
+kept_last : (tables : List Kept) (kept : Kept) → kept_at (tables ++ kept ∷ []) (length tables) ≡ kept
+kept_last tables kept = get_or_at tables kept [] kept_none (length tables) refl
+
+module _ (tables : List Kept) (log : List LogEntry) (history : IsHistory tables log) (author : ℕ) (schema : plain.Schema) (fit : fits standard_limits (database_of (history_of tables log)) (record { author = author; body = body.Create schema }) ≡ true) (more : List Kept) (entry : LogEntry) (more_is : more ≡ tables ++ kept_new schema ∷ []) (entry_is : entry ≡ record { author = author; table = length tables; deed = deed.Create }) where
+  abbrev created : Commit
+  created = record { author = author; body = body.Create schema }
+
+  abbrev with_one : List Kept
+  with_one = tables ++ kept_new schema ∷ []
+
+  abbrev made_entry : LogEntry
+  made_entry = record { author = author; table = length tables; deed = deed.Create }
+
+  few_with : length with_one ≤ 64
+  few_with =
+      let all = body_fits tables log history created fit in
+      let test : nat_lt (length (map table_of tables)) 64 ≡ true = and_right (not (list_any (has_name schema.name) (map table_of tables))) (nat_lt (length (map table_of tables)) 64) all in
+      let few : length (map table_of tables) < 64 = grind (arith, nat_tests) in
+      omega (arith, few, length-map tables table_of, length_push tables (kept_new schema))
+
+  grow_one : (i : ℕ) → i < length tables → Grows (kept_at tables i) (kept_at with_one i)
+  grow_one i h = grows_same (kept_at tables i) (kept_at with_one i) (kept_front tables (kept_new schema) i h)
+
+  commit_one : commit_of with_one made_entry ≡ created
+  commit_one = ap (λ (k : Kept). record { author = author; body = body.Create k.schema }) (kept_last tables (kept_new schema))
+
+  after_one : after_body (length log + 1) (body.Create schema) (map table_of tables) ≡ map table_of with_one
+  after_one = sym (map_push table_of tables (kept_new schema))
+
+  pub created_list : history_of more (log ++ entry ∷ []) ≡ history_of tables log ++ record { author = author; body = body.Create schema } ∷ []
+  created_list = rw (more_is, entry_is) (history_more tables log history created fit with_one made_entry grow_one (omega (arith, length_push tables (kept_new schema))) (omega (arith, length_push tables (kept_new schema))) tt commit_one after_one few_with)
+
+  pub created_history : IsHistory more (log ++ entry ∷ [])
+  created_history = rw (more_is, entry_is) (is_history_more tables log history created fit with_one made_entry grow_one (omega (arith, length_push tables (kept_new schema))) (omega (arith, length_push tables (kept_new schema))) tt commit_one after_one few_with)
+
+-- ONE TABLE CHANGED
+
+pub at_place-set : {X : Type 0} → (xs : List X) (i : ℕ) (f : X → X) (d : X) → i < length xs → at_place i f xs ≡ set xs i (f (get_or xs i d))
+at_place-set [] i f d h = absurd (omega arith)
+at_place-set (x ∷ xs) zero f d h = refl
+at_place-set (x ∷ xs) (suc i) f d h = ap (λ t. x ∷ t) (at_place-set xs i f d (omega arith))
+
+pub table_there : (limits : Limits) (change : plain.Change) (tables : List plain.Table) (i : ℕ) → fits_table limits change (slice_get tables i) ≡ true → i < length tables
+table_there limits change [] i h = absurd cc
+table_there limits change (t ∷ ts) zero h = omega arith
+table_there limits change (t ∷ ts) (suc i) h = let later = table_there limits change ts i h in omega arith
+
+pub table_read : (change : plain.Change) (tables : List plain.Table) (i : ℕ) (d : plain.Table) → fits_table standard_limits change (slice_get tables i) ≡ true → fits_table standard_limits change (Some (get_or tables i d)) ≡ true
+table_read change [] i d h = absurd cc
+table_read change (t ∷ ts) zero d h = h
+table_read change (t ∷ ts) (suc i) d h = table_read change ts i d h
+
+opened_back : (v : ℕ) (opens : List plain.Opened) → map opened_of (map (begun v) opens) ≡ opens
+opened_back v [] = refl
+opened_back v (o ∷ os) = ap (λ t. o ∷ t) (opened_back v os)
+
+opened_kept : (v : ℕ) (ids : List ℕ) (n : ℕ) (rows : List plain.Row) → map opened_of (map (ended v ids) (enumerate_from n rows)) ≡ map opened_of rows
+opened_kept v ids n [] = refl
+opened_kept v ids n (row ∷ rows) =
+    let later = opened_kept v ids (n + 1) rows in
+    let head : opened_of (ended v ids (n, row)) ≡ opened_of row = by_test (list_any (λ x. nat_eq x n) ids) in
+    cc where
+      by_test : (b : Bool) → opened_of (cond b (record row { to = v }) row) ≡ opened_of row
+      by_test true = refl
+      by_test false = refl
+
+map_append : {X Y : Type 0} (f : X → Y) (xs ys : List X) → map f (xs ++ ys) ≡ map f xs ++ map f ys
+map_append f [] ys = refl
+map_append f (x ∷ xs) ys = ap (λ t. f x ∷ t) (map_append f xs ys)
+
+pub grows_changed : (v : ℕ) (change : plain.Change) (kept : Kept) → Grows kept (kept_after v change kept)
+grows_changed v change kept = record {
+  schema = refl;
+  ids = change.closes;
+  closed = refl;
+  opens = change.opens;
+  rows =
+      map_append opened_of (map (ended v change.closes) (enumerate_from 0 kept.rows)) (map (begun v) change.opens)
+      ∙ ap (λ t. t ++ map opened_of (map (begun v) change.opens)) (opened_kept v change.closes 0 kept.rows)
+      ∙ ap (λ t. map opened_of kept.rows ++ t) (opened_back v change.opens);
+}
+
+long_ended : (v : ℕ) (change : plain.Change) (kept : Kept) → length (map (ended v change.closes) (enumerate_from 0 kept.rows)) ≡ length kept.rows
+long_ended v change kept = length-map (enumerate_from 0 kept.rows) (ended v change.closes) ∙ length-enumerate_from 0 kept.rows
+
+changed_ids : (v : ℕ) (change : plain.Change) (kept : Kept) → part (length kept.closed) (length change.closes) (kept_after v change kept).closed ≡ change.closes
+changed_ids v change kept = part_back kept.closed change.closes (length kept.closed) (length change.closes) refl refl
+
+changed_body : (table v : ℕ) (change : plain.Change) (kept : Kept) → table ≡ change.table → body_of table (deed_of kept change) (kept_after v change kept) ≡ body.Change change
+changed_body table v change kept same =
+    let rows : map opened_of (part (length kept.rows) (length change.opens) (kept_after v change kept).rows) ≡ change.opens =
+    ap (map opened_of) (part_back (map (ended v change.closes) (enumerate_from 0 kept.rows)) (map (begun v) change.opens) (length kept.rows) (length change.opens) (long_ended v change kept) (length-map change.opens (begun v))) ∙ opened_back v change.opens in
+    rw (same, changed_ids v change kept, rows) refl
+
+changed_deed : (v : ℕ) (change : plain.Change) (kept : Kept) → IsChange change → IsDeed (deed_of kept change) (kept_after v change kept)
+changed_deed v change kept is = (
+  omega (arith, length-append kept.closed change.closes),
+  omega (arith, length-append (map (ended v change.closes) (enumerate_from 0 kept.rows)) (map (begun v) change.opens), long_ended v change kept, length-map change.opens (begun v)),
+  is.few_closes,
+  is.few_opens,
+  rw (changed_ids v change kept) is.ascending,
+)
+
+module _ (tables : List Kept) (log : List LogEntry) (history : IsHistory tables log) (author : ℕ) (change : plain.Change) (fit : fits standard_limits (database_of (history_of tables log)) (record { author = author; body = body.Change change }) ≡ true) (kept : Kept) (kept_is : kept ≡ get_or tables change.table kept) where
+  fit_here : fits_table standard_limits change (slice_get (map table_of tables) change.table) ≡ true
+  fit_here = body_fits tables log history (record { author = author; body = body.Change change }) fit
+
+  pub number_there : change.table < length tables
+  number_there = omega (arith, table_there standard_limits change (map table_of tables) change.table fit_here, length-map tables table_of)
+
+  kept_here : kept_at tables change.table ≡ kept
+  kept_here = get_or_default tables change.table kept_none kept number_there ∙ sym kept_is
+
+  pub fits_kept : fits_table standard_limits change (Some (table_of kept)) ≡ true
+  fits_kept =
+      let read = table_read change (map table_of tables) change.table (table_of kept) fit_here in
+      let same : get_or (map table_of tables) change.table (table_of kept) ≡ table_of kept = get_or-map table_of tables change.table kept (table_of kept) number_there ∙ ap table_of (sym kept_is) in
+      rw same at read
+
+  module _ (more : List Kept) (entry : LogEntry) (is : IsChange change) (more_is : more ≡ set tables change.table (kept_after (length log + 1) change kept)) (entry_is : entry ≡ record { author = author; table = change.table; deed = deed_of kept change }) where
+    abbrev next : Kept
+    next = kept_after (length log + 1) change kept
+
+    abbrev with_next : List Kept
+    with_next = set tables change.table next
+
+    abbrev next_entry : LogEntry
+    next_entry = record { author = author; table = change.table; deed = deed_of kept change }
+
+    next_read : kept_at with_next change.table ≡ next
+    next_read = get_or-set_same tables change.table next kept_none number_there
+
+    grow_next : (i : ℕ) → i < length tables → Grows (kept_at tables i) (kept_at with_next i)
+    grow_next i h = by_test (nat_eq i change.table) refl where
+      by_test : (b : Bool) → nat_eq i change.table ≡ b → Grows (kept_at tables i) (kept_at with_next i)
+      by_test true e =
+          let same : i ≡ change.table = grind (arith, nat_tests) in
+          rw (same, next_read, kept_here) (grows_changed (length log + 1) change kept)
+      by_test false e =
+          let apart : i ≢ change.table = λ s. absurd (let f : nat_eq i change.table ≡ true = grind (arith, nat_tests) in cc) in
+          grows_same (kept_at tables i) (kept_at with_next i) (get_or-set_other tables change.table i next kept_none apart)
+
+    long_next : length with_next ≡ length tables
+    long_next = length-set tables change.table next
+
+    commit_next : commit_of with_next next_entry ≡ record { author = author; body = body.Change change }
+    commit_next = rw (next_read, changed_body change.table (length log + 1) change kept refl) refl
+
+    deed_next : IsDeed next_entry.deed (kept_at with_next next_entry.table)
+    deed_next = rw next_read (changed_deed (length log + 1) change kept is)
+
+    after_next : after_body (length log + 1) (body.Change change) (map table_of tables) ≡ map table_of with_next
+    after_next =
+        let there : change.table < length (map table_of tables) = omega (arith, number_there, length-map tables table_of) in
+        let same : get_or (map table_of tables) change.table (table_of kept) ≡ table_of kept = get_or-map table_of tables change.table kept (table_of kept) number_there ∙ ap table_of (sym kept_is) in
+        at_place-set (map table_of tables) change.table (changed (length log + 1) change) (table_of kept) there
+        ∙ ap (λ t. set (map table_of tables) change.table (changed (length log + 1) change t)) same
+        ∙ sym (map-set table_of tables change.table next)
+
+    few_next : length with_next ≤ 64
+    few_next = omega (arith, long_next, history.few_tables)
+
+    pub changed_list : history_of more (log ++ entry ∷ []) ≡ history_of tables log ++ record { author = author; body = body.Change change } ∷ []
+    changed_list = rw (more_is, entry_is) (history_more tables log history (record { author = author; body = body.Change change }) fit with_next next_entry grow_next (omega (arith, long_next)) (omega (arith, long_next, number_there)) deed_next commit_next after_next few_next)
+
+    pub changed_history : IsHistory more (log ++ entry ∷ [])
+    changed_history = rw (more_is, entry_is) (is_history_more tables log history (record { author = author; body = body.Change change }) fit with_next next_entry grow_next (omega (arith, long_next)) (omega (arith, long_next, number_there)) deed_next commit_next after_next few_next)
+
+-- AS THE CODE HAS IT
+
+abbrev pub mk_entry : ℕ → ℕ → Deed → LogEntry
+mk_entry author table what = record { author = author; table = table; deed = what }
+
+pub kept_read : (tables : List Kept) (number i : ℕ) (shared kept : Kept) → shared ≡ get_or tables number shared → kept ≡ shared → number ≡ i → kept ≡ get_or tables i kept
+kept_read tables number i shared kept read same at = same ∙ read ∙ ap (λ (k : Kept). get_or tables number k) (sym same) ∙ ap (λ n. get_or tables n kept) at
+
+pub entry_is : (author number : ℕ) (change : plain.Change) (kept : Kept) (what : Deed) → number ≡ change.table → what ≡ deed_of kept change → mk_entry author number what ≡ mk_entry author change.table (deed_of kept change)
+entry_is author number change kept what at same = rw (at, same) refl
+
+pub any_name : (name : List ℕ) (tables : List Kept) → list_any (has_name name) (map table_of tables) ≡ list_any (λ kept. has_name name (table_of kept)) tables
+any_name name [] = refl
+any_name name (t ∷ ts) = ap (λ b. has_name name (table_of t) || b) (any_name name ts)
+
+pub create_fits : (limits : Limits) (tables : List Kept) (schema : plain.Schema) (name : List ℕ) (named room : Bool) → named ≡ list_any (λ kept. has_name name (table_of kept)) tables → name ≡ schema.name → room ≡ nat_lt (length tables) limits.tables → (not named && room) ≡ fits_body limits (map table_of tables) (body.Create schema)
+create_fits limits tables schema name named room is same few =
+    let all : list_any (has_name schema.name) (map table_of tables) ≡ named = any_name schema.name tables ∙ ap (λ n. list_any (λ kept. has_name n (table_of kept)) tables) (sym same) ∙ sym is in
+    rw (all, length-map tables table_of, few) refl
+
+pub change_fits : (limits : Limits) (tables : List Kept) (change : plain.Change) (number : ℕ) (found : Option Kept) (fit : Bool) → number ≡ change.table → found ≡ slice_get tables number → fit ≡ fits_table limits change (option_map table_of found) → fit ≡ fits_body limits (map table_of tables) (body.Change change)
+change_fits limits tables change number found fit same is fits_it =
+    fits_it ∙ ap (λ f. fits_table limits change (option_map table_of f)) (is ∙ ap (slice_get tables) same) ∙ ap (fits_table limits change) (sym (slice_get-map table_of tables change.table))
+
+pub find_number : (n : ℕ) (name : List ℕ) (tables : List Kept) → option_map (λ found. found.0) (find_from n name (map table_of tables)) ≡ position_from (λ kept. has_name name (table_of kept)) n tables
+find_number n name [] = refl
+find_number n name (t ∷ ts) =
+    let later = find_number (n + 1) name ts in
+    elim (has_name name (table_of t)) as (λ b. option_map (λ found. found.0) (cond b (Some (n, table_of t)) (find_from (n + 1) name (map table_of ts))) ≡ cond b (Some n) (position_from (λ kept. has_name name (table_of kept)) (n + 1) ts)) [ true ↦ refl | false ↦ later ]
+
+pub found_number : (name : List ℕ) (tables : List Kept) (log : List LogEntry) (commits : List Commit) (found : Option ℕ) → IsHistory tables log → history_of tables log ≡ commits → found ≡ position_from (λ kept. has_name name (table_of kept)) 0 tables → found ≡ option_map (λ found. found.0) (find_table name (database_of commits).tables)
+found_number name tables log commits found history is e =
+    e ∙ sym (find_number 0 name tables) ∙ ap (λ ts. option_map (λ found. found.0) (find_table name ts)) (sym (ap (λ (db : plain.Database). db.tables) history.stands) ∙ ap (λ cs. (database_of cs).tables) is)
+
+pub entry_at : (tables : List Kept) (log : List LogEntry) (k : ℕ) (e : LogEntry) → AreEntries tables log → k < length log → e ≡ get_or log k e → (e.table < length tables) × IsDeed e.deed (kept_at tables e.table)
+entry_at tables [] k e h l is = absurd (omega arith)
+entry_at tables (f ∷ log) zero e h l is = rw is (h.0, h.1)
+entry_at tables (f ∷ log) (suc k) e h l is = entry_at tables log k e h.2 (omega arith) is
+
+abbrev pub mk_commit : ℕ → Body → Commit
+mk_commit author what = record { author = author; body = what }
+
+pub commit_there : (tables : List Kept) (log : List LogEntry) (commits : List Commit) (k : ℕ) (e : LogEntry) (kept : Kept) (what : Body) → IsHistory tables log → history_of tables log ≡ commits → k < length log → e ≡ get_or log k e → kept ≡ kept_at tables e.table → what ≡ body_of e.table e.deed kept → (Some (mk_commit e.author what) ≡ slice_get commits k) × (fits standard_limits (database_at commits k) (mk_commit e.author what) ≡ true)
+commit_there tables log commits k e kept what history is low read kept_is what_is =
+    let made : mk_commit e.author what ≡ commit_of tables e = ap (mk_commit e.author) (what_is ∙ ap (body_of e.table e.deed) kept_is) in
+    let item : get_or (history_of tables log) k (commit_of tables e) ≡ commit_of tables e = get_or-map (commit_of tables) log k e (commit_of tables e) low ∙ ap (commit_of tables) (sym read) in
+    let there : k < length (history_of tables log) = omega (arith, low, length-map log (commit_of tables)) in
+    let fit : fits standard_limits (database_at (history_of tables log) k) (get_or (history_of tables log) k (commit_of tables e)) ≡ true = fit_at nothing (history_of tables log) k (commit_of tables e) history.fitting there in (
+      ap Some made ∙ ap Some (sym item) ∙ sym (slice_get-get_or (history_of tables log) k (commit_of tables e) there) ∙ ap (λ cs. slice_get cs k) is,
+      subst (λ (cs : List Commit). fits standard_limits (database_at cs k) (mk_commit e.author what) ≡ true) is (subst (λ (c : Commit). fits standard_limits (database_at (history_of tables log) k) c ≡ true) (item ∙ sym made) fit),
+    )
+
+pub schema_shown : (tables : List Kept) (log : List LogEntry) (commits : List Commit) (number : ℕ) (shared kept : Kept) (schema : plain.Schema) → IsHistory tables log → history_of tables log ≡ commits → number < length (database_of commits).tables → shared ≡ get_or tables number shared → kept ≡ shared → schema ≡ kept.schema → (schema.columns ≡ columns_of (database_of commits) number) × (schema.valid ≡ has_periods (database_of commits) number)
+schema_shown tables log commits number shared kept schema history is low read same shown =
+    let made : (database_of commits).tables ≡ map table_of tables = sym (ap (λ cs. (database_of cs).tables) is) ∙ ap (λ (db : plain.Database). db.tables) history.stands in
+    let there : number < length tables = omega (arith, low, ap length made, length-map tables table_of) in
+    let found : slice_get (database_of commits).tables number ≡ Some (table_of shared) =
+    ap (λ ts. slice_get ts number) made ∙ slice_get-map table_of tables number ∙ ap (option_map table_of) (slice_get-get_or tables number shared there ∙ ap Some (sym read)) in
+    let is_schema : schema ≡ shared.schema = shown ∙ ap (λ (k : Kept). k.schema) same in
+    (ap (λ (s : plain.Schema). s.columns) is_schema ∙ ap columns_of_table (sym found), ap (λ (s : plain.Schema). s.valid) is_schema ∙ ap has_periods_table (sym found))

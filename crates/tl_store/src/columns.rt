@@ -1,0 +1,120 @@
+//! The cells of a column.
+ghost use Rattle.std.specs.Prelude.{◌≡◌, ◌+◌, ◌<◌, ◌^◌, length, map, All, IfOk};
+ghost use Rattle.tl_store.specs.Columns.{empty_column, column_length, cell_in, number_at, text_at, longer, longer_from};
+ghost use Rattle.tl_store.specs.Reading.{cell_shown, IsShort};
+
+use crate::shown::CellRef;
+use std::alloc::Global;
+use tl_column::{IntColumn, TextColumn};
+use tl_types::{Cell, ColumnKind, NoMemory, Opened, Text};
+
+/// A column of a table, by what its cells are.
+#[derive(Drop)]
+pub(crate) enum ColumnData {
+    /// Whole numbers.
+    Ints(IntColumn),
+    /// Texts.
+    Texts(TextColumn),
+}
+
+impl ColumnData {
+    /// The column of no cells. It takes no memory.
+    pub fn none(alloc: Global, kind: ColumnKind) -> ColumnData
+        ensures { result ≡ empty_column kind }
+    {
+        match kind {
+            ColumnKind::IntKind => ColumnData::Ints(IntColumn::none(alloc)),
+            ColumnKind::TextKind => ColumnData::Texts(TextColumn::none(alloc)),
+        }
+    }
+
+    /// The column followed by what rows have at its place among the columns.
+    pub fn followed_by(
+        &self,
+        alloc: Global,
+        opens: &[Opened],
+        place: usize,
+    ) -> Result<ColumnData, NoMemory>
+        requires { column_length self.now + length opens.now < 2 ^ 32 }
+        ensures { IfOk result (λ column. column ≡ longer opens.now place self.now) }
+    {
+        match self {
+            ColumnData::Ints(column) => {
+                let numbers = numbers_at(alloc, opens, place)?;
+                Ok(ColumnData::Ints(column.push_all(alloc, numbers.as_slice())?))
+            }
+            ColumnData::Texts(column) => {
+                let texts = texts_at(alloc, opens, place)?;
+                Ok(ColumnData::Texts(column.push_all(alloc, texts.as_slice())?))
+            }
+        }
+    }
+
+    /// The cell of a row.
+    pub fn cell(&self, row: u32) -> CellRef<'_>
+        requires { row < column_length self.now }
+        ensures value { cell_shown result ≡ cell_in row self.now }
+        ensures short { IsShort result }
+    {
+        match self {
+            ColumnData::Ints(column) => CellRef::Int(column.at(row)),
+            ColumnData::Texts(column) => CellRef::Text(column.at(row)),
+        }
+    }
+}
+
+fn number_at(opened: &Opened, place: usize) -> i64
+    ensures { result ≡ number_at place opened.now }
+{
+    match opened.cells().get(place) {
+        None => 0,
+        Some(Cell::Int(number)) => *number,
+        Some(Cell::Text(_)) => 0,
+    }
+}
+
+fn numbers_at(alloc: Global, opens: &[Opened], place: usize) -> Result<Vec<i64>, NoMemory>
+    ensures { IfOk result (λ numbers. numbers.items ≡ map (number_at place) opens.now) }
+{
+    let mut numbers = Vec::with_capacity(alloc, opens.len())?;
+    for opened in opens {
+        numbers.push(number_at(opened, place))?;
+    }
+    Ok(numbers)
+}
+
+fn text_at(alloc: Global, opened: &Opened, place: usize) -> Result<Text, NoMemory>
+    ensures { IfOk result (λ text. text ≡ text_at place opened.now) }
+{
+    match opened.cells().get(place) {
+        None => Ok(Text::new(alloc, "")?),
+        Some(Cell::Int(_)) => Ok(Text::new(alloc, "")?),
+        Some(Cell::Text(text)) => Ok(text.clone()?),
+    }
+}
+
+fn texts_at(alloc: Global, opens: &[Opened], place: usize) -> Result<Vec<Text>, NoMemory>
+    ensures { IfOk result (λ texts. texts.items ≡ map (text_at place) opens.now) }
+{
+    let mut texts = Vec::with_capacity(alloc, opens.len())?;
+    for opened in opens {
+        texts.push(text_at(alloc, opened, place)?)?;
+    }
+    Ok(texts)
+}
+
+/// The columns of a table, each followed by what rows have at its place.
+pub(crate) fn all_followed_by(
+    alloc: Global,
+    columns: &[ColumnData],
+    opens: &[Opened],
+) -> Result<Vec<ColumnData>, NoMemory>
+    requires { All (λ column. column_length column + length opens.now < 2 ^ 32) columns.now }
+    ensures { IfOk result (λ longer. longer.items ≡ longer_from opens.now 0 columns.now) }
+{
+    let mut longer = Vec::with_capacity(alloc, columns.len())?;
+    for (place, column) in columns.iter().enumerate() {
+        longer.push(column.followed_by(alloc, opens, place)?)?;
+    }
+    Ok(longer)
+}

@@ -1,0 +1,36 @@
+//! What is kept of a commit beside the rows of its table.
+use std::alloc::Global;
+use tl_shared::Shareable;
+use tl_types::NoMemory;
+
+/// What a commit did to its table.
+#[derive(Clone, Copy)]
+pub(crate) enum Deed {
+    /// It made the table.
+    Create,
+    /// It closed and opened rows.
+    Change {
+        /// Where its closes begin among the table's closed ids.
+        first_close: u64,
+        /// How many rows it closed.
+        closes: u32,
+        /// The id of the first row that it opened.
+        first_open: u32,
+        /// How many rows it opened.
+        opens: u32,
+    },
+}
+
+/// One commit: who made it (the session's number), the number of its table, and what it did to it.
+#[derive(Clone, Copy)]
+pub(crate) struct LogEntry {
+    pub author: u32,
+    pub table: u16,
+    pub deed: Deed,
+}
+
+impl Shareable for LogEntry {
+    fn share(&self, _alloc: Global) -> Result<LogEntry, NoMemory> {
+        Ok(*self)
+    }
+}

@@ -1,0 +1,271 @@
+//! The store.
+ghost use Rattle.std.specs.Prelude.{◌≡◌, ℕ, ◌+◌, ◌-◌, ◌<◌, ◌≤◌, ◌++◌, ◌∷◌, [], IsTrue, IfOk, IfSome, Some, length, map, option_map, slice_get};
+ghost use Rattle.std.specs.List.{list_any, position_from};
+ghost use Rattle.tl_types.specs.declared.commits.Body.TheVariants as body;
+ghost use Rattle.tl_types.specs.History.{database_of, database_at, fits, fits_body, has_name, rows_of};
+ghost use Rattle.tl_types.specs.Resolving.{find_table};
+ghost use Rattle.tl_types.specs.Limits.{standard_limits};
+ghost use Rattle.tl_types.specs.Facts.{IsChange};
+ghost use Rattle.tl_store.specs.Kept.{table_of};
+ghost use Rattle.tl_store.specs.Log.{deed_of};
+ghost use Rattle.tl_store.specs.Reading.{columns_of, has_periods, row_of, cell_of, cell_shown, IsShort, system_period, rows_touched};
+
+use crate::log::{Deed, LogEntry};
+use crate::shared_table::{SharedTable, share_tables};
+use crate::shown::{CellRef, SystemPeriod};
+use crate::tables::TableData;
+use std::alloc::Global;
+use std::marker::Model;
+use std::sync::ledger::Ledger;
+use tl_shared::SharedList;
+use tl_types::{Body, Change, Commit, Limits, NoMemory, Period, Schema, Steps};
+
+/// The commits that were applied, in order, and the tables that they make. Contracts see the list of commits;
+/// its tables are `database_of` of that list. No call changes a store: a further commit gives a further one.
+#[derive(Drop)]
+pub struct Store {
+    tables: Vec<SharedTable>,
+    log: SharedList<LogEntry>,
+}
+
+impl Model for Store {
+    ghost use Rattle.std.specs.Prelude.{List};
+    ghost use Rattle.tl_types.specs.declared.commits.Commit.{Commit};
+
+    ghost Value = { List Commit };
+
+    ghost use Rattle.tl_store.specs.Log.{history_of, IsHistory};
+
+    ghost view = { λ s. history_of s.tables.items s.log };
+
+    ghost invariant = { λ s. IsHistory s.tables.items s.log };
+}
+
+impl Store {
+    /// No commit and no table. It takes no memory.
+    pub fn empty(alloc: Global) -> Store
+        ensures { result ≡ [] }
+    {
+        Store {
+            tables: Vec::new(alloc),
+            log: SharedList::none(alloc),
+        }
+    }
+
+    /// The number of commits so far.
+    pub fn versions(&self) -> u32
+        ensures number { result ≡ length self.now }
+        ensures version { result ≡ (database_of self.now).version }
+        ensures few { result ≤ 16777215 }
+    {
+        self.log.len() as u32
+    }
+
+    /// The number of tables.
+    pub fn tables(&self) -> u16
+        ensures number { result ≡ length (database_of self.now).tables }
+        ensures few { result ≤ 64 }
+    {
+        self.tables.len() as u16
+    }
+
+    /// The number of the table with a name, from 0. `None` exactly where no table has the name.
+    pub fn find(&self, name: &str) -> Option<u16>
+        ensures { result ≡ option_map (λ found. found.0) (find_table name.now (database_of self.now).tables) }
+    {
+        match place_of(self.tables.as_slice(), name) {
+            Some(number) => Some(number as u16),
+            None => None,
+        }
+    }
+
+    /// The schema of the table with a number.
+    pub fn schema(&self, table: u16) -> &Schema
+        requires { table < length (database_of self.now).tables }
+        ensures value { Some result.now ≡ option_map (λ t. t.schema) (slice_get (database_of self.now).tables table) }
+        ensures columns { result.now.columns ≡ columns_of (database_of self.now) table }
+        ensures valid { result.now.valid ≡ has_periods (database_of self.now) table }
+    {
+        self.tables[table as usize].table().schema()
+    }
+
+    /// The number of rows of the table with a number, ended ones included. Their ids are the numbers below it.
+    pub fn rows(&self, table: u16) -> u32
+        requires { table < length (database_of self.now).tables }
+        ensures number { result ≡ length (rows_of (database_of self.now) table) }
+        ensures few { result ≤ 16777216 }
+    {
+        self.tables[table as usize].table().rows()
+    }
+
+    /// Whether a commit fits: fewer commits than the limits allow are there; a new table has a new name, and
+    /// there is room for it; a change names a table, closes open rows only, opens rows that match the schema,
+    /// and leaves few enough rows.
+    pub fn fits(&self, commit: &Commit, limits: &Limits) -> bool
+        ensures { result ≡ fits limits.now (database_of self.now) commit.now }
+    {
+        (self.versions() as u64) < limits.versions
+            && fits_body(self.tables.as_slice(), &commit.body, limits)
+    }
+
+    /// The store after a commit that fits. It shares with this one what the commit does not touch, and this one
+    /// stays as it was. The error is want of memory.
+    pub fn apply(&self, alloc: Global, commit: &Commit) -> Result<Store, NoMemory>
+        requires { IsTrue (fits standard_limits (database_of self.now) commit.now) }
+        ensures { IfOk result (λ store. store ≡ self.now ++ commit.now ∷ []) }
+    {
+        match &commit.body {
+            Body::Create(schema) => self.with_table(alloc, commit.author, schema),
+            Body::Change(change) => self.with_change(alloc, commit.author, change),
+        }
+    }
+
+    // The store after the commit of an author that makes a table.
+    fn with_table(&self, alloc: Global, author: u32, schema: &Schema) -> Result<Store, NoMemory>
+        requires { IsTrue (fits standard_limits (database_of self.now) (record { author = author; body = body.Create schema.now })) }
+        ensures { IfOk result (λ store. store ≡ self.now ++ record { author = author; body = body.Create schema.now } ∷ []) }
+    {
+        let entry = LogEntry {
+            author,
+            table: self.tables.len() as u16,
+            deed: Deed::Create,
+        };
+        let mut tables = share_tables(alloc, self.tables.as_slice())?;
+        tables.push(SharedTable::new(alloc, TableData::new(alloc, schema)?)?)?;
+        let log = self.log.push_all(alloc, [entry].as_slice())?;
+        Ok(Store { tables, log })
+    }
+
+    // The store after the commit of an author that changes a table.
+    fn with_change(&self, alloc: Global, author: u32, change: &Change) -> Result<Store, NoMemory>
+        requires { IsTrue (fits standard_limits (database_of self.now) (record { author = author; body = body.Change change.now })) }
+        ensures { IfOk result (λ store. store ≡ self.now ++ record { author = author; body = body.Change change.now } ∷ []) }
+    {
+        let number = change.table() as usize;
+        let before = self.tables[number].table();
+        let entry = LogEntry {
+            author,
+            table: change.table(),
+            deed: deed_of(before, change),
+        };
+        let after = before.change(alloc, self.versions() + 1, change)?;
+        let mut tables = share_tables(alloc, self.tables.as_slice())?;
+        tables[number] = SharedTable::new(alloc, after)?;
+        let log = self.log.push_all(alloc, [entry].as_slice())?;
+        Ok(Store { tables, log })
+    }
+
+    /// The versions at which a row of a table stands. It ticks once.
+    pub fn period_at<L: Ledger>(&self, table: u16, row: u32, steps: &mut Steps<L>) -> SystemPeriod
+        requires { row < length (rows_of (database_of self.now) table) }
+        ensures value { Some result ≡ option_map system_period (row_of (database_of self.now) table row) }
+        ensures ticks { steps.new ≡ steps.old + 1 }
+    {
+        steps.tick();
+        self.tables[table as usize].table().period_at(row)
+    }
+
+    /// The cell of a row of a table in the column at a place, from 0. It ticks once.
+    pub fn cell<L: Ledger>(
+        &self,
+        table: u16,
+        row: u32,
+        column: u8,
+        steps: &mut Steps<L>,
+    ) -> CellRef<'_>
+        requires row { row < length (rows_of (database_of self.now) table) }
+        requires column { column < length (columns_of (database_of self.now) table) }
+        ensures value { Some (cell_shown result) ≡ cell_of (database_of self.now) table row column }
+        ensures short { IsShort result }
+        ensures ticks { steps.new ≡ steps.old + 1 }
+    {
+        steps.tick();
+        self.tables[table as usize].table().cell(row, column)
+    }
+
+    /// The valid period of a row of a table whose rows have one. It ticks once.
+    pub fn valid_at<L: Ledger>(&self, table: u16, row: u32, steps: &mut Steps<L>) -> Period
+        requires row { row < length (rows_of (database_of self.now) table) }
+        requires valid { IsTrue (has_periods (database_of self.now) table) }
+        ensures value { Some (Some result) ≡ option_map (λ r. r.period) (row_of (database_of self.now) table row) }
+        ensures ticks { steps.new ≡ steps.old + 1 }
+    {
+        steps.tick();
+        self.tables[table as usize].table().valid_at(row)
+    }
+
+    /// The commit that made a version, from 1. The error is want of memory. Where there is none, it has ticked
+    /// once for each row that the commit closes or opens, and once more.
+    pub fn commit_at<L: Ledger>(
+        &self,
+        alloc: Global,
+        version: u32,
+        steps: &mut Steps<L>,
+    ) -> Result<Commit, NoMemory>
+        requires some { 1 ≤ version }
+        requires there { version ≤ length self.now }
+        ensures value { IfOk result (λ commit. Some commit ≡ slice_get self.now (version - 1)) }
+        ensures fitting { IfOk result (λ commit. IsTrue (fits standard_limits (database_at self.now (version - 1)) commit)) }
+        ensures ticks { IfOk result (λ commit. steps.new ≡ steps.old + rows_touched commit.body + 1) }
+    {
+        steps.tick();
+        let entry = *self.log.at((version - 1) as u64);
+        let table = self.tables[entry.table as usize].table();
+        Ok(Commit {
+            author: entry.author,
+            body: table.body(alloc, entry.table, entry.deed, steps)?,
+        })
+    }
+}
+
+// What a change does to a table, and where what it closes and opens will stand in what is kept of the table.
+fn deed_of(table: &TableData, change: &Change) -> Deed
+    ensures deed { result ≡ deed_of table.now change.now }
+    ensures kept { IsChange change.now }
+{
+    Deed::Change {
+        first_close: table.closed(),
+        closes: change.closes().len() as u32,
+        first_open: table.rows(),
+        opens: change.opens().len() as u32,
+    }
+}
+
+fn place_of(tables: &[SharedTable], name: &str) -> Option<usize>
+    ensures first { result ≡ position_from (λ kept. has_name name.now (table_of kept)) 0 tables.now }
+    ensures within { IfSome result (λ number. number < length tables.now) }
+{
+    tables.iter().position(|table| table.table().has_name(name))
+}
+
+fn is_named(tables: &[SharedTable], name: &str) -> bool
+    ensures { result ≡ list_any (λ kept. has_name name.now (table_of kept)) tables.now }
+{
+    tables.iter().any(|table| table.table().has_name(name))
+}
+
+fn fits_create(tables: &[SharedTable], schema: &Schema, limits: &Limits) -> bool
+    ensures { result ≡ fits_body limits.now (map table_of tables.now) (body.Create schema.now) }
+{
+    let named = is_named(tables, schema.name().as_str());
+    let room = (tables.len() as u64) < limits.tables;
+    !named && room
+}
+
+fn fits_change(tables: &[SharedTable], change: &Change, limits: &Limits) -> bool
+    ensures { result ≡ fits_body limits.now (map table_of tables.now) (body.Change change.now) }
+{
+    match tables.get(change.table() as usize) {
+        Some(table) => table.table().fits(change, limits),
+        None => false,
+    }
+}
+
+fn fits_body(tables: &[SharedTable], body: &Body, limits: &Limits) -> bool
+    ensures { result ≡ fits_body limits.now (map table_of tables.now) body.now }
+{
+    match body {
+        Body::Create(schema) => fits_create(tables, schema, limits),
+        Body::Change(change) => fits_change(tables, change, limits),
+    }
+}

@@ -7,6 +7,7 @@ pub mod ReadyLemmas
 pub mod ResolvingExamples
 pub mod ResolvingLemmas
 pub mod ScriptLemmas
+pub mod StoreLemmas
 pub mod TopLemmas
 pub mod UntimedLemmas
 pub mod Worked

@@ -1,6 +1,7 @@
 pub mod Ending
 pub mod Keys
 pub mod Known
+pub mod Outcome
 pub mod Play
 pub mod Reading
 pub mod Replies

@@ -4,7 +4,9 @@
 
 mod checks;
 mod jobs;
+mod outcomes;
 mod plays;
+mod rebuilding;
 mod replies;
 mod resolving;
 mod scripts;

@@ -1,6 +1,6 @@
 use Rattle.std.proofs.Common.{sym}
 use Rattle.timeline.proofs.PlayLemmas.{table_found, named_found}
-use Rattle.timeline.proofs.plays.table_named.Goals as goal
+use Rattle.timeline.proofs.outcomes.table_named.Goals as goal
 
 pub schema-requires : goal.schema-requires
 schema-requires c = (table_found c.args.tables.now c.args.name.now.text c.in-Some.number (rw c.as_str.ensures.bytes at (sym c.in-Some.ensures))).within

@@ -16,3 +16,6 @@ mod tables;
 
 pub use shown::{CellRef, SystemPeriod};
 pub use store::Store;
+
+#[cfg(test)]
+mod tests;

@@ -47,8 +47,11 @@ fn answered(
     requires untimed { AreUntimed (database_of store.old) }
     ensures { IfOk result (λ reply. record { reply = reply; after = database_of store.new } ≡ answered (database_of store.old) statement.now (Some block.now)) }
 {
-    let tables = tables_of(alloc, store)?;
-    let outcome = outcome_of(alloc, &tables, statement, block)?;
+    // The tables are gone before a commit is made.
+    let outcome = {
+        let tables = tables_of(alloc, store)?;
+        outcome_of(alloc, &tables, statement, block)?
+    };
     settle(alloc, store, outcome)
 }
 

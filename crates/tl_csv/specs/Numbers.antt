@@ -3,6 +3,7 @@ use Rattle.std.specs.Prelude.{ℕ, ◌^◌, ℤ, pos, neg_ℤ, Bool, ◌&&◌, n
 use Rattle.std.specs.Str.{all_ascii_digits}
 use Rattle.std.specs.Str.Parse.{digits_value}
 use Rattle.tl_types.specs.Names.{same_bytes}
+use Rattle.tl_types.specs.Plain.{forever}
 
 -- one or more digits
 abbrev pub are_digits : List ℕ → Bool
@@ -20,10 +21,6 @@ negative digits = if are_digits digits && nat_le (digits_value 10 digits) (2 ^ 6
 abbrev pub number_of : List ℕ → Option ℤ
 number_of [] = None
 number_of (b ∷ bytes) = if b == 45 then negative bytes else (if b == 43 then positive bytes else positive (b ∷ bytes))
-
--- the valid time that stands for no end: the greatest signed number of 64 bits
-abbrev pub forever : ℤ
-forever = pos 9223372036854775807
 
 -- the end of a period that a field spells: a number, or FOREVER
 abbrev pub end_of : List ℕ → Option ℤ

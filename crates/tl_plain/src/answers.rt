@@ -3,7 +3,8 @@ ghost use Rattle.std.specs.Prelude.{◌≡◌, IsTrue, IfOk, map, if◌then◌el
 ghost use Rattle.std.specs.List.{filter};
 ghost use Rattle.std.specs.Ordering.{int_eq};
 ghost use Rattle.tl_types.specs.History.{is_visible, cell_at};
-ghost use Rattle.tl_query.specs.Answers.{answer_of, is_bare, cell_field, from_field, to_field, forever, column_field, item_field, row_fields};
+ghost use Rattle.tl_types.specs.Plain.{forever};
+ghost use Rattle.tl_query.specs.Answers.{answer_of, is_bare, cell_field, from_field, to_field, column_field, item_field, row_fields};
 
 use crate::database::Tables;
 use crate::rows::Row;

@@ -1,5 +1,5 @@
 -- What a checked question is answered with.
-use Rattle.std.specs.Prelude.{ℕ, ℤ, pos, Bool, true, false, ◌&&◌, ◌||◌, not, ◌==◌, int_le, int_lt, List, [], ◌∷◌, length, map, Option, Some, None, is_some, if◌then◌else◌, slice_get}
+use Rattle.std.specs.Prelude.{ℕ, ℤ, Bool, true, false, ◌&&◌, ◌||◌, not, ◌==◌, int_le, int_lt, List, [], ◌∷◌, length, map, Option, Some, None, is_some, if◌then◌else◌, slice_get}
 use Rattle.std.specs.List.{list_all, list_any, filter}
 use Rattle.std.specs.Ordering.{int_eq}
 use Rattle.tl_types.specs.declared.cells.Cell.{Cell}
@@ -73,10 +73,6 @@ abbrev pub column_field : Option Cell → Field
 column_field None = field.Empty
 column_field (Some x) = cell_field x
 
--- the valid time that stands for no end: the greatest signed number of 64 bits
-abbrev pub forever : ℤ
-forever = pos 9223372036854775807
-
 -- the first valid time of a row that has a period
 abbrev pub from_field : Option plain.Period → Field
 from_field None = field.Empty
@@ -85,7 +81,7 @@ from_field (Some p) = field.Number p.from
 -- the end of the valid time of a row that has a period
 abbrev pub to_field : Option plain.Period → Field
 to_field None = field.Empty
-to_field (Some p) = if int_eq p.to forever then field.Forever else field.Number p.to
+to_field (Some p) = if int_eq p.to plain.forever then field.Forever else field.Number p.to
 
 -- what a row has for an item
 abbrev pub item_field : plain.Row → TypedItem → Field

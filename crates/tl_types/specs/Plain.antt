@@ -1,5 +1,5 @@
 -- The values that contracts see of the types that keep a fact.
-use Rattle.std.specs.Prelude.{ℕ, ℤ, Bool, List, Option}
+use Rattle.std.specs.Prelude.{ℕ, ℤ, pos, Bool, List, Option}
 use Rattle.tl_types.specs.declared.cells.Cell.{Cell}
 use Rattle.tl_types.specs.declared.schemas.Column.{Column}
 
@@ -7,6 +7,10 @@ use Rattle.tl_types.specs.declared.schemas.Column.{Column}
 pub record Period : Type 0 where
   pub from : ℤ
   pub to : ℤ
+
+-- the end of a period that has none: the greatest signed number of 64 bits
+abbrev pub forever : ℤ
+forever = pos 9223372036854775807
 
 -- a table's name, its columns, the place of its key among them, and whether its rows have a valid period
 pub record Schema : Type 0 where

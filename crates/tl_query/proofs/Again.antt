@@ -1,6 +1,5 @@
 -- What is spelled is read again.
 use Rattle.std.proofs.Common.{◌≡◌, ℕ, ◌≤◌, zero, suc, Bool, true, false, cond, List, [], ◌∷◌, ◌++◌, length, Option, Some, None, Result, Ok, Err, refl, sym, ◌∙◌, ap, arith}
-use Rattle.std.specs.List.{AllByRecursion}
 use Rattle.std.proofs.lemmas.Bool.{eq-eqb}
 use Rattle.tl_types.specs.declared.cells.ColumnKind.{ColumnKind}
 use Rattle.tl_types.specs.declared.cells.ColumnKind.TheVariants as kinds
@@ -20,10 +19,10 @@ use Rattle.tl_query.specs.declared.forms.Query.TheVariants as queries
 use Rattle.tl_query.specs.declared.forms.Statement.{Statement}
 use Rattle.tl_query.specs.declared.forms.Statement.TheVariants as statements
 use Rattle.tl_query.specs.Marks.{place}
-use Rattle.tl_query.specs.Grammar.{IsSpelling, IsCreate, IsSelect, IsColumn, IsAsked, kind_mark, column_parts, further_columns, columns_parts, create_parts, further_items, items_parts, asked_parts, as_of_parts, select_parts}
-use Rattle.tl_query.specs.Reading.{◌>>=◌, place_of, is_fixed, after, expect, name_of, version_of, name_at, version_at, ended, text_kind_at, kind_at, column_at, in_front, before, further_columns_at, columns_at, create_at, put_at, items_at, asked_at, as_of_at, select_at, statement_at, where_some}
+use Rattle.tl_query.specs.Grammar.{IsSpelling, IsCreate, IsSelect, IsAsked, kind_mark, item_token, valid_parts, column_parts, further_columns, columns_parts, create_parts, further_items, items_parts, asked_parts, as_of_parts, select_parts}
+use Rattle.tl_query.specs.Reading.{◌>>=◌, place_of, is_fixed, after, expect, name_of, item_of, version_of, name_at, item_at, version_at, ended, text_kind_at, kind_at, column_at, in_front, before, further_columns_at, columns_at, valid_at, create_at, put_at, remove_at, items_at, asked_at, as_of_at, select_at, statement_at, where_some}
 use Rattle.tl_query.proofs.Laws.{words_of}
-use Rattle.tl_query.proofs.Readers.{items_comma, items_end, item_first}
+use Rattle.tl_query.proofs.Readers.{items_comma, items_end, item_first, select_or_none, remove_or_less, put_or_less}
 
 -- what follows mark, name and number is read next
 pub after_again : (m : Mark) (ts : List Placed) (w : List Token) → words_of ts ≡ Fixed m ∷ w → (rest : List Placed) × (words_of rest ≡ w) × (after m ts ≡ Some rest)
@@ -126,39 +125,51 @@ columns_again (c ∷ cs) some few ts w stop e =
     let y = further_columns_again cs 15 (omega arith) x.0 w stop x.1 in
     (y.0, y.1, then_again (column_at ts) (c, x.0) (λ c. in_front c.0 (further_columns_at 15 c.1)) _ x.2 (ap (in_front c) y.2))
 
-further_items_again : (xs : List Item) → AllByRecursion IsColumn xs → (ts : List Placed) (w : List Token) → NoComma w → words_of ts ≡ further_items xs ++ w → (rest : List Placed) × (words_of rest ≡ w) × (items_at false ts ≡ Ok (xs, rest))
-further_items_again [] all ts w stop e = (ts, e, items_end ts (comma_none ts w e stop))
-further_items_again (items.Column n ∷ xs) all ts w stop e =
-    let a = after_again marks.Comma ts (Word n ∷ (further_items xs ++ w)) e in
-    let x = name_again n a.0 (further_items xs ++ w) a.1 in
-    let y = further_items_again xs all.1 x.0 w stop x.1 in
-    (y.0, y.1, items_comma ts a.0 a.2 ∙ item_first a.0 x.0 n x.2 ∙ ap (before (items.Column n ∷ [])) y.2)
-further_items_again (items.ValidFrom at ∷ xs) all ts w stop e = absurd all.0
-further_items_again (items.ValidTo at ∷ xs) all ts w stop e = absurd all.0
+item_of_token : (x : Item) → item_of (item_token x) ≡ Some x
+item_of_token (items.Column n) = refl
+item_of_token (items.ValidFrom at) = refl
+item_of_token (items.ValidTo at) = refl
 
-pub items_again : (xs : List Item) → 1 ≤ length xs → AllByRecursion IsColumn xs → (ts : List Placed) (w : List Token) → NoComma w → words_of ts ≡ items_parts xs ++ w → (rest : List Placed) × (words_of rest ≡ w) × (items_at true ts ≡ Ok (xs, rest))
-items_again [] some all ts w stop e = absurd (omega arith)
-items_again (items.Column n ∷ xs) some all ts w stop e =
-    let x = name_again n ts (further_items xs ++ w) e in
-    let y = further_items_again xs all.1 x.0 w stop x.1 in
-    (y.0, y.1, item_first ts x.0 n x.2 ∙ ap (before (items.Column n ∷ [])) y.2)
-items_again (items.ValidFrom at ∷ xs) some all ts w stop e = absurd all.0
-items_again (items.ValidTo at ∷ xs) some all ts w stop e = absurd all.0
+item_again : (x : Item) (ts : List Placed) (w : List Token) → words_of ts ≡ item_token x ∷ w → (rest : List Placed) × (words_of rest ≡ w) × (item_at ts ≡ Ok (x, rest))
+unfolding item_at
+item_again x [] w e = absurd (cc)
+item_again x (p ∷ ts) w e =
+    let h : p.token ≡ item_token x = cc in
+    let k : words_of ts ≡ w = cc in
+    (ts, k, ap (λ o. where_some o (Err (Some p.at)) (λ x. Ok (x, ts))) (ap item_of h ∙ item_of_token x))
+
+further_items_again : (xs : List Item) (ts : List Placed) (w : List Token) → NoComma w → words_of ts ≡ further_items xs ++ w → (rest : List Placed) × (words_of rest ≡ w) × (items_at false ts ≡ Ok (xs, rest))
+further_items_again [] ts w stop e = (ts, e, items_end ts (comma_none ts w e stop))
+further_items_again (x ∷ xs) ts w stop e =
+    let a = after_again marks.Comma ts (item_token x ∷ (further_items xs ++ w)) e in
+    let i = item_again x a.0 (further_items xs ++ w) a.1 in
+    let y = further_items_again xs i.0 w stop i.1 in
+    (y.0, y.1, items_comma ts a.0 a.2 ∙ item_first a.0 i.0 x i.2 ∙ ap (before (x ∷ [])) y.2)
+
+pub items_again : (x : Item) (xs : List Item) (ts : List Placed) (w : List Token) → NoComma w → words_of ts ≡ items_parts (x ∷ xs) ++ w → (rest : List Placed) × (words_of rest ≡ w) × (items_at true ts ≡ Ok (x ∷ xs, rest))
+items_again x xs ts w stop e =
+    let i = item_again x ts (further_items xs ++ w) e in
+    let y = further_items_again xs i.0 w stop i.1 in
+    (y.0, y.1, item_first ts i.0 x i.2 ∙ ap (before (x ∷ [])) y.2)
+
+-- an item is not `*`
+item_no_star : (x : Item) → is_fixed marks.Star (item_token x) ≡ false
+item_no_star (items.Column n) = refl
+item_no_star (items.ValidFrom at) = refl
+item_no_star (items.ValidTo at) = refl
 
 asked_again : (all : Bool) (xs : List Item) → IsAsked all xs → (ts : List Placed) (w : List Token) → NoComma w → words_of ts ≡ asked_parts all xs ++ w → (rest : List Placed) × (words_of rest ≡ w) × (asked_at ts ≡ Ok ((all, xs), rest))
 unfolding asked_at
 asked_again true [] is ts w stop e = let a = after_again marks.Star ts w e in (a.0, a.1, ap (λ o. where_some o (items_at true ts >>= λ x. Ok ((false, x.0), x.1)) (λ rest. Ok ((true, []), rest))) a.2)
 asked_again true (x ∷ xs) is ts w stop e = absurd (cc)
-asked_again false [] is ts w stop e = absurd (omega (arith, is.0))
-asked_again false (items.Column n ∷ xs) is ts w stop e =
-    let a = items_again (items.Column n ∷ xs) is.0 is.1 ts w stop e in (
+asked_again false [] is ts w stop e = absurd (omega (arith, is))
+asked_again false (x ∷ xs) is ts w stop e =
+    let a = items_again x xs ts w stop e in (
       a.0,
       a.1,
-      ap (λ o. where_some o (items_at true ts >>= λ x. Ok ((false, x.0), x.1)) (λ rest. Ok ((true, []), rest))) (after_none marks.Star ts _ _ e refl)
-          ∙ then_again (items_at true ts) (items.Column n ∷ xs, a.0) _ _ a.2 refl,
+      ap (λ o. where_some o (items_at true ts >>= λ x. Ok ((false, x.0), x.1)) (λ rest. Ok ((true, []), rest))) (after_none marks.Star ts (item_token x) _ e (item_no_star x))
+          ∙ then_again (items_at true ts) (x ∷ xs, a.0) _ _ a.2 refl,
     )
-asked_again false (items.ValidFrom at ∷ xs) is ts w stop e = absurd is.1.0
-asked_again false (items.ValidTo at ∷ xs) is ts w stop e = absurd is.1.0
 
 pub as_of_again : (o : Option Stamp) (ts : List Placed) → words_of ts ≡ as_of_parts o → (rest : List Placed) × (words_of rest ≡ []) × (as_of_at ts ≡ Ok (o, rest))
 unfolding as_of_at
@@ -179,21 +190,32 @@ put_again n ts e =
     let x = name_again n ts [] e in
     then_again (name_at ts) (n, x.0) (λ x. ended (statements.Put x.0) x.1) _ x.2 (ended_again (statements.Put n) x.0 x.1)
 
+remove_again : (n : Name) (ts : List Placed) → words_of ts ≡ Word n ∷ [] → remove_at ts ≡ Ok (statements.Remove n)
+unfolding remove_at
+remove_again n ts e =
+    let x = name_again n ts [] e in
+    then_again (name_at ts) (n, x.0) (λ x. ended (statements.Remove x.0) x.1) _ x.2 (ended_again (statements.Remove n) x.0 x.1)
+
+valid_again : (v : Bool) (ts : List Placed) → words_of ts ≡ valid_parts v → (rest : List Placed) × (words_of rest ≡ []) × (valid_at ts ≡ Ok (v, rest))
+unfolding valid_at
+valid_again true ts e = let a = after_again marks.Valid ts [] e in (a.0, a.1, ap (λ o. where_some o (Ok (false, ts)) (λ rest. Ok (true, rest))) a.2)
+valid_again false ts e = (ts, e, ap (λ o. where_some o (Ok (false, ts)) (λ rest. Ok (true, rest))) (after_end marks.Valid ts e))
+
 create_again : (f : CreateForm) → IsCreate f → (ts : List Placed) → Fixed marks.Create ∷ words_of ts ≡ create_parts f → create_at ts ≡ Ok (statements.Create f)
 unfolding create_at
 create_again f is ts e =
-    let k : words_of ts ≡ Fixed marks.Table ∷ Word f.name ∷ Fixed marks.Open ∷ (columns_parts f.columns ++ (Fixed marks.Close ∷ Fixed marks.Key ∷ Word f.key ∷ [])) = cc in
+    let k : words_of ts ≡ Fixed marks.Table ∷ Word f.name ∷ Fixed marks.Open ∷ (columns_parts f.columns ++ (Fixed marks.Close ∷ Fixed marks.Key ∷ Word f.key ∷ valid_parts f.valid)) = cc in
     let table = expect_again marks.Table ts _ k in
     let name = name_again f.name table.0 _ table.1 in
     let opened = expect_again marks.Open name.0 _ name.1 in
-    let columns = columns_again f.columns is.some is.few opened.0 (Fixed marks.Close ∷ Fixed marks.Key ∷ Word f.key ∷ []) refl opened.1 in
+    let columns = columns_again f.columns is.some is.few opened.0 (Fixed marks.Close ∷ Fixed marks.Key ∷ Word f.key ∷ valid_parts f.valid) refl opened.1 in
     let closed = expect_again marks.Close columns.0 _ columns.1 in
     let word = expect_again marks.Key closed.0 _ closed.1 in
-    let key = name_again f.key word.0 [] word.1 in
+    let key = name_again f.key word.0 (valid_parts f.valid) word.1 in
+    let valid = valid_again f.valid key.0 key.1 in
     then_again (expect marks.Table ts) table.0 _ _ table.2 (then_again (name_at table.0) (f.name, name.0) _ _ name.2 (then_again (expect marks.Open name.0) opened.0 _ _ opened.2
     (then_again (columns_at opened.0) (f.columns, columns.0) _ _ columns.2 (then_again (expect marks.Close columns.0) closed.0 _ _ closed.2 (then_again (expect marks.Key closed.0) word.0 _ _ word.2
-    (then_again (name_at word.0) (f.key, key.0) _ _ key.2 (ended_again (statements.Create (record { name = f.name; columns = f.columns; key = f.key; valid = false })) key.0 key.1
-    ∙ ap (λ v. Ok (statements.Create (record { name = f.name; columns = f.columns; key = f.key; valid = v }))) (sym is.plain))))))))
+    (then_again (name_at word.0) (f.key, key.0) _ _ key.2 (then_again (valid_at key.0) (f.valid, valid.0) _ _ valid.2 (ended_again (statements.Create f) valid.0 valid.1))))))))
 
 select_same : (f : SelectForm) → f.pred ≡ record { any = [] } → f.valid_at ≡ None → record { all = f.all; items = f.items; table = f.table; pred = record { any = [] }; valid_at = None; as_of = f.as_of } ≡ f
 select_same f b c =
@@ -218,18 +240,24 @@ pub statement_again : (ts : List Placed) (s : Statement) → IsSpelling (words_o
 unfolding statement_at
 statement_again ts (statements.Create f) h =
     let a = after_again marks.Create ts _ h.1 in
-    ap (λ o. where_some o (where_some (after marks.Put ts) (where_some (after marks.Select ts) (Err (place_of ts)) select_at) put_at) create_at) a.2
+    ap (λ o. where_some o (put_or_less ts) create_at) a.2
     ∙ create_again f h.0 a.0 (ap (λ w. Fixed marks.Create ∷ w) a.1)
 statement_again ts (statements.Put n) h =
     let a = after_again marks.Put ts _ h in
-    ap (λ o. where_some o (where_some (after marks.Put ts) (where_some (after marks.Select ts) (Err (place_of ts)) select_at) put_at) create_at) (after_none marks.Create ts _ _ h refl)
-    ∙ ap (λ o. where_some o (where_some (after marks.Select ts) (Err (place_of ts)) select_at) put_at) a.2
+    ap (λ o. where_some o (put_or_less ts) create_at) (after_none marks.Create ts _ _ h refl)
+    ∙ ap (λ o. where_some o (remove_or_less ts) put_at) a.2
     ∙ put_again n a.0 a.1
-statement_again ts (statements.Remove n) h = absurd h
+statement_again ts (statements.Remove n) h =
+    let a = after_again marks.Remove ts _ h in
+    ap (λ o. where_some o (put_or_less ts) create_at) (after_none marks.Create ts _ _ h refl)
+    ∙ ap (λ o. where_some o (remove_or_less ts) put_at) (after_none marks.Put ts _ _ h refl)
+    ∙ ap (λ o. where_some o (select_or_none ts) remove_at) a.2
+    ∙ remove_again n a.0 a.1
 statement_again ts (statements.Ask (queries.Select f)) h =
     let a = after_again marks.Select ts _ h.1 in
-    ap (λ o. where_some o (where_some (after marks.Put ts) (where_some (after marks.Select ts) (Err (place_of ts)) select_at) put_at) create_at) (after_none marks.Create ts _ _ h.1 refl)
-    ∙ ap (λ o. where_some o (where_some (after marks.Select ts) (Err (place_of ts)) select_at) put_at) (after_none marks.Put ts _ _ h.1 refl)
+    ap (λ o. where_some o (put_or_less ts) create_at) (after_none marks.Create ts _ _ h.1 refl)
+    ∙ ap (λ o. where_some o (remove_or_less ts) put_at) (after_none marks.Put ts _ _ h.1 refl)
+    ∙ ap (λ o. where_some o (select_or_none ts) remove_at) (after_none marks.Remove ts _ _ h.1 refl)
     ∙ ap (λ o. where_some o (Err (place_of ts)) select_at) a.2
     ∙ select_again f h.0 a.0 (ap (λ w. Fixed marks.Select ∷ w) a.1)
 statement_again ts (statements.Ask (queries.Agg f)) h = absurd h

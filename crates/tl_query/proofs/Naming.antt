@@ -1,10 +1,10 @@
 -- The names of what is read are names.
-use Rattle.std.proofs.Common.{◌≡◌, ℕ, ◌+◌, ◌-◌, ◌^◌, ◌<◌, ◌≤◌, ◌==◌, zero, suc, Bool, true, false, cond, nat_lt, nat_le, List, [], ◌∷◌, ◌++◌, length, take, Option, Some, None, Result, Ok, Err, IfOk, IfSome, refl, subst, arith}
+use Rattle.std.proofs.Common.{◌≡◌, ℕ, ◌+◌, ◌-◌, ◌^◌, ◌<◌, ◌≤◌, ◌==◌, zero, suc, Bool, true, false, cond, nat_lt, nat_le, List, [], ◌∷◌, ◌++◌, length, take, codes, Option, Some, None, Result, Ok, Err, IfOk, IfSome, refl, subst, arith}
 use Rattle.std.specs.List.{AllByRecursion, prefix_len}
-use Rattle.tl_types.specs.Names.{is_name, is_digit, begins_word, continues_word}
+use Rattle.tl_types.specs.Names.{is_name, is_digit, begins_word, continues_word, same_bytes}
 use Rattle.tl_query.specs.declared.marks.Mark.TheVariants as marks
 use Rattle.tl_query.specs.declared.tokens.Token.{Token}
-use Rattle.tl_query.specs.declared.tokens.Token.TheVariants.{Fixed, Word, Number, Negative, Quoted, Stray}
+use Rattle.tl_query.specs.declared.tokens.Token.TheVariants.{Fixed, Word, Number, ValidFrom, ValidTo, Negative, Quoted, Stray}
 use Rattle.tl_query.specs.declared.scanning.Piece.{Piece}
 use Rattle.tl_query.specs.declared.faults.TextFault.{TextFault}
 use Rattle.tl_query.specs.declared.faults.TextFault.TheVariants.{OpenText}
@@ -15,8 +15,8 @@ use Rattle.tl_query.specs.declared.forms.Item.TheVariants as items
 use Rattle.tl_query.specs.declared.forms.Query.TheVariants as queries
 use Rattle.tl_query.specs.declared.forms.Statement.{Statement}
 use Rattle.tl_query.specs.declared.forms.Statement.TheVariants as statements
-use Rattle.tl_query.specs.Grammar.{IsSpelling, IsNamed, IsVersion, IsNamedItem, HasNames, IsColumn, IsAsked, further_columns, columns_parts, create_parts, put_parts, further_items, items_parts, asked_parts, as_of_parts, select_parts}
-use Rattle.tl_query.specs.Scanning.{Tokens, scan, with_piece, is_blank, number_of, keyword_of, word_token, word_piece, piece_at, number_piece, negative_piece, quoted_piece, less_piece, greater_piece, symbol_piece, closing, placed}
+use Rattle.tl_query.specs.Grammar.{IsSpelling, IsNamed, IsVersion, IsNamedItem, HasNames, IsAsked, item_token, valid_parts, remove_parts, further_columns, columns_parts, create_parts, put_parts, further_items, items_parts, asked_parts, as_of_parts, select_parts}
+use Rattle.tl_query.specs.Scanning.{Tokens, scan, with_piece, is_blank, number_of, keyword_of, other_token, word_token, word_piece, piece_at, number_piece, negative_piece, quoted_piece, less_piece, greater_piece, symbol_piece, closing, placed}
 use Rattle.tl_query.specs.Texts.{tokens_of, words_of, Spells, text_read, Answers}
 use Rattle.tl_query.proofs.Deciding.{read_spelled}
 
@@ -25,6 +25,8 @@ abbrev IsRight : Token → Type 0
 IsRight (Fixed m) = Unit {0}
 IsRight (Word n) = IsNamed n
 IsRight (Number s) = IsVersion s
+IsRight (ValidFrom at) = at < 2 ^ 32
+IsRight (ValidTo at) = at < 2 ^ 32
 IsRight Negative = Unit {0}
 IsRight Quoted = Unit {0}
 IsRight Stray = Unit {0}
@@ -40,9 +42,17 @@ name_right : (at : ℕ) (word : List ℕ) (t : Bool) → at < 2 ^ 32 → is_name
 name_right at word true h e = record { named = e; within = h }
 name_right at word false h e = tt
 
+token_if : (t : Bool) (x y : Token) → IsRight x → IsRight y → IsRight (cond t x y)
+token_if true x y h k = h
+token_if false x y h k = k
+
+other_right : (at : ℕ) (word : List ℕ) → at < 2 ^ 32 → IsRight (other_token at word)
+unfolding other_token
+other_right at word h = token_if (same_bytes word (codes "valid_from")) _ _ h (token_if (same_bytes word (codes "valid_to")) _ _ h (name_right at word (is_name word) h refl))
+
 word_right : (at : ℕ) (word : List ℕ) → at < 2 ^ 32 → IsRight (word_token at word)
 unfolding word_token
-word_right at word h = elim (keyword_of word) as (λ o. IsRight (elim o [ Some mark ↦ Fixed mark | None ↦ cond (is_name word) (Word (record { text = word; at = at })) Stray ])) [ Some mark ↦ tt | None ↦ name_right at word (is_name word) h refl ]
+word_right at word h = elim (keyword_of word) as (λ o. IsRight (elim o [ Some mark ↦ Fixed mark | None ↦ other_token at word ])) [ Some mark ↦ tt | None ↦ other_right at word h ]
 
 quoted_fine : (at : ℕ) (bytes : List ℕ) → Fine (quoted_piece at bytes)
 unfolding quoted_piece
@@ -106,22 +116,23 @@ columns_named : (cs : List ColumnForm) (w : List Token) → AllByRecursion IsRig
 columns_named [] w h = (tt, h)
 columns_named (c ∷ cs) w h = let k = further_named cs w h.1.1 in ((h.0, k.0), k.1)
 
-further_items_named : (xs : List Item) (w : List Token) → AllByRecursion IsColumn xs → AllByRecursion IsRight (further_items xs ++ w) → AllByRecursion IsNamedItem xs × AllByRecursion IsRight w
-further_items_named [] w a h = (tt, h)
-further_items_named (items.Column n ∷ xs) w a h = let k = further_items_named xs w a.1 h.1.1 in ((h.1.0, k.0), k.1)
-further_items_named (items.ValidFrom at ∷ xs) w a h = absurd a.0
-further_items_named (items.ValidTo at ∷ xs) w a h = absurd a.0
+item_named : (x : Item) → IsRight (item_token x) → IsNamedItem x
+item_named (items.Column n) h = h
+item_named (items.ValidFrom at) h = h
+item_named (items.ValidTo at) h = h
 
-items_named : (xs : List Item) (w : List Token) → AllByRecursion IsColumn xs → AllByRecursion IsRight (items_parts xs ++ w) → AllByRecursion IsNamedItem xs × AllByRecursion IsRight w
-items_named [] w a h = (tt, h)
-items_named (items.Column n ∷ xs) w a h = let k = further_items_named xs w a.1 h.1 in ((h.0, k.0), k.1)
-items_named (items.ValidFrom at ∷ xs) w a h = absurd a.0
-items_named (items.ValidTo at ∷ xs) w a h = absurd a.0
+further_items_named : (xs : List Item) (w : List Token) → AllByRecursion IsRight (further_items xs ++ w) → AllByRecursion IsNamedItem xs × AllByRecursion IsRight w
+further_items_named [] w h = (tt, h)
+further_items_named (x ∷ xs) w h = let k = further_items_named xs w h.1.1 in ((item_named x h.1.0, k.0), k.1)
+
+items_named : (xs : List Item) (w : List Token) → AllByRecursion IsRight (items_parts xs ++ w) → AllByRecursion IsNamedItem xs × AllByRecursion IsRight w
+items_named [] w h = (tt, h)
+items_named (x ∷ xs) w h = let k = further_items_named xs w h.1 in ((item_named x h.0, k.0), k.1)
 
 asked_named : (all : Bool) (xs : List Item) (w : List Token) → IsAsked all xs → AllByRecursion IsRight (asked_parts all xs ++ w) → AllByRecursion IsNamedItem xs × AllByRecursion IsRight w
 asked_named true [] w a h = (tt, h.1)
 asked_named true (x ∷ xs) w a h = absurd (cc)
-asked_named false xs w a h = items_named xs w a.1 h
+asked_named false xs w a h = items_named xs w h
 
 as_of_named : (o : Option Stamp) → AllByRecursion IsRight (as_of_parts o) → IfSome o IsVersion
 as_of_named None h = tt
@@ -130,10 +141,10 @@ as_of_named (Some s) h = h.1.1.0
 spelled_named : (ts : List Token) (s : Statement) → AllByRecursion IsRight ts → IsSpelling ts s → HasNames s
 spelled_named ts (statements.Create f) h k =
     let all : AllByRecursion IsRight (create_parts f) = subst (λ x. AllByRecursion IsRight x) k.1 h in
-    let columns = columns_named f.columns (Fixed marks.Close ∷ Fixed marks.Key ∷ Word f.key ∷ []) all.1.1.1.1 in
+    let columns = columns_named f.columns (Fixed marks.Close ∷ Fixed marks.Key ∷ Word f.key ∷ valid_parts f.valid) all.1.1.1.1 in
     (all.1.1.0, columns.0, columns.1.1.1.0)
 spelled_named ts (statements.Put n) h k = let all : AllByRecursion IsRight (put_parts n) = subst (λ x. AllByRecursion IsRight x) k h in all.1.0
-spelled_named ts (statements.Remove n) h k = absurd k
+spelled_named ts (statements.Remove n) h k = let all : AllByRecursion IsRight (remove_parts n) = subst (λ x. AllByRecursion IsRight x) k h in all.1.0
 spelled_named ts (statements.Ask (queries.Select f)) h k =
     let all : AllByRecursion IsRight (select_parts f) = subst (λ x. AllByRecursion IsRight x) k.1 h in
     let found = asked_named f.all f.items (Fixed marks.From ∷ Word f.table ∷ as_of_parts f.as_of) k.0.asked all.1 in

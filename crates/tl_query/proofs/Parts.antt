@@ -1,6 +1,5 @@
 -- The law of each part of the grammar: behind the tokens c, what follows is read right.
 use Rattle.std.proofs.Common.{◌≡◌, ℕ, ◌≤◌, zero, suc, Bool, true, false, cond, List, [], ◌∷◌, ◌++◌, length, Option, Some, None, Result, Ok, Err, refl, sym, ◌∙◌, ap, subst, append_assoc, append-nil, arith}
-use Rattle.std.specs.List.{AllByRecursion}
 use Rattle.std.proofs.Common.{pos}
 use Rattle.tl_types.specs.declared.cells.ColumnKind.{ColumnKind}
 use Rattle.tl_types.specs.declared.cells.ColumnKind.TheVariants as kinds
@@ -18,10 +17,11 @@ use Rattle.tl_query.specs.declared.forms.Item.TheVariants as items
 use Rattle.tl_query.specs.declared.forms.Query.TheVariants as queries
 use Rattle.tl_query.specs.declared.forms.Statement.{Statement}
 use Rattle.tl_query.specs.declared.forms.Statement.TheVariants as statements
-use Rattle.tl_query.specs.Grammar.{IsViable, IsColumn, IsAsked, kind_mark, column_parts, further_columns, columns_parts, create_parts, put_parts, further_items, items_parts, asked_parts, as_of_parts, select_parts}
-use Rattle.tl_query.specs.Reading.{◌>>=◌, place_of, is_fixed, after, expect, name_of, version_of, name_at, version_at, ended, text_kind_at, kind_at, column_at, in_front, further_columns_at, columns_at, create_at, put_at, items_at, asked_at, as_of_at, select_at, statement_at, where_some}
-use Rattle.tl_query.proofs.Places.{is_fixed_true, name_of_some, version_of_some}
+use Rattle.tl_query.specs.Grammar.{IsViable, IsAsked, kind_mark, item_token, valid_parts, remove_parts, column_parts, further_columns, columns_parts, create_parts, put_parts, further_items, items_parts, asked_parts, as_of_parts, select_parts}
+use Rattle.tl_query.specs.Reading.{◌>>=◌, place_of, is_fixed, after, expect, name_of, item_of, version_of, name_at, version_at, ended, text_kind_at, kind_at, column_at, in_front, further_columns_at, columns_at, valid_at, create_at, put_at, remove_at, items_at, asked_at, as_of_at, select_at, statement_at, where_some}
+use Rattle.tl_query.proofs.Places.{is_fixed_true, name_of_some, item_of_some, version_of_some}
 use Rattle.tl_query.proofs.Laws.{At, Good, good_by, good_at, shorter_viable, viable_of, fail_at, end_at, step_at, pass_at, pass_end, expect_good, one_good, peek_good, end_good}
+use Rattle.tl_query.proofs.Readers.{select_or_none, remove_or_less, put_or_less}
 
 any_name : Name
 any_name = record { text = 97 ∷ []; at = 0 }
@@ -106,36 +106,36 @@ columns_good c g h =
 
 -- items that have to come, or may go on
 abbrev Follows : Bool → List Token → (List Item × List Placed → Result Statement (Option ℕ)) → Type 0
-Follows true c g = (xs : List Item) → 1 ≤ length xs → AllByRecursion IsColumn xs → Good (c ++ items_parts xs) (λ ts. g (xs, ts))
-Follows false c g = (xs : List Item) → AllByRecursion IsColumn xs → Good (c ++ further_items xs) (λ ts. g (xs, ts))
+Follows true c g = (xs : List Item) → 1 ≤ length xs → Good (c ++ items_parts xs) (λ ts. g (xs, ts))
+Follows false c g = (xs : List Item) → Good (c ++ further_items xs) (λ ts. g (xs, ts))
 
-behind_name : (c : List Token) (n : Name) (g : List Item × List Placed → Result Statement (Option ℕ)) → Follows true c g → Follows false (c ++ (Word n ∷ [])) (λ y. g (items.Column n ∷ y.0, y.1))
-behind_name c n g h = λ xs all. good_at (c ++ items_parts (items.Column n ∷ xs)) ((c ++ (Word n ∷ [])) ++ further_items xs) (λ ts. g (items.Column n ∷ xs, ts)) (simp append_assoc) (h (items.Column n ∷ xs) (omega arith) (tt, all))
+behind_item : (c : List Token) (x : Item) (g : List Item × List Placed → Result Statement (Option ℕ)) → Follows true c g → Follows false (c ++ (item_token x ∷ [])) (λ y. g (x ∷ y.0, y.1))
+behind_item c x g h = λ xs. good_at (c ++ items_parts (x ∷ xs)) ((c ++ (item_token x ∷ [])) ++ further_items xs) (λ ts. g (x ∷ xs, ts)) (simp append_assoc) (h (x ∷ xs) (omega arith))
 
 behind_comma : (c : List Token) (g : List Item × List Placed → Result Statement (Option ℕ)) → Follows false c g → Follows true (c ++ (Fixed marks.Comma ∷ [])) g
-behind_comma c g h [] some all = absurd (omega arith)
-behind_comma c g h (x ∷ xs) some all = good_at (c ++ further_items (x ∷ xs)) ((c ++ (Fixed marks.Comma ∷ [])) ++ items_parts (x ∷ xs)) (λ ts. g (x ∷ xs, ts)) (simp append_assoc) (h (x ∷ xs) all)
+behind_comma c g h [] some = absurd (omega arith)
+behind_comma c g h (x ∷ xs) some = good_at (c ++ further_items (x ∷ xs)) ((c ++ (Fixed marks.Comma ∷ [])) ++ items_parts (x ∷ xs)) (λ ts. g (x ∷ xs, ts)) (simp append_assoc) (h (x ∷ xs))
 
 item_needed : (c : List Token) (g : List Item × List Placed → Result Statement (Option ℕ)) → Follows true c g → IsViable c
-item_needed c g h = shorter_viable c (Word any_name ∷ []) (viable_of (c ++ (Word any_name ∷ [])) (λ ts. g (items.Column any_name ∷ [], ts)) (h (items.Column any_name ∷ []) (omega arith) (tt, tt)))
+item_needed c g h = shorter_viable c (Word any_name ∷ []) (viable_of (c ++ (Word any_name ∷ [])) (λ ts. g (items.Column any_name ∷ [], ts)) (h (items.Column any_name ∷ []) (omega arith)))
 
 items_good_at : (b : Bool) (ts : List Placed) (c : List Token) (g : List Item × List Placed → Result Statement (Option ℕ)) → Follows b c g → At c (λ ts. items_at b ts >>= g) ts
 unfolding items_at
 items_good_at true [] c g h = end_at c (λ ts. items_at true ts >>= g) refl (item_needed c g h)
-items_good_at true (p ∷ ts) c g h = elim (name_of p.token) as (λ o. name_of p.token ≡ o → At c (λ ts. items_at true ts >>= g) (p ∷ ts)) [
-  | None ↦ λ e. fail_at c (λ ts. items_at true ts >>= g) p ts (λ y. ap (λ o. where_some o (Err (Some p.at)) (λ n. in_front (items.Column n) (items_at false y)) >>= g) e) (item_needed c g h)
-  | Some n ↦ λ e. step_at c (λ ts. items_at true ts >>= g) (λ ts. items_at false ts >>= λ y. g (items.Column n ∷ y.0, y.1)) p ts
-      (λ y. ap (λ o. where_some o (Err (Some p.at)) (λ n. in_front (items.Column n) (items_at false y)) >>= g) e ∙ front_then (items.Column n) (items_at false y) g)
-      (subst (λ t. At (c ++ (t ∷ [])) (λ ts. items_at false ts >>= λ y. g (items.Column n ∷ y.0, y.1)) ts) (sym (name_of_some p.token n e)) (items_good_at false ts (c ++ (Word n ∷ [])) (λ y. g (items.Column n ∷ y.0, y.1)) (behind_name c n g h)))
+items_good_at true (p ∷ ts) c g h = elim (item_of p.token) as (λ o. item_of p.token ≡ o → At c (λ ts. items_at true ts >>= g) (p ∷ ts)) [
+  | None ↦ λ e. fail_at c (λ ts. items_at true ts >>= g) p ts (λ y. ap (λ o. where_some o (Err (Some p.at)) (λ x. in_front x (items_at false y)) >>= g) e) (item_needed c g h)
+  | Some x ↦ λ e. step_at c (λ ts. items_at true ts >>= g) (λ ts. items_at false ts >>= λ y. g (x ∷ y.0, y.1)) p ts
+      (λ y. ap (λ o. where_some o (Err (Some p.at)) (λ x. in_front x (items_at false y)) >>= g) e ∙ front_then x (items_at false y) g)
+      (subst (λ t. At (c ++ (t ∷ [])) (λ ts. items_at false ts >>= λ y. g (x ∷ y.0, y.1)) ts) (sym (item_of_some p.token x e)) (items_good_at false ts (c ++ (item_token x ∷ [])) (λ y. g (x ∷ y.0, y.1)) (behind_item c x g h)))
 ] refl
-items_good_at false [] c g h = pass_end c (λ ts. items_at false ts >>= g) (λ ts. g ([], ts)) refl (good_at (c ++ []) c (λ ts. g ([], ts)) (append-nil c) (h [] tt) [])
+items_good_at false [] c g h = pass_end c (λ ts. items_at false ts >>= g) (λ ts. g ([], ts)) refl (good_at (c ++ []) c (λ ts. g ([], ts)) (append-nil c) (h []) [])
 items_good_at false (p ∷ ts) c g h = elim (is_fixed marks.Comma p.token) as (λ b. is_fixed marks.Comma p.token ≡ b → At c (λ ts. items_at false ts >>= g) (p ∷ ts)) [
   | true ↦ λ e. step_at c (λ ts. items_at false ts >>= g) (λ ts. items_at true ts >>= g) p ts (λ y. ap (λ b. cond b (items_at true y) (Ok ([], p ∷ y)) >>= g) e)
       (subst (λ t. At (c ++ (t ∷ [])) (λ ts. items_at true ts >>= g) ts) (sym (is_fixed_true marks.Comma p.token e)) (items_good_at true ts (c ++ (Fixed marks.Comma ∷ [])) g (behind_comma c g h)))
-  | false ↦ λ e. pass_at c (λ ts. items_at false ts >>= g) (λ ts. g ([], ts)) p ts (λ y. ap (λ b. cond b (items_at true y) (Ok ([], p ∷ y)) >>= g) e) (good_at (c ++ []) c (λ ts. g ([], ts)) (append-nil c) (h [] tt) (p ∷ ts))
+  | false ↦ λ e. pass_at c (λ ts. items_at false ts >>= g) (λ ts. g ([], ts)) p ts (λ y. ap (λ b. cond b (items_at true y) (Ok ([], p ∷ y)) >>= g) e) (good_at (c ++ []) c (λ ts. g ([], ts)) (append-nil c) (h []) (p ∷ ts))
 ] refl
 
-pub items_good : (c : List Token) (g : List Item × List Placed → Result Statement (Option ℕ)) → ((xs : List Item) → 1 ≤ length xs → AllByRecursion IsColumn xs → Good (c ++ items_parts xs) (λ ts. g (xs, ts))) → Good c (λ ts. items_at true ts >>= g)
+pub items_good : (c : List Token) (g : List Item × List Placed → Result Statement (Option ℕ)) → ((xs : List Item) → 1 ≤ length xs → Good (c ++ items_parts xs) (λ ts. g (xs, ts))) → Good c (λ ts. items_at true ts >>= g)
 items_good c g h = λ ts. items_good_at true ts c g h
 
 pub asked_good : (c : List Token) (g : (Bool × List Item) × List Placed → Result Statement (Option ℕ)) → ((all : Bool) (xs : List Item) → IsAsked all xs → Good (c ++ asked_parts all xs) (λ ts. g ((all, xs), ts))) → Good c (λ ts. asked_at ts >>= g)
@@ -144,7 +144,7 @@ asked_good c g h =
     peek_good c marks.Star (λ ts. asked_at ts >>= g) (λ ts. items_at true ts >>= λ x. g ((false, x.0), x.1)) (λ rest. g ((true, []), rest))
     (λ y. where_then (after marks.Star y) (items_at true y >>= λ x. Ok ((false, x.0), x.1)) (λ rest. Ok ((true, []), rest)) g ∙ ap (λ r. where_some (after marks.Star y) r (λ rest. g ((true, []), rest))) (regroup (items_at true y) (λ x. Ok ((false, x.0), x.1)) g))
     (h true [] refl)
-    (items_good c (λ x. g ((false, x.0), x.1)) (λ xs some columns. h false xs (some, columns)))
+    (items_good c (λ x. g ((false, x.0), x.1)) (λ xs some. h false xs some))
 
 of_then : (r : Result (List Placed) (Option ℕ)) (g : Option Stamp × List Placed → Result Statement (Option ℕ)) → (r >>= λ next. version_at next >>= λ s. Ok (Some s.0, s.1)) >>= g ≡ r >>= λ next. version_at next >>= λ s. g (Some s.0, s.1)
 of_then (Ok next) g = regroup (version_at next) (λ s. Ok (Some s.0, s.1)) g
@@ -167,7 +167,17 @@ pub put_good : Good (Fixed marks.Put ∷ []) put_at
 unfolding put_at
 put_good = name_good (Fixed marks.Put ∷ []) (λ x. ended (statements.Put x.0) x.1) (λ n. end_good (put_parts n) (statements.Put n) refl)
 
-create_spelled : (f : CreateForm) → ((((Fixed marks.Create ∷ Fixed marks.Table ∷ Word f.name ∷ Fixed marks.Open ∷ []) ++ columns_parts f.columns) ++ (Fixed marks.Close ∷ [])) ++ (Fixed marks.Key ∷ [])) ++ (Word f.key ∷ []) ≡ create_parts f
+pub remove_good : Good (Fixed marks.Remove ∷ []) remove_at
+unfolding remove_at
+remove_good = name_good (Fixed marks.Remove ∷ []) (λ x. ended (statements.Remove x.0) x.1) (λ n. end_good (remove_parts n) (statements.Remove n) refl)
+
+pub valid_good : (c : List Token) (g : Bool × List Placed → Result Statement (Option ℕ)) → ((v : Bool) → Good (c ++ valid_parts v) (λ ts. g (v, ts))) → Good c (λ ts. valid_at ts >>= g)
+unfolding valid_at
+valid_good c g h =
+    peek_good c marks.Valid (λ ts. valid_at ts >>= g) (λ ts. g (false, ts)) (λ rest. g (true, rest)) (λ y. where_then (after marks.Valid y) (Ok (false, y)) (λ rest. Ok (true, rest)) g) (h true)
+    (good_at (c ++ []) c (λ ts. g (false, ts)) (append-nil c) (h false))
+
+create_spelled : (f : CreateForm) → (((((Fixed marks.Create ∷ Fixed marks.Table ∷ Word f.name ∷ Fixed marks.Open ∷ []) ++ columns_parts f.columns) ++ (Fixed marks.Close ∷ [])) ++ (Fixed marks.Key ∷ [])) ++ (Word f.key ∷ [])) ++ valid_parts f.valid ≡ create_parts f
 create_spelled f = simp append_assoc
 
 select_spelled : (f : SelectForm) → ((((Fixed marks.Select ∷ []) ++ asked_parts f.all f.items) ++ (Fixed marks.From ∷ [])) ++ (Word f.table ∷ [])) ++ as_of_parts f.as_of ≡ select_parts f
@@ -184,9 +194,9 @@ create_good =
     let closed : Name → List ColumnForm → List Token = λ name columns. listed name columns ++ (Fixed marks.Close ∷ []) in
     let keyed : Name → List ColumnForm → List Token = λ name columns. closed name columns ++ (Fixed marks.Key ∷ []) in
     expect_good word marks.Table _ (name_good table _ (λ name. expect_good (named name) marks.Open _ (columns_good (opened name) _ (λ columns some few.
-    expect_good (listed name columns) marks.Close _ (expect_good (closed name columns) marks.Key _ (name_good (keyed name columns) _ (λ key.
-    let form : CreateForm = record { name = name; columns = columns; key = key; valid = false } in
-    end_good (keyed name columns ++ (Word key ∷ [])) (statements.Create form) (record { some = some; few = few; plain = refl }, create_spelled form))))))))
+    expect_good (listed name columns) marks.Close _ (expect_good (closed name columns) marks.Key _ (name_good (keyed name columns) _ (λ key. valid_good (keyed name columns ++ (Word key ∷ [])) _ (λ valid.
+    let form : CreateForm = record { name = name; columns = columns; key = key; valid = valid } in
+    end_good ((keyed name columns ++ (Word key ∷ [])) ++ valid_parts valid) (statements.Create form) (record { some = some; few = few }, create_spelled form)))))))))
 
 pub select_good : Good (Fixed marks.Select ∷ []) select_at
 unfolding select_at
@@ -205,6 +215,7 @@ nothing_begins = stop_good [] (shorter_viable [] (Fixed marks.Put ∷ []) (viabl
 pub statement_good : Good [] statement_at
 unfolding statement_at
 statement_good =
-    peek_good [] marks.Create statement_at (λ ts. where_some (after marks.Put ts) (where_some (after marks.Select ts) (Err (place_of ts)) select_at) put_at) create_at (λ y. refl) create_good
-    (peek_good [] marks.Put (λ ts. where_some (after marks.Put ts) (where_some (after marks.Select ts) (Err (place_of ts)) select_at) put_at) (λ ts. where_some (after marks.Select ts) (Err (place_of ts)) select_at) put_at (λ y. refl) put_good
-    (peek_good [] marks.Select (λ ts. where_some (after marks.Select ts) (Err (place_of ts)) select_at) (λ ts. Err (place_of ts)) select_at (λ y. refl) select_good nothing_begins))
+    peek_good [] marks.Create statement_at put_or_less create_at (λ y. refl) create_good
+    (peek_good [] marks.Put put_or_less remove_or_less put_at (λ y. refl) put_good
+    (peek_good [] marks.Remove remove_or_less select_or_none remove_at (λ y. refl) remove_good
+    (peek_good [] marks.Select select_or_none (λ ts. Err (place_of ts)) select_at (λ y. refl) select_good nothing_begins)))

@@ -2,13 +2,12 @@
 use Rattle.std.proofs.Common.{◌≡◌, ℕ, zero, suc, true, false, cond, List, [], ◌∷◌, ◌++◌, Option, Some, None, Result, Ok, Err, refl, sym, ◌∙◌, ap, append_assoc}
 use Rattle.tl_query.specs.declared.marks.Mark.TheVariants as marks
 use Rattle.tl_query.specs.declared.tokens.Placed.{Placed}
-use Rattle.tl_query.specs.declared.forms.Name.{Name}
 use Rattle.tl_query.specs.declared.forms.ColumnForm.{ColumnForm}
 use Rattle.tl_query.specs.declared.forms.Item.{Item}
-use Rattle.tl_query.specs.declared.forms.Item.TheVariants as items
+use Rattle.tl_query.specs.declared.forms.Statement.{Statement}
 use Rattle.tl_query.specs.declared.statements.Stop.{Stop}
 use Rattle.tl_query.specs.declared.statements.Stop.TheVariants as stops
-use Rattle.tl_query.specs.Reading.{◌>>=◌, Fails, IsStopAt, is_fixed, after, name_at, column_at, columns_at, further_columns_at, items_at, in_front, before, where_some, name_of}
+use Rattle.tl_query.specs.Reading.{◌>>=◌, Fails, IsStopAt, is_fixed, after, item_at, column_at, columns_at, further_columns_at, items_at, in_front, before, where_some, item_of, place_of, put_at, remove_at, select_at}
 
 -- where one reader stops, so does one that begins with it
 pub fails_through : (Y Z : Type 0) (e : Stop) (r : Result Y (Option ℕ)) (s : Result Z (Option ℕ)) → ((o : Option ℕ) → r ≡ Err o → s ≡ Err o) → Fails e r → Fails e s
@@ -62,36 +61,36 @@ unfolding after items_at
 items_end [] e = refl
 items_end (p ∷ ts) e = elim (is_fixed marks.Comma p.token) as (λ b. cond b (Some ts) None ≡ None → cond b (items_at true ts) (Ok ([], p ∷ ts)) ≡ Ok ([], p ∷ ts)) [ true ↦ λ h. absurd (cc) | false ↦ λ h. refl ] e
 
--- reading items that have to come, by what reading a name gives
-abbrev items_by : Result (Name × List Placed) (Option ℕ) → Result (List Item × List Placed) (Option ℕ)
-items_by read = read >>= λ x. in_front (items.Column x.0) (items_at false x.1)
+-- reading items that have to come, by what reading an item gives
+abbrev items_by : Result (Item × List Placed) (Option ℕ) → Result (List Item × List Placed) (Option ℕ)
+items_by read = read >>= λ x. in_front x.0 (items_at false x.1)
 
-items_named : (at : ℕ) (ts : List Placed) (o : Option Name) → where_some o (Err (Some at)) (λ n. in_front (items.Column n) (items_at false ts)) ≡ items_by (where_some o (Err (Some at)) (λ n. Ok (n, ts)))
-items_named at ts None = refl
-items_named at ts (Some n) = refl
+items_first : (at : ℕ) (ts : List Placed) (o : Option Item) → where_some o (Err (Some at)) (λ x. in_front x (items_at false ts)) ≡ items_by (where_some o (Err (Some at)) (λ x. Ok (x, ts)))
+items_first at ts None = refl
+items_first at ts (Some x) = refl
 
-items_read : (ts : List Placed) → items_at true ts ≡ items_by (name_at ts)
-unfolding items_at name_at
+items_read : (ts : List Placed) → items_at true ts ≡ items_by (item_at ts)
+unfolding items_at item_at
 items_read [] = refl
-items_read (p ∷ ts) = items_named p.at ts (name_of p.token)
+items_read (p ∷ ts) = items_first p.at ts (item_of p.token)
 
 one_before : {A : Type 0} (x : A) (read : Result (List A × List Placed) (Option ℕ)) → in_front x read ≡ before (x ∷ []) read
 one_before x (Ok y) = refl
 one_before x (Err e) = refl
 
-pub item_first : (ts behind : List Placed) (n : Name) → name_at ts ≡ Ok (n, behind) → items_at true ts ≡ before (items.Column n ∷ []) (items_at false behind)
-item_first ts behind n e = items_read ts ∙ ap items_by e ∙ one_before _ _
+pub item_first : (ts behind : List Placed) (x : Item) → item_at ts ≡ Ok (x, behind) → items_at true ts ≡ before (x ∷ []) (items_at false behind)
+item_first ts behind x e = items_read ts ∙ ap items_by e ∙ one_before _ _
 
-pub item_turn : (front : List Item) (ts rest behind : List Placed) (n : Name) → after marks.Comma ts ≡ Some rest → name_at rest ≡ Ok (n, behind) → before front (items_at false ts) ≡ before (front ++ (items.Column n ∷ [])) (items_at false behind)
-item_turn front ts rest behind n e f = ap (before front) (items_comma ts rest e ∙ items_read rest ∙ ap items_by f) ∙ before_again front _ _
+pub item_turn : (front : List Item) (ts rest behind : List Placed) (x : Item) → after marks.Comma ts ≡ Some rest → item_at rest ≡ Ok (x, behind) → before front (items_at false ts) ≡ before (front ++ (x ∷ [])) (items_at false behind)
+item_turn front ts rest behind x e f = ap (before front) (items_comma ts rest e ∙ items_read rest ∙ ap items_by f) ∙ before_again front _ _
 
-pub item_fails : (front : List Item) (ts rest : List Placed) (o : Option ℕ) → after marks.Comma ts ≡ Some rest → name_at rest ≡ Err o → before front (items_at false ts) ≡ Err o
+pub item_fails : (front : List Item) (ts rest : List Placed) (o : Option ℕ) → after marks.Comma ts ≡ Some rest → item_at rest ≡ Err o → before front (items_at false ts) ≡ Err o
 item_fails front ts rest o e f = ap (before front) (items_comma ts rest e ∙ items_read rest ∙ ap items_by f)
 
 pub items_done : (front : List Item) (ts : List Placed) → after marks.Comma ts ≡ None → before front (items_at false ts) ≡ Ok (front ++ [], ts)
 items_done front ts e = ap (before front) (items_end ts e)
 
-pub item_missing : (ts : List Placed) (o : Option ℕ) → name_at ts ≡ Err o → items_at true ts ≡ Err o
+pub item_missing : (ts : List Placed) (o : Option ℕ) → item_at ts ≡ Err o → items_at true ts ≡ Err o
 item_missing ts o e = items_read ts ∙ ap items_by e
 
 pub column_missing : (ts : List Placed) (o : Option ℕ) → column_at ts ≡ Err o → columns_at ts ≡ Err o
@@ -106,3 +105,13 @@ column_first ts behind c e = ap (λ r. r >>= λ c. in_front c.0 (further_columns
 pub columns_full : (front : List ColumnForm) (room : ℕ) (ts : List Placed) → room ≡ 0 → before front (further_columns_at room ts) ≡ Ok (front ++ [], ts)
 unfolding further_columns_at
 columns_full front room ts e = ap (λ n. before front (further_columns_at n ts)) e
+
+-- the statements that are left where no CREATE comes, no PUT, and no REMOVE
+abbrev pub select_or_none : List Placed → Result Statement (Option ℕ)
+select_or_none ts = where_some (after marks.Select ts) (Err (place_of ts)) select_at
+
+abbrev pub remove_or_less : List Placed → Result Statement (Option ℕ)
+remove_or_less ts = where_some (after marks.Remove ts) (select_or_none ts) remove_at
+
+abbrev pub put_or_less : List Placed → Result Statement (Option ℕ)
+put_or_less ts = where_some (after marks.Put ts) (remove_or_less ts) put_at

@@ -1,5 +1,5 @@
 -- The check of a question against the tables, and of a new table: what it means, or its first fault.
-use Rattle.std.specs.Prelude.{ℕ, ◌≡◌, ◌≤◌, IsTrue, ℤ, nat_abs, Bool, true, false, ◌&&◌, ◌||◌, not, nat_le, nat_lt, ◌==◌, List, [], ◌∷◌, ◌++◌, length, map, take, slice_get, Option, Some, None, is_some, Result, Ok, Err, if◌then◌else◌}
+use Rattle.std.specs.Prelude.{ℕ, ◌≡◌, ◌≤◌, IsTrue, nat_abs, Bool, true, false, ◌&&◌, ◌||◌, not, nat_lt, ◌==◌, List, [], ◌∷◌, ◌++◌, length, map, take, Option, Some, None, is_some, Result, Ok, Err, if◌then◌else◌}
 use Rattle.std.specs.List.{list_all, list_any, fold, position, enumerate_from}
 use Rattle.tl_types.specs.declared.schemas.Column.{Column}
 use Rattle.tl_types.specs.Names.{same_bytes, is_name}
@@ -12,8 +12,6 @@ use Rattle.tl_query.specs.declared.forms.Item.TheVariants as item
 use Rattle.tl_query.specs.declared.forms.SelectForm.{SelectForm}
 use Rattle.tl_query.specs.declared.forms.ColumnForm.{ColumnForm}
 use Rattle.tl_query.specs.declared.forms.CreateForm.{CreateForm}
-use Rattle.tl_query.specs.declared.forms.Query.{Query}
-use Rattle.tl_query.specs.declared.forms.Query.TheVariants as query
 use Rattle.tl_query.specs.declared.plans.Typed.{Typed}
 use Rattle.tl_query.specs.declared.plans.Typed.TheVariants as typed
 use Rattle.tl_query.specs.declared.plans.TypedItem.{TypedItem}

@@ -7,7 +7,7 @@ use Rattle.tl_types.specs.declared.cells.ColumnKind.TheVariants as kinds
 use Rattle.tl_query.specs.declared.marks.Mark.{Mark}
 use Rattle.tl_query.specs.declared.marks.Mark.TheVariants as marks
 use Rattle.tl_query.specs.declared.tokens.Token.{Token}
-use Rattle.tl_query.specs.declared.tokens.Token.TheVariants.{Fixed, Word, Number}
+use Rattle.tl_query.specs.declared.tokens.Token.TheVariants.{Fixed, Word, Number, ValidFrom, ValidTo}
 use Rattle.tl_query.specs.declared.forms.Name.{Name}
 use Rattle.tl_query.specs.declared.forms.Stamp.{Stamp}
 use Rattle.tl_query.specs.declared.forms.ColumnForm.{ColumnForm}
@@ -37,50 +37,52 @@ abbrev pub columns_parts : List ColumnForm → List Token
 columns_parts [] = []
 columns_parts (c ∷ cs) = column_parts c ++ further_columns cs
 
--- CREATE TABLE name ( columns ) KEY name
-abbrev pub create_parts : CreateForm → List Token
-create_parts f = Fixed marks.Create ∷ Fixed marks.Table ∷ Word f.name ∷ Fixed marks.Open ∷ (columns_parts f.columns ++ (Fixed marks.Close ∷ Fixed marks.Key ∷ Word f.key ∷ []))
+-- VALID, or nothing
+abbrev pub valid_parts : Bool → List Token
+valid_parts true = Fixed marks.Valid ∷ []
+valid_parts false = []
 
--- a table with 1 to 16 columns, whose rows have no valid period
+-- CREATE TABLE name ( columns ) KEY name, and VALID where rows have a valid period
+abbrev pub create_parts : CreateForm → List Token
+create_parts f = Fixed marks.Create ∷ Fixed marks.Table ∷ Word f.name ∷ Fixed marks.Open ∷ (columns_parts f.columns ++ (Fixed marks.Close ∷ Fixed marks.Key ∷ Word f.key ∷ valid_parts f.valid))
+
+-- a table with 1 to 16 columns
 pub record IsCreate (f : CreateForm) : Type 0 where
   pub some : 1 ≤ length f.columns
   pub few : length f.columns ≤ 16
-  pub plain : f.valid ≡ false
 
 -- PUT name
 abbrev pub put_parts : Name → List Token
 put_parts n = Fixed marks.Put ∷ Word n ∷ []
 
--- an item: the name of a column
-abbrev pub item_parts : Item → List Token
-item_parts (items.Column n) = Word n ∷ []
-item_parts (items.ValidFrom at) = []
-item_parts (items.ValidTo at) = []
+-- REMOVE name
+abbrev pub remove_parts : Name → List Token
+remove_parts n = Fixed marks.Remove ∷ Word n ∷ []
 
--- an item is a column
-abbrev pub IsColumn : Item → Type 0
-IsColumn (items.Column n) = Unit {0}
-IsColumn (items.ValidFrom at) = ⊥
-IsColumn (items.ValidTo at) = ⊥
+-- an item: the name of a column, valid_from or valid_to
+abbrev pub item_token : Item → Token
+item_token (items.Column n) = Word n
+item_token (items.ValidFrom at) = ValidFrom at
+item_token (items.ValidTo at) = ValidTo at
 
 -- each item behind a comma
 abbrev pub further_items : List Item → List Token
-further_items xs = flat_map (λ x. Fixed marks.Comma ∷ item_parts x) xs
+further_items xs = flat_map (λ x. Fixed marks.Comma ∷ item_token x ∷ []) xs
 
 -- items, parted by commas
 abbrev pub items_parts : List Item → List Token
 items_parts [] = []
-items_parts (x ∷ xs) = item_parts x ++ further_items xs
+items_parts (x ∷ xs) = item_token x ∷ further_items xs
 
 -- what is asked for: `*` for all, or items
 abbrev pub asked_parts : Bool → List Item → List Token
 asked_parts true xs = Fixed marks.Star ∷ []
 asked_parts false xs = items_parts xs
 
--- all and no items, or one or more columns
+-- all and no items, or one or more items
 abbrev pub IsAsked : Bool → List Item → Type 0
 IsAsked true xs = xs ≡ []
-IsAsked false xs = (1 ≤ length xs) × AllByRecursion IsColumn xs
+IsAsked false xs = 1 ≤ length xs
 
 -- AS OF version, or nothing
 abbrev pub as_of_parts : Option Stamp → List Token
@@ -91,17 +93,17 @@ as_of_parts (Some s) = Fixed marks.As ∷ Fixed marks.Of ∷ Number s ∷ []
 abbrev pub select_parts : SelectForm → List Token
 select_parts f = Fixed marks.Select ∷ (asked_parts f.all f.items ++ (Fixed marks.From ∷ Word f.table ∷ as_of_parts f.as_of))
 
--- a question for all that a row has, or for one or more columns, with no test of rows
+-- a question for all that a row has, or for one or more items, with no test of rows
 pub record IsSelect (f : SelectForm) : Type 0 where
   pub asked : IsAsked f.all f.items
   pub untested : f.pred ≡ record { any = [] }
   pub timeless : f.valid_at ≡ None
 
--- The tokens spell the statement: a CREATE, a PUT or a SELECT.
+-- The tokens spell the statement: a CREATE, a PUT, a REMOVE or a SELECT.
 abbrev pub IsSpelling : List Token → Statement → Type 0
 IsSpelling ts (statements.Create f) = IsCreate f × (ts ≡ create_parts f)
 IsSpelling ts (statements.Put n) = ts ≡ put_parts n
-IsSpelling ts (statements.Remove n) = ⊥
+IsSpelling ts (statements.Remove n) = ts ≡ remove_parts n
 IsSpelling ts (statements.Ask (queries.Select f)) = IsSelect f × (ts ≡ select_parts f)
 IsSpelling ts (statements.Ask (queries.Agg f)) = ⊥
 IsSpelling ts (statements.Ask (queries.Join f)) = ⊥
@@ -120,7 +122,7 @@ pub record IsVersion (s : Stamp) : Type 0 where
   pub number : (n : ℕ) × (s.value ≡ pos n)
   pub within : s.at < 2 ^ 32
 
--- the column of an item is named
+-- the column of an item is named, and an item is at an offset in a text
 abbrev pub IsNamedItem : Item → Type 0
 IsNamedItem (items.Column n) = IsNamed n
 IsNamedItem (items.ValidFrom at) = at < 2 ^ 32

@@ -1,31 +1,33 @@
 -- The fixed words and symbols of the language.
 use Rattle.std.specs.Prelude.{ℕ, Bool, ◌==◌}
 use Rattle.tl_query.specs.declared.marks.Mark.{Mark}
-use Rattle.tl_query.specs.declared.marks.Mark.TheVariants.{Create, Table, Key, Int, Text, Put, Select, From, As, Of, Open, Close, Comma, Semicolon, Star, Equal, Unequal, Less, AtMost, Greater, AtLeast}
+use Rattle.tl_query.specs.declared.marks.Mark.TheVariants.{Create, Table, Key, Valid, Int, Text, Put, Remove, Select, From, As, Of, Open, Close, Comma, Semicolon, Star, Equal, Unequal, Less, AtMost, Greater, AtLeast}
 
 -- the place of a mark among them
 abbrev pub place : Mark → ℕ
 place Create = 0
 place Table = 1
 place Key = 2
-place Int = 3
-place Text = 4
-place Put = 5
-place Select = 6
-place From = 7
-place As = 8
-place Of = 9
-place Open = 10
-place Close = 11
-place Comma = 12
-place Semicolon = 13
-place Star = 14
-place Equal = 15
-place Unequal = 16
-place Less = 17
-place AtMost = 18
-place Greater = 19
-place AtLeast = 20
+place Valid = 3
+place Int = 4
+place Text = 5
+place Put = 6
+place Remove = 7
+place Select = 8
+place From = 9
+place As = 10
+place Of = 11
+place Open = 12
+place Close = 13
+place Comma = 14
+place Semicolon = 15
+place Star = 16
+place Equal = 17
+place Unequal = 18
+place Less = 19
+place AtMost = 20
+place Greater = 21
+place AtLeast = 22
 
 -- two marks are the same
 abbrev pub same_mark : Mark → Mark → Bool

@@ -6,7 +6,7 @@ use Rattle.tl_types.specs.declared.cells.ColumnKind.TheVariants as kinds
 use Rattle.tl_query.specs.declared.marks.Mark.{Mark}
 use Rattle.tl_query.specs.declared.marks.Mark.TheVariants as marks
 use Rattle.tl_query.specs.declared.tokens.Token.{Token}
-use Rattle.tl_query.specs.declared.tokens.Token.TheVariants.{Fixed, Word, Number}
+use Rattle.tl_query.specs.declared.tokens.Token.TheVariants.{Fixed, Word, Number, ValidFrom, ValidTo}
 use Rattle.tl_query.specs.declared.tokens.Placed.{Placed}
 use Rattle.tl_query.specs.declared.forms.Name.{Name}
 use Rattle.tl_query.specs.declared.forms.Stamp.{Stamp}
@@ -62,6 +62,13 @@ abbrev pub name_of : Token → Option Name
 name_of (Word n) = Some n
 name_of _ = None
 
+-- the item that the token is
+abbrev pub item_of : Token → Option Item
+item_of (Word n) = Some (items.Column n)
+item_of (ValidFrom at) = Some (items.ValidFrom at)
+item_of (ValidTo at) = Some (items.ValidTo at)
+item_of _ = None
+
 -- the number without a sign that the token is
 abbrev pub version_of : Token → Option Stamp
 version_of (Number s) = Some s
@@ -80,6 +87,11 @@ expect m ts = where_some (after m ts) (Err (place_of ts)) (λ rest. Ok rest)
 unfoldable pub name_at : List Placed → Result (Name × List Placed) (Option ℕ)
 name_at [] = Err None
 name_at (p ∷ ts) = where_some (name_of p.token) (Err (Some p.at)) (λ n. Ok (n, ts))
+
+-- the item at the front
+unfoldable pub item_at : List Placed → Result (Item × List Placed) (Option ℕ)
+item_at [] = Err None
+item_at (p ∷ ts) = where_some (item_of p.token) (Err (Some p.at)) (λ x. Ok (x, ts))
 
 -- the number without a sign at the front
 unfoldable pub version_at : List Placed → Result (Stamp × List Placed) (Option ℕ)
@@ -125,6 +137,10 @@ columns_at ts = do
   first ← column_at ts
   in_front first.0 (further_columns_at 15 first.1)
 
+-- whether VALID comes
+unfoldable pub valid_at : List Placed → Result (Bool × List Placed) (Option ℕ)
+valid_at ts = where_some (after marks.Valid ts) (Ok (false, ts)) (λ rest. Ok (true, rest))
+
 -- what follows CREATE
 unfoldable pub create_at : List Placed → Result Statement (Option ℕ)
 create_at ts = do
@@ -135,7 +151,8 @@ create_at ts = do
   close ← expect marks.Close columns.1
   word ← expect marks.Key close
   key ← name_at word
-  ended (statements.Create (record { name = name.0; columns = columns.0; key = key.0; valid = false })) key.1
+  valid ← valid_at key.1
+  ended (statements.Create (record { name = name.0; columns = columns.0; key = key.0; valid = valid.0 })) valid.1
 
 -- what follows PUT
 unfoldable pub put_at : List Placed → Result Statement (Option ℕ)
@@ -143,10 +160,16 @@ put_at ts = do
   name ← name_at ts
   ended (statements.Put name.0) name.1
 
+-- what follows REMOVE
+unfoldable pub remove_at : List Placed → Result Statement (Option ℕ)
+remove_at ts = do
+  name ← name_at ts
+  ended (statements.Remove name.0) name.1
+
 -- items: true where one has to come, false where one came
 unfoldable pub items_at : Bool → List Placed → Result (List Item × List Placed) (Option ℕ)
 items_at true [] = Err None
-items_at true (p ∷ ts) = where_some (name_of p.token) (Err (Some p.at)) (λ n. in_front (items.Column n) (items_at false ts))
+items_at true (p ∷ ts) = where_some (item_of p.token) (Err (Some p.at)) (λ x. in_front x (items_at false ts))
 items_at false [] = Ok ([], [])
 items_at false (p ∷ ts) = if is_fixed marks.Comma p.token then items_at true ts else Ok ([], p ∷ ts)
 
@@ -172,5 +195,6 @@ unfoldable pub statement_at : List Placed → Result Statement (Option ℕ)
 statement_at ts =
     where_some (after marks.Create ts) (
     where_some (after marks.Put ts) (
+    where_some (after marks.Remove ts) (
     where_some (after marks.Select ts) (
-    Err (place_of ts)) select_at) put_at) create_at
+    Err (place_of ts)) select_at) remove_at) put_at) create_at

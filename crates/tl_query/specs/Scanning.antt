@@ -5,7 +5,7 @@ use Rattle.tl_types.specs.Names.{same_bytes, is_digit, begins_word, continues_wo
 use Rattle.tl_query.specs.declared.marks.Mark.{Mark}
 use Rattle.tl_query.specs.declared.marks.Mark.TheVariants as marks
 use Rattle.tl_query.specs.declared.tokens.Token.{Token}
-use Rattle.tl_query.specs.declared.tokens.Token.TheVariants.{Fixed, Word, Number, Negative, Quoted, Stray}
+use Rattle.tl_query.specs.declared.tokens.Token.TheVariants.{Fixed, Word, Number, ValidFrom, ValidTo, Negative, Quoted, Stray}
 use Rattle.tl_query.specs.declared.tokens.Placed.{Placed}
 use Rattle.tl_query.specs.declared.scanning.Piece.{Piece}
 use Rattle.tl_query.specs.declared.scanning.Scanned.{Scanned}
@@ -26,18 +26,28 @@ keyword_of word =
     if same_bytes word (codes "CREATE") then Some marks.Create else
     if same_bytes word (codes "TABLE") then Some marks.Table else
     if same_bytes word (codes "KEY") then Some marks.Key else
+    if same_bytes word (codes "VALID") then Some marks.Valid else
     if same_bytes word (codes "INT") then Some marks.Int else
     if same_bytes word (codes "TEXT") then Some marks.Text else
     if same_bytes word (codes "PUT") then Some marks.Put else
+    if same_bytes word (codes "REMOVE") then Some marks.Remove else
     if same_bytes word (codes "SELECT") then Some marks.Select else
     if same_bytes word (codes "FROM") then Some marks.From else
     if same_bytes word (codes "AS") then Some marks.As else
     if same_bytes word (codes "OF") then Some marks.Of else
     None
 
+-- the token that a word at this offset is, where it is none of the fixed words
+unfoldable pub other_token : ℕ → List ℕ → Token
+other_token at word =
+    if same_bytes word (codes "valid_from") then ValidFrom at else
+    if same_bytes word (codes "valid_to") then ValidTo at else
+    if is_name word then Word (record { text = word; at = at }) else
+    Stray
+
 -- the token that a word at this offset is
 unfoldable pub word_token : ℕ → List ℕ → Token
-word_token at word = elim (keyword_of word) [ Some mark ↦ Fixed mark | None ↦ if is_name word then Word (record { text = word; at = at }) else Stray ]
+word_token at word = elim (keyword_of word) [ Some mark ↦ Fixed mark | None ↦ other_token at word ]
 
 -- the word at the front
 unfoldable pub word_piece : ℕ → List ℕ → Piece

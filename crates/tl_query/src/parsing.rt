@@ -69,7 +69,7 @@ pub fn parse(alloc: Global, text: &str) -> Result<Statement, TextFault>
 #[cfg(test)]
 mod tests {
     use super::*;
-    use crate::forms::Query;
+    use crate::forms::{Item, Query};
     use std::test::Fail;
     use tl_types::ColumnKind;
 
@@ -107,6 +107,15 @@ mod tests {
             ("SELECT *, k FROM t", TextFault::Unexpected { at: 8 }),
             ("SELECT k, * FROM t", TextFault::Unexpected { at: 10 }),
             ("SELECT FROM t", TextFault::Unexpected { at: 7 }),
+            (
+                "CREATE TABLE t (k INT) VALID",
+                TextFault::Unexpected { at: 23 },
+            ),
+            (
+                "CREATE TABLE t (valid_to INT) KEY k",
+                TextFault::Unexpected { at: 16 },
+            ),
+            ("REMOVE valid_from", TextFault::Unexpected { at: 7 }),
             ("", TextFault::Unexpected { at: 0 }),
         ];
         for (text, fault) in cases.iter() {
@@ -132,6 +141,34 @@ mod tests {
             matches!(&create, Statement::Create(form)
             if matches!(form.columns.as_slice(), [first, second]
                 if first.kind == ColumnKind::IntKind && second.kind == ColumnKind::TextKind))
+        );
+        Ok(())
+    }
+
+    #[test]
+    fn removes(rt: HostRuntime) -> Result<(), Fail> {
+        let remove = parse(rt.alloc(), "REMOVE t").ok().ok_or("remove")?;
+        assert!(rt; matches!(&remove, Statement::Remove(name) if name.at == 7));
+        Ok(())
+    }
+
+    #[test]
+    fn creates_with_valid_time(rt: HostRuntime) -> Result<(), Fail> {
+        let create = parse(rt.alloc(), "CREATE TABLE t (k INT) KEY k VALID")
+            .ok()
+            .ok_or("create")?;
+        assert!(rt; matches!(&create, Statement::Create(form) if form.valid));
+        Ok(())
+    }
+
+    #[test]
+    fn selects_ends(rt: HostRuntime) -> Result<(), Fail> {
+        let select = parse(rt.alloc(), "SELECT valid_to, valid_from FROM t")
+            .ok()
+            .ok_or("select")?;
+        assert!(rt;
+            matches!(&select, Statement::Ask(Query::Select(form))
+            if matches!(form.items.as_slice(), [Item::ValidTo(7), Item::ValidFrom(17)]))
         );
         Ok(())
     }

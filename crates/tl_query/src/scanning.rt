@@ -3,7 +3,7 @@ ghost use Rattle.std.specs.Prelude.{◌≡◌, ℕ, ◌+◌, ◌-◌, ◌^◌, �
 ghost use Rattle.std.specs.List.{prefix_len};
 ghost use Rattle.std.specs.Str.{IsAscii};
 ghost use Rattle.tl_types.specs.Names.{is_digit, continues_word};
-ghost use Rattle.tl_query.specs.Scanning.{is_blank, number_of, keyword_of, word_token, word_piece, number_piece, negative_piece, closing, quoted_piece, symbol, less_piece, greater_piece, symbol_piece, piece_of, placed, seen, scan};
+ghost use Rattle.tl_query.specs.Scanning.{is_blank, number_of, keyword_of, other_token, word_token, word_piece, number_piece, negative_piece, closing, quoted_piece, symbol, less_piece, greater_piece, symbol_piece, piece_of, placed, seen, scan};
 
 use crate::faults::TextFault;
 use crate::forms::{Name, Stamp};
@@ -76,6 +76,9 @@ fn keyword_of(word: &str) -> Option<Mark>
     if word == "KEY" {
         return Some(Mark::Key);
     }
+    if word == "VALID" {
+        return Some(Mark::Valid);
+    }
     if word == "INT" {
         return Some(Mark::Int);
     }
@@ -84,6 +87,9 @@ fn keyword_of(word: &str) -> Option<Mark>
     }
     if word == "PUT" {
         return Some(Mark::Put);
+    }
+    if word == "REMOVE" {
+        return Some(Mark::Remove);
     }
     if word == "SELECT" {
         return Some(Mark::Select);
@@ -100,18 +106,31 @@ fn keyword_of(word: &str) -> Option<Mark>
     None
 }
 
-#[tactic(auto, unfolding(crate::specs::Scanning::word_token))]
-fn word_token(alloc: Global, at: u32, word: &str) -> Result<Token, AllocError>
-    ensures { IfOk result (λ token. token ≡ word_token at word.now) }
+#[tactic(auto, unfolding(crate::specs::Scanning::other_token))]
+fn other_token(alloc: Global, at: u32, word: &str) -> Result<Token, AllocError>
+    ensures { IfOk result (λ token. token ≡ other_token at word.now) }
 {
-    if let Some(mark) = keyword_of(word) {
-        return Ok(Token::Fixed(mark));
+    if word == "valid_from" {
+        return Ok(Token::ValidFrom(at));
+    }
+    if word == "valid_to" {
+        return Ok(Token::ValidTo(at));
     }
     if !is_name(word) {
         return Ok(Token::Stray);
     }
     let text = Text::new(alloc, word)?;
     Ok(Token::Word(Name { text, at }))
+}
+
+#[tactic(auto, unfolding(crate::specs::Scanning::word_token))]
+fn word_token(alloc: Global, at: u32, word: &str) -> Result<Token, AllocError>
+    ensures { IfOk result (λ token. token ≡ word_token at word.now) }
+{
+    match keyword_of(word) {
+        Some(mark) => Ok(Token::Fixed(mark)),
+        None => other_token(alloc, at, word),
+    }
 }
 
 /// Bytes of ASCII as a text.

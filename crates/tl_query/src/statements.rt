@@ -1,6 +1,6 @@
 //! Reading the tokens of a statement, from left to right.
 ghost use Rattle.std.specs.Prelude.{◌≡◌, ◌+◌, ◌-◌, ◌<◌, ◌≤◌, length, Some, None, Ok, Err, IfOk, IfSome, MatchOption, true, false};
-ghost use Rattle.tl_query.specs.Reading.{IsStopAt, Gives, place_of, is_fixed, after, expect, name_at, version_at, ended, text_kind_at, kind_at, column_at, columns_at, create_at, put_at, items_at, asked_at, as_of_at, select_at, statement_at};
+ghost use Rattle.tl_query.specs.Reading.{IsStopAt, Gives, place_of, is_fixed, after, expect, name_at, item_at, version_at, ended, text_kind_at, kind_at, column_at, columns_at, valid_at, create_at, put_at, remove_at, items_at, asked_at, as_of_at, select_at, statement_at};
 
 use crate::forms::{ColumnForm, CreateForm, Item, Name, Pred, Query, SelectForm, Stamp, Statement};
 use crate::marks::{Mark, same_mark};
@@ -102,6 +102,22 @@ fn name_at(tokens: &[Placed]) -> Result<(Name, &[Placed]), Stop>
     }
 }
 
+#[tactic(auto, unfolding(crate::specs::Reading::item_at))]
+fn item_at(tokens: &[Placed]) -> Result<(Item, &[Placed]), Stop>
+    ensures value { Gives (λ x. (x.0, x.1.now)) result (item_at tokens.now) }
+    ensures shorter { IfOk result (λ x. length x.1.now < length tokens.now) }
+{
+    match tokens {
+        [] => Err(Stop::End),
+        [first, rest @ ..] => match &first.token {
+            Token::Word(name) => Ok((Item::Column(name.copied()?), rest)),
+            Token::ValidFrom(at) => Ok((Item::ValidFrom(*at), rest)),
+            Token::ValidTo(at) => Ok((Item::ValidTo(*at), rest)),
+            _ => Err(Stop::Token(first.at)),
+        },
+    }
+}
+
 #[tactic(auto, unfolding(crate::specs::Reading::version_at))]
 fn version_at(tokens: &[Placed]) -> Result<(Stamp, &[Placed]), Stop>
     ensures { Gives (λ x. (x.0, x.1.now)) result (version_at tokens.now) }
@@ -172,6 +188,16 @@ fn columns_at(alloc: Global, tokens: &[Placed]) -> Result<(Seq<ColumnForm>, &[Pl
     Ok((Seq::from_vec(columns), rest))
 }
 
+#[tactic(auto, unfolding(crate::specs::Reading::valid_at))]
+fn valid_at(tokens: &[Placed]) -> (bool, &[Placed])
+    ensures { valid_at tokens.now ≡ Ok (result.0, result.1.now) }
+{
+    match after(tokens, Mark::Valid) {
+        Some(rest) => (true, rest),
+        None => (false, tokens),
+    }
+}
+
 #[tactic(auto, unfolding(crate::specs::Reading::create_at))]
 fn create_at(alloc: Global, tokens: &[Placed]) -> Result<Statement, Stop>
     ensures { Gives (λ s. s) result (create_at tokens.now) }
@@ -183,7 +209,7 @@ fn create_at(alloc: Global, tokens: &[Placed]) -> Result<Statement, Stop>
     let rest = expect(rest, Mark::Close)?;
     let rest = expect(rest, Mark::Key)?;
     let (key, rest) = name_at(rest)?;
-    let valid = false;
+    let (valid, rest) = valid_at(rest);
     ended(
         Statement::Create(CreateForm {
             name,
@@ -203,16 +229,24 @@ fn put_at(tokens: &[Placed]) -> Result<Statement, Stop>
     ended(Statement::Put(name), rest)
 }
 
+#[tactic(auto, unfolding(crate::specs::Reading::remove_at))]
+fn remove_at(tokens: &[Placed]) -> Result<Statement, Stop>
+    ensures { Gives (λ s. s) result (remove_at tokens.now) }
+{
+    let (name, rest) = name_at(tokens)?;
+    ended(Statement::Remove(name), rest)
+}
+
 #[tactic(auto, unfolding(crate::specs::Reading::items_at))]
 fn items_at(alloc: Global, tokens: &[Placed]) -> Result<(Seq<Item>, &[Placed]), Stop>
     ensures { Gives (λ x. (x.0, x.1.now)) result (items_at true tokens.now) }
 {
-    let (first, mut rest) = name_at(tokens)?;
+    let (first, mut rest) = item_at(tokens)?;
     let mut items = Vec::new(alloc);
-    items.push(Item::Column(first))?;
+    items.push(first)?;
     while let Some(next) = after(rest, Mark::Comma) {
-        let (name, behind) = name_at(next)?;
-        items.push(Item::Column(name))?;
+        let (item, behind) = item_at(next)?;
+        items.push(item)?;
         rest = behind;
     }
     Ok((Seq::from_vec(items), rest))
@@ -272,6 +306,9 @@ pub(crate) fn statement_at(alloc: Global, tokens: &[Placed]) -> Result<Statement
     }
     if let Some(rest) = after(tokens, Mark::Put) {
         return put_at(rest);
+    }
+    if let Some(rest) = after(tokens, Mark::Remove) {
+        return remove_at(rest);
     }
     if let Some(rest) = after(tokens, Mark::Select) {
         return select_at(alloc, rest);

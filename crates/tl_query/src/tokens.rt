@@ -11,6 +11,10 @@ pub(crate) enum Token {
     Word(Name),
     /// A number spelled without `-`.
     Number(Stamp),
+    /// `valid_from`, and its byte offset.
+    ValidFrom(u32),
+    /// `valid_to`, and its byte offset.
+    ValidTo(u32),
     /// A number spelled with `-`.
     Negative,
     /// A text constant.

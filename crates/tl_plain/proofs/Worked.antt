@@ -1,5 +1,5 @@
 -- A worked history: a table of employees, two rows, one of them changed, the other removed and put again.
-use Rattle.std.proofs.Common.{◌≡◌, ℕ, true, false, pos, List, [], ◌∷◌, None, refl, codes}
+use Rattle.std.proofs.Common.{◌≡◌, ℕ, ℤ, true, false, pos, negsuc, List, [], ◌∷◌, Some, None, refl, codes}
 use Rattle.tl_types.specs.declared.cells.Cell.TheVariants as cell
 use Rattle.tl_types.specs.declared.cells.ColumnKind.TheVariants.{IntKind, TextKind}
 use Rattle.tl_types.specs.declared.commits.Commit.{Commit}
@@ -86,3 +86,16 @@ answer_at_four = refl
 
 answer_at_none : answer_of (database_of history) (asked 0) ≡ []
 answer_at_none = refl
+
+-- the same table with valid periods, of which one has no end: the greatest number is FOREVER as an end alone
+abbrev period : ℤ → ℤ → plain.Period
+period from to = record { from = from; to = to }
+
+abbrev valid_history : List Commit
+valid_history =
+    record { author = 0; body = body.Create (record { name = codes "emp"; columns = schema.columns; key = 0; valid = true }) }
+    ∷ change [] (record { cells = cell.Int (pos 1) ∷ cell.Text (codes "ops") ∷ cell.Int plain.forever ∷ []; period = Some (period (pos 5) plain.forever) } ∷ record { cells = cell.Int (pos 2) ∷ cell.Text (codes "dev") ∷ cell.Int (pos 50) ∷ []; period = Some (period (negsuc 9) (pos 20)) } ∷ [])
+    ∷ []
+
+pay_and_ends : answer_of (database_of valid_history) (typed.Select 0 (item.Column 2 ∷ item.ValidFrom ∷ item.ValidTo ∷ []) (record { any = [] }) None 2) ≡ (field.Number (pos 9223372036854775807) ∷ field.Number (pos 5) ∷ field.Forever ∷ []) ∷ (field.Number (pos 50) ∷ field.Number (negsuc 9) ∷ field.Number (pos 20) ∷ []) ∷ []
+pay_and_ends = refl

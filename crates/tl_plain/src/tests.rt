@@ -1,4 +1,5 @@
-//! A worked history: a table of employees, two rows, of which one is changed, and the other removed and put again.
+//! A worked history: a table of employees, two rows, of which one is changed, and the other removed and put again;
+//! and the same table with valid periods.
 ghost use Rattle.std.specs.Prelude.{◌≤◌, ◌<◌, ◌^◌, IfOk, IsTrue, length};
 ghost use Rattle.tl_query.specs.Answers.{is_bare};
 
@@ -7,8 +8,8 @@ use std::alloc::Global;
 use std::test::Fail;
 use tl_query::{Typed, TypedItem, TypedPred};
 use tl_types::{
-    Body, Cell, Change, Column, ColumnKind, Commit, Field, Limits, NoMemory, Opened, Schema, Seq,
-    Text,
+    Body, Cell, Change, Column, ColumnKind, Commit, Field, Limits, NoMemory, Opened, Period,
+    Schema, Seq, Text,
 };
 
 fn column(alloc: Global, name: &str, kind: ColumnKind) -> Result<Column, NoMemory>
@@ -20,26 +21,38 @@ fn column(alloc: Global, name: &str, kind: ColumnKind) -> Result<Column, NoMemor
     })
 }
 
-fn create(alloc: Global) -> Result<Option<Commit>, NoMemory> {
+fn create(alloc: Global, valid: bool) -> Result<Option<Commit>, NoMemory> {
     let mut columns = Vec::new(alloc);
     columns.push(column(alloc, "id", ColumnKind::IntKind)?)?;
     columns.push(column(alloc, "dept", ColumnKind::TextKind)?)?;
     columns.push(column(alloc, "pay", ColumnKind::IntKind)?)?;
-    let schema = Schema::new(Text::new(alloc, "emp")?, Seq::from_vec(columns), 0, false);
+    let schema = Schema::new(Text::new(alloc, "emp")?, Seq::from_vec(columns), 0, valid);
     Ok(schema.map(|schema| Commit {
         author: 0,
         body: Body::Create(schema),
     }))
 }
 
-fn opened(alloc: Global, id: i64, dept: &str, pay: i64) -> Result<Opened, NoMemory>
+fn opened_at(
+    alloc: Global,
+    id: i64,
+    dept: &str,
+    pay: i64,
+    period: Option<Period>,
+) -> Result<Opened, NoMemory>
     requires { length dept.now ≤ 65535 }
 {
     let mut cells = Vec::new(alloc);
     cells.push(Cell::Int(id))?;
     cells.push(Cell::Text(Text::new(alloc, dept)?))?;
     cells.push(Cell::Int(pay))?;
-    Ok(Opened::new(Seq::from_vec(cells), None))
+    Ok(Opened::new(Seq::from_vec(cells), period))
+}
+
+fn opened(alloc: Global, id: i64, dept: &str, pay: i64) -> Result<Opened, NoMemory>
+    requires { length dept.now ≤ 65535 }
+{
+    opened_at(alloc, id, dept, pay, None)
 }
 
 fn change(alloc: Global, closed: Option<u32>, opens: Vec<Opened>) -> Result<Commit, NoMemory>
@@ -90,13 +103,33 @@ fn changes(alloc: Global) -> Result<Vec<Commit>, NoMemory> {
 /// The tables after the worked history, as far as its commits fit.
 fn worked(alloc: Global) -> Result<Tables, NoMemory> {
     let mut tables = Tables::empty(alloc);
-    if let Some(commit) = create(alloc)? {
+    if let Some(commit) = create(alloc, false)? {
         let _ = applied(alloc, &mut tables, &commit)?;
     }
     let commits = changes(alloc)?;
     for commit in &commits {
         let _ = applied(alloc, &mut tables, commit)?;
     }
+    Ok(tables)
+}
+
+/// The rows of a table with valid periods: of one the pay is the greatest number and the period has no end, of the
+/// other the period has one.
+fn periods(alloc: Global) -> Result<Commit, NoMemory> {
+    let mut opens = Vec::new(alloc);
+    let endless = Period::new(5, Period::FOREVER);
+    opens.push(opened_at(alloc, 1, "ops", i64::MAX, Some(endless))?)?;
+    opens.push(opened_at(alloc, 2, "dev", 50, Some(Period::new(-10, 20)))?)?;
+    change(alloc, None, opens)
+}
+
+/// The tables after the table with valid periods and its rows, as far as these fit.
+fn worked_periods(alloc: Global) -> Result<Tables, NoMemory> {
+    let mut tables = Tables::empty(alloc);
+    if let Some(commit) = create(alloc, true)? {
+        let _ = applied(alloc, &mut tables, &commit)?;
+    }
+    let _ = applied(alloc, &mut tables, &periods(alloc)?)?;
     Ok(tables)
 }
 
@@ -119,16 +152,16 @@ fn shown_row(alloc: Global, row: &[Field]) -> Result<String, NoMemory> {
     Ok(shown)
 }
 
-fn select(alloc: Global, version: u32, places: &[u8]) -> Result<Typed, NoMemory>
+fn select(alloc: Global, version: u32, items: &[TypedItem]) -> Result<Typed, NoMemory>
     ensures { IfOk result (λ query. IsTrue (is_bare query)) }
 {
-    let mut items = Vec::new(alloc);
-    for place in places {
-        items.push(TypedItem::Column(*place))?;
+    let mut asked = Vec::new(alloc);
+    for item in items {
+        asked.push(*item)?;
     }
     Ok(Typed::Select {
         table: 0,
-        items: Seq::from_vec(items),
+        items: Seq::from_vec(asked),
         pred: TypedPred {
             any: Seq::new(alloc),
         },
@@ -137,14 +170,14 @@ fn select(alloc: Global, version: u32, places: &[u8]) -> Result<Typed, NoMemory>
     })
 }
 
-/// The answer at a version to a question for these columns, each field with a comma behind it, each row with a bar.
+/// The answer at a version to a question for these items, each field with a comma behind it, each row with a bar.
 fn answered(
     alloc: Global,
     tables: &Tables,
     version: u32,
-    places: &[u8],
+    items: &[TypedItem],
 ) -> Result<String, NoMemory> {
-    let query = select(alloc, version, places)?;
+    let query = select(alloc, version, items)?;
     let answer = answer_plain(alloc, tables, &query)?;
     let mut shown = String::new(alloc);
     for row in answer.rows.as_slice() {
@@ -157,8 +190,9 @@ fn answered(
 /// Whether the answers at the versions from 0 on are these.
 fn answers_are(alloc: Global, tables: &Tables, expected: &[&str]) -> Result<bool, NoMemory> {
     let mut same = true;
+    let items = [TypedItem::Column(0), TypedItem::Column(2)];
     for (version, answer) in expected.iter().enumerate() {
-        let shown = answered(alloc, tables, (version % 8) as u32, &[0, 2])?;
+        let shown = answered(alloc, tables, (version % 8) as u32, &items)?;
         same = same && shown.as_str() == *answer;
     }
     Ok(same)
@@ -177,8 +211,39 @@ fn answers(rt: HostRuntime) -> Result<(), Fail> {
         "1,150,|2,50,|",
     ];
     assert!(rt; answers_are(alloc, &tables, &expected)?);
-    let departments = answered(alloc, &tables, 2, &[1, 0])?;
-    assert_eq!(rt; departments.as_str(), "ops,1,|dev,2,|");
+    let items = [
+        TypedItem::Column(1),
+        TypedItem::Column(0),
+        TypedItem::ValidTo,
+    ];
+    let departments = answered(alloc, &tables, 2, &items)?;
+    assert_eq!(rt; departments.as_str(), "ops,1,,|dev,2,,|");
+    Ok(())
+}
+
+#[test]
+fn ends(rt: HostRuntime) -> Result<(), Fail> {
+    let alloc = rt.alloc();
+    let tables = worked_periods(alloc)?;
+    let items = [
+        TypedItem::Column(0),
+        TypedItem::Column(1),
+        TypedItem::Column(2),
+        TypedItem::ValidFrom,
+        TypedItem::ValidTo,
+    ];
+    let all = answered(alloc, &tables, 2, &items)?;
+    assert_eq!(rt;
+        all.as_str(),
+        "1,ops,9223372036854775807,5,FOREVER,|2,dev,50,-10,20,|"
+    );
+    let ends = answered(
+        alloc,
+        &tables,
+        2,
+        &[TypedItem::ValidTo, TypedItem::ValidFrom],
+    )?;
+    assert_eq!(rt; ends.as_str(), "FOREVER,5,|20,-10,|");
     Ok(())
 }
 

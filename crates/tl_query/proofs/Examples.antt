@@ -86,6 +86,24 @@ no_such_table : IsFault (codes "SELECT k FROM valid_from") (Unexpected 14)
 unfolding text_read scan piece_at word_piece word_token other_token number_piece negative_piece quoted_piece symbol_piece keyword_of closing statement_words table_words clause_words range_words after expect name_at item_at version_at ended text_kind_at kind_at column_at further_columns_at columns_at valid_at create_at put_at remove_at items_at asked_at as_of_at select_at statement_at
 no_such_table = read_fault (codes "SELECT k FROM valid_from") (Unexpected 14) refl
 
+-- VALID, REMOVE and the ends of the period where they cannot stand, or where something lacks
+misplaced : IsFault (codes "CREATE TABLE t (k INT) KEY k VALI") (Unexpected 29) × IsFault (codes "CREATE TABLE t (k INT) KEY k VALID x") (Unexpected 35) × IsFault (codes "REMOVE") (Unexpected 6) × IsFault (codes "REMOVE 5") (Unexpected 7) × IsFault (codes "REMOVE t x") (Unexpected 9) × IsFault (codes "SELECT valid_to, FROM t") (Unexpected 17) × IsFault (codes "SELECT valid_from valid_to FROM t") (Unexpected 18)
+unfolding text_read scan piece_at word_piece word_token other_token number_piece negative_piece quoted_piece symbol_piece keyword_of closing statement_words table_words clause_words range_words after expect name_at item_at version_at ended text_kind_at kind_at column_at further_columns_at columns_at valid_at create_at put_at remove_at items_at asked_at as_of_at select_at statement_at
+misplaced = (
+  read_fault (codes "CREATE TABLE t (k INT) KEY k VALI") (Unexpected 29) refl,
+  read_fault (codes "CREATE TABLE t (k INT) KEY k VALID x") (Unexpected 35) refl,
+  read_fault (codes "REMOVE") (Unexpected 6) refl,
+  read_fault (codes "REMOVE 5") (Unexpected 7) refl,
+  read_fault (codes "REMOVE t x") (Unexpected 9) refl,
+  read_fault (codes "SELECT valid_to, FROM t") (Unexpected 17) refl,
+  read_fault (codes "SELECT valid_from valid_to FROM t") (Unexpected 18) refl,
+)
+
+-- a word that is nearly an end names a column
+nearly : Spells (codes "SELECT validfrom FROM t") (statements.Ask (queries.Select (record { all = false; items = Column (record { text = codes "validfrom"; at = 7 }) ∷ []; table = record { text = codes "t"; at = 22 }; pred = record { any = [] }; valid_at = None; as_of = None })))
+unfolding text_read scan piece_at word_piece word_token other_token number_piece negative_piece quoted_piece symbol_piece keyword_of closing statement_words table_words clause_words range_words after expect name_at item_at version_at ended text_kind_at kind_at column_at further_columns_at columns_at valid_at create_at put_at remove_at items_at asked_at as_of_at select_at statement_at
+nearly = read_spelled (codes "SELECT validfrom FROM t") _ refl
+
 -- CHECKS
 
 -- a table of a number, a text and a number, with valid time or without

@@ -22,20 +22,22 @@ pub struct Stamp {
     pub at: u32,
 }
 
-/// One statement.
+/// One statement. Texts spell those of the first three variants, and the questions for rows.
 #[derive(Debug, Drop, PartialEq, Eq)]
 pub enum Statement {
-    /// Makes a table.
+    /// `CREATE TABLE`: makes a table.
     Create(CreateForm),
-    /// Puts the rows of a block into the named table.
+    /// `PUT name`: puts the rows of the statement's block into the named table.
     Put(Name),
-    /// Removes the rows of a block from the named table.
+    /// `REMOVE name`: ends the rows of the named table whose keys the statement's block lists, in a table with
+    /// valid periods for the periods beside the keys.
     Remove(Name),
     /// Asks for an answer.
     Ask(Query),
 }
 
-/// The making of a table.
+/// The making of a table: `CREATE TABLE name (columns) KEY key`, and `VALID` at its end where rows have a valid
+/// period.
 #[derive(Debug, Drop, PartialEq, Eq)]
 pub struct CreateForm {
     /// The table's name.
@@ -44,7 +46,7 @@ pub struct CreateForm {
     pub columns: Seq<ColumnForm>,
     /// The name of its key column.
     pub key: Name,
-    /// Whether its rows have a valid period.
+    /// Whether its rows have a valid period: `VALID` stands at the end.
     pub valid: bool,
 }
 
@@ -62,24 +64,25 @@ pub struct ColumnForm {
 pub enum Query {
     /// Rows of one table.
     Select(SelectForm),
-    /// An aggregate over time.
+    /// An aggregate over time; no text spells one yet.
     Agg(AggForm),
-    /// A join over time.
+    /// A join over time; no text spells one yet.
     Join(JoinForm),
 }
 
 /// One item of a row that is asked for.
 #[derive(Debug, Drop, PartialEq, Eq)]
 pub enum Item {
-    /// A column.
+    /// A column, by its name.
     Column(Name),
-    /// The first valid time; the byte offset of the word.
+    /// `valid_from`, the first valid time of the row; the byte offset of the word.
     ValidFrom(u32),
-    /// The end of the valid time; the byte offset of the word.
+    /// `valid_to`, the valid time at which the row's period has ended; the byte offset of the word.
     ValidTo(u32),
 }
 
-/// A question for rows.
+/// A question for rows: `SELECT` with `*` or one or more items, parted by commas, then `FROM table`, and
+/// `AS OF version` where a version is given. What a text spells has no predicate and no valid time yet.
 #[derive(Debug, Drop, PartialEq, Eq)]
 pub struct SelectForm {
     /// Whether `*` stands for the items; then `items` is empty.

@@ -41,7 +41,10 @@ fn read(alloc: Global, text: &str) -> Result<Statement, TextFault>
     }
 }
 
-/// The statement that the text spells, whose offsets count bytes from the text's first. The error is the
+/// The statement that the text spells, whose offsets count bytes from the text's first: a
+/// `CREATE TABLE name (column INT or TEXT, ..) KEY name [VALID]`, `PUT name`, `REMOVE name`, or
+/// `SELECT items FROM name [AS OF version]`, where the items are `*`, or column names, `valid_from` and
+/// `valid_to` in any order. A word `valid_from` or `valid_to` is no name. The error is the
 /// text's fault, or want of memory, which leaves nothing behind: `QueryTooLong` for more than 65,536 bytes;
 /// else the fault of least offset: `BadByte` where no token begins, `OpenText` at a text constant that
 /// isn't closed, `NumberTooLarge` at a number that isn't an i64, and `Unexpected` at a token that no
@@ -115,7 +118,23 @@ mod tests {
                 "CREATE TABLE t (valid_to INT) KEY k",
                 TextFault::Unexpected { at: 16 },
             ),
+            (
+                "CREATE TABLE t (k INT) KEY k VALI",
+                TextFault::Unexpected { at: 29 },
+            ),
+            (
+                "CREATE TABLE t (k INT) KEY k VALID x",
+                TextFault::Unexpected { at: 35 },
+            ),
+            ("REMOVE", TextFault::Unexpected { at: 6 }),
+            ("REMOVE 5", TextFault::Unexpected { at: 7 }),
+            ("REMOVE t x", TextFault::Unexpected { at: 9 }),
             ("REMOVE valid_from", TextFault::Unexpected { at: 7 }),
+            ("SELECT valid_to, FROM t", TextFault::Unexpected { at: 17 }),
+            (
+                "SELECT valid_from valid_to FROM t",
+                TextFault::Unexpected { at: 18 },
+            ),
             ("", TextFault::Unexpected { at: 0 }),
         ];
         for (text, fault) in cases.iter() {
@@ -163,12 +182,12 @@ mod tests {
 
     #[test]
     fn selects_ends(rt: HostRuntime) -> Result<(), Fail> {
-        let select = parse(rt.alloc(), "SELECT valid_to, valid_from FROM t")
+        let select = parse(rt.alloc(), "SELECT valid_to, validfrom, valid_from FROM t")
             .ok()
             .ok_or("select")?;
         assert!(rt;
             matches!(&select, Statement::Ask(Query::Select(form))
-            if matches!(form.items.as_slice(), [Item::ValidTo(7), Item::ValidFrom(17)]))
+            if matches!(form.items.as_slice(), [Item::ValidTo(7), Item::Column(_), Item::ValidFrom(28)]))
         );
         Ok(())
     }

@@ -1,0 +1,354 @@
+-- The commit that a batch resolves to.
+use Rattle.std.proofs.Common.{◌≡◌, ℕ, suc, ◌+◌, ◌-◌, ◌<◌, ◌≤◌, Bool, true, false, ◌&&◌, ◌||◌, not, cond, nat_le, nat_lt, List, [], ◌∷◌, ◌++◌, append-nil, length, map, get_or, slice_get, Option, Some, None, is_some, Result, Ok, Err, ◌⊎◌, inr, refl, sym, ap, ◌∙◌, subst, arith}
+use Rattle.std.specs.Option.{option_map, IfSome}
+use Rattle.std.specs.Result.{IfOk, IfErr}
+use Rattle.std.specs.List.{list_any, list_all, All}
+use Rattle.std.specs.Bool.{beq, OnTrue}
+use Rattle.std.proofs.lemmas.Bool.{cond-true, cond-false, le-leb, lt-leb, lt-ltb, and_parts, and_from}
+use Rattle.std.proofs.lemmas.Bool.Decides.{nat_tests}
+use Rattle.std.proofs.lemmas.Option.{slice_get_within}
+use Rattle.std.proofs.lemmas.List.Folds.{list_any-append}
+use Rattle.std.proofs.lemmas.List.Sums.{AllPass-from_list_all}
+use Rattle.tl_types.specs.declared.cells.Cell.{Cell}
+use Rattle.tl_types.specs.declared.commits.Commit.{Commit}
+use Rattle.tl_types.specs.declared.commits.Body.TheVariants as body
+use Rattle.tl_types.specs.declared.batches.Batch.TheVariants as batch
+use Rattle.tl_types.specs.declared.batches.BatchFault.{BatchFault}
+use Rattle.tl_types.specs.declared.batches.BatchFault.TheVariants as fault
+use Rattle.tl_types.specs.declared.batches.KeyLine.{KeyLine}
+use Rattle.tl_types.specs.declared.limits.Limits.{Limits}
+use Rattle.tl_types.specs.Plain as plain
+use Rattle.tl_types.specs.Facts.{AscendFrom}
+use Rattle.tl_types.specs.History.{is_open, has_name, matches, match_columns, fits, fits_body, fits_table, rows_of}
+use Rattle.tl_types.specs.Resolving.{Said, same_key, open_rows, line_fault, said_by_rows, said_by_keys, find_from, find_table, resolved, resolved_change}
+use Rattle.tl_batch.specs.declared.spots.Spot.{Spot}
+use Rattle.tl_batch.specs.declared.strokes.Stroke.{Stroke}
+use Rattle.tl_batch.specs.Faults.{fault_from}
+use Rattle.tl_batch.specs.Made.{change_by, unless_fault, made_by, committed, rows_fit_found, AreWithin}
+use Rattle.tl_batch.specs.Pieces.{is_met, met_ids, old_pieces, put_pieces}
+use Rattle.tl_batch.specs.Spots.{has_spot}
+use Rattle.tl_batch.specs.Standing.{IsTable, StandFor, is_open_with, table_has, rows_match, spots_at}
+use Rattle.tl_batch.specs.Strokes.{said_of, said_by, said_by_row}
+use Rattle.tl_batch.proofs.ChangeLemmas.{met_ids-ascend}
+use Rattle.tl_batch.proofs.FollowLemmas.{spot_at, cells_number}
+use Rattle.tl_batch.proofs.MeetingLemmas.{known-rows}
+use Rattle.tl_batch.proofs.ResolvedLemmas.{change-late, change-fault, change-full, change-made, change-fits}
+
+-- A NEW TABLE
+
+pub found_is : (n : ℕ) (name : List ℕ) (tables : List plain.Table) → is_some (option_map (λ found. found.0) (find_from n name tables)) ≡ list_any (has_name name) tables
+found_is n name [] = refl
+found_is n name (t ∷ tables) = split (has_name name t) (found_is (n + 1) name tables) where
+  split : (b : Bool) → is_some (option_map (λ found. found.0) (find_from (n + 1) name tables)) ≡ list_any (has_name name) tables
+      → is_some (option_map (λ found. found.0) (cond b (Some (n, t)) (find_from (n + 1) name tables))) ≡ (b || list_any (has_name name) tables)
+  split true later = refl
+  split false later = later
+
+pub create-exists : (limits : Limits) (db : plain.Database) (author : ℕ) (schema : plain.Schema) → list_any (has_name schema.name) db.tables ≡ true
+    → Err fault.TableExists ≡ resolved limits db author (batch.Create schema)
+create-exists limits db author schema named = sym (cond-true _ _ _ named)
+
+pub create-tables : (limits : Limits) (db : plain.Database) (author : ℕ) (schema : plain.Schema) → list_any (has_name schema.name) db.tables ≡ false
+    → limits.tables ≤ length db.tables → Err fault.TablesFull ≡ resolved limits db author (batch.Create schema)
+create-tables limits db author schema named full = sym (cond-false _ _ _ named ∙ cond-true _ _ _ (le-leb _ _ full))
+
+pub create-versions : (limits : Limits) (db : plain.Database) (author : ℕ) (schema : plain.Schema) → list_any (has_name schema.name) db.tables ≡ false
+    → length db.tables < limits.tables → limits.versions ≤ db.version → Err fault.VersionsFull ≡ resolved limits db author (batch.Create schema)
+create-versions limits db author schema named room full = sym (cond-false _ _ _ named ∙ (cond-false _ _ _ (lt-leb _ _ room) ∙ cond-true _ _ _ (le-leb _ _ full)))
+
+abbrev pub created : ℕ → plain.Schema → Commit
+created author schema = record { author = author; body = body.Create schema }
+
+pub create-made : (limits : Limits) (db : plain.Database) (author : ℕ) (schema : plain.Schema) → list_any (has_name schema.name) db.tables ≡ false
+    → length db.tables < limits.tables → db.version < limits.versions → Ok (created author schema) ≡ resolved limits db author (batch.Create schema)
+create-made limits db author schema named room next = sym (cond-false _ _ _ named ∙ (cond-false _ _ _ (lt-leb _ _ room) ∙ cond-false _ _ _ (lt-leb _ _ next)))
+
+pub create-fits : (limits : Limits) (db : plain.Database) (author : ℕ) (schema : plain.Schema) → list_any (has_name schema.name) db.tables ≡ false
+    → length db.tables < limits.tables → db.version < limits.versions → fits limits db (created author schema) ≡ true
+create-fits limits db author schema named room next =
+    and_from (nat_lt db.version limits.versions) (not (list_any (has_name schema.name) db.tables) && nat_lt (length db.tables) limits.tables) (lt-ltb _ _ next)
+    (and_from (not (list_any (has_name schema.name) db.tables)) (nat_lt (length db.tables) limits.tables) (ap not named) (lt-ltb _ _ room))
+
+-- A TABLE FOUND BY NAME
+
+abbrev number_of : Option (ℕ × plain.Table) → ℕ
+number_of None = 0
+number_of (Some x) = x.0
+
+abbrev table_of : plain.Table → Option (ℕ × plain.Table) → plain.Table
+table_of d None = d
+table_of d (Some x) = x.1
+
+at_first : (k n : ℕ) (x t : plain.Table) (xs : List plain.Table) → k ≡ n → x ≡ t → (k ≤ n) × (slice_get (x ∷ xs) (n - k) ≡ Some t)
+at_first k n x t xs same one = let none : n - k ≡ 0 = omega arith in (omega arith, rw none (ap Some one))
+
+first_found : (k n : ℕ) (x t : plain.Table) (xs : List plain.Table) (o : Option (ℕ × plain.Table)) → o ≡ Some (k, x) → o ≡ Some (n, t) → (k ≤ n) × (slice_get (x ∷ xs) (n - k) ≡ Some t)
+first_found k n x t xs o e f = at_first k n x t xs (ap number_of (sym e ∙ f)) (ap (table_of x) (sym e ∙ f))
+
+-- the table with a name is the one at its number
+found_from : (k : ℕ) (name : List ℕ) (ts : List plain.Table) (n : ℕ) (t : plain.Table) → find_from k name ts ≡ Some (n, t) → (k ≤ n) × (slice_get ts (n - k) ≡ Some t)
+found_from k name [] n t h = absurd (cc)
+found_from k name (x ∷ xs) n t h = by_test (has_name name x) refl (found_from (k + 1) name xs n t) where
+  by_test : (b : Bool) → has_name name x ≡ b → (find_from (k + 1) name xs ≡ Some (n, t) → (k + 1 ≤ n) × (slice_get xs (n - (k + 1)) ≡ Some t)) → (k ≤ n) × (slice_get (x ∷ xs) (n - k) ≡ Some t)
+  by_test true e more = first_found k n x t xs (find_from k name (x ∷ xs)) (ap (λ b. cond b (Some (k, x)) (find_from (k + 1) name xs)) e) h
+  by_test false e more =
+      let later = more (rw e at h) in
+      let next : n - k ≡ suc (n - (k + 1)) = omega (arith, later.0) in
+      (omega (arith, later.0), rw next later.1)
+
+-- a table that is found by name, and stands at its number
+pub record IsNamed (db : plain.Database) (name : List ℕ) (number : ℕ) : Type 0 where
+  pub table : plain.Table
+  pub named : find_table name db.tables ≡ Some (number, table)
+  pub at : slice_get db.tables number ≡ Some table
+  pub within : number < length db.tables
+
+numbered_some : (o : Option (ℕ × plain.Table)) (n : ℕ) → option_map (λ found. found.0) o ≡ Some n → (t : plain.Table) × (o ≡ Some (n, t))
+numbered_some None n h = absurd (cc)
+numbered_some (Some x) n h = let e : x.0 ≡ n = cc in (x.1, ap (λ m. Some (m, x.1)) e)
+
+pub table_named : (db : plain.Database) (name : List ℕ) (number : ℕ) → option_map (λ found. found.0) (find_table name db.tables) ≡ Some number → IsNamed db name number
+table_named db name number h =
+    let there = numbered_some (find_table name db.tables) number h in
+    let found = found_from 0 name db.tables number there.0 there.1 in
+    let place : number - 0 ≡ number = omega arith in
+    let at : slice_get db.tables number ≡ Some there.0 = rw place at found.1 in
+    record { table = there.0; named = there.1; at = at; within = slice_get_within db.tables number there.0 at }
+
+none_named : (o : Option (ℕ × plain.Table)) → option_map (λ found. found.0) o ≡ None → o ≡ None
+none_named None h = refl
+none_named (Some x) h = absurd (cc)
+
+-- no table has the name
+pub change-unknown : (limits : Limits) (db : plain.Database) (author : ℕ) (name : List ℕ) (lines : plain.Schema → List Said) → option_map (λ found. found.0) (find_table name db.tables) ≡ None
+    → resolved_change limits db author (find_table name db.tables) lines ≡ Err fault.UnknownTable
+change-unknown limits db author name lines h = ap (λ o. resolved_change limits db author o lines) (none_named (find_table name db.tables) h)
+
+-- no version is left
+pub named-late : (limits : Limits) (db : plain.Database) (author number : ℕ) (name : List ℕ) (lines : plain.Schema → List Said) → IsNamed db name number → limits.versions ≤ db.version
+    → resolved_change limits db author (find_table name db.tables) lines ≡ Err fault.VersionsFull
+named-late limits db author number name lines n full = ap (λ o. resolved_change limits db author o lines) n.named ∙ change-late limits db author number n.table lines full
+
+if_at : (P : plain.Table → Type 0) (o : Option plain.Table) (t : plain.Table) → o ≡ Some t → P t → IfSome o P
+if_at P None t e p = tt
+if_at P (Some u) t e p = let same : t ≡ u = cc in subst P same p
+
+at_some : (P : plain.Table → Type 0) (o : Option plain.Table) (t : plain.Table) → o ≡ Some t → IfSome o P → P t
+at_some P None t e p = absurd (cc)
+at_some P (Some u) t e p = let same : u ≡ t = cc in subst P same p
+
+named-shape : (db : plain.Database) (name : List ℕ) (number : ℕ) (lines : List plain.Opened) → IsNamed db name number → IfSome (slice_get db.tables number) (λ t. list_all (matches t.schema) lines ≡ true) → rows_fit_found lines (find_table name db.tables) ≡ true
+named-shape db name number lines n m = ap (rows_fit_found lines) n.named ∙ at_some (λ t. list_all (matches t.schema) lines ≡ true) (slice_get db.tables number) n.table n.at m
+
+pub named-may : (db : plain.Database) (name : List ℕ) (number : ℕ) (lines : List plain.Opened) (may : Bool) → IsNamed db name number → OnTrue may (IfSome (slice_get db.tables number) (λ t. list_all (matches t.schema) lines ≡ true)) → OnTrue may (rows_fit_found lines (find_table name db.tables) ≡ true)
+named-may db name number lines true n m = named-shape db name number lines n m
+named-may db name number lines false n m = tt
+
+-- the name that was looked for
+pub name_is : (db : plain.Database) (given name : List ℕ) (number : ℕ) → given ≡ name → Some number ≡ option_map (λ found. found.0) (find_table given db.tables) → option_map (λ found. found.0) (find_table name db.tables) ≡ Some number
+name_is db given name number same e = sym (e ∙ ap (λ n. option_map (λ (found : ℕ × plain.Table). found.0) (find_table n db.tables)) same)
+
+pub found-match : (db : plain.Database) (name : List ℕ) (number : ℕ) (lines : List plain.Opened) → (n : IsNamed db name number) → rows_fit_found lines (find_table name db.tables) ≡ true → list_all (matches n.table.schema) lines ≡ true
+found-match db name number lines n m = sym (ap (rows_fit_found lines) n.named) ∙ m
+
+-- rows match the table that was found
+pub named-match : (db : plain.Database) (name : List ℕ) (number : ℕ) (lines : List plain.Opened) → IsNamed db name number → rows_fit_found lines (find_table name db.tables) ≡ true → IfSome (slice_get db.tables number) (λ t. list_all (matches t.schema) lines ≡ true)
+named-match db name number lines n m = if_at (λ t. list_all (matches t.schema) lines ≡ true) (slice_get db.tables number) n.table n.at (found-match db name number lines n m)
+
+-- THE TABLE THAT KEYS STAND FOR
+
+known_at : (keys : List (List Spot)) (db : plain.Database) (number : ℕ) (schema : plain.Schema) → StandFor keys db → (o : Option plain.Table) → slice_get db.tables number ≡ o → Some schema ≡ option_map (λ t. t.schema) o → IsTable db number schema
+known_at keys db number schema s None at e = absurd (cc)
+known_at keys db number schema s (Some t) at e = let same : schema ≡ t.schema = cc in record { table = t; at = at; same = same; matching = sym (ap rows_match at) ∙ s.matching number }
+
+pub table_known : (keys : List (List Spot)) (db : plain.Database) (number : ℕ) (schema : plain.Schema) → StandFor keys db → Some schema ≡ option_map (λ t. t.schema) (slice_get db.tables number) → IsTable db number schema
+table_known keys db number schema s e = known_at keys db number schema s (slice_get db.tables number) refl e
+
+pub stand_at : (keys : List (List Spot)) (db : plain.Database) (number : ℕ) (schema : plain.Schema) (spots : List Spot) → StandFor keys db → IsTable db number schema → number < length db.tables → spots ≡ get_or keys number spots
+    → (x : Cell) (n : ℕ) → has_spot spots x n ≡ is_open_with schema.key x (slice_get (rows_of db number) n)
+stand_at keys db number schema spots s k within is x n =
+    let tables = s.tables in
+    let here : spots_at keys number ≡ spots = spot_at keys number spots (omega arith) is in
+    sym (ap (λ ss. has_spot ss x n) here) ∙ (s.spots number x n ∙ (ap (λ o. table_has o x n) k.at
+    ∙ (ap (λ (c : plain.Schema). is_open_with c.key x (slice_get k.table.rows n)) (sym k.same) ∙ ap (λ rs. is_open_with schema.key x (slice_get rs n)) (sym (known-rows db number schema k)))))
+
+pub known-within : (db : plain.Database) (number : ℕ) (schema : plain.Schema) → IsTable db number schema → number < length db.tables
+known-within db number schema k = slice_get_within db.tables number k.table k.at
+
+-- what is made at a table
+pub made_at : (db : plain.Database) (number : ℕ) (schema : plain.Schema) (k : IsTable db number schema) (limit : ℕ) (removes : Bool) (lines : plain.Schema → List Said) (made : Result plain.Change BatchFault) → made ≡ made_by limit number removes schema (rows_of db number) (lines schema)
+    → Some made ≡ option_map (λ t. made_by limit number removes t.schema t.rows (lines t.schema)) (slice_get db.tables number)
+made_at db number schema k limit removes lines made e =
+    ap Some (e ∙ (ap (λ rs. made_by limit number removes schema rs (lines schema)) (known-rows db number schema k) ∙ ap (λ c. made_by limit number removes c k.table.rows (lines c)) k.same))
+    ∙ sym (ap (option_map (λ (t : plain.Table). made_by limit number removes t.schema t.rows (lines t.schema))) k.at)
+
+-- CHANGES
+
+-- rows that match have a key
+pub rows-keyed : (schema : plain.Schema) (place : ℕ) (lines : List plain.Opened) → place ≡ schema.key → schema.key < length schema.columns → list_all (matches schema) lines ≡ true → All (λ o. place < length o.cells) lines
+rows-keyed schema place lines e among m = λ k d l.
+    let row : plain.Opened = get_or lines k d in
+    let this : matches schema row ≡ true = AllPass-from_list_all (matches schema) lines m k d l in
+    let cells = cells_number schema.columns row.cells (and_parts (match_columns schema.columns row.cells) (beq schema.valid (is_some row.period)) this).0 in
+    omega arith
+
+map_number : {A B : Type 0} (f : A → B) (xs : List A) → length (map f xs) ≡ length xs
+map_number f [] = refl
+map_number f (x ∷ xs) = ap suc (map_number f xs)
+
+pub rows-number : (strokes : List Stroke) (place : ℕ) (lines : List plain.Opened) → said_by strokes ≡ map (said_by_row place) lines → length strokes ≡ length lines
+rows-number strokes place lines e = sym (map_number said_of strokes) ∙ (ap length e ∙ map_number (said_by_row place) lines)
+
+pub keys-number : (strokes : List Stroke) (lines : List KeyLine) → said_by strokes ≡ said_by_keys lines → length strokes ≡ length lines
+keys-number strokes lines e = sym (map_number said_of strokes) ∙ (ap length e ∙ keys_length lines) where
+  keys_length : (ks : List KeyLine) → length (said_by_keys ks) ≡ length ks
+  keys_length [] = refl
+  keys_length (k ∷ ks) = ap suc (keys_length ks)
+
+-- a list has no more ids that are met than rows
+pub met-few : (schema : plain.Schema) (lines : List Said) (n : ℕ) (rows : List plain.Row) → length (met_ids schema lines n rows) ≤ length rows
+met-few schema lines n [] = omega arith
+met-few schema lines n (r ∷ rows) = split (is_open r && is_met schema lines r) (met-few schema lines (n + 1) rows) where
+  split : (b : Bool) → length (met_ids schema lines (n + 1) rows) ≤ length rows → length (cond b (n ∷ met_ids schema lines (n + 1) rows) (met_ids schema lines (n + 1) rows)) ≤ suc (length rows)
+  split true later = omega arith
+  split false later = omega arith
+
+pub closes-ascend : (schema : plain.Schema) (lines : List Said) (rows : List plain.Row) (closes : List ℕ) → closes ≡ met_ids schema lines 0 rows → AscendFrom 0 closes
+closes-ascend schema lines rows closes e = subst (AscendFrom 0) (sym e) (met_ids-ascend schema lines 0 rows)
+
+pub closes-few : (schema : plain.Schema) (lines : List Said) (rows : List plain.Row) (closes : List ℕ) → closes ≡ met_ids schema lines 0 rows → length closes ≤ length rows
+closes-few schema lines rows closes e = let h = met-few schema lines 0 rows in let f = ap length e in omega arith
+
+-- the first fault of rows that are put reads the keys of the lines alone
+fault-rows : (schema : plain.Schema) (rows : List plain.Row) (rec : ℕ) (some more : List Said) (lines : List plain.Opened) → ((k : Option Cell) → list_any (λ e. same_key e.key k) some ≡ list_any (λ e. same_key e.key k) more)
+    → fault_from schema false rows rec some (map (said_by_row schema.key) lines) ≡ fault_from schema false rows rec more (said_by_rows schema lines)
+fault-rows schema rows rec some more [] same = refl
+fault-rows schema rows rec some more (o ∷ lines) same =
+    let key : Option Cell = slice_get o.cells schema.key in
+    let one : Said = said_by_row schema.key o in
+    let other : Said = record { key = key; period = o.period; puts = Some o } in
+    let any : Option Cell → Said → Bool = λ k e. same_key e.key k in
+    let later = fault-rows schema rows (rec + 1) (some ++ one ∷ []) (more ++ other ∷ []) lines
+    (λ k. list_any-append (any k) some (one ∷ []) ∙ (ap (λ b. b || (same_key key k || false)) (same k) ∙ sym (list_any-append (any k) more (other ∷ [])))) in
+    ap (λ b. cond (not schema.valid && b) (Some (fault.KeyTwice rec)) (fault_from schema false rows (rec + 1) (some ++ one ∷ []) (map (said_by_row schema.key) lines))) (same key)
+    ∙ ap (λ f. cond (not schema.valid && list_any (any key) more) (Some (fault.KeyTwice rec)) f) later
+
+pub rows-first : (schema : plain.Schema) (rows : List plain.Row) (strokes given : List Stroke) (lines : List plain.Opened) (place : ℕ) (found : Option BatchFault) → place ≡ schema.key → given ≡ strokes → said_by strokes ≡ map (said_by_row place) lines
+    → found ≡ fault_from schema false rows 2 [] (said_by given) → found ≡ fault_from schema false rows 2 [] (said_by_rows schema lines)
+rows-first schema rows strokes given lines place found at same e f =
+    f ∙ (ap (λ ss. fault_from schema false rows 2 [] (said_by ss)) same ∙ (ap (fault_from schema false rows 2 []) (e ∙ ap (λ p. map (said_by_row p) lines) at) ∙ fault-rows schema rows 2 [] [] lines (λ k. refl)))
+
+-- a fault is what is made
+pub made-fault : (limit number : ℕ) (removes : Bool) (schema : plain.Schema) (rows : List plain.Row) (lines : List Said) (found : Option BatchFault) (f : BatchFault) → found ≡ fault_from schema removes rows 2 [] lines → found ≡ Some f
+    → Err f ≡ made_by limit number removes schema rows lines
+made-fault limit number removes schema rows lines found f e is = ap (unless_fault limit (length rows) (change_by number schema rows lines)) (sym is ∙ e)
+
+-- no fault, and the change
+pub made-change : (limit number : ℕ) (removes : Bool) (schema : plain.Schema) (rows : List plain.Row) (lines : List Said) (found : Option BatchFault) (count : ℕ) (closes : List ℕ) (opens : List plain.Opened) (made : Result plain.Change BatchFault)
+    → found ≡ fault_from schema removes rows 2 [] lines → found ≡ None → count ≡ length rows → closes ≡ met_ids schema lines 0 rows → opens ≡ old_pieces schema lines rows ++ put_pieces schema lines
+    → made ≡ unless_fault limit count (record { table = number; closes = closes; opens = opens }) None → made ≡ made_by limit number removes schema rows lines
+made-change limit number removes schema rows lines found count closes opens made e none number_of_rows c o is =
+    is ∙ (ap (λ n. unless_fault limit n (record { table = number; closes = closes; opens = opens }) None) number_of_rows
+    ∙ (ap (λ cs. unless_fault limit (length rows) (record { table = number; closes = cs; opens = opens }) None) c
+    ∙ (ap (λ os. unless_fault limit (length rows) (record { table = number; closes = met_ids schema lines 0 rows; opens = os }) None) o
+    ∙ ap (unless_fault limit (length rows) (change_by number schema rows lines)) (sym none ∙ e))))
+
+puts-nothing : (schema : plain.Schema) (lines : List KeyLine) → put_pieces schema (said_by_keys lines) ≡ []
+puts-nothing schema [] = refl
+puts-nothing schema (k ∷ lines) = puts-nothing schema lines
+
+pub keys-open : (schema : plain.Schema) (rows : List plain.Row) (lines : List KeyLine) (opens : List plain.Opened) → opens ≡ old_pieces schema (said_by_keys lines) rows → opens ≡ old_pieces schema (said_by_keys lines) rows ++ put_pieces schema (said_by_keys lines)
+keys-open schema rows lines opens e = e ∙ (sym (append-nil (old_pieces schema (said_by_keys lines) rows)) ∙ ap (λ ps. old_pieces schema (said_by_keys lines) rows ++ ps) (sym (puts-nothing schema lines)))
+
+-- THE COMMIT
+
+-- by the first fault, and else by the number of rows
+committed-is : (limits : Limits) (db : plain.Database) (author number : ℕ) (t : plain.Table) (lines : plain.Schema → List Said) → db.version < limits.versions → (f : Option BatchFault) → line_fault t.schema 2 [] (open_rows t) (lines t.schema) ≡ f
+    → resolved_change limits db author (Some (number, t)) lines ≡ committed author (unless_fault limits.rows (length t.rows) (change_by number t.schema t.rows (lines t.schema)) f)
+committed-is limits db author number t lines next (Some f) e = change-fault limits db author number t lines f next e
+committed-is limits db author number t lines next None e = by_room (nat_lt limits.rows all) refl where
+  all : ℕ
+  all = length t.rows + length (change_by number t.schema t.rows (lines t.schema)).opens
+
+  by_room : (b : Bool) → nat_lt limits.rows all ≡ b → resolved_change limits db author (Some (number, t)) lines ≡ committed author (cond b (Err fault.RowsFull) (Ok (change_by number t.schema t.rows (lines t.schema))))
+  by_room true h = let many : limits.rows < all = grind (arith, nat_tests) in change-full limits db author number t lines next e many
+  by_room false h = let few : all ≤ limits.rows = grind (arith, nat_tests) in change-made limits db author number t lines next e few
+
+-- the lines' first fault is what the rows of their keys say
+abbrev pub ReadsRows : Bool → (plain.Schema → List Said) → Type 0
+ReadsRows removes lines = (t : plain.Table) → line_fault t.schema 2 [] (open_rows t) (lines t.schema) ≡ fault_from t.schema removes t.rows 2 [] (lines t.schema)
+
+some_at : (limit number : ℕ) (removes : Bool) (lines : plain.Schema → List Said) (made : Result plain.Change BatchFault) (o : Option plain.Table) (t : plain.Table) → o ≡ Some t → Some made ≡ option_map (λ u. made_by limit number removes u.schema u.rows (lines u.schema)) o
+    → made ≡ made_by limit number removes t.schema t.rows (lines t.schema)
+some_at limit number removes lines made None t at e = absurd (cc)
+some_at limit number removes lines made (Some u) t at e = let here : made ≡ made_by limit number removes u.schema u.rows (lines u.schema) = cc in let same : u ≡ t = cc in here ∙ ap (λ (v : plain.Table). made_by limit number removes v.schema v.rows (lines v.schema)) same
+
+pub named-made : (limits : Limits) (db : plain.Database) (author number : ℕ) (name : List ℕ) (removes : Bool) (lines : plain.Schema → List Said) (made : Result plain.Change BatchFault) → ReadsRows removes lines → IsNamed db name number → db.version < limits.versions
+    → Some made ≡ option_map (λ t. made_by limits.rows number removes t.schema t.rows (lines t.schema)) (slice_get db.tables number)
+    → resolved_change limits db author (find_table name db.tables) lines ≡ committed author made
+named-made limits db author number name removes lines made reads n next e =
+    ap (λ o. resolved_change limits db author o lines) n.named
+    ∙ (committed-is limits db author number n.table lines next (fault_from n.table.schema removes n.table.rows 2 [] (lines n.table.schema)) (reads n.table)
+    ∙ ap (committed author) (sym (some_at limits.rows number removes lines made (slice_get db.tables number) n.table n.at e)))
+
+made-fits : (limits : Limits) (db : plain.Database) (author number : ℕ) (t : plain.Table) (lines : List Said) → slice_get db.tables number ≡ Some t → db.version < limits.versions → rows_match (Some t) ≡ true → list_all (matches t.schema) (put_pieces t.schema lines) ≡ true
+    → (f : Option BatchFault) (c : Commit) → Ok c ≡ committed author (unless_fault limits.rows (length t.rows) (change_by number t.schema t.rows lines) f) → fits limits db c ≡ true
+made-fits limits db author number t lines at next rows puts (Some f) c e = absurd (cc)
+made-fits limits db author number t lines at next rows puts None c e = by_room (nat_lt limits.rows all) refl e where
+  all : ℕ
+  all = length t.rows + length (change_by number t.schema t.rows lines).opens
+
+  by_room : (b : Bool) → nat_lt limits.rows all ≡ b → Ok c ≡ committed author (cond b (Err fault.RowsFull) (Ok (change_by number t.schema t.rows lines))) → fits limits db c ≡ true
+  by_room true h q = absurd (cc)
+  by_room false h q =
+      let few : all ≤ limits.rows = grind (arith, nat_tests) in
+      let same : c ≡ record { author = author; body = body.Change (change_by number t.schema t.rows lines) } = cc in
+      ap (fits limits db) same ∙ change-fits limits db author number t lines at next rows puts few
+
+pub named-fits : (keys : List (List Spot)) (limits : Limits) (db : plain.Database) (author number : ℕ) (name : List ℕ) (removes : Bool) (lines : plain.Schema → List Said) (made : Result plain.Change BatchFault) → StandFor keys db → (n : IsNamed db name number) → db.version < limits.versions
+    → list_all (matches n.table.schema) (put_pieces n.table.schema (lines n.table.schema)) ≡ true
+    → Some made ≡ option_map (λ t. made_by limits.rows number removes t.schema t.rows (lines t.schema)) (slice_get db.tables number)
+    → (r : Result Commit BatchFault) → r ≡ committed author made → IfOk r (λ c. fits limits db c ≡ true)
+named-fits keys limits db author number name removes lines made s n next puts e (Err f) is = tt
+named-fits keys limits db author number name removes lines made s n next puts e (Ok c) is =
+    made-fits limits db author number n.table (lines n.table.schema) n.at next (sym (ap rows_match n.at) ∙ s.matching number) puts (fault_from n.table.schema removes n.table.rows 2 [] (lines n.table.schema)) c
+    (is ∙ ap (committed author) (some_at limits.rows number removes lines made (slice_get db.tables number) n.table n.at e))
+
+-- a result that is what the definition says
+pub ok_is : (r m s : Result Commit BatchFault) → r ≡ s → m ≡ s → IfOk r (λ c. m ≡ Ok c)
+ok_is (Ok c) m s e f = f ∙ sym e
+ok_is (Err x) m s e f = tt
+
+pub err_is : (r m s : Result Commit BatchFault) → r ≡ s → m ≡ s → IfErr r (λ x. (x ≡ fault.NoMemory) ⊎ (m ≡ Err x))
+err_is (Ok c) m s e f = tt
+err_is (Err x) m s e f = inr (f ∙ sym e)
+
+-- MORE ROOM
+
+within_table : (limits others : Limits) (change : plain.Change) (o : Option plain.Table) → limits.rows ≤ others.rows → fits_table limits change o ≡ true → fits_table others change o ≡ true
+within_table limits others change None h f = f
+within_table limits others change (Some t) h f =
+    let more = and_parts (list_all (matches_open t) change.closes && list_all (matches t.schema) change.opens) (nat_le (length t.rows + length change.opens) limits.rows) f in
+    let few : nat_le (length t.rows + length change.opens) others.rows ≡ true = let k = more.1 in grind (arith, nat_tests) in
+    and_from (list_all (matches_open t) change.closes && list_all (matches t.schema) change.opens) (nat_le (length t.rows + length change.opens) others.rows) more.0 few where
+      matches_open : plain.Table → ℕ → Bool
+      matches_open u = Rattle.tl_types.specs.History.is_open_at u.rows
+
+within_body : (limits others : Limits) (tables : List plain.Table) (c : Commit) → AreWithin limits others → fits_body limits tables c.body ≡ true → fits_body others tables c.body ≡ true
+within_body limits others tables c w f = by_body c.body f where
+  by_body : (b : Rattle.tl_types.specs.declared.commits.Body.Body) → fits_body limits tables b ≡ true → fits_body others tables b ≡ true
+  by_body (body.Create schema) g =
+      let parts = and_parts (not (list_any (has_name schema.name) tables)) (nat_lt (length tables) limits.tables) g in
+      let few : nat_lt (length tables) others.tables ≡ true = let k = parts.1 in let h = w.tables in grind (arith, nat_tests) in
+      and_from (not (list_any (has_name schema.name) tables)) (nat_lt (length tables) others.tables) parts.0 few
+  by_body (body.Change change) g = within_table limits others change (slice_get tables change.table) w.rows g
+
+fits_within : (limits others : Limits) (db : plain.Database) (c : Commit) → AreWithin limits others → fits limits db c ≡ true → fits others db c ≡ true
+fits_within limits others db c w f =
+    let parts = and_parts (nat_lt db.version limits.versions) (fits_body limits db.tables c.body) f in
+    let next : nat_lt db.version others.versions ≡ true = let k = parts.0 in let h = w.versions in grind (arith, nat_tests) in
+    and_from (nat_lt db.version others.versions) (fits_body others db.tables c.body) next (within_body limits others db.tables c w parts.1)
+
+pub ok_within : (limits others : Limits) (db : plain.Database) (r : Result Commit BatchFault) → IfOk r (λ c. fits limits db c ≡ true) → AreWithin limits others → IfOk r (λ c. fits others db c ≡ true)
+ok_within limits others db (Ok c) f w = fits_within limits others db c w f
+ok_within limits others db (Err x) f w = tt

@@ -1,0 +1,350 @@
+-- What a commit makes of the open rows of each key.
+use Rattle.std.proofs.Common.{◌≡◌, ℕ, zero, suc, ◌+◌, ◌<◌, ◌≤◌, Bool, true, false, ◌&&◌, ◌||◌, not, cond, nat_eq, nat_le, List, [], ◌∷◌, ◌++◌, length, get_or, slice_get, slice_set, length-append, length-set, option_map, Option, Some, None, is_some, map, refl, sym, ap, ◌∙◌, arith, unwrap_or}
+use Rattle.std.specs.List.{list_all, enumerate_from, fold}
+use Rattle.std.specs.Bool.{beq}
+use Rattle.std.proofs.lemmas.Bool.{and_parts, and_from}
+use Rattle.std.proofs.lemmas.Bool.Decides.{nat_tests}
+use Rattle.std.specs.List.{All}
+use Rattle.std.proofs.Common.{Result, Ok, Err}
+use Rattle.std.specs.Result.{OnErr}
+use Rattle.std.proofs.lemmas.List.Sums.{AllPass-from_list_all}
+use Rattle.std.proofs.lemmas.Option.{slice_get_within, slice_get_past, slice_get_read}
+use Rattle.tl_types.specs.declared.cells.Cell.{Cell}
+use Rattle.tl_types.specs.declared.schemas.Column.{Column}
+use Rattle.tl_types.specs.Limits.{standard_limits}
+use Rattle.tl_types.specs.declared.commits.Commit.{Commit}
+use Rattle.tl_types.specs.declared.commits.Body.TheVariants as body
+use Rattle.tl_types.specs.Plain as plain
+use Rattle.tl_types.specs.History.{is_open, open_end, numbered, ended, begun, new_table, changed, at_place, after_body, after_commit, nothing, database_of, matches, match_columns, is_of_kind, rows_of, is_open_at, fits_table, fits_body, holds}
+use Rattle.tl_types.specs.Resolving.{same_key}
+use Rattle.tl_batch.specs.declared.spots.Spot.{Spot}
+use Rattle.tl_batch.specs.Spots.{has_spot}
+use Rattle.tl_batch.specs.Standing.{opens_with, has_key, is_open_with, table_has, rows_match, spots_at, StandFor}
+use Rattle.tl_batch.proofs.SpotLemmas.{opens_from}
+
+-- ONE TABLE
+
+begun_open : (key version n : ℕ) (opens : List plain.Opened) (x : Cell) (i : ℕ) → is_open_with key x (slice_get (map (begun version) opens) i) ≡ opens_with key n opens x (n + i)
+begun_open key version n [] x i = refl
+begun_open key version n (o ∷ opens) x zero =
+    let here : nat_eq (n + 0) n ≡ true = grind (arith, nat_tests) in
+    let later : opens_with key (n + 1) opens x (n + 0) ≡ false = opens_from key (n + 1) opens x (n + 0) (omega arith) in
+    let table : (b : Bool) → b ≡ ((b && true) || false) = λ b. by_cases b in
+    table (same_key (slice_get o.cells key) (Some x)) ∙ (ap (λ v. (same_key (slice_get o.cells key) (Some x) && v) || false) (sym here) ∙ ap (λ v. (same_key (slice_get o.cells key) (Some x) && nat_eq (n + 0) n) || v) (sym later)) where
+      by_cases : (b : Bool) → b ≡ ((b && true) || false)
+      by_cases true = refl
+      by_cases false = refl
+begun_open key version n (o ∷ opens) x (suc i) =
+    let apart : nat_eq (n + suc i) n ≡ false = grind (arith, nat_tests) in
+    let number : n + 1 + i ≡ n + suc i = omega arith in
+    begun_open key version (n + 1) opens x i ∙ (ap (opens_with key (n + 1) opens x) number ∙ (table (same_key (slice_get o.cells key) (Some x)) (opens_with key (n + 1) opens x (n + suc i)) ∙ ap (λ v. (same_key (slice_get o.cells key) (Some x) && v) || opens_with key (n + 1) opens x (n + suc i)) (sym apart))) where
+      table : (b c : Bool) → c ≡ ((b && false) || c)
+      table true c = refl
+      table false c = refl
+
+-- a row after the commit is current and has the key exactly where it was so and is not closed, or is opened
+pub rows_after : (key version n : ℕ) (closes : List ℕ) (rows : List plain.Row) (opens : List plain.Opened) (x : Cell) (i : ℕ) → nat_eq version open_end ≡ false
+    → is_open_with key x (slice_get (map (ended version closes) (enumerate_from n rows) ++ map (begun version) opens) i) ≡ ((not (holds closes (n + i)) && is_open_with key x (slice_get rows i)) || opens_with key (n + length rows) opens x (n + i))
+rows_after key version n closes [] opens x i apart =
+    let start : n + 0 ≡ n = omega arith in
+    begun_open key version n opens x i ∙ (ap (λ m. opens_with key m opens x (n + i)) (sym start) ∙ ap (λ v. v || opens_with key (n + 0) opens x (n + i)) (sym (and_none (not (holds closes (n + i)))))) where
+      and_none : (b : Bool) → (b && false) ≡ false
+      and_none true = refl
+      and_none false = refl
+rows_after key version n closes (r ∷ rows) opens x zero apart =
+    let number : n + 0 ≡ n = omega arith in
+    let later : opens_with key (n + suc (length rows)) opens x n ≡ false = opens_from key (n + suc (length rows)) opens x n (omega arith) in
+    by_close (holds closes n) ∙ (ap (λ m. (not (holds closes m) && (is_open r && same_key (slice_get r.cells key) (Some x))) || false) (sym number) ∙ (ap (λ v. (not (holds closes (n + 0)) && (is_open r && same_key (slice_get r.cells key) (Some x))) || v) (sym later) ∙ ap (λ m. (not (holds closes (n + 0)) && (is_open r && same_key (slice_get r.cells key) (Some x))) || opens_with key (n + suc (length rows)) opens x m) (sym number))) where
+      none : (b : Bool) → b ≡ (b || false)
+      none true = refl
+      none false = refl
+
+      by_close : (b : Bool) → is_open_with key x (Some (cond b (record r { to = version }) r)) ≡ ((not b && (is_open r && same_key (slice_get r.cells key) (Some x))) || false)
+      by_close true = ap (λ v. v && same_key (slice_get r.cells key) (Some x)) apart
+      by_close false = none (is_open r && same_key (slice_get r.cells key) (Some x))
+rows_after key version n closes (r ∷ rows) opens x (suc i) apart =
+    let number : n + 1 + i ≡ n + suc i = omega arith in
+    let end : n + 1 + length rows ≡ n + suc (length rows) = omega arith in
+    rows_after key version (n + 1) closes rows opens x i apart ∙ (ap (λ m. (not (holds closes m) && is_open_with key x (slice_get rows i)) || opens_with key (n + 1 + length rows) opens x m) number ∙ ap (λ m. (not (holds closes (n + suc i)) && is_open_with key x (slice_get rows i)) || opens_with key m opens x (n + suc i)) end)
+
+rows_after_all : (key version : ℕ) (closes : List ℕ) (rows : List plain.Row) (opens : List plain.Opened) (x : Cell) (i : ℕ) → nat_eq version open_end ≡ false
+    → is_open_with key x (slice_get (map (ended version closes) (numbered rows) ++ map (begun version) opens) i) ≡ ((not (holds closes i) && is_open_with key x (slice_get rows i)) || opens_with key (length rows) opens x i)
+rows_after_all key version closes rows opens x i apart =
+    let number : 0 + i ≡ i = omega arith in
+    let end : 0 + length rows ≡ length rows = omega arith in
+    rows_after key version 0 closes rows opens x i apart ∙ (ap (λ m. (not (holds closes m) && is_open_with key x (slice_get rows i)) || opens_with key (0 + length rows) opens x m) number ∙ ap (λ m. (not (holds closes i) && is_open_with key x (slice_get rows i)) || opens_with key m opens x i) end)
+
+open_within : (rows : List plain.Row) (n : ℕ) → is_open_at rows n ≡ true → n < length rows
+open_within [] n e = absurd (cc)
+open_within (r ∷ rows) zero e = omega arith
+open_within (r ∷ rows) (suc n) e = let h = open_within rows n e in omega arith
+
+closed_within : (rows : List plain.Row) (closes : List ℕ) (n : ℕ) → list_all (is_open_at rows) closes ≡ true → holds closes n ≡ true → n < length rows
+closed_within rows [] n all e = absurd (cc)
+closed_within rows (id ∷ closes) n all e = by_test (nat_eq id n) refl (closed_within rows closes n parts.1) e where
+  parts : (is_open_at rows id ≡ true) × (list_all (is_open_at rows) closes ≡ true)
+  parts = and_parts (is_open_at rows id) (list_all (is_open_at rows) closes) all
+
+  by_test : (b : Bool) → nat_eq id n ≡ b → (holds closes n ≡ true → n < length rows) → (b || holds closes n) ≡ true → n < length rows
+  by_test true f later g = let same : id ≡ n = grind (arith, nat_tests) in let h = open_within rows id parts.0 in omega arith
+  by_test false f later g = later g
+
+has_with : (key : ℕ) (x : Cell) (row : Option plain.Row) → is_open_with key x row ≡ true → has_key key x row ≡ true
+has_with key x None e = absurd (cc)
+has_with key x (Some r) e = (and_parts (is_open r) (same_key (slice_get r.cells key) (Some x)) e).1
+
+joint : (h k o w : Bool) → (w ≡ true → k ≡ true) → (h ≡ true → o ≡ false) → (not (h && k) && (o || w)) ≡ ((not h && w) || o)
+joint false k true true f g = refl
+joint false k true false f g = refl
+joint false k false true f g = refl
+joint false k false false f g = refl
+joint true k true w f g = absurd (let e : true ≡ false = g refl in cc)
+joint true true false w f g = refl
+joint true false false true f g = absurd (let e : false ≡ true = f refl in cc)
+joint true false false false f g = refl
+
+-- the spots of a table after a change that fits
+new_after : (version : ℕ) (change : plain.Change) (t : plain.Table) (old closing new : List Spot) → nat_eq version open_end ≡ false → list_all (is_open_at t.rows) change.closes ≡ true
+    → ((x : Cell) (n : ℕ) → has_spot old x n ≡ is_open_with t.schema.key x (slice_get t.rows n))
+    → ((x : Cell) (n : ℕ) → has_spot closing x n ≡ (holds change.closes n && has_key t.schema.key x (slice_get t.rows n)))
+    → ((x : Cell) (n : ℕ) → has_spot new x n ≡ (not (has_spot closing x n) && (opens_with t.schema.key (length t.rows) change.opens x n || has_spot old x n)))
+    → (x : Cell) (n : ℕ) → has_spot new x n ≡ is_open_with t.schema.key x (slice_get (changed version change t).rows n)
+new_after version change t old closing new apart current was gone left x n =
+    let key : ℕ = t.schema.key in
+    let opened : Bool = opens_with key (length t.rows) change.opens x n in
+    let row : Option plain.Row = slice_get t.rows n in
+    let late : holds change.closes n ≡ true → opened ≡ false = λ e. opens_from key (length t.rows) change.opens x n (closed_within t.rows change.closes n current e) in
+    left x n
+    ∙ (ap (λ v. not v && (opened || has_spot old x n)) (gone x n)
+    ∙ (ap (λ v. not (holds change.closes n && has_key key x row) && (opened || v)) (was x n)
+    ∙ (joint (holds change.closes n) (has_key key x row) opened (is_open_with key x row) (has_with key x row) late
+    ∙ sym (rows_after_all key version change.closes t.rows change.opens x n apart))))
+
+-- each row after a change matches
+ended_match : (schema : plain.Schema) (version n : ℕ) (closes : List ℕ) (rows : List plain.Row) → list_all (λ r. matches schema (record { cells = r.cells; period = r.period })) rows ≡ true
+    → list_all (λ r. matches schema (record { cells = r.cells; period = r.period })) (map (ended version closes) (enumerate_from n rows)) ≡ true
+ended_match schema version n closes [] all = refl
+ended_match schema version n closes (r ∷ rows) all = and_from _ _ (by_close (holds closes n)) (ended_match schema version (n + 1) closes rows parts.1) where
+  one : plain.Row → Bool
+  one r = matches schema (record { cells = r.cells; period = r.period })
+
+  parts : (one r ≡ true) × (list_all one rows ≡ true)
+  parts = and_parts (one r) (list_all one rows) all
+
+  by_close : (b : Bool) → matches schema (record { cells = (cond b (record r { to = version }) r).cells; period = (cond b (record r { to = version }) r).period }) ≡ true
+  by_close true = parts.0
+  by_close false = parts.0
+
+begun_match : (schema : plain.Schema) (version : ℕ) (opens : List plain.Opened) → list_all (matches schema) opens ≡ true → list_all (λ r. matches schema (record { cells = r.cells; period = r.period })) (map (begun version) opens) ≡ true
+begun_match schema version [] all = refl
+begun_match schema version (o ∷ opens) all =
+    let parts = and_parts (matches schema o) (list_all (matches schema) opens) all in
+    and_from _ _ parts.0 (begun_match schema version opens parts.1)
+
+pub all_joined : {X : Type 0} (test : X → Bool) (xs ys : List X) → list_all test xs ≡ true → list_all test ys ≡ true → list_all test (xs ++ ys) ≡ true
+all_joined test [] ys e f = f
+all_joined test (x ∷ xs) ys e f = let parts = and_parts (test x) (list_all test xs) e in and_from _ _ parts.0 (all_joined test xs ys parts.1 f)
+
+pub match_after : (version : ℕ) (change : plain.Change) (t : plain.Table) → list_all (matches t.schema) change.opens ≡ true → rows_match (Some t) ≡ true → rows_match (Some (changed version change t)) ≡ true
+match_after version change t opened all = all_joined (λ r. matches t.schema (record { cells = r.cells; period = r.period })) (map (ended version change.closes) (numbered t.rows)) (map (begun version) change.opens) (ended_match t.schema version 0 change.closes t.rows all) (begun_match t.schema version change.opens opened)
+
+-- THE TABLES
+
+pub one_more_commit : (commits : List Commit) (c : Commit) → database_of (commits ++ c ∷ []) ≡ after_commit (database_of commits) c
+one_more_commit commits c = more nothing commits where
+  more : (db : plain.Database) (cs : List Commit) → fold after_commit db (cs ++ c ∷ []) ≡ after_commit (fold after_commit db cs) c
+  more db [] = refl
+  more db (d ∷ cs) = more (after_commit db d) cs
+
+no_keys : (x : Cell) (id : ℕ) → has_spot [] x id ≡ false
+no_keys x id = refl
+
+-- no table
+pub stands_empty : StandFor [] nothing
+stands_empty = record { tables = refl; spots = λ table x id. refl; matching = λ table. refl }
+
+-- a table more
+table_more : (keys : List (List Spot)) (fresh : List Spot) (tables : List plain.Table) (schema : plain.Schema) → length keys ≡ length tables → ((x : Cell) (n : ℕ) → has_spot fresh x n ≡ false)
+    → ((t : ℕ) (x : Cell) (id : ℕ) → has_spot (spots_at keys t) x id ≡ table_has (slice_get tables t) x id)
+    → (t : ℕ) (x : Cell) (id : ℕ) → has_spot (spots_at (keys ++ fresh ∷ []) t) x id ≡ table_has (slice_get (tables ++ new_table schema ∷ []) t) x id
+table_more [] fresh [] schema same none old zero x id = none x id
+table_more [] fresh [] schema same none old (suc t) x id = refl
+table_more [] fresh (s ∷ tables) schema same none old t x id = absurd (omega (arith, same))
+table_more (k ∷ keys) fresh [] schema same none old t x id = absurd (omega (arith, same))
+table_more (k ∷ keys) fresh (s ∷ tables) schema same none old zero x id = old zero x id
+table_more (k ∷ keys) fresh (s ∷ tables) schema same none old (suc t) x id = table_more keys fresh tables schema (omega (arith, same)) none (λ u y n. old (suc u) y n) t x id
+
+match_more : (tables : List plain.Table) (schema : plain.Schema) → ((t : ℕ) → rows_match (slice_get tables t) ≡ true) → (t : ℕ) → rows_match (slice_get (tables ++ new_table schema ∷ []) t) ≡ true
+match_more [] schema old zero = refl
+match_more [] schema old (suc t) = refl
+match_more (s ∷ tables) schema old zero = old zero
+match_more (s ∷ tables) schema old (suc t) = match_more tables schema (λ u. old (suc u)) t
+
+pub stands_created : (keys : List (List Spot)) (fresh : List Spot) (db : plain.Database) (author : ℕ) (schema : plain.Schema) → StandFor keys db → ((x : Cell) (n : ℕ) → has_spot fresh x n ≡ false)
+    → StandFor (keys ++ fresh ∷ []) (after_commit db (record { author = author; body = body.Create schema }))
+stands_created keys fresh db author schema old none = record {
+  tables = length-append keys (fresh ∷ []) ∙ (ap (λ n. n + 1) old.tables ∙ sym (length-append db.tables (new_table schema ∷ [])));
+  spots = table_more keys fresh db.tables schema old.tables none old.spots;
+  matching = match_more db.tables schema old.matching;
+}
+
+-- a table changed
+table_changed : (keys : List (List Spot)) (at : ℕ) (spots : List Spot) (tables : List plain.Table) (f : plain.Table → plain.Table) → length keys ≡ length tables
+    → ((t : plain.Table) → slice_get tables at ≡ Some t → (x : Cell) (n : ℕ) → has_spot spots x n ≡ table_has (Some (f t)) x n)
+    → ((t : ℕ) (x : Cell) (id : ℕ) → has_spot (spots_at keys t) x id ≡ table_has (slice_get tables t) x id)
+    → (t : ℕ) (x : Cell) (id : ℕ) → has_spot (spots_at (slice_set keys at spots) t) x id ≡ table_has (slice_get (at_place at f tables) t) x id
+table_changed [] at spots [] f same here old t x id = refl
+table_changed [] at spots (s ∷ tables) f same here old t x id = absurd (omega (arith, same))
+table_changed (k ∷ keys) at spots [] f same here old t x id = absurd (omega (arith, same))
+table_changed (k ∷ keys) zero spots (s ∷ tables) f same here old zero x id = here s refl x id
+table_changed (k ∷ keys) zero spots (s ∷ tables) f same here old (suc t) x id = old (suc t) x id
+table_changed (k ∷ keys) (suc at) spots (s ∷ tables) f same here old zero x id = old zero x id
+table_changed (k ∷ keys) (suc at) spots (s ∷ tables) f same here old (suc t) x id = table_changed keys at spots tables f (omega (arith, same)) here (λ u y n. old (suc u) y n) t x id
+
+place_length : (at : ℕ) (tables : List plain.Table) (f : plain.Table → plain.Table) → length (at_place at f tables) ≡ length tables
+place_length at [] f = refl
+place_length zero (s ∷ tables) f = refl
+place_length (suc at) (s ∷ tables) f = ap suc (place_length at tables f)
+
+match_changed : (at : ℕ) (tables : List plain.Table) (f : plain.Table → plain.Table) → ((t : plain.Table) → slice_get tables at ≡ Some t → rows_match (Some (f t)) ≡ true)
+    → ((t : ℕ) → rows_match (slice_get tables t) ≡ true) → (t : ℕ) → rows_match (slice_get (at_place at f tables) t) ≡ true
+match_changed at [] f here old t = refl
+match_changed zero (s ∷ tables) f here old zero = here s refl
+match_changed zero (s ∷ tables) f here old (suc t) = old (suc t)
+match_changed (suc at) (s ∷ tables) f here old zero = old zero
+match_changed (suc at) (s ∷ tables) f here old (suc t) = match_changed at tables f here (λ u. old (suc u)) t
+
+-- the keys after a change of a table that is there
+pub stands_changed : (keys new : List (List Spot)) (spots : List Spot) (db : plain.Database) (author : ℕ) (change : plain.Change) (t : plain.Table) → StandFor keys db
+    → slice_get db.tables change.table ≡ Some t → list_all (matches t.schema) change.opens ≡ true → new ≡ slice_set keys change.table spots
+    → ((x : Cell) (n : ℕ) → has_spot spots x n ≡ is_open_with t.schema.key x (slice_get (changed (db.version + 1) change t).rows n))
+    → StandFor new (after_commit db (record { author = author; body = body.Change change }))
+stands_changed keys new spots db author change t old found opened made here = record {
+  tables = ap length made ∙ (length-set keys change.table spots ∙ (old.tables ∙ sym (place_length change.table db.tables (changed (db.version + 1) change))));
+  spots = λ u x n. ap (λ ks. has_spot (spots_at ks u) x n) made ∙ table_changed keys change.table spots db.tables (changed (db.version + 1) change) old.tables one old.spots u x n;
+  matching = match_changed change.table db.tables (changed (db.version + 1) change) matched old.matching;
+} where
+  only : (s : plain.Table) → slice_get db.tables change.table ≡ Some s → s ≡ t
+  only s e = ap (λ (o : Option plain.Table). unwrap_or o t) (sym e ∙ found)
+
+  one : (s : plain.Table) → slice_get db.tables change.table ≡ Some s → (x : Cell) (n : ℕ) → has_spot spots x n ≡ table_has (Some (changed (db.version + 1) change s)) x n
+  one s e x n = here x n ∙ ap (λ q. table_has (Some (changed (db.version + 1) change q)) x n) (sym (only s e))
+
+  matched : (s : plain.Table) → slice_get db.tables change.table ≡ Some s → rows_match (Some (changed (db.version + 1) change s)) ≡ true
+  matched s e = ap (λ q. rows_match (Some (changed (db.version + 1) change q))) (only s e) ∙ match_after (db.version + 1) change t opened (ap rows_match (sym found) ∙ old.matching change.table)
+
+-- A CHANGE THAT FITS
+
+-- what is known of a change that fits, and of its table
+pub record Fitting (db : plain.Database) (change : plain.Change) : Type 0 where
+  pub table : plain.Table
+  pub at : slice_get db.tables change.table ≡ Some table
+  pub current : list_all (is_open_at table.rows) change.closes ≡ true
+  pub opened : list_all (matches table.schema) change.opens ≡ true
+  pub few : length table.rows + length change.opens ≤ 16777216
+
+pub fitting : (db : plain.Database) (change : plain.Change) → fits_body standard_limits db.tables (body.Change change) ≡ true → Fitting db change
+fitting db change = of_table (slice_get db.tables change.table) refl where
+  of_table : (o : Option plain.Table) → slice_get db.tables change.table ≡ o → fits_table standard_limits change o ≡ true → Fitting db change
+  of_table None at fit = absurd (cc)
+  of_table (Some t) at fit =
+      let outer = and_parts (list_all (is_open_at t.rows) change.closes && list_all (matches t.schema) change.opens) (nat_le (length t.rows + length change.opens) 16777216) fit in
+      let inner = and_parts (list_all (is_open_at t.rows) change.closes) (list_all (matches t.schema) change.opens) outer.0 in
+      record { table = t; at = at; current = inner.0; opened = inner.1; few = let e : nat_le (length t.rows + length change.opens) 16777216 ≡ true = outer.1 in grind (arith, nat_tests) }
+
+rows_are : (version : ℕ) (tables : List plain.Table) (n : ℕ) (t : plain.Table) → slice_get tables n ≡ Some t → rows_of (record { version = version; tables = tables }) n ≡ t.rows
+rows_are version [] n t at = absurd (cc)
+rows_are version (u ∷ tables) zero t at = let e : u ≡ t = cc in ap (λ v. v.rows) e
+rows_are version (u ∷ tables) (suc n) t at = rows_are version tables n t at
+
+pub fitting-rows : (db : plain.Database) (change : plain.Change) (f : Fitting db change) → rows_of db change.table ≡ f.table.rows
+fitting-rows db change f = rows_are db.version db.tables change.table f.table f.at
+
+pub fitting-within : (db : plain.Database) (change : plain.Change) → Fitting db change → change.table < length db.tables
+fitting-within db change f = slice_get_within db.tables change.table f.table f.at
+
+pub fitting-closes : (db : plain.Database) (change : plain.Change) → Fitting db change → All (λ id. id < length (rows_of db change.table)) change.closes
+fitting-closes db change f = λ k d l.
+    let here : is_open_at f.table.rows (get_or change.closes k d) ≡ true = AllPass-from_list_all (is_open_at f.table.rows) change.closes f.current k d l in
+    let h = open_within f.table.rows (get_or change.closes k d) here in
+    let e = ap length (fitting-rows db change f) in
+    omega arith
+
+pub schema_is : (o : Option plain.Table) (t : plain.Table) (schema : plain.Schema) → o ≡ Some t → Some schema ≡ option_map (λ u. u.schema) o → schema ≡ t.schema
+schema_is None t schema at e = absurd (cc)
+schema_is (Some u) t schema at e = cc
+
+pub fitting-place : (db : plain.Database) (change : plain.Change) (f : Fitting db change) (schema : plain.Schema) (place : ℕ) → Some schema ≡ option_map (λ u. u.schema) (slice_get db.tables change.table) → place ≡ schema.key → place ≡ f.table.schema.key
+fitting-place db change f schema place e h = h ∙ ap (λ s. s.key) (schema_is (slice_get db.tables change.table) f.table schema f.at e)
+
+pub cells_number : (columns : List Column) (cells : List Cell) → match_columns columns cells ≡ true → length columns ≡ length cells
+cells_number [] [] m = refl
+cells_number [] (x ∷ cells) m = absurd (cc)
+cells_number (c ∷ columns) [] m = absurd (cc)
+cells_number (c ∷ columns) (x ∷ cells) m = ap suc (cells_number columns cells (and_parts (is_of_kind c.kind x) (match_columns columns cells) m).1)
+
+pub fitting-keyed : (db : plain.Database) (change : plain.Change) (f : Fitting db change) (schema : plain.Schema) (place : ℕ) → Some schema ≡ option_map (λ u. u.schema) (slice_get db.tables change.table) → place ≡ schema.key → schema.key < length schema.columns
+    → All (λ o. place < length o.cells) change.opens
+fitting-keyed db change f schema place e h among = λ k d l.
+    let row : plain.Opened = get_or change.opens k d in
+    let same = schema_is (slice_get db.tables change.table) f.table schema f.at e in
+    let this : matches f.table.schema row ≡ true = AllPass-from_list_all (matches f.table.schema) change.opens f.opened k d l in
+    let cells = cells_number f.table.schema.columns row.cells (and_parts (match_columns f.table.schema.columns row.cells) (beq f.table.schema.valid (is_some row.period)) this).0 in
+    let columns = ap (λ (s : plain.Schema). length s.columns) same in
+    omega arith
+
+-- the spots that stand at a place
+pub spot_at : (keys : List (List Spot)) (n : ℕ) (spots : List Spot) → n < length keys → spots ≡ get_or keys n spots → spots_at keys n ≡ spots
+spot_at keys n spots h e = ap (λ (o : Option (List Spot)). unwrap_or o []) (slice_get_read keys (length keys) n spots refl h e)
+
+-- what they were before the change
+pub fitting-spots : (keys : List (List Spot)) (db : plain.Database) (change : plain.Change) (f : Fitting db change) (spots : List Spot) → StandFor keys db → spots ≡ get_or keys change.table spots
+    → (x : Cell) (n : ℕ) → has_spot spots x n ≡ is_open_with f.table.schema.key x (slice_get f.table.rows n)
+fitting-spots keys db change f spots old is x n =
+    let within = fitting-within db change f in
+    let same = old.tables in
+    let here : spots_at keys change.table ≡ spots = spot_at keys change.table spots (omega arith) is in
+    ap (λ ss. has_spot ss x n) (sym here) ∙ (old.spots change.table x n ∙ ap (λ o. table_has o x n) f.at)
+
+pub fitting-below : (keys : List (List Spot)) (db : plain.Database) (change : plain.Change) (f : Fitting db change) (spots : List Spot) (first : ℕ) → StandFor keys db → spots ≡ get_or keys change.table spots → first ≡ length (rows_of db change.table)
+    → (x : Cell) (n : ℕ) → first ≤ n → has_spot spots x n ≡ false
+fitting-below keys db change f spots first old is number x n h =
+    let rows = ap length (fitting-rows db change f) in
+    fitting-spots keys db change f spots old is x n ∙ ap (is_open_with f.table.schema.key x) (slice_get_past f.table.rows n (omega arith))
+
+-- the keys after the change
+pub fitting-after : (keys : List (List Spot)) (db : plain.Database) (change : plain.Change) (f : Fitting db change) (spots closing new : List Spot) (place first : ℕ) → StandFor keys db → db.version < 16777215 → spots ≡ get_or keys change.table spots
+    → first ≡ length (rows_of db change.table) → place ≡ f.table.schema.key
+    → ((x : Cell) (n : ℕ) → has_spot closing x n ≡ (holds change.closes n && has_key place x (slice_get (rows_of db change.table) n)))
+    → ((x : Cell) (n : ℕ) → has_spot new x n ≡ (not (has_spot closing x n) && (opens_with place first change.opens x n || has_spot spots x n)))
+    → StandFor (slice_set keys change.table new) (record { version = db.version + 1; tables = after_body (db.version + 1) (body.Change change) db.tables })
+fitting-after keys db change f spots closing new place first old version is number at gone left =
+    stands_changed keys (slice_set keys change.table new) new db 0 change f.table old f.at f.opened refl (λ x n.
+    new_after (db.version + 1) change f.table spots closing new apart f.current (fitting-spots keys db change f spots old is)
+    (λ y m. gone y m ∙ (ap (λ p. holds change.closes m && has_key p y (slice_get (rows_of db change.table) m)) at ∙ ap (λ rs. holds change.closes m && has_key f.table.schema.key y (slice_get rs m)) rows))
+    (λ y m. left y m ∙ (ap (λ p. not (has_spot closing y m) && (opens_with p first change.opens y m || has_spot spots y m)) at ∙ ap (λ q. not (has_spot closing y m) && (opens_with f.table.schema.key q change.opens y m || has_spot spots y m)) (number ∙ ap length rows))) x n) where
+      rows : rows_of db change.table ≡ f.table.rows
+      rows = fitting-rows db change f
+
+      apart : nat_eq (db.version + 1) open_end ≡ false
+      apart = grind (arith, nat_tests)
+
+-- spots that are the same
+pub stands_same : (keys : List (List Spot)) (db : plain.Database) (at : ℕ) (spots new : List Spot) → StandFor keys db → at < length keys → spots ≡ get_or keys at spots → ((x : Cell) (n : ℕ) → has_spot new x n ≡ has_spot spots x n)
+    → StandFor (slice_set keys at new) db
+stands_same keys db at spots new old within is same = record {
+  tables = length-set keys at new ∙ old.tables;
+  spots = λ t x n. set_same keys at new (λ y m. same y m ∙ ap (λ ss. has_spot ss y m) (sym (spot_at keys at spots within is))) t x n ∙ old.spots t x n;
+  matching = old.matching;
+} where
+  set_same : (keys : List (List Spot)) (at : ℕ) (new : List Spot) → ((x : Cell) (n : ℕ) → has_spot new x n ≡ has_spot (spots_at keys at) x n) → (t : ℕ) (x : Cell) (n : ℕ) → has_spot (spots_at (slice_set keys at new) t) x n ≡ has_spot (spots_at keys t) x n
+  set_same [] at new e t x n = refl
+  set_same (k ∷ keys) zero new e zero x n = e x n
+  set_same (k ∷ keys) zero new e (suc t) x n = refl
+  set_same (k ∷ keys) (suc at) new e zero x n = refl
+  set_same (k ∷ keys) (suc at) new e (suc t) x n = set_same keys at new e t x n
+
+-- what holds anyway holds of a result
+pub on_err : {T F : Type 0} (P : Type 0) (r : Result T F) → P → OnErr r P
+on_err P (Ok x) p = tt
+on_err P (Err e) p = p

@@ -1,0 +1,13 @@
+pub mod Rows
+pub mod ResolvedLemmas
+pub mod TouchLemmas
+pub mod FaultLemmas
+pub mod TakenLemmas
+pub mod MeetingLemmas
+pub mod StrokeLemmas
+pub mod ChangeLemmas
+pub mod SpotLemmas
+pub mod FollowLemmas
+pub mod ClosingLemmas
+pub mod Examples
+pub mod CommitLemmas

@@ -1,0 +1,176 @@
+-- The rows that a line touches, found by its key.
+use Rattle.std.proofs.Common.{◌≡◌, ℕ, zero, suc, ◌+◌, ◌<◌, ◌≤◌, Bool, true, false, ◌&&◌, ◌||◌, not, cond, nat_eq, nat_le, List, [], ◌∷◌, ◌++◌, length, take, drop, get_or, slice_get, Option, Some, None, refl, sym, ap, ◌∙◌, arith, ◌⊎◌, inl, inr}
+use Rattle.std.specs.List.{list_any}
+use Rattle.std.proofs.Common.{Result, Ok, Err}
+use Rattle.std.specs.Result.{IfOk}
+use Rattle.std.specs.Cmp.{int_eq_equiv}
+use Rattle.std.specs.Cmp.Lexicographic.{nat_list_eq_equiv}
+use Rattle.std.proofs.lemmas.Bool.{cases_lt}
+use Rattle.std.proofs.lemmas.Bool.Decides.{nat_tests}
+use Rattle.std.proofs.lemmas.List.{take_more, map-append, at_drop_more}
+use Rattle.std.proofs.lemmas.Option.{slice_get_past}
+use Rattle.tl_types.specs.declared.cells.Cell.{Cell}
+use Rattle.tl_types.specs.declared.cells.Cell.TheVariants as cell
+use Rattle.tl_types.specs.declared.batches.BatchFault.{BatchFault}
+use Rattle.tl_types.specs.declared.batches.BatchFault.TheVariants as fault
+use Rattle.tl_types.specs.Plain as plain
+use Rattle.tl_types.specs.Facts.{AscendFrom}
+use Rattle.tl_types.specs.History.{is_open, holds, same_cell}
+use Rattle.tl_types.specs.Resolving.{Said, same_key}
+use Rattle.tl_batch.specs.declared.spots.Spot.{Spot}
+use Rattle.tl_batch.specs.declared.strokes.Stroke.{Stroke}
+use Rattle.tl_batch.specs.Spots.{has_spot}
+use Rattle.tl_batch.specs.Pieces.{meets, cuts, periods_with}
+use Rattle.tl_batch.specs.Standing.{is_open_with}
+use Rattle.tl_batch.specs.Strokes.{said_of, said_by}
+use Rattle.tl_batch.specs.Faults.{is_touched, fault_from, parts_met, is_some_item}
+use Rattle.tl_batch.proofs.SpotLemmas.{same_cell-sym}
+use Rattle.tl_batch.proofs.ChangeLemmas.{ascend_same}
+
+-- KEYS
+
+cell_congr : (x y z : Cell) → same_cell x y ≡ true → same_cell x z ≡ same_cell y z
+cell_congr (cell.Int i) (cell.Int j) (cell.Int k) e = int_eq_equiv.congr i j k e
+cell_congr (cell.Int i) (cell.Int j) (cell.Text t) e = refl
+cell_congr (cell.Int i) (cell.Text s) z e = absurd (cc)
+cell_congr (cell.Text s) (cell.Int j) z e = absurd (cc)
+cell_congr (cell.Text s) (cell.Text t) (cell.Int k) e = refl
+cell_congr (cell.Text s) (cell.Text t) (cell.Text u) e = nat_list_eq_equiv.congr s t u e
+
+key_congr : (key : Option Cell) (x : Cell) (k : Option Cell) → same_key key (Some x) ≡ true → same_key key k ≡ same_key (Some x) k
+key_congr None x k e = absurd (cc)
+key_congr (Some y) x None e = refl
+key_congr (Some y) x (Some z) e = cell_congr y x z e
+
+periods-same : (key : Option Cell) (x : Cell) (lines : List Said) → same_key key (Some x) ≡ true → periods_with key lines ≡ periods_with (Some x) lines
+periods-same key x [] e = refl
+periods-same key x (said ∷ lines) e = ap (λ b. cond b (said.period ∷ periods_with key lines) (periods_with key lines)) (key_congr key x said.key e) ∙ ap (λ ps. cond (same_key (Some x) said.key) (said.period ∷ ps) ps) (periods-same key x lines e)
+
+-- a key that an earlier line has
+pub among_lines : (x : Cell) (strokes : List Stroke) (periods given : List (Option plain.Period)) → given ≡ periods → periods ≡ periods_with (Some x) (said_by strokes) → is_some_item given ≡ list_any (λ e. same_key e.key (Some x)) (said_by strokes)
+among_lines x strokes periods given same e = ap is_some_item (same ∙ e) ∙ by_lines strokes where
+  by_lines : (strokes : List Stroke) → is_some_item (periods_with (Some x) (said_by strokes)) ≡ list_any (λ e. same_key e.key (Some x)) (said_by strokes)
+  by_lines [] = refl
+  by_lines (s ∷ strokes) = split (same_cell x s.key) (by_lines strokes) ∙ ap (λ b. b || list_any (λ e. same_key e.key (Some x)) (said_by strokes)) (same_cell-sym x s.key) where
+    split : (b : Bool) → is_some_item (periods_with (Some x) (said_by strokes)) ≡ list_any (λ e. same_key e.key (Some x)) (said_by strokes)
+        → is_some_item (cond b (s.period ∷ periods_with (Some x) (said_by strokes)) (periods_with (Some x) (said_by strokes))) ≡ (b || list_any (λ e. same_key e.key (Some x)) (said_by strokes))
+    split true later = refl
+    split false later = later
+
+-- ROWS OF A KEY
+
+abbrev key_ids : ℕ → Cell → ℕ → List plain.Row → List ℕ
+key_ids place x n [] = []
+key_ids place x n (r ∷ rows) = cond (is_open r && same_key (slice_get r.cells place) (Some x)) (n ∷ key_ids place x (n + 1) rows) (key_ids place x (n + 1) rows)
+
+key_ascend : (place : ℕ) (x : Cell) (n : ℕ) (rows : List plain.Row) → AscendFrom n (key_ids place x n rows)
+key_ascend place x n [] = tt
+key_ascend place x n (r ∷ rows) = split (is_open r && same_key (slice_get r.cells place) (Some x)) (key_ascend place x (n + 1) rows) where
+  lower : (low high : ℕ) (ids : List ℕ) → low ≤ high → AscendFrom high ids → AscendFrom low ids
+  lower low high [] h all = tt
+  lower low high (id ∷ ids) h all = (let l = all.0 in omega arith, all.1)
+
+  split : (b : Bool) → AscendFrom (n + 1) (key_ids place x (n + 1) rows) → AscendFrom n (cond b (n ∷ key_ids place x (n + 1) rows) (key_ids place x (n + 1) rows))
+  split true later = (let h : n ≤ n = omega arith in h, later)
+  split false later = lower n (n + 1) (key_ids place x (n + 1) rows) (omega arith) later
+
+key_past : (place : ℕ) (x : Cell) (n : ℕ) (rows : List plain.Row) (m : ℕ) → m < n → holds (key_ids place x n rows) m ≡ false
+key_past place x n [] m h = refl
+key_past place x n (r ∷ rows) m h = split (is_open r && same_key (slice_get r.cells place) (Some x)) (key_past place x (n + 1) rows m (omega arith)) where
+  apart : nat_eq n m ≡ false
+  apart = grind (arith, nat_tests)
+
+  split : (b : Bool) → holds (key_ids place x (n + 1) rows) m ≡ false → holds (cond b (n ∷ key_ids place x (n + 1) rows) (key_ids place x (n + 1) rows)) m ≡ false
+  split true later = ap (λ v. v || holds (key_ids place x (n + 1) rows) m) apart ∙ later
+  split false later = later
+
+key_holds : (place : ℕ) (x : Cell) (n : ℕ) (rows : List plain.Row) (i : ℕ) → holds (key_ids place x n rows) (n + i) ≡ is_open_with place x (slice_get rows i)
+key_holds place x n [] i = refl
+key_holds place x n (r ∷ rows) zero =
+    let here : nat_eq n (n + 0) ≡ true = grind (arith, nat_tests) in
+    let next : n + 0 < n + 1 = omega arith in
+    split here (key_past place x (n + 1) rows (n + 0) next) (is_open r && same_key (slice_get r.cells place) (Some x)) where
+      split : nat_eq n (n + 0) ≡ true → holds (key_ids place x (n + 1) rows) (n + 0) ≡ false → (b : Bool) → holds (cond b (n ∷ key_ids place x (n + 1) rows) (key_ids place x (n + 1) rows)) (n + 0) ≡ b
+      split here past true = ap (λ v. v || holds (key_ids place x (n + 1) rows) (n + 0)) here
+      split here past false = past
+key_holds place x n (r ∷ rows) (suc i) =
+    let number : n + 1 + i ≡ n + suc i = omega arith in
+    let apart : nat_eq n (n + suc i) ≡ false = grind (arith, nat_tests) in
+    split apart (ap (holds (key_ids place x (n + 1) rows)) (sym number) ∙ key_holds place x (n + 1) rows i) (is_open r && same_key (slice_get r.cells place) (Some x)) where
+      split : nat_eq n (n + suc i) ≡ false → holds (key_ids place x (n + 1) rows) (n + suc i) ≡ is_open_with place x (slice_get rows i) → (b : Bool) → holds (cond b (n ∷ key_ids place x (n + 1) rows) (key_ids place x (n + 1) rows)) (n + suc i) ≡ is_open_with place x (slice_get rows i)
+      split apart later true = ap (λ v. v || holds (key_ids place x (n + 1) rows) (n + suc i)) apart ∙ later
+      split apart later false = later
+
+key_touched : (schema : plain.Schema) (earlier : List Said) (s : Stroke) (f : ℕ → Bool) (n : ℕ) (rows : List plain.Row) → ((i : ℕ) → f (n + i) ≡ parts_met schema.valid s.period (periods_with (Some s.key) earlier) (slice_get rows i))
+    → list_any f (key_ids schema.key s.key n rows) ≡ list_any (is_touched schema earlier (said_of s)) rows
+key_touched schema earlier s f n [] e = refl
+key_touched schema earlier s f n (r ∷ rows) e = by_key (is_open r) (same_key key (Some s.key)) refl (key_touched schema earlier s f (n + 1) rows (λ i. (let q : n + 1 + i ≡ n + suc i = omega arith in ap f q) ∙ e (suc i))) where
+  key : Option Cell
+  key = slice_get r.cells schema.key
+
+  here : f n ≡ list_any (λ p. meets schema.valid s.period p) (cuts schema.valid (periods_with (Some s.key) earlier) r.period)
+  here = (let q : n ≡ n + 0 = omega arith in ap f q) ∙ e 0
+
+  rest : List ℕ
+  rest = key_ids schema.key s.key (n + 1) rows
+
+  by_key : (o k : Bool) → same_key key (Some s.key) ≡ k → list_any f rest ≡ list_any (is_touched schema earlier (said_of s)) rows
+      → list_any f (cond (o && k) (n ∷ rest) rest) ≡ ((o && (k && list_any (λ p. meets schema.valid s.period p) (cuts schema.valid (periods_with key earlier) r.period))) || list_any (is_touched schema earlier (said_of s)) rows)
+  by_key true true g later = ap (λ b. b || list_any f rest) (here ∙ ap (λ ps. list_any (λ p. meets schema.valid s.period p) (cuts schema.valid ps r.period)) (sym (periods-same key s.key earlier g))) ∙ ap (λ b. list_any (λ p. meets schema.valid s.period p) (cuts schema.valid (periods_with key earlier) r.period) || b) later
+  by_key true false g later = later
+  by_key false k g later = later
+
+-- a line touches a row where it meets a part of one of the rows of its key
+pub touched_rows : (schema : plain.Schema) (rows : List plain.Row) (earlier : List Stroke) (s : Stroke) (spots : List Spot) (ids given : List ℕ) (periods lines : List (Option plain.Period)) → length rows < 4294967296
+    → ((y : Cell) (n : ℕ) → has_spot spots y n ≡ is_open_with schema.key y (slice_get rows n))
+    → AscendFrom 0 ids → ((n : ℕ) → n < 4294967296 → holds ids n ≡ (nat_le 0 n && has_spot spots s.key n)) → ((n : ℕ) → 4294967296 ≤ n → holds ids n ≡ false)
+    → given ≡ ids → lines ≡ periods → periods ≡ periods_with (Some s.key) (said_by earlier)
+    → list_any (λ row. parts_met schema.valid s.period lines (slice_get rows row)) given ≡ list_any (is_touched schema (said_by earlier) (said_of s)) rows
+touched_rows schema rows earlier s spots ids given periods lines few stand ascend members small same one two =
+    ap (list_any (λ row. parts_met schema.valid s.period lines (slice_get rows row))) (same ∙ ascend_same 0 ids (key_ids schema.key s.key 0 rows) ascend (key_ascend schema.key s.key 0 rows) equal)
+    ∙ (ap (λ ps. list_any (λ row. parts_met schema.valid s.period ps (slice_get rows row)) (key_ids schema.key s.key 0 rows)) (one ∙ two)
+    ∙ key_touched schema (said_by earlier) s (λ row. parts_met schema.valid s.period (periods_with (Some s.key) (said_by earlier)) (slice_get rows row)) 0 rows (λ i. let q : 0 + i ≡ i = omega arith in ap (λ k. parts_met schema.valid s.period (periods_with (Some s.key) (said_by earlier)) (slice_get rows k)) q)) where
+      of_key : (n : ℕ) → (n < 4294967296) ⊎ (4294967296 ≤ n) → holds ids n ≡ is_open_with schema.key s.key (slice_get rows n)
+      of_key n (inl l) = let low : nat_le 0 n ≡ true = grind (arith, nat_tests) in members n l ∙ (ap (λ v. v && has_spot spots s.key n) low ∙ stand s.key n)
+      of_key n (inr l) = small n l ∙ ap (is_open_with schema.key s.key) (sym (slice_get_past rows n (omega arith)))
+
+      equal : (n : ℕ) → holds ids n ≡ holds (key_ids schema.key s.key 0 rows) n
+      equal n = of_key n (cases_lt n 4294967296) ∙ (sym (key_holds schema.key s.key 0 rows n) ∙ (let q : 0 + n ≡ n = omega arith in ap (holds (key_ids schema.key s.key 0 rows)) q))
+
+-- ONE LINE MORE
+
+found_here : (a b : Bool) (x y f : BatchFault) (o rest : Option BatchFault) → o ≡ cond a (Some x) (cond b (Some y) None) → o ≡ Some f → cond a (Some x) (cond b (Some y) rest) ≡ Some f
+found_here true b x y f o rest e g = sym e ∙ g
+found_here false true x y f o rest e g = sym e ∙ g
+found_here false false x y f o rest e g = absurd (cc)
+
+found_later : (a b : Bool) (x y : BatchFault) (o rest : Option BatchFault) → o ≡ cond a (Some x) (cond b (Some y) None) → o ≡ None → cond a (Some x) (cond b (Some y) rest) ≡ rest
+found_later true b x y o rest e g = absurd (cc)
+found_later false true x y o rest e g = absurd (cc)
+found_later false false x y o rest e g = refl
+
+-- the fault of a line, behind earlier ones
+abbrev pub fault_of : plain.Schema → Bool → List plain.Row → List Said → Stroke → ℕ → Option BatchFault
+fault_of schema removes rows earlier s rec = cond (not schema.valid && list_any (λ e. same_key e.key (Some s.key)) earlier) (Some (fault.KeyTwice rec)) (cond (removes && not (list_any (is_touched schema earlier (said_of s)) rows)) (Some (fault.NoRow rec)) None)
+
+pub fault_here : (schema : plain.Schema) (removes : Bool) (rows : List plain.Row) (strokes : List Stroke) (i : ℕ) (s : Stroke) (f : BatchFault) (o all : Option BatchFault) → i < length strokes → s ≡ get_or strokes i s → o ≡ fault_of schema removes rows (said_by (take i strokes)) s (i + 2) → o ≡ Some f
+    → all ≡ fault_from schema removes rows (i + 2) (said_by (take i strokes)) (said_by (drop i strokes)) → Some f ≡ all
+fault_here schema removes rows strokes i s f o all h at e g start =
+    sym (start ∙ (at_drop_more (λ ls. fault_from schema removes rows (i + 2) (said_by (take i strokes)) (said_by ls)) strokes i s h
+    ∙ (ap (λ q. fault_from schema removes rows (i + 2) (said_by (take i strokes)) (said_by (q ∷ drop (i + 1) strokes))) (sym at)
+    ∙ found_here (not schema.valid && list_any (λ e. same_key e.key (Some s.key)) (said_by (take i strokes))) (removes && not (list_any (is_touched schema (said_by (take i strokes)) (said_of s)) rows)) (fault.KeyTwice (i + 2)) (fault.NoRow (i + 2)) f o (fault_from schema removes rows (i + 2 + 1) (said_by (take i strokes) ++ said_of s ∷ []) (said_by (drop (i + 1) strokes))) e g)))
+
+pub fault_later : (schema : plain.Schema) (removes : Bool) (rows : List plain.Row) (strokes : List Stroke) (i : ℕ) (s : Stroke) (o all : Option BatchFault) → i < length strokes → s ≡ get_or strokes i s → o ≡ fault_of schema removes rows (said_by (take i strokes)) s (i + 2) → o ≡ None
+    → all ≡ fault_from schema removes rows (i + 2) (said_by (take i strokes)) (said_by (drop i strokes)) → all ≡ fault_from schema removes rows (i + 1 + 2) (said_by (take (i + 1) strokes)) (said_by (drop (i + 1) strokes))
+fault_later schema removes rows strokes i s o all h at e g start =
+    let number : i + 2 + 1 ≡ i + 1 + 2 = omega arith in
+    let front : said_by (take i strokes) ++ said_of s ∷ [] ≡ said_by (take (i + 1) strokes) = sym (ap said_by (take_more strokes i s h ∙ ap (λ q. take i strokes ++ q ∷ []) (sym at)) ∙ map-append said_of (take i strokes) (s ∷ [])) in
+    start ∙ (at_drop_more (λ ls. fault_from schema removes rows (i + 2) (said_by (take i strokes)) (said_by ls)) strokes i s h
+    ∙ (ap (λ q. fault_from schema removes rows (i + 2) (said_by (take i strokes)) (said_by (q ∷ drop (i + 1) strokes))) (sym at)
+    ∙ (found_later (not schema.valid && list_any (λ e. same_key e.key (Some s.key)) (said_by (take i strokes))) (removes && not (list_any (is_touched schema (said_by (take i strokes)) (said_of s)) rows)) (fault.KeyTwice (i + 2)) (fault.NoRow (i + 2)) o (fault_from schema removes rows (i + 2 + 1) (said_by (take i strokes) ++ said_of s ∷ []) (said_by (drop (i + 1) strokes))) e g
+    ∙ (ap (λ m. fault_from schema removes rows m (said_by (take i strokes) ++ said_of s ∷ []) (said_by (drop (i + 1) strokes))) number ∙ ap (λ ls. fault_from schema removes rows (i + 1 + 2) ls (said_by (drop (i + 1) strokes))) front))))
+
+-- a result that is one value is the other
+pub if_ok : {F : Type 0} (r : Result Bool F) (a b : Bool) → IfOk r (λ v. v ≡ a) → a ≡ b → IfOk r (λ v. v ≡ b)
+if_ok (Ok v) a b p e = p ∙ e
+if_ok (Err f) a b p e = tt

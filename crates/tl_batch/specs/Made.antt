@@ -1,0 +1,50 @@
+-- The commit of a batch, read off the rows of its table.
+use Rattle.std.specs.Prelude.{ℕ, ◌+◌, ◌≤◌, Bool, true, nat_lt, List, [], ◌++◌, length, Option, Some, None, Result, Ok, Err, if◌then◌else◌}
+use Rattle.std.specs.List.{list_all}
+use Rattle.tl_types.specs.declared.commits.Commit.{Commit}
+use Rattle.tl_types.specs.declared.commits.Body.TheVariants as body
+use Rattle.tl_types.specs.declared.batches.Batch.{Batch}
+use Rattle.tl_types.specs.declared.batches.Batch.TheVariants as batch
+use Rattle.tl_types.specs.declared.batches.BatchFault.{BatchFault}
+use Rattle.tl_types.specs.declared.batches.BatchFault.TheVariants as fault
+use Rattle.tl_types.specs.declared.limits.Limits.{Limits}
+use Rattle.tl_types.specs.Plain as plain
+use Rattle.tl_types.specs.History.{matches}
+use Rattle.tl_types.specs.Resolving.{Said, find_table}
+use Rattle.tl_batch.specs.Pieces.{met_ids, old_pieces, put_pieces}
+use Rattle.tl_batch.specs.Faults.{fault_from}
+
+-- the change that lines make in the table with a number, by its rows
+abbrev pub change_by : ℕ → plain.Schema → List plain.Row → List Said → plain.Change
+change_by number schema rows lines = record { table = number; closes = met_ids schema lines 0 rows; opens = old_pieces schema lines rows ++ put_pieces schema lines }
+
+-- the change of a table with so many rows, where no line has a fault and it leaves no more rows than the limit
+abbrev pub unless_fault : ℕ → ℕ → plain.Change → Option BatchFault → Result plain.Change BatchFault
+unless_fault limit count change (Some f) = Err f
+unless_fault limit count change None = if nat_lt limit (count + length change.opens) then Err fault.RowsFull else Ok change
+
+-- the change that lines make in the table with a number, by its rows, or the first fault
+abbrev pub made_by : ℕ → ℕ → Bool → plain.Schema → List plain.Row → List Said → Result plain.Change BatchFault
+made_by limit number removes schema rows lines = unless_fault limit (length rows) (change_by number schema rows lines) (fault_from schema removes rows 2 [] lines)
+
+-- the author's commit of the change
+abbrev pub committed : ℕ → Result plain.Change BatchFault → Result Commit BatchFault
+committed author (Err f) = Err f
+committed author (Ok change) = Ok (record { author = author; body = body.Change change })
+
+-- the rows match the schema of the table that was found, if one was
+abbrev pub rows_fit_found : List plain.Opened → Option (ℕ × plain.Table) → Bool
+rows_fit_found lines None = true
+rows_fit_found lines (Some found) = list_all (matches found.1.schema) lines
+
+-- the rows that the batch puts match the schema of its table, where there is one
+abbrev pub batch_matches : plain.Database → Batch → Bool
+batch_matches db (batch.Create schema) = true
+batch_matches db (batch.Put name lines) = rows_fit_found lines (find_table name db.tables)
+batch_matches db (batch.Remove name lines) = true
+
+-- what these limits allow, the others allow too
+pub record AreWithin (limits others : Limits) : Type 0 where
+  pub tables : limits.tables ≤ others.tables
+  pub rows : limits.rows ≤ others.rows
+  pub versions : limits.versions ≤ others.versions

@@ -1,0 +1,53 @@
+-- The open rows of each key of the tables.
+use Rattle.std.specs.Prelude.{◌≡◌, ℕ, ◌+◌, Bool, true, false, ◌&&◌, ◌||◌, ◌==◌, List, [], ◌∷◌, length, Option, Some, None, slice_get, unwrap_or}
+use Rattle.std.specs.List.{list_all}
+use Rattle.tl_types.specs.declared.cells.Cell.{Cell}
+use Rattle.tl_types.specs.Plain as plain
+use Rattle.tl_types.specs.History.{is_open, matches}
+use Rattle.tl_types.specs.Resolving.{same_key}
+use Rattle.tl_batch.specs.declared.spots.Spot.{Spot}
+use Rattle.tl_batch.specs.Spots.{has_spot}
+
+-- one of the opened rows, of which the first has this id, has this id and the key, which is the cell at a place
+abbrev pub opens_with : ℕ → ℕ → List plain.Opened → Cell → ℕ → Bool
+opens_with place first [] x id = false
+opens_with place first (o ∷ opens) x id = (same_key (slice_get o.cells place) (Some x) && (id == first)) || opens_with place (first + 1) opens x id
+
+-- the row has the key
+abbrev pub has_key : ℕ → Cell → Option plain.Row → Bool
+has_key place x None = false
+has_key place x (Some row) = same_key (slice_get row.cells place) (Some x)
+
+-- the row is current and has the key
+abbrev pub is_open_with : ℕ → Cell → Option plain.Row → Bool
+is_open_with place x None = false
+is_open_with place x (Some row) = is_open row && same_key (slice_get row.cells place) (Some x)
+
+-- the row with this id of the table is current and has the key
+abbrev pub table_has : Option plain.Table → Cell → ℕ → Bool
+table_has None x id = false
+table_has (Some t) x id = is_open_with t.schema.key x (slice_get t.rows id)
+
+-- each row matches the schema of its table
+abbrev pub rows_match : Option plain.Table → Bool
+rows_match None = true
+rows_match (Some t) = list_all (λ r. matches t.schema (record { cells = r.cells; period = r.period })) t.rows
+
+-- the spots of the table with this number
+abbrev pub spots_at : List (List Spot) → ℕ → List Spot
+spots_at keys table = unwrap_or (slice_get keys table) []
+
+-- the keys stand for the tables: there is a set of spots for each table, and a number stands in it with a key
+-- exactly where the table's row with this id is current and has the key. The tables are such as fitting commits
+-- make: each row matches its schema
+pub record StandFor (keys : List (List Spot)) (db : plain.Database) : Type 0 where
+  pub tables : length keys ≡ length db.tables
+  pub spots : (table : ℕ) (x : Cell) (id : ℕ) → has_spot (spots_at keys table) x id ≡ table_has (slice_get db.tables table) x id
+  pub matching : (table : ℕ) → rows_match (slice_get db.tables table) ≡ true
+
+-- the table with this number is there, with this schema, which its rows match
+pub record IsTable (db : plain.Database) (number : ℕ) (schema : plain.Schema) : Type 0 where
+  pub table : plain.Table
+  pub at : slice_get db.tables number ≡ Some table
+  pub same : schema ≡ table.schema
+  pub matching : rows_match (Some table) ≡ true

@@ -1,0 +1,169 @@
+//! The open rows of each key of a store.
+ghost use Rattle.std.specs.Prelude.{◌≡◌, ◌+◌, ◌<◌, ◌≤◌, ◌^◌, ◌++◌, ◌∷◌, [], ◌&&◌, ◌||◌, not, false, ℕ, All, IsTrue, IfOk, IfErr, OnOk, OnErr, ◌⊎◌, Ok, Err, length, slice_get};
+ghost use Rattle.tl_types.specs.declared.cells.Cell.{Cell};
+ghost use Rattle.tl_types.specs.declared.batches.BatchFault.TheVariants as fault;
+ghost use Rattle.tl_types.specs.declared.commits.Body.TheVariants as body;
+ghost use Rattle.tl_types.specs.History.{database_of, after_body, fits, fits_body};
+ghost use Rattle.tl_types.specs.Limits.{standard_limits};
+ghost use Rattle.tl_types.specs.Resolving.{resolved};
+ghost use Rattle.tl_batch.specs.Made.{AreWithin, batch_matches};
+ghost use Rattle.tl_batch.specs.Spots.{has_spot};
+ghost use Rattle.tl_batch.specs.Standing.{StandFor, opens_with};
+
+use crate::reading::closing_spots;
+use crate::resolving::{resolve_create, resolve_put, resolve_remove};
+use crate::spots::{Spot, Spots};
+use std::alloc::Global;
+use std::marker::Model;
+use tl_store::Store;
+use tl_types::{Batch, BatchFault, Body, Change, Commit, Limits, NoMemory};
+
+/// The ids of the current rows of each key, table by table. `StandFor` says which tables the keys stand for.
+#[derive(Drop)]
+pub struct Keys {
+    tables: Vec<Spots>,
+}
+
+impl Model for Keys {
+    ghost use Rattle.std.specs.Prelude.{List};
+    ghost use Rattle.tl_batch.specs.declared.spots.Spot.{Spot};
+
+    ghost Value = { List (List Spot) };
+
+    ghost view = { λ k. k.tables.items };
+}
+
+impl Keys {
+    /// The keys of a store without commits. It takes no memory.
+    #[tactic(auto, using(crate::proofs::FollowLemmas::stands_empty))]
+    pub fn empty(alloc: Global) -> Keys
+        ensures { StandFor result (database_of []) }
+    {
+        Keys {
+            tables: Vec::new(alloc),
+        }
+    }
+
+    /// Follows a commit that fits the store that the keys stand for: they then stand for the store after it. The
+    /// error is want of memory, after which the keys stand for the store before the commit, as they did.
+    pub fn follow(&mut self, alloc: Global, before: &Store, commit: &Commit) -> Result<(), NoMemory>
+        requires stands { StandFor self.old (database_of before.now) }
+        requires fit { IsTrue (fits standard_limits (database_of before.now) commit.now) }
+        ensures ok { OnOk result (StandFor self.new (database_of (before.now ++ commit.now ∷ []))) }
+        ensures err { OnErr result (StandFor self.new (database_of before.now)) }
+    {
+        follow_body(&mut self.tables, alloc, before, &commit.body)?;
+        Ok(())
+    }
+
+    /// What a batch of this author becomes over the store that the keys stand for: its one commit, which fits the
+    /// store, or its first fault.
+    ///
+    /// The rows that a batch puts match the schema of the table that it names, where there is one. The first
+    /// fault of a new table is `TableExists` where a table has the name, `TablesFull` where there are as many
+    /// tables as the limits allow, `VersionsFull` where there are as many commits as they allow. That of rows or
+    /// keys is `UnknownTable` where no table has the name; `VersionsFull`; then line by line `KeyTwice` where the
+    /// table has no valid time and an earlier line has the key, and `NoRow` where the line removes and touches no
+    /// row; last `RowsFull` where the rows of the table and the opened ones together are more than the limits
+    /// allow. The record number of a line is its place from 0, plus 2. `NoMemory` is want of memory, or that a
+    /// batch is so large that its record numbers, or the number of rows that it opens, have no place in 32 bits.
+    pub fn resolve(
+        &self,
+        alloc: Global,
+        store: &Store,
+        batch: &Batch,
+        author: u32,
+        limits: &Limits,
+    ) -> Result<Commit, BatchFault>
+        requires stands { StandFor self.now (database_of store.now) }
+        requires matching { IsTrue (batch_matches (database_of store.now) batch.now) }
+        ensures ok { IfOk result (λ c. resolved limits.now (database_of store.now) author batch.now ≡ Ok c) }
+        ensures fit { IfOk result (λ c. IsTrue (fits limits.now (database_of store.now) c)) }
+        ensures standard { AreWithin limits.now standard_limits → IfOk result (λ c. IsTrue (fits standard_limits (database_of store.now) c)) }
+        ensures err { IfErr result (λ e. (e ≡ fault.NoMemory) ⊎ (resolved limits.now (database_of store.now) author batch.now ≡ Err e)) }
+    {
+        match batch {
+            Batch::Create(schema) => {
+                let Ok(schema) = schema.clone() else {
+                    return Err(BatchFault::NoMemory);
+                };
+                resolve_create(store, author, schema, limits)
+            }
+            Batch::Put { table, lines } => {
+                let lines = lines.as_slice();
+                let tables = self.tables.as_slice();
+                resolve_put(alloc, tables, store, author, table, lines, limits)
+            }
+            Batch::Remove { table, lines } => {
+                let lines = lines.as_slice();
+                let tables = self.tables.as_slice();
+                resolve_remove(alloc, tables, store, author, table, lines, limits)
+            }
+        }
+    }
+}
+
+fn follow_body(
+    tables: &mut Vec<Spots>,
+    alloc: Global,
+    before: &Store,
+    body: &Body,
+) -> Result<(), NoMemory>
+    requires stands { StandFor tables.old.items (database_of before.now) }
+    requires version { (database_of before.now).version < 16777215 }
+    requires fit { IsTrue (fits_body standard_limits (database_of before.now).tables body.now) }
+    ensures ok { OnOk result (StandFor tables.new.items (record { version = (database_of before.now).version + 1; tables = after_body ((database_of before.now).version + 1) body.now (database_of before.now).tables })) }
+    ensures err { OnErr result (StandFor tables.new.items (database_of before.now)) }
+{
+    match body {
+        Body::Create(_) => {
+            tables.push(Spots::new(alloc))?;
+            Ok(())
+        }
+        Body::Change(change) => {
+            follow_change(tables, alloc, before, change)?;
+            Ok(())
+        }
+    }
+}
+
+fn follow_change(
+    tables: &mut Vec<Spots>,
+    alloc: Global,
+    before: &Store,
+    change: &Change,
+) -> Result<(), NoMemory>
+    requires stands { StandFor tables.old.items (database_of before.now) }
+    requires version { (database_of before.now).version < 16777215 }
+    requires fit { IsTrue (fits_body standard_limits (database_of before.now).tables (body.Change change.now)) }
+    ensures ok { OnOk result (StandFor tables.new.items (record { version = (database_of before.now).version + 1; tables = after_body ((database_of before.now).version + 1) (body.Change change.now) (database_of before.now).tables })) }
+    ensures err { OnErr result (StandFor tables.new.items (database_of before.now)) }
+{
+    let number = change.table();
+    let place = before.schema(number).key();
+    let closing = closing_spots(alloc, before, change, place)?;
+    let first = before.rows(number);
+    let spots = &mut tables[number as usize];
+    change_spots(spots, change, &closing, place, first)?;
+    Ok(())
+}
+
+// Adds the spots of the rows that a change opens, of which the first has this number, and takes away those of
+// the rows that it closes. The error leaves the spots as they were.
+fn change_spots(
+    spots: &mut Spots,
+    change: &Change,
+    closing: &[Spot],
+    place: u8,
+    first: u32,
+) -> Result<(), NoMemory>
+    requires few { first + length change.now.opens < 2 ^ 32 }
+    requires keyed { All (λ o. place < length o.cells) change.now.opens }
+    requires below { (x : Cell) (n : ℕ) → first ≤ n → has_spot spots.old x n ≡ false }
+    ensures ok { OnOk result ((x : Cell) (n : ℕ) → has_spot spots.new x n ≡ (not (has_spot closing.now x n) && (opens_with place first change.now.opens x n || has_spot spots.old x n))) }
+    ensures err { OnErr result ((x : Cell) (n : ℕ) → has_spot spots.new x n ≡ has_spot spots.old x n) }
+{
+    spots.add_rows(change.opens(), place, first)?;
+    spots.remove_all(closing);
+    Ok(())
+}

@@ -5,7 +5,7 @@ use Rattle.std.proofs.lemmas.Str.{IsUtf8-from_is_utf8, is_utf8-from_IsUtf8}
 use Rattle.std.proofs.lemmas.Option.{slice_get_within}
 use Rattle.csv.specs.Records.{field_at}
 use Rattle.tl_csv.specs.declared.faults.CsvFault.{CsvFault}
-use Rattle.tl_csv.specs.Faults.{with_first, each_from, fault_or}
+use Rattle.tl_csv.specs.Faults.{with_first, each_from, fault_of}
 
 -- these items, and then the others where there is no fault
 abbrev pub behind : {X : Type 0} → List X → Result (List X) CsvFault → Result (List X) CsvFault
@@ -63,13 +63,14 @@ no_text bs h = by_test (is_utf8 bs) refl where
   by_test false e = e
 
 -- the fault of one, and else that of those behind it
-pub fault_first : {X : Type 0} (r : Result X CsvFault) (later : Option CsvFault) (e : CsvFault) → fault_or r None ≡ Some e → fault_or r later ≡ Some e
-fault_first (Err d) later e h = h
-fault_first (Ok x) later e h = absurd (cc)
+pub fault_first : {X : Type 0} (r : Result X CsvFault) (others : Result (List X) CsvFault) (e : CsvFault) → fault_of r ≡ Some e → fault_of (with_first r others) ≡ Some e
+fault_first (Err d) others e h = h
+fault_first (Ok x) others e h = absurd (cc)
 
-pub fault_later : {X : Type 0} (r : Result X CsvFault) (later : Option CsvFault) → fault_or r None ≡ None → fault_or r later ≡ later
-fault_later (Err d) later h = absurd (cc)
-fault_later (Ok x) later h = refl
+pub fault_later : {X : Type 0} (r : Result X CsvFault) (others : Result (List X) CsvFault) → fault_of r ≡ None → fault_of (with_first r others) ≡ fault_of others
+fault_later (Err d) others h = absurd (cc)
+fault_later (Ok x) (Err d) h = refl
+fault_later (Ok x) (Ok xs) h = refl
 
 -- one item more, and the others behind it
 pub each_step : {X Y : Type 0} (f : ℕ → X → Result Y CsvFault) (ys new : List Y) (y : Y) (x : X) (xs rest : List X) (all : Result (List Y) CsvFault)

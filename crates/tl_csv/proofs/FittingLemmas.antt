@@ -1,6 +1,7 @@
 -- The rows of a block are rows of its table.
 use Rattle.std.proofs.Common.{◌≡◌, ℕ, ◌+◌, ◌≤◌, ◌==◌, nat_le, nat_lt, ℤ, Bool, true, false, ◌&&◌, cond, List, [], ◌∷◌, length, map, take, drop, is_some, slice_get, Option, Some, None, Result, Ok, Err, refl, arith}
 use Rattle.std.specs.List.{list_all}
+use Rattle.std.specs.Option.{ok_or}
 use Rattle.std.specs.Bool.{beq}
 use Rattle.std.specs.Str.{is_utf8}
 use Rattle.std.proofs.lemmas.Bool.Decides.{nat_tests}
@@ -17,6 +18,7 @@ use Rattle.tl_types.specs.declared.batches.Batch.TheVariants as batch
 use Rattle.tl_types.specs.History.{match_columns, is_of_kind}
 use Rattle.tl_types.specs.Plain as plain
 use Rattle.tl_csv.specs.declared.faults.CsvFault.{CsvFault}
+use Rattle.tl_csv.specs.declared.faults.CsvFault.TheVariants as fault
 use Rattle.tl_csv.specs.declared.needs.BatchKind.{BatchKind}
 use Rattle.tl_csv.specs.declared.needs.BatchKind.TheVariants.{PutKind, RemoveKind}
 use Rattle.tl_csv.specs.declared.needs.FieldKind.{FieldKind}
@@ -26,9 +28,9 @@ use Rattle.tl_csv.specs.declared.needs.Needed.{Needed}
 use Rattle.tl_csv.specs.declared.headers.Placed.{Placed}
 use Rattle.tl_csv.specs.declared.headers.Layout.{Layout}
 use Rattle.tl_csv.specs.Numbers.{number_of}
-use Rattle.tl_csv.specs.Faults.{with_first, each_from, unless}
-use Rattle.tl_csv.specs.Header.{columns_of, column_wanted, times_wanted, needed_of, placed_at, place_from, kind_at, not_utf8, all_of, layout_of}
-use Rattle.tl_csv.specs.Block.{int_cell, cell_of, fields_fault, picked, period_between, some_of, period_of, row_with, row_of, line_of, rows_under, rows_of, first_cell, key_line, made, batch_of, without_marks, is_key_for, IsBatchFor}
+use Rattle.tl_csv.specs.Faults.{◌>>=◌, with_first, each_from, unless}
+use Rattle.tl_csv.specs.Header.{columns_of, column_wanted, times_wanted, needed_of, placed_at, place_of, kind_at, not_utf8, layout_of}
+use Rattle.tl_csv.specs.Block.{int_cell, cell_of, fields_fault, picked, period_between, period_of, row_of, line_of, rows_of, first_cell, key_line, made, batch_of, without_marks, is_key_for, IsBatchFor}
 
 -- WHERE THERE IS NO FAULT
 
@@ -42,20 +44,22 @@ unless_ok : {X : Type 0} (e : Option CsvFault) (r : Result X CsvFault) (x : X) �
 unless_ok None r x h = h
 unless_ok (Some e) r x h = absurd (cc)
 
-all_ok : (kinds : Result (List FieldKind) CsvFault) (columns times : Result (List Placed) CsvFault) (layout : Layout) → all_of kinds columns times ≡ Ok layout
-    → (columns ≡ Ok layout.columns) × (times ≡ Ok layout.times)
-all_ok (Err e) columns times layout h = absurd (cc)
-all_ok (Ok ks) (Err e) times layout h = absurd (cc)
-all_ok (Ok ks) (Ok cs) (Err e) layout h = absurd (cc)
-all_ok (Ok ks) (Ok cs) (Ok ts) layout h =
-    let same : record { kinds = ks; columns = cs; times = ts } ≡ layout = cc in
-    rw (← same) (refl, refl)
+then_ok : {X Y : Type 0} (r : Result X CsvFault) (f : X → Result Y CsvFault) (y : Y) → (r >>= f) ≡ Ok y → (x : X) × (r ≡ Ok x) × (f x ≡ Ok y)
+then_ok (Err e) f y h = absurd (cc)
+then_ok (Ok x) f y h = (x, refl, h)
+
+there_ok : {X : Type 0} (o : Option X) (e : CsvFault) (x : X) → ok_or o e ≡ Ok x → o ≡ Some x
+there_ok None e x h = absurd (cc)
+there_ok (Some y) e x h = cc
 
 layout_ok : (needed : Needed) (header : List (List ℕ)) (layout : Layout) → layout_of needed header ≡ Ok layout
     → (each_from (placed_at header) 0 needed.columns ≡ Ok layout.columns) × (each_from (placed_at header) (length needed.columns) needed.times ≡ Ok layout.times)
 layout_ok needed header layout h =
-    all_ok (each_from (kind_at needed header) 0 header) (each_from (placed_at header) 0 needed.columns) (each_from (placed_at header) (length needed.columns) needed.times) layout
-    (unless_ok (not_utf8 0 header) (all_of (each_from (kind_at needed header) 0 header) (each_from (placed_at header) 0 needed.columns) (each_from (placed_at header) (length needed.columns) needed.times)) layout h)
+    let (kinds, known, more) = then_ok (each_from (kind_at needed header) 0 header) _ layout (unless_ok (not_utf8 header) _ layout h) in
+    let (columns, placed, others) = then_ok (each_from (placed_at header) 0 needed.columns) _ layout more in
+    let (times, timed, last) = then_ok (each_from (placed_at header) (length needed.columns) needed.times) _ layout others in
+    let same : record { kinds = kinds; columns = columns; times = times } ≡ layout = cc in
+    rw (← same) (placed, timed)
 
 -- CELLS OF THEIR COLUMNS
 
@@ -79,20 +83,19 @@ cell_kind limits rec i kind field x h = by_test (is_utf8 field) refl where
   by_test true e = by_kind kind e h
   by_test false e = absurd (let g = rw e at h in cc)
 
+read_kind : (limits : Limits) (rec i : ℕ) (kind : ColumnKind) (k : FieldKind) (field : List ℕ) (x : Cell) → k ≡ kinds.Cell kind → cell_of limits rec i k field ≡ Ok x → is_of_kind kind x ≡ true
+read_kind limits rec i kind k field x e h = cell_kind limits rec i kind field x (rw e at h)
+
 picked_kind : (limits : Limits) (rec : ℕ) (fields : List (List ℕ)) (kind : ColumnKind) (p : Placed) (x : Cell) → p.kind ≡ kinds.Cell kind → picked limits rec fields p ≡ Ok x → is_of_kind kind x ≡ true
-picked_kind limits rec fields kind p x k h = by_case (slice_get fields p.place) refl where
-  by_case : (o : Option (List ℕ)) → slice_get fields p.place ≡ o → is_of_kind kind x ≡ true
-  by_case None e = absurd (let g = rw e at h in cc)
-  by_case (Some field) e = cell_kind limits rec p.place kind field x (rw (e, k) at h)
+picked_kind limits rec fields kind p x k h =
+    let (field, there, read) = then_ok (ok_or (slice_get fields p.place) (fault.FieldCount rec)) (cell_of limits rec p.place p.kind) x h in
+    read_kind limits rec p.place kind p.kind field x k read
 
 placed_kind : (header : List (List ℕ)) (i : ℕ) (wanted : Wanted) (p : Placed) → placed_at header i wanted ≡ Ok p → p.kind ≡ wanted.kind
-placed_kind header i wanted p h = by_case (place_from 0 wanted.name header) refl where
-  by_case : (o : Option ℕ) → place_from 0 wanted.name header ≡ o → p.kind ≡ wanted.kind
-  by_case None e = absurd (let g = rw e at h in cc)
-  by_case (Some place) e =
-      let g = rw e at h in
-      let same : record { kind = wanted.kind; place = place } ≡ p = cc in
-      rw (← same) refl
+placed_kind header i wanted p h =
+    let (place, there, made) = then_ok (ok_or (place_of wanted.name header) (fault.HeaderMissing (i + 1))) _ p h in
+    let same : record { kind = wanted.kind; place = place } ≡ p = cc in
+    rw (← same) refl
 
 -- ROWS OF THEIR TABLE
 
@@ -109,10 +112,16 @@ cells_match header limits rec n m fields (c ∷ columns) placed cells h g =
     rw (equal, kind, rest) refl
 
 -- there is a period exactly where the table has valid time
-some_ok : (r : Result plain.Period CsvFault) (o : Option plain.Period) → some_of r ≡ Ok o → is_some o ≡ true
+some_ok : (r : Result plain.Period CsvFault) (o : Option plain.Period) → (r >>= λ p. Ok (Some p)) ≡ Ok o → is_some o ≡ true
 some_ok (Err e) o h = absurd (cc)
 some_ok (Ok p) None h = absurd (cc)
 some_ok (Ok p) (Some q) h = refl
+
+two_there : (limits : Limits) (rec : ℕ) (fields : List (List ℕ)) (from to : Placed) (o : Option plain.Period) → period_of limits rec fields (from ∷ to ∷ []) ≡ Ok o → is_some o ≡ true
+two_there limits rec fields from to o h =
+    let (first, begins, more) = then_ok (picked limits rec fields from) _ o h in
+    let (end, ends, others) = then_ok (picked limits rec fields to) _ o more in
+    some_ok (period_between rec first end) o others
 
 two_of : (p q : Placed) (ps qs times : List Placed) → times ≡ p ∷ ps → ps ≡ q ∷ qs → [] ≡ qs → times ≡ p ∷ q ∷ []
 two_of p q ps qs times h g e = rw (h, g, ← e) refl
@@ -131,18 +140,10 @@ period_there : (limits : Limits) (rec n : ℕ) (header fields : List (List ℕ))
     → each_from (placed_at header) n (times_wanted valid) ≡ Ok times → period_of limits rec fields times ≡ Ok o → beq valid (is_some o) ≡ true
 period_there limits rec n header fields true times o h g =
     let (p, q, same) = two_times header n _ _ times h in
-    rw (some_ok (period_between rec (picked limits rec fields p) (picked limits rec fields q)) o (rw same at g)) refl
+    rw (two_there limits rec fields p q o (rw same at g)) refl
 period_there limits rec n header fields false [] None h g = refl
 period_there limits rec n header fields false [] (Some p) h g = absurd (cc)
 period_there limits rec n header fields false (t ∷ times) o h g = absurd (cc)
-
-row_ok : (cells : Result (List Cell) CsvFault) (period : Result (Option plain.Period) CsvFault) (o : plain.Opened) → row_with cells period ≡ Ok o
-    → (cells ≡ Ok o.cells) × (period ≡ Ok o.period)
-row_ok (Err e) period o h = absurd (cc)
-row_ok (Ok cells) (Err e) o h = absurd (cc)
-row_ok (Ok cells) (Ok period) o h =
-    let same : record { cells = cells; period = period } ≡ o = cc in
-    rw (← same) (refl, refl)
 
 -- the row is one of these columns, with a period exactly where the table has valid time
 abbrev is_row : Bool → List Column → plain.Opened → Bool
@@ -154,12 +155,14 @@ row_matches limits valid columns header layout rec fields o l h = by_test (lengt
   by_test : (t : Bool) → (length fields == length layout.kinds) ≡ t → is_row valid columns o ≡ true
   by_test false e = absurd (let g = rw e at h in cc)
   by_test true e =
-      let g = unless_ok (fields_fault limits rec 0 layout.kinds fields) (row_with (each_from (λ k. picked limits rec fields) 0 layout.columns) (period_of limits rec fields layout.times)) o (rw e at h) in
-      let (cells, period) = row_ok (each_from (λ k. picked limits rec fields) 0 layout.columns) (period_of limits rec fields layout.times) o g in
+      let g = unless_ok (fields_fault limits rec layout.kinds fields) _ o (rw e at h) in
+      let (cells, taken, more) = then_ok (each_from (λ k. picked limits rec fields) 0 layout.columns) _ o g in
+      let (period, timely, last) = then_ok (period_of limits rec fields layout.times) _ o more in
+      let same : record { cells = cells; period = period } ≡ o = cc in
       let (placed, timed) = layout_ok (record { columns = map column_wanted columns; times = times_wanted valid }) header layout l in
-      let there = cells_match header limits rec 0 0 fields columns layout.columns o.cells placed cells in
-      let when = period_there limits rec (length (map column_wanted columns)) header fields valid layout.times o.period timed period in
-      rw (there, when) refl
+      let there = cells_match header limits rec 0 0 fields columns layout.columns cells placed taken in
+      let when = period_there limits rec (length (map column_wanted columns)) header fields valid layout.times period timed timely in
+      rw (← same) (rw (there, when) refl)
 
 line_fits : (limits : Limits) (valid : Bool) (columns : List Column) (header : List (List ℕ)) (layout : Layout) (i : ℕ) (fields : List (List ℕ)) (o : plain.Opened)
     → layout_of (record { columns = map column_wanted columns; times = times_wanted valid }) header ≡ Ok layout → line_of limits layout i fields ≡ Ok o → (is_row valid columns o ≡ true) × (i + 1 ≤ limits.batch)
@@ -179,18 +182,13 @@ lines_fit limits valid columns header layout n (fields ∷ behind) rows few l h 
     let others = lines_fit limits valid columns header layout (n + 1) behind os first.1 l more in
     rw same (rw (first.0, others.0) refl, omega (arith, others.1))
 
-under_fit : (limits : Limits) (valid : Bool) (columns : List Column) (header : List (List ℕ)) (r : Result Layout CsvFault) (behind : List (List (List ℕ))) (rows : List plain.Opened)
-    → layout_of (record { columns = map column_wanted columns; times = times_wanted valid }) header ≡ r → rows_under limits r behind ≡ Ok rows
-    → (list_all (is_row valid columns) rows ≡ true) × (length rows ≤ limits.batch)
-under_fit limits valid columns header (Err e) behind rows l h = absurd (cc)
-under_fit limits valid columns header (Ok layout) behind rows l h =
-    let fit = lines_fit limits valid columns header layout 0 behind rows (omega arith) l h in
-    (fit.0, omega (arith, fit.1))
-
 rows_fit : (limits : Limits) (schema : plain.Schema) (kind : BatchKind) (all : List (List (List ℕ))) (rows : List plain.Opened)
     → rows_of limits schema kind all ≡ Ok rows → (list_all (is_row schema.valid (columns_of schema kind)) rows ≡ true) × (length rows ≤ limits.batch)
 rows_fit limits schema kind [] rows h = absurd (cc)
-rows_fit limits schema kind (header ∷ behind) rows h = under_fit limits schema.valid (columns_of schema kind) header (layout_of (needed_of schema kind) header) behind rows refl h
+rows_fit limits schema kind (header ∷ behind) rows h =
+    let (layout, laid, more) = then_ok (layout_of (needed_of schema kind) header) (λ layout. each_from (line_of limits layout) 0 behind) rows h in
+    let fit = lines_fit limits schema.valid (columns_of schema kind) header layout 0 behind rows (omega arith) laid more in
+    (fit.0, omega (arith, fit.1))
 
 -- BATCHES OF THEIR TABLE
 

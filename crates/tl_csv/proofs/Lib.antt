@@ -1,5 +1,6 @@
 pub mod NumberLemmas
 pub mod FaultLemmas
+pub mod HeaderLemmas
 pub mod ReadingLemmas
 pub mod FittingLemmas
 pub mod WritingLemmas

@@ -2,7 +2,8 @@
 use Rattle.std.specs.Prelude.{ℕ, ◌≡◌, ◌≤◌, true, ◌+◌, ℤ, pos, Bool, ◌&&◌, nat_le, nat_lt, int_lt, ◌==◌, List, [], ◌∷◌, length, map, slice_get, Option, Some, None, is_some, Result, Ok, Err, if◌then◌else◌}
 use Rattle.std.specs.Bool.{beq}
 use Rattle.std.specs.Str.{is_utf8}
-use Rattle.std.specs.List.{list_all}
+use Rattle.std.specs.List.{list_all, zip}
+use Rattle.std.specs.Option.{ok_or}
 use Rattle.csv.specs.Reading.{default_config, records}
 use Rattle.tl_types.specs.declared.cells.Cell.{Cell}
 use Rattle.tl_types.specs.declared.cells.Cell.TheVariants as cell
@@ -22,7 +23,7 @@ use Rattle.tl_csv.specs.declared.needs.FieldKind.TheVariants as kinds
 use Rattle.tl_csv.specs.declared.headers.Placed.{Placed}
 use Rattle.tl_csv.specs.declared.headers.Layout.{Layout}
 use Rattle.tl_csv.specs.Numbers.{number_of, end_of}
-use Rattle.tl_csv.specs.Faults.{each_from, unless, fault_or}
+use Rattle.tl_csv.specs.Faults.{◌>>=◌, each_from, fault_of, unless}
 use Rattle.tl_csv.specs.Header.{columns_of, needed_of, layout_of}
 
 -- the three bytes of a byte order mark
@@ -40,8 +41,7 @@ without_marks (a ∷ b ∷ c ∷ bytes) = if is_mark a b c then without_marks by
 
 -- the cell of a number
 abbrev pub int_cell : ℕ → ℕ → Option ℤ → Result Cell CsvFault
-int_cell rec i None = Err (fault.NotInt rec (i + 1))
-int_cell rec i (Some number) = Ok (cell.Int number)
+int_cell rec i number = ok_or number (fault.NotInt rec (i + 1)) >>= λ z. Ok (cell.Int z)
 
 -- the cell of the i-th field of a record, which is of this kind; an end of a period is a number
 abbrev pub cell_of : Limits → ℕ → ℕ → FieldKind → List ℕ → Result Cell CsvFault
@@ -54,49 +54,45 @@ cell_of limits rec i kind field = if is_utf8 field then of_kind kind else Err (f
 
 -- RECORDS
 
--- the first fault of the fields of a record, which are of these kinds; i is the number of fields before these
-abbrev pub fields_fault : Limits → ℕ → ℕ → List FieldKind → List (List ℕ) → Option CsvFault
-fields_fault limits rec i [] fields = None
-fields_fault limits rec i (kind ∷ later) [] = None
-fields_fault limits rec i (kind ∷ later) (field ∷ fields) = fault_or (cell_of limits rec i kind field) (fields_fault limits rec (i + 1) later fields)
+-- the same of a field beside its kind
+abbrev pub cell_at : Limits → ℕ → ℕ → FieldKind × List ℕ → Result Cell CsvFault
+cell_at limits rec i beside = cell_of limits rec i beside.0 beside.1
+
+-- the fault of the first field of a record that has one; the fields are of these kinds
+abbrev pub fields_fault : Limits → ℕ → List FieldKind → List (List ℕ) → Option CsvFault
+fields_fault limits rec kinds fields = fault_of (each_from (cell_at limits rec) 0 (zip kinds fields))
 
 -- the cell of a needed field: that of the field at its place
 abbrev pub picked : Limits → ℕ → List (List ℕ) → Placed → Result Cell CsvFault
-picked limits rec fields column = at (slice_get fields column.place) where
-  at : Option (List ℕ) → Result Cell CsvFault
-  at None = Err (fault.FieldCount rec)
-  at (Some field) = cell_of limits rec column.place column.kind field
+picked limits rec fields column =
+    ok_or (slice_get fields column.place) (fault.FieldCount rec) >>= λ field.
+    cell_of limits rec column.place column.kind field
 
 -- the period between two moments, of which the first must be less than the second
-abbrev pub period_between : ℕ → Result Cell CsvFault → Result Cell CsvFault → Result plain.Period CsvFault
-period_between rec (Err e) to = Err e
-period_between rec (Ok from) (Err e) = Err e
-period_between rec (Ok (cell.Int from)) (Ok (cell.Int to)) = if int_lt from to then Ok (record { from = from; to = to }) else Err (fault.EmptyPeriod rec)
-period_between rec (Ok (cell.Int from)) (Ok (cell.Text t)) = Err (fault.EmptyPeriod rec)
-period_between rec (Ok (cell.Text s)) (Ok to) = Err (fault.EmptyPeriod rec)
-
--- some value
-abbrev pub some_of : {X : Type 0} → Result X CsvFault → Result (Option X) CsvFault
-some_of (Err e) = Err e
-some_of (Ok x) = Ok (Some x)
+abbrev pub period_between : ℕ → Cell → Cell → Result plain.Period CsvFault
+period_between rec (cell.Int from) (cell.Int to) = if int_lt from to then Ok (record { from = from; to = to }) else Err (fault.EmptyPeriod rec)
+period_between rec (cell.Int from) (cell.Text t) = Err (fault.EmptyPeriod rec)
+period_between rec (cell.Text s) to = Err (fault.EmptyPeriod rec)
 
 -- the period of a record, where the table has valid time
 abbrev pub period_of : Limits → ℕ → List (List ℕ) → List Placed → Result (Option plain.Period) CsvFault
 period_of limits rec fields [] = Ok None
 period_of limits rec fields (from ∷ []) = Ok None
-period_of limits rec fields (from ∷ to ∷ more) = some_of (period_between rec (picked limits rec fields from) (picked limits rec fields to))
+period_of limits rec fields (from ∷ to ∷ more) =
+    picked limits rec fields from >>= λ first.
+    picked limits rec fields to >>= λ end.
+    period_between rec first end >>= λ period.
+    Ok (Some period)
 
--- the row of these cells and this period
-abbrev pub row_with : Result (List Cell) CsvFault → Result (Option plain.Period) CsvFault → Result plain.Opened CsvFault
-row_with (Err e) period = Err e
-row_with (Ok cells) (Err e) = Err e
-row_with (Ok cells) (Ok period) = Ok (record { cells = cells; period = period })
-
--- the row of a record: it has as many fields as the header, none has a fault, and its period is not empty
+-- the row of a record: it has as many fields as the header, none of them has a fault, the cells are those of the
+-- columns in the order of the table, and the period is not empty
 abbrev pub row_of : Limits → Layout → ℕ → List (List ℕ) → Result plain.Opened CsvFault
 row_of limits layout rec fields =
     if length fields == length layout.kinds
-    then unless (fields_fault limits rec 0 layout.kinds fields) (row_with (each_from (λ n. picked limits rec fields) 0 layout.columns) (period_of limits rec fields layout.times))
+    then unless (fields_fault limits rec layout.kinds fields)
+    (each_from (λ n. picked limits rec fields) 0 layout.columns >>= λ cells.
+    period_of limits rec fields layout.times >>= λ period.
+    Ok (record { cells = cells; period = period }))
     else Err (fault.FieldCount rec)
 
 -- the row of the i-th record behind the header, which is not past the limit of records
@@ -105,15 +101,11 @@ line_of limits layout i fields = if nat_le limits.batch i then Err (fault.BatchT
 
 -- BATCHES
 
--- the rows of the records behind the header; those of a removal have the key as their one cell
-abbrev pub rows_under : Limits → Result Layout CsvFault → List (List (List ℕ)) → Result (List plain.Opened) CsvFault
-rows_under limits (Err e) behind = Err e
-rows_under limits (Ok layout) behind = each_from (line_of limits layout) 0 behind
-
--- the rows of the records, of which the first is the header; where there is none, the first column is not named
+-- the rows of the records, of which the first is the header; where there is none, the first column is not named.
+-- Those of a removal have the key as their one cell
 abbrev pub rows_of : Limits → plain.Schema → BatchKind → List (List (List ℕ)) → Result (List plain.Opened) CsvFault
 rows_of limits schema kind [] = Err (fault.HeaderMissing 1)
-rows_of limits schema kind (header ∷ behind) = rows_under limits (layout_of (needed_of schema kind) header) behind
+rows_of limits schema kind (header ∷ behind) = layout_of (needed_of schema kind) header >>= λ layout. each_from (line_of limits layout) 0 behind
 
 -- the first cell; a row has one or more
 abbrev pub first_cell : List Cell → Cell

@@ -1,5 +1,7 @@
 -- What the header of a block names: what each of its fields is, and for each field that is needed its place.
-use Rattle.std.specs.Prelude.{ℕ, ◌+◌, Bool, true, false, nat_lt, List, [], ◌∷◌, length, map, take, drop, codes, Option, Some, None, Result, Ok, Err, if◌then◌else◌}
+use Rattle.std.specs.Prelude.{ℕ, ◌+◌, Bool, true, false, not, List, [], ◌∷◌, ◌++◌, length, map, take, drop, codes, Option, Result, Ok, Err, if◌then◌else◌}
+use Rattle.std.specs.List.{find, list_any, position}
+use Rattle.std.specs.Option.{ok_or, option_map}
 use Rattle.std.specs.Str.{is_utf8}
 use Rattle.tl_types.specs.declared.schemas.Column.{Column}
 use Rattle.tl_types.specs.Names.{same_bytes}
@@ -14,7 +16,7 @@ use Rattle.tl_csv.specs.declared.needs.Wanted.{Wanted}
 use Rattle.tl_csv.specs.declared.needs.Needed.{Needed}
 use Rattle.tl_csv.specs.declared.headers.Placed.{Placed}
 use Rattle.tl_csv.specs.declared.headers.Layout.{Layout}
-use Rattle.tl_csv.specs.Faults.{each_from, unless}
+use Rattle.tl_csv.specs.Faults.{◌>>=◌, each_from, unless}
 
 -- WHAT A BATCH NEEDS
 
@@ -36,58 +38,46 @@ times_wanted false = []
 abbrev pub needed_of : plain.Schema → BatchKind → Needed
 needed_of schema kind = record { columns = map column_wanted (columns_of schema kind); times = times_wanted schema.valid }
 
--- what the field with the name is
+-- what the field with the name is, where it is needed
 abbrev pub kind_named : List Wanted → List ℕ → Option FieldKind
-kind_named [] name = None
-kind_named (first ∷ wanted) name = if same_bytes first.name name then Some first.kind else kind_named wanted name
+kind_named wanted name = option_map (λ w. w.kind) (find (λ w. same_bytes w.name name) wanted)
 
 -- what the field with the name is, among all that are needed
 abbrev pub kind_needed : Needed → List ℕ → Option FieldKind
-kind_needed needed name = or_time (kind_named needed.columns name) where
-  or_time : Option FieldKind → Option FieldKind
-  or_time None = kind_named needed.times name
-  or_time (Some kind) = Some kind
+kind_needed needed name = kind_named (needed.columns ++ needed.times) name
 
 -- THE HEADER
 
--- the first field that is not UTF-8; i is the number of fields before these
-abbrev pub not_utf8 : ℕ → List (List ℕ) → Option CsvFault
-not_utf8 i [] = None
-not_utf8 i (name ∷ names) = if is_utf8 name then not_utf8 (i + 1) names else Some (fault.NotUtf8 1 (i + 1))
+-- the first field that is not UTF-8
+abbrev pub not_utf8 : List (List ℕ) → Option CsvFault
+not_utf8 header = option_map (λ i. fault.NotUtf8 1 (i + 1)) (position (λ name. not (is_utf8 name)) header)
 
--- the place of the first field with the name; i is the number of fields before these
-abbrev pub place_from : ℕ → List ℕ → List (List ℕ) → Option ℕ
-place_from i name [] = None
-place_from i name (field ∷ fields) = if same_bytes field name then Some i else place_from (i + 1) name fields
+-- a name stands among these fields
+abbrev pub is_named : List ℕ → List (List ℕ) → Bool
+is_named name fields = list_any (λ field. same_bytes field name) fields
 
--- the place is before this one
-abbrev pub is_before : Option ℕ → ℕ → Bool
-is_before None i = false
-is_before (Some place) i = nat_lt place i
+-- the place of the first field with the name
+abbrev pub place_of : List ℕ → List (List ℕ) → Option ℕ
+place_of name fields = position (λ field. same_bytes field name) fields
 
 -- what the i-th field of the records is: its name must be needed, and no field before it may have the same
 abbrev pub kind_at : Needed → List (List ℕ) → ℕ → List ℕ → Result FieldKind CsvFault
-kind_at needed header i name = known (kind_needed needed name) where
-  known : Option FieldKind → Result FieldKind CsvFault
-  known None = Err (fault.HeaderName (i + 1))
-  known (Some kind) = if is_before (place_from 0 name header) i then Err (fault.HeaderTwice (i + 1)) else Ok kind
+kind_at needed header i name =
+    ok_or (kind_needed needed name) (fault.HeaderName (i + 1)) >>= λ kind.
+    if is_named name (take i header) then Err (fault.HeaderTwice (i + 1)) else Ok kind
 
--- the i-th needed field with the place at which the header names it, which must be there
+-- the i-th needed field with its place in the header, which must name it
 abbrev pub placed_at : List (List ℕ) → ℕ → Wanted → Result Placed CsvFault
-placed_at header i wanted = found (place_from 0 wanted.name header) where
-  found : Option ℕ → Result Placed CsvFault
-  found None = Err (fault.HeaderMissing (i + 1))
-  found (Some place) = Ok (record { kind = wanted.kind; place = place })
+placed_at header i wanted =
+    ok_or (place_of wanted.name header) (fault.HeaderMissing (i + 1)) >>= λ place.
+    Ok (record { kind = wanted.kind; place = place })
 
--- what the fields are, the columns and the ends of a period with their places, or the first fault of these
-abbrev pub all_of : Result (List FieldKind) CsvFault → Result (List Placed) CsvFault → Result (List Placed) CsvFault → Result Layout CsvFault
-all_of (Err e) columns times = Err e
-all_of (Ok kinds) (Err e) times = Err e
-all_of (Ok kinds) (Ok columns) (Err e) = Err e
-all_of (Ok kinds) (Ok columns) (Ok times) = Ok (record { kinds = kinds; columns = columns; times = times })
-
--- the layout that a header gives the records behind it, or the header's first fault
+-- the layout that a header gives the records behind it, or the header's first fault: each field is UTF-8, then
+-- each names a needed field and another one than those before it, and then each needed field is named
 abbrev pub layout_of : Needed → List (List ℕ) → Result Layout CsvFault
 layout_of needed header =
-    unless (not_utf8 0 header)
-    (all_of (each_from (kind_at needed header) 0 header) (each_from (placed_at header) 0 needed.columns) (each_from (placed_at header) (length needed.columns) needed.times))
+    unless (not_utf8 header)
+    (each_from (kind_at needed header) 0 header >>= λ kinds.
+    each_from (placed_at header) 0 needed.columns >>= λ columns.
+    each_from (placed_at header) (length needed.columns) needed.times >>= λ times.
+    Ok (record { kinds = kinds; columns = columns; times = times }))

@@ -1,10 +1,11 @@
 //! The batch of a block.
 ghost use Rattle.std.specs.Prelude.{◌≡◌, ◌≢◌, ◌≤◌, ◌<◌, ◌+◌, ◌^◌, IfOk, IfErr, OnOk, Ok, Err, length, map, drop};
 ghost use Rattle.csv.specs.Records.{fields_of};
+ghost use Rattle.std.specs.List.{zip};
 ghost use Rattle.tl_csv.specs.declared.faults.CsvFault.TheVariants as fault;
-ghost use Rattle.tl_csv.specs.Faults.{each_from};
+ghost use Rattle.tl_csv.specs.Faults.{each_from, fault_of};
 ghost use Rattle.tl_csv.specs.Header.{columns_of};
-ghost use Rattle.tl_csv.specs.Block.{batch_of, fields_fault, key_line, line_of, made, period_between, period_of, picked, row_of, rows_of, IsBatchFor};
+ghost use Rattle.tl_csv.specs.Block.{batch_of, cell_at, key_line, line_of, made, period_between, period_of, picked, row_of, rows_of, IsBatchFor};
 ghost use Rattle.tl_csv.specs.Reading.{left, IsReading};
 ghost use Rattle.csv.specs.Reading.{default_config, records};
 ghost use Rattle.tl_csv.specs.Block.{without_marks};
@@ -28,7 +29,7 @@ fn fields_fault(
     kinds: &[FieldKind],
     row: &ByteRecord,
 ) -> Option<CsvFault>
-    ensures { result ≡ fields_fault limits.now rec place kinds.now (drop place (fields_of row.now)) }
+    ensures { result ≡ fault_of (each_from (cell_at limits.now rec) place (zip kinds.now (drop place (fields_of row.now)))) }
 {
     let [kind, behind @ ..] = kinds else {
         return None;
@@ -85,7 +86,7 @@ fn cells_of(
 
 // The period between two moments, of which the first must be less than the second.
 fn period_between(rec: u32, from: &Cell, to: &Cell) -> Result<Period, CsvFault>
-    ensures { result ≡ period_between rec (Ok from.now) (Ok to.now) }
+    ensures { result ≡ period_between rec from.now to.now }
 {
     match (from, to) {
         (Cell::Int(from), Cell::Int(to)) if *from < *to => Ok(Period::new(*from, *to)),

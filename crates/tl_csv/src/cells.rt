@@ -1,6 +1,6 @@
 //! The cell of a field.
 ghost use Rattle.std.specs.Prelude.{◌≡◌, ◌≤◌, ◌<◌, ◌+◌, ◌^◌, IfOk, None, length};
-ghost use Rattle.tl_csv.specs.Faults.{fault_or};
+ghost use Rattle.tl_csv.specs.Faults.{fault_of};
 ghost use Rattle.tl_csv.specs.Block.{cell_of, int_cell};
 
 use crate::faults::CsvFault;
@@ -60,7 +60,7 @@ pub fn field_fault(
     field: &[u8],
 ) -> Option<CsvFault>
     requires { place + 1 < 2 ^ 64 }
-    ensures { result ≡ fault_or (cell_of limits.now rec place kind field.now) None }
+    ensures { result ≡ fault_of (cell_of limits.now rec place kind field.now) }
 {
     let column = place as u64 + 1;
     let Some(text) = text_of(field) else {

@@ -1,8 +1,8 @@
 //! What the header of a block names.
-ghost use Rattle.std.specs.Prelude.{◌≡◌, ◌≤◌, ◌<◌, ◌+◌, ◌^◌, IfOk, IfSome, length, drop};
+ghost use Rattle.std.specs.Prelude.{◌≡◌, ◌≤◌, ◌<◌, ◌+◌, ◌^◌, IfOk, IfSome, length, drop, take};
 ghost use Rattle.csv.specs.Records.{fields_of};
 ghost use Rattle.tl_csv.specs.Faults.{each_from};
-ghost use Rattle.tl_csv.specs.Header.{all_of, kind_at, layout_of, not_utf8, place_from, placed_at, is_before};
+ghost use Rattle.tl_csv.specs.Header.{kind_at, layout_of, not_utf8, place_of, placed_at, is_named};
 
 use crate::faults::CsvFault;
 use crate::needs::{FieldKind, Needed, Wanted, kind_needed};
@@ -31,8 +31,9 @@ pub struct Layout {
     pub times: Seq<Placed>,
 }
 
+#[tactic(auto, using(crate::proofs::HeaderLemmas::fault_place))]
 fn not_utf8(header: &ByteRecord) -> Option<CsvFault>
-    ensures { result ≡ not_utf8 0 (fields_of header.now) }
+    ensures { result ≡ not_utf8 (fields_of header.now) }
 {
     let mut i = 0;
     while let Some(name) = next_field(header, i) {
@@ -47,7 +48,7 @@ fn not_utf8(header: &ByteRecord) -> Option<CsvFault>
 
 // The place (from 0) of the first field of the header with the name.
 fn place_of(header: &ByteRecord, name: &[u8]) -> Option<usize>
-    ensures { result ≡ place_from 0 name.now (fields_of header.now) }
+    ensures { result ≡ place_of name.now (fields_of header.now) }
 {
     let mut i = 0;
     while let Some(named) = next_field(header, i) {
@@ -59,10 +60,12 @@ fn place_of(header: &ByteRecord, name: &[u8]) -> Option<usize>
     None
 }
 
-fn is_before(place: Option<usize>, i: usize) -> bool
-    ensures { result ≡ is_before place i }
+// Whether the name stands before place `i` (from 0) of the header.
+#[tactic(auto, using(crate::proofs::HeaderLemmas::placed_before, crate::proofs::HeaderLemmas::unplaced_before))]
+fn is_named_before(header: &ByteRecord, i: usize, name: &[u8]) -> bool
+    ensures { result ≡ is_named name.now (take i (fields_of header.now)) }
 {
-    match place {
+    match place_of(header, name) {
         None => false,
         Some(place) => place < i,
     }
@@ -80,7 +83,7 @@ fn kind_at(
     let column = i as u64 + 1;
     match kind_needed(needed, name) {
         None => Err(CsvFault::HeaderName { column }),
-        Some(_) if is_before(place_of(header, name), i) => Err(CsvFault::HeaderTwice { column }),
+        Some(_) if is_named_before(header, i, name) => Err(CsvFault::HeaderTwice { column }),
         Some(kind) => Ok(kind),
     }
 }

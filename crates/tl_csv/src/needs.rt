@@ -113,6 +113,7 @@ fn kind_named(wanted: &[Wanted], name: &[u8]) -> Option<FieldKind>
 }
 
 /// What the field with the name is, where it is one that the batch needs.
+#[tactic(auto, using(crate::proofs::HeaderLemmas::kind_among))]
 pub fn kind_needed(needed: &Needed, name: &[u8]) -> Option<FieldKind>
     ensures { result ≡ kind_needed needed.now name.now }
 {

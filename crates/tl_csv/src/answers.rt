@@ -74,8 +74,9 @@ fn finished(writer: Writer<Vec<u8>>) -> Result<Bytes, AllocError>
 }
 
 /// The rows of an answer as csv's default writer writes them: fields parted by commas, each row ended by LF, and
-/// a field in double quotes where it needs them. A number is written in decimal, the value over no row as an
-/// empty field, and an end that does not come as FOREVER. The error is want of memory.
+/// a field in double quotes where it needs them. A number is written in decimal, a text as it is, a mean as its sum,
+/// `/` and its count, the value over no row as an empty field, and an end that does not come as FOREVER. The error
+/// is want of memory.
 pub fn answer_bytes(alloc: Global, answer: &Answer) -> Result<Bytes, NoMemory>
     ensures { IfOk result (λ bytes. bytes ≡ answer_text answer.now) }
 {

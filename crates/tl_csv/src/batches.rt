@@ -1,5 +1,5 @@
 //! The batch of a block.
-ghost use Rattle.std.specs.Prelude.{◌≡◌, ◌≢◌, ◌≤◌, ◌<◌, ◌+◌, ◌^◌, IfOk, IfErr, OnOk, Ok, Err, length, map, drop};
+ghost use Rattle.std.specs.Prelude.{◌≡◌, ◌≢◌, ◌≤◌, ◌<◌, ◌+◌, ◌^◌, IfOk, IfErr, OnOk, Ok, Err, [], length, map, drop};
 ghost use Rattle.csv.specs.Records.{fields_of};
 ghost use Rattle.std.specs.List.{zip};
 ghost use Rattle.tl_csv.specs.declared.faults.CsvFault.TheVariants as fault;
@@ -60,7 +60,34 @@ fn picked(
     }
 }
 
+// The cells of needed fields, which are put into a list without cells.
 #[tactic(auto, using(crate::proofs::FaultLemmas::one_behind, crate::proofs::FaultLemmas::fault_behind))]
+fn cells_into(
+    alloc: Global,
+    limits: &Limits,
+    rec: u32,
+    row: &ByteRecord,
+    placed: &[Placed],
+    empty: Seq<Cell>,
+) -> Result<Result<Seq<Cell>, CsvFault>, AllocError>
+    requires short { limits.now.text ≤ 65535 }
+    requires empty { empty ≡ [] }
+    ensures cells { IfOk result (λ cells. cells ≡ each_from (λ n. picked limits.now rec (fields_of row.now)) 0 placed.now) }
+    ensures number { IfOk result (λ cells. IfOk cells (λ cs. length cs ≡ length placed.now)) }
+{
+    let mut cells = empty;
+    let mut rest = placed;
+    'columns: while let [column, behind @ ..] = rest {
+        match picked(alloc, limits, rec, row, column)? {
+            Ok(cell) => cells.push(cell)?,
+            Err(fault) => return Ok(Err(fault)),
+        }
+        rest = behind;
+    }
+    Ok(Ok(cells))
+}
+
+// The cells of needed fields, in a list that has room for no more.
 fn cells_of(
     alloc: Global,
     limits: &Limits,
@@ -72,16 +99,9 @@ fn cells_of(
     ensures cells { IfOk result (λ cells. cells ≡ each_from (λ n. picked limits.now rec (fields_of row.now)) 0 placed.now) }
     ensures number { IfOk result (λ cells. IfOk cells (λ cs. length cs ≡ length placed.now)) }
 {
-    let mut cells = Seq::new(alloc);
-    let mut rest = placed;
-    'columns: while let [column, behind @ ..] = rest {
-        match picked(alloc, limits, rec, row, column)? {
-            Ok(cell) => cells.push(cell)?,
-            Err(fault) => return Ok(Err(fault)),
-        }
-        rest = behind;
-    }
-    Ok(Ok(cells))
+    let room = Vec::with_capacity(alloc, placed.len())?;
+    let cells = cells_into(alloc, limits, rec, row, placed, Seq::from_vec(room))?;
+    Ok(cells)
 }
 
 // The period between two moments, of which the first must be less than the second.
@@ -274,10 +294,11 @@ fn made(
 /// The block's records are those that csv's default reader gives, without its byte order marks (EF BB BF, one or
 /// several); the first is the header and has number 1. What is needed is all columns of the table for rows and the
 /// key for removals, and behind them `valid_from` and `valid_to` where the table has valid time. The header names
-/// each needed field once, in any order, and nothing else, and each record has a field for each.
+/// each needed field once, in any order, and nothing else, and each record has a field for each. The cells of a row
+/// stand in the order of the table; a text is taken as it is, and an empty field is the empty text.
 ///
 /// The faults, in their order: of the header `NotUtf8` at its first such field; then field by field `HeaderName`
-/// or `HeaderTwice`; then `HeaderMissing` at the first needed field that is not named, also where there is no
+/// or `HeaderTwice`; then `HeaderMissing` at the first needed field that is not named, and with 1 where there is no
 /// record. Then record by record `BatchTooLong` past the limit of records, `FieldCount`, and field by field
 /// `NotUtf8`, `NotInt` and `TextTooLong`, and `EmptyPeriod` where `valid_from` is not less than `valid_to`, which
 /// may be `FOREVER`. `NoMemory` is want of memory.

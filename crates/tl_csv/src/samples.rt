@@ -78,7 +78,9 @@ fn put_lines(alloc: Global, out: &mut Vec<u8>, draw: &mut Draw, to: u32) -> Resu
     Ok(())
 }
 
-/// A sample of lines `id,grp,val`, given in blocks of 10,000.
+/// A sample of lines `id,grp,val`, given in blocks of 10,000. `val` is the next number of the generator
+/// x -> (1103515245 x + 12345) mod 2^31, divided by 65,536, and `grp` is `val` mod 8. The ids of a block are in a
+/// row, and those of the next one begin 5,000 further on, so half of a full block has ids of the block before it.
 #[derive(Drop)]
 pub struct Sample {
     lines: u32,
@@ -97,7 +99,8 @@ impl Model for Sample {
 }
 
 impl Sample {
-    /// A sample of `n` lines, whose numbers begin with `start`, before its first block.
+    /// A sample of `n` lines before its first block. The generator begins with `start` mod 2^31, and the
+    /// first line has the number after it.
     pub fn new(n: u32, start: u64) -> Sample
         ensures { result ≡ record { lines = n; start = start; given = 0 } }
     {

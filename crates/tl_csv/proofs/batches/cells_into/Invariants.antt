@@ -3,7 +3,7 @@ use Rattle.csv.specs.Records.{fields_of}
 use Rattle.tl_csv.specs.Faults.{each_from}
 use Rattle.tl_csv.specs.Block.{picked}
 use Rattle.tl_csv.proofs.FaultLemmas.{behind}
-use Rattle.tl_csv.proofs.batches.cells_of.Given as goal
+use Rattle.tl_csv.proofs.batches.cells_into.Given as goal
 
 abbrev pub invariant-columns : goal.invariant-columns
 invariant-columns l = record {

@@ -83,10 +83,12 @@ fn rows_of_blocks(rt: HostRuntime) -> Result<(), Fail> {
     rows.push(person(alloc, i64::MIN, "x", 7)?)?;
     rows.push(person(alloc, i64::MAX, "", 0)?)?;
     assert!(rt; rows_of(alloc, ends)? == Some(rows));
-    let marked = b"\xEF\xBB\xBF\xEF\xBB\xBFname,id,pay\n\"a\n\"\"b\"\"\",1,2\n\xC3\xA4,2,3";
+    let marked =
+        b"\xEF\xBB\xBF\xEF\xBB\xBFname,id,pay\n\"a\n\"\"b\"\"\",1,2\n\xC3\xA4,2,3\n\xEF\xBB\xBF,3,4";
     let mut rows = Seq::new(alloc);
     rows.push(person(alloc, 1, "a\n\"b\"", 2)?)?;
     rows.push(person(alloc, 2, "ä", 3)?)?;
+    rows.push(person(alloc, 3, "\u{FEFF}", 4)?)?;
     assert!(rt; rows_of(alloc, marked)? == Some(rows));
     assert!(rt; rows_of(alloc, b"id,name,pay\n")? == Some(Seq::new(alloc)));
     Ok(())
@@ -101,6 +103,7 @@ fn faults_of_headers(rt: HostRuntime) -> Result<(), Fail> {
         (b"id,name\n", CsvFault::HeaderMissing { column: 3 }),
         (b"pay,name\n", CsvFault::HeaderMissing { column: 1 }),
         (b"id,nam,pay\n", CsvFault::HeaderName { column: 2 }),
+        (b"nam,pay\n", CsvFault::HeaderName { column: 1 }),
         (b"id,id,pay\n", CsvFault::HeaderTwice { column: 2 }),
         (b"id,id,nam\n", CsvFault::HeaderTwice { column: 2 }),
         (b"nam,id,id,\xFF\n", CsvFault::NotUtf8 { rec: 1, column: 4 }),
@@ -122,6 +125,8 @@ fn faults_of_records(rt: HostRuntime) -> Result<(), Fail> {
     let cases = [
         (b"1,x".as_slice(), CsvFault::FieldCount { rec: 2 }),
         (b"1,x,1,1", CsvFault::FieldCount { rec: 2 }),
+        (b"\xFF,abcd", CsvFault::FieldCount { rec: 2 }),
+        (b"id,name,pay", CsvFault::NotInt { rec: 2, column: 1 }),
         (b"1,\xFF,1", CsvFault::NotUtf8 { rec: 2, column: 2 }),
         (b"1,abcd,1", CsvFault::TextTooLong { rec: 2, column: 2 }),
         (
@@ -133,6 +138,9 @@ fn faults_of_records(rt: HostRuntime) -> Result<(), Fail> {
             CsvFault::NotInt { rec: 2, column: 1 },
         ),
         (b"1,abc,", CsvFault::NotInt { rec: 2, column: 3 }),
+        (b"1,abc,+", CsvFault::NotInt { rec: 2, column: 3 }),
+        (b"1,abcd,x", CsvFault::TextTooLong { rec: 2, column: 2 }),
+        (b"1,x,x\n\xFF", CsvFault::NotInt { rec: 2, column: 3 }),
         (b"1,abc, 1", CsvFault::NotInt { rec: 2, column: 3 }),
         (b"1,x,1\n2,y,-", CsvFault::NotInt { rec: 3, column: 3 }),
         (b"1,x,1\n2,y,2\n3", CsvFault::BatchTooLong { rec: 4 }),
@@ -201,7 +209,12 @@ fn faults_of_periods(rt: HostRuntime) -> Result<(), Fail> {
     let cases = [
         (b"2,5,5".as_slice(), CsvFault::EmptyPeriod { rec: 2 }),
         (b"2,6,5", CsvFault::EmptyPeriod { rec: 2 }),
+        (
+            b"2,9223372036854775807,FOREVER",
+            CsvFault::EmptyPeriod { rec: 2 },
+        ),
         (b"2,FOREVER,5", CsvFault::NotInt { rec: 2, column: 2 }),
+        (b",6,5", CsvFault::NotInt { rec: 2, column: 1 }),
         (b"2,5,forever", CsvFault::NotInt { rec: 2, column: 3 }),
         (b"2,6", CsvFault::FieldCount { rec: 2 }),
         (b"2,0,1\n2,1,1", CsvFault::EmptyPeriod { rec: 3 }),
@@ -213,9 +226,59 @@ fn faults_of_periods(rt: HostRuntime) -> Result<(), Fail> {
         let read = read_timed(alloc, block.as_slice(), BatchKind::RemoveKind)?;
         assert!(rt; read == Some(Err(*fault)));
     }
-    let missing = CsvFault::HeaderMissing { column: 4 };
-    let read = read_timed(alloc, b"k,x,valid_from", BatchKind::PutKind)?;
-    assert!(rt; read == Some(Err(missing)));
+    Ok(())
+}
+
+#[test]
+fn headers_with_periods(rt: HostRuntime) -> Result<(), Fail> {
+    let alloc = rt.alloc();
+    let cases = [
+        (
+            b"k,x,valid_from".as_slice(),
+            BatchKind::PutKind,
+            CsvFault::HeaderMissing { column: 4 },
+        ),
+        (
+            b"k,valid_to",
+            BatchKind::RemoveKind,
+            CsvFault::HeaderMissing { column: 2 },
+        ),
+        (
+            b"valid_from,k,valid_to,valid_from",
+            BatchKind::RemoveKind,
+            CsvFault::HeaderTwice { column: 4 },
+        ),
+        (
+            b"k,x,valid_from,valid_to",
+            BatchKind::RemoveKind,
+            CsvFault::HeaderName { column: 2 },
+        ),
+    ];
+    for (block, kind, fault) in cases.as_slice() {
+        assert!(rt; read_timed(alloc, block, *kind)? == Some(Err(*fault)));
+    }
+    Ok(())
+}
+
+// A block of one person, whose name has so many bytes.
+fn named(alloc: Global, bytes: u32) -> Result<Vec<u8>, NoMemory> {
+    let mut block = Vec::new(alloc);
+    block.extend_from_slice(b"id,name,pay\n1,")?;
+    for _ in 0..bytes {
+        block.push(b'x')?;
+    }
+    block.extend_from_slice(b",1\n")?;
+    Ok(block)
+}
+
+#[test]
+fn the_longest_text(rt: HostRuntime) -> Result<(), Fail> {
+    let alloc = rt.alloc();
+    let limits = Limits::standard();
+    let rows = rows_of(alloc, named(alloc, 65_535)?.as_slice())?;
+    assert!(rt; rows.is_some_and(|rows| rows.len() == 1));
+    let fault = CsvFault::TextTooLong { rec: 2, column: 2 };
+    assert!(rt; fault_of(alloc, named(alloc, 65_536)?.as_slice(), &limits)? == Some(fault));
     Ok(())
 }
 
@@ -224,18 +287,32 @@ fn rows_of_an_answer(rt: HostRuntime) -> Result<(), Fail> {
     let alloc = rt.alloc();
     let mut person = Seq::new(alloc);
     person.push(Field::Number(1))?;
-    person.push(Field::Text(Text::new(alloc, "Doe, J.")?))?;
+    person.push(Field::Text(Text::new(alloc, "Doe, \"J\".\n")?))?;
     person.push(Field::Number(-100))?;
     let mut run = Seq::new(alloc);
-    run.push(Field::Number(9))?;
+    run.push(Field::Number(9_223_372_036_854_775_807))?;
     run.push(Field::Forever)?;
-    run.push(Field::Ratio { sum: 100, count: 2 })?;
+    run.push(Field::Ratio {
+        sum: -100,
+        count: 2,
+    })?;
     run.push(Field::Empty)?;
+    let mut nothing = Seq::new(alloc);
+    nothing.push(Field::Empty)?;
     let mut rows = Seq::new(alloc);
     rows.push(person)?;
     rows.push(run)?;
+    rows.push(nothing)?;
     let bytes = answer_bytes(alloc, &Answer { rows })?;
-    assert!(rt; bytes.as_slice() == b"1,\"Doe, J.\",-100\n9,FOREVER,100/2,\n".as_slice());
+    let text = b"1,\"Doe, \"\"J\"\".\n\",-100\n9223372036854775807,FOREVER,-100/2,\n\"\"\n";
+    assert!(rt; bytes.as_slice() == text.as_slice());
+    let none = answer_bytes(
+        alloc,
+        &Answer {
+            rows: Seq::new(alloc),
+        },
+    )?;
+    assert!(rt; none.as_slice() == b"".as_slice());
     Ok(())
 }
 
@@ -248,6 +325,21 @@ fn a_sample_of_two_lines(rt: HostRuntime) -> Result<(), Fail> {
         return Ok(());
     };
     assert!(rt; block.as_slice() == b"id,grp,val\n0,4,19564\n1,6,9806\n".as_slice());
+    assert!(rt; sample.next_block(alloc)?.is_none());
+    assert!(rt; Sample::new(0, 7).next_block(alloc)?.is_none());
+    Ok(())
+}
+
+#[test]
+fn a_second_block(rt: HostRuntime) -> Result<(), Fail> {
+    let alloc = rt.alloc();
+    let mut sample = Sample::new(10_001, 7);
+    assert!(rt; sample.next_block(alloc)?.is_some());
+    let Some(block) = sample.next_block(alloc)? else {
+        assert!(rt; false);
+        return Ok(());
+    };
+    assert!(rt; block.as_slice() == b"id,grp,val\n5000,0,31816\n".as_slice());
     assert!(rt; sample.next_block(alloc)?.is_none());
     Ok(())
 }

@@ -54,11 +54,11 @@ cell_of limits rec i kind field = if is_utf8 field then of_kind kind else Err (f
 
 -- RECORDS
 
--- the same of a field beside its kind
+-- the cell of the i-th field of a record, which stands beside its kind
 abbrev pub cell_at : Limits → ℕ → ℕ → FieldKind × List ℕ → Result Cell CsvFault
 cell_at limits rec i beside = cell_of limits rec i beside.0 beside.1
 
--- the fault of the first field of a record that has one; the fields are of these kinds
+-- the first fault of the fields of a record, which are of these kinds
 abbrev pub fields_fault : Limits → ℕ → List FieldKind → List (List ℕ) → Option CsvFault
 fields_fault limits rec kinds fields = fault_of (each_from (cell_at limits rec) 0 (zip kinds fields))
 

@@ -119,9 +119,9 @@ if_some None P Q f h = tt
 if_some (Some x) P Q f h = f x h
 
 -- how the run of the front that is read ends, the run of the script ends
-pub front_ends : (words : List (List ℕ)) (before after : Outside) (bytes : List ℕ) (ended : Status) → are_words words ≡ true → before.left ≡ prepend_known bytes after.left → IsFront most_bytes bytes after.left → after.source_faults ≡ before.source_faults →
+front_of_most : (words : List (List ℕ)) (before after : Outside) (bytes : List ℕ) (ended : Status) → are_words words ≡ true → before.left ≡ prepend_known bytes after.left → IsFront most_bytes bytes after.left → after.source_faults ≡ before.source_faults →
     RunsScript bytes before.written after.written before.sink_faults after.sink_faults ended → Ends words before after ended
-front_ends words before after bytes status.Done right taken front sure h =
+front_of_most words before after bytes status.Done right taken front sure h =
     let same = script_same before.left after.left bytes taken front in
     let found = h.1.1.1.1.0 in (
       right,
@@ -130,10 +130,10 @@ front_ends words before after bytes status.Done right taken front sure h =
       h.0,
       (h.1.0, (h.1.1.0, if_some before.left (λ script. jobs_of most_bytes script ≡ jobs_of most_bytes bytes) _ (λ script e. (h.1.1.1.0, (e ∙ found, h.1.1.1.1.1))) same)),
     )
-front_ends words before after bytes status.NoMemory right taken front sure h = h
-front_ends words before after bytes status.Usage right taken front sure h = absurd h
-front_ends words before after bytes (status.SourceFault faults) right taken front sure h = absurd h
-front_ends words before after bytes (status.SinkFault faults) right taken front sure h =
+front_of_most words before after bytes status.NoMemory right taken front sure h = h
+front_of_most words before after bytes status.Usage right taken front sure h = absurd h
+front_of_most words before after bytes (status.SourceFault faults) right taken front sure h = absurd h
+front_of_most words before after bytes (status.SinkFault faults) right taken front sure h =
     let same = script_same before.left after.left bytes taken front in
     let text = h.2.0 in
     let told = h.2.1.1.0 in (
@@ -155,10 +155,16 @@ front_ends words before after bytes (status.SinkFault faults) right taken front 
         ),
       ),
     )
-front_ends words before after bytes (status.DiskFault faults) right taken front sure h = absurd h
-front_ends words before after bytes (status.ScriptFault f) right taken front sure h =
+front_of_most words before after bytes (status.DiskFault faults) right taken front sure h = absurd h
+front_of_most words before after bytes (status.ScriptFault f) right taken front sure h =
     let same = script_same before.left after.left bytes taken front in
     (right, if_some before.left (λ script. jobs_of most_bytes script ≡ jobs_of most_bytes bytes) (λ script. jobs_of most_bytes script ≡ Err f) (λ script e. e ∙ h.0) same, sure, h.2, h.1)
-front_ends words before after bytes (status.NotInitialised len) right taken front sure h = absurd h
-front_ends words before after bytes (status.AlreadyInitialised len) right taken front sure h = absurd h
-front_ends words before after bytes (status.Damaged at) right taken front sure h = absurd h
+front_of_most words before after bytes (status.NotInitialised len) right taken front sure h = absurd h
+front_of_most words before after bytes (status.AlreadyInitialised len) right taken front sure h = absurd h
+front_of_most words before after bytes (status.Damaged at) right taken front sure h = absurd h
+
+-- the same of a number that is lent
+pub front_ends : (words : List (List ℕ)) (before after : Outside) (bytes : List ℕ) (ended : Status) (most : ℕ) → most ≡ most_bytes → are_words words ≡ true → before.left ≡ prepend_known bytes after.left → IsFront most bytes after.left → after.source_faults ≡ before.source_faults →
+    RunsScript bytes before.written after.written before.sink_faults after.sink_faults ended → Ends words before after ended
+front_ends words before after bytes outcome most same right taken front sure h =
+    front_of_most words before after bytes outcome right taken (subst (λ (n : ℕ). IsFront n bytes after.left) same front) sure h

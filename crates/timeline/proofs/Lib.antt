@@ -1,13 +1,9 @@
 pub mod CheckingLemmas
 pub mod FrontLemmas
-pub mod KeyLemmas
 pub mod ListLemmas
 pub mod PlayLemmas
 pub mod ReadyLemmas
-pub mod ResolvingExamples
-pub mod ResolvingLemmas
 pub mod ScriptLemmas
 pub mod StoreLemmas
 pub mod TopLemmas
-pub mod UntimedLemmas
 pub mod Worked

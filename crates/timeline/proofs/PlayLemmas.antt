@@ -1,5 +1,5 @@
 -- Tables found by name, and statements done one after the other.
-use Rattle.std.proofs.Common.{◌≡◌, ℕ, zero, suc, ◌+◌, ◌-◌, ◌<◌, ◌≤◌, Bool, true, false, List, [], ◌∷◌, ◌++◌, length, Option, Some, None, Result, Ok, Err, refl, ap, arith, sym, ◌∙◌, slice_get, IfSome, append_assoc, append-nil, drop, map, get_or, subst, add-one, drop-cons}
+use Rattle.std.proofs.Common.{◌≡◌, ℕ, zero, suc, ◌+◌, ◌-◌, ◌<◌, ◌≤◌, Bool, true, false, List, [], ◌∷◌, ◌++◌, length, Option, Some, None, Result, Ok, Err, refl, ap, arith, sym, ◌∙◌, slice_get, append_assoc, append-nil, drop, map, get_or, subst, add-one, drop-cons}
 use Rattle.std.proofs.lemmas.Option.{slice_get_within}
 use Rattle.std.proofs.lemmas.Slice.Eq.{bytes_eq-Decides}
 use Rattle.std.specs.List.{list_all}
@@ -7,23 +7,25 @@ use Rattle.std.specs.Option.{option_map}
 use Rattle.tl_types.specs.declared.batches.Batch.{Batch}
 use Rattle.tl_types.specs.declared.batches.Batch.TheVariants as batch
 use Rattle.tl_types.specs.declared.batches.BatchFault.TheVariants as batch_fault
+use Rattle.tl_types.specs.declared.commits.Commit.{Commit}
+use Rattle.tl_types.specs.declared.limits.Limits.{Limits}
 use Rattle.tl_types.specs.Limits.{standard_limits}
 use Rattle.tl_types.specs.Plain as plain
-use Rattle.tl_types.specs.History.{has_name, matches}
+use Rattle.tl_types.specs.History.{database_of, has_name, matches}
 use Rattle.tl_types.specs.Names.{same_bytes}
-use Rattle.tl_types.specs.Resolving.{find_from, find_table, resolved, resolved_change, said_by_rows}
+use Rattle.tl_types.specs.Resolving.{find_from, find_table}
+use Rattle.tl_batch.specs.Made.{batch_matches, rows_fit_found}
 use Rattle.tl_csv.specs.declared.faults.CsvFault.{CsvFault}
-use Rattle.tl_csv.specs.declared.needs.BatchKind.TheVariants.{PutKind}
-use Rattle.tl_csv.specs.Block.{batch_of}
+use Rattle.tl_csv.specs.declared.needs.BatchKind.{BatchKind}
+use Rattle.tl_csv.specs.Block.{batch_of, IsBatchFor}
 use Rattle.tl_query.specs.declared.forms.Name.{Name}
 use Rattle.tl_query.specs.Checking.{table_named}
 use Rattle.timeline.specs.declared.replies.Refusal.TheVariants as refusal
-use Rattle.timeline.specs.Keys.{resolved_rows}
 use Rattle.timeline.specs.Replies.{reply_bytes}
 use Rattle.timeline.specs.Script.{Job}
 use Rattle.timeline.specs.Reading.{job_of}
 use Rattle.timeline.specs.declared.jobs.Job.{Job as LentJob}
-use Rattle.timeline.specs.Play.{Turn, IsTurn, IsPlay, IsPlayed, refused, settled, author, put_batch, put_block}
+use Rattle.timeline.specs.Play.{Turn, IsTurn, IsPlay, IsPlayed, refused, loaded, block_loaded, load}
 
 abbrev number_of : Option (ℕ × plain.Table) → ℕ
 number_of None = 0
@@ -92,19 +94,15 @@ numbered_none None h = refl
 numbered_none (Some x) h = absurd (cc)
 
 -- a table that no name means
-pub put_unknown : (db : plain.Database) (name block : List ℕ) → option_map (λ found. found.0) (find_table name db.tables) ≡ None → put_block db (find_table name db.tables) block ≡ refused db (refusal.BatchFault batch_fault.UnknownTable)
-put_unknown db name block h = rw (numbered_none (find_table name db.tables) h) refl
+pub load_unknown : (commits : List Commit) (name : List ℕ) (kind : BatchKind) (block : List ℕ) → option_map (λ found. found.0) (find_table name (database_of commits).tables) ≡ None → load commits name kind block ≡ refused commits (refusal.BatchFault batch_fault.UnknownTable)
+load_unknown commits name kind block h = rw (numbered_none (find_table name (database_of commits).tables) h) refl
 
--- what a block for the table with a name becomes is what its batch becomes
-pub put_of : (db : plain.Database) (name block : List ℕ) (number : ℕ) (schema : plain.Schema) (batch : Result Batch CsvFault) → option_map (λ found. found.0) (find_table name db.tables) ≡ Some number → Some schema ≡ option_map (λ u. u.schema) (slice_get db.tables number) → batch_of standard_limits schema PutKind block ≡ batch → put_block db (find_table name db.tables) block ≡ put_batch db batch
-put_of db name block number schema batch h e is =
-    let f = table_found db name number h in
-    let s = schema_found db name number schema f e in
-    ap (λ o. put_block db o block) f.named ∙ (ap (λ t. put_batch db (batch_of standard_limits t PutKind block)) (sym s) ∙ ap (put_batch db) is)
-
--- a block that is no batch
-pub put_refused : (db : plain.Database) (name block : List ℕ) (number : ℕ) (schema : plain.Schema) (fault : CsvFault) → option_map (λ found. found.0) (find_table name db.tables) ≡ Some number → Some schema ≡ option_map (λ u. u.schema) (slice_get db.tables number) → batch_of standard_limits schema PutKind block ≡ Err fault → put_block db (find_table name db.tables) block ≡ refused db (refusal.CsvFault fault)
-put_refused db name block number schema fault h e is = put_of db name block number schema (Err fault) h e is
+-- what a block for the table with a name comes to is what its batch comes to
+pub load_of : (commits : List Commit) (name : List ℕ) (kind : BatchKind) (block : List ℕ) (number : ℕ) (schema : plain.Schema) (batch : Result Batch CsvFault) → option_map (λ found. found.0) (find_table name (database_of commits).tables) ≡ Some number → Some schema ≡ option_map (λ u. u.schema) (slice_get (database_of commits).tables number) → batch_of standard_limits schema kind block ≡ batch → load commits name kind block ≡ loaded commits batch
+load_of commits name kind block number schema batch h e is =
+    let f = table_found (database_of commits) name number h in
+    let s = schema_found (database_of commits) name number schema f e in
+    ap (λ o. block_loaded commits o kind block) f.named ∙ (ap (λ t. loaded commits (batch_of standard_limits t kind block)) (sym s) ∙ ap (loaded commits) is)
 
 -- the found table has the name
 name_found : (k : ℕ) (name : List ℕ) (ts : List plain.Table) (n : ℕ) (t : plain.Table) → find_from k name ts ≡ Some (n, t) → t.schema.name ≡ name
@@ -117,33 +115,36 @@ name_found k name (x ∷ xs) n t h = by_test (has_name name x) refl (name_found 
       rw (← here) (same_names x.schema.name name e)
   by_test false e more = more (rw e at h)
 
--- rows for the table with a name are rows for the table with its number
-pub put_same : (db : plain.Database) (name block own : List ℕ) (number : ℕ) (schema : plain.Schema) (rows : List plain.Opened) → option_map (λ found. found.0) (find_table name db.tables) ≡ Some number → Some schema ≡ option_map (λ u. u.schema) (slice_get db.tables number) → batch_of standard_limits schema PutKind block ≡ Ok (batch.Put own rows) → own ≡ schema.name
-    → put_block db (find_table name db.tables) block ≡ settled db (resolved_rows standard_limits db author number rows)
-put_same db name block own number schema rows h e is owned =
+-- the batch of a block for the table with a name matches the tables
+pub batch_fits : (db : plain.Database) (name : List ℕ) (number : ℕ) (schema : plain.Schema) (kind : BatchKind) (b : Batch) → option_map (λ found. found.0) (find_table name db.tables) ≡ Some number → Some schema ≡ option_map (λ u. u.schema) (slice_get db.tables number) → IsBatchFor standard_limits schema kind b → batch_matches db b ≡ true
+batch_fits db name number schema kind (batch.Create made) h e is = absurd is
+batch_fits db name number schema kind (batch.Put own rows) h e is =
     let f = table_found db name number h in
     let s = schema_found db name number schema f e in
-    let named : own ≡ name = owned ∙ (ap (λ (t : plain.Schema). t.name) s ∙ name_found 0 name db.tables number f.table f.named) in
-    put_of db name block number schema (Ok (batch.Put own rows)) h e is
-    ∙ (ap (λ (n : List ℕ). settled db (resolved standard_limits db author (batch.Put n rows))) named
-    ∙ (ap (λ o. settled db (resolved_change standard_limits db author o (λ schema. said_by_rows schema rows))) f.named
-    ∙ sym (ap (λ o. settled db (resolved_change standard_limits db author (option_map (λ t. (number, t)) o) (λ schema. said_by_rows schema rows))) f.at)))
+    let named : own ≡ name = is.1 ∙ (ap (λ (t : plain.Schema). t.name) s ∙ name_found 0 name db.tables number f.table f.named) in
+    let there : find_table own db.tables ≡ Some (number, f.table) = ap (λ n. find_table n db.tables) named ∙ f.named in
+    ap (rows_fit_found rows) there ∙ (ap (λ t. list_all (matches t) rows) (sym s) ∙ is.2.matching)
+batch_fits db name number schema kind (batch.Remove own keys) h e is = refl
 
--- rows for the schema of a table are rows for the table at its number
-pub rows_match : (db : plain.Database) (name : List ℕ) (number : ℕ) (schema : plain.Schema) (rows : List plain.Opened) → option_map (λ found. found.0) (find_table name db.tables) ≡ Some number → Some schema ≡ option_map (λ u. u.schema) (slice_get db.tables number) → list_all (matches schema) rows ≡ true → IfSome (slice_get db.tables number) (λ t. list_all (matches t.schema) rows ≡ true)
-rows_match db name number schema rows h e fit =
-    let f = table_found db name number h in
-    let s = schema_found db name number schema f e in
-    rw (f.at, ← s) fit
+-- the same of commits and limits that are lent
+pub lent_load : (commits lent : List Commit) (name : List ℕ) (kind : BatchKind) (block : List ℕ) (number : ℕ) (schema : plain.Schema) (limits : Limits) (batch : Result Batch CsvFault) → lent ≡ commits → limits ≡ standard_limits → option_map (λ found. found.0) (find_table name (database_of lent).tables) ≡ Some number → Some schema ≡ option_map (λ u. u.schema) (slice_get (database_of lent).tables number) → batch_of limits schema kind block ≡ batch → load commits name kind block ≡ loaded commits batch
+lent_load commits lent name kind block number schema limits batch same std h e is =
+    let standard : batch_of standard_limits schema kind block ≡ batch = subst (λ (l : Limits). batch_of l schema kind block ≡ batch) std is in
+    subst (λ (cs : List Commit). load cs name kind block ≡ loaded cs batch) same (load_of lent name kind block number schema batch h e standard)
+
+pub lent_fits : (commits lent : List Commit) (name : List ℕ) (kind : BatchKind) (number : ℕ) (schema : plain.Schema) (limits : Limits) (b : Batch) → lent ≡ commits → limits ≡ standard_limits → option_map (λ found. found.0) (find_table name (database_of lent).tables) ≡ Some number → Some schema ≡ option_map (λ u. u.schema) (slice_get (database_of lent).tables number) → IsBatchFor limits schema kind b → batch_matches (database_of commits) b ≡ true
+lent_fits commits lent name kind number schema limits b same std h e is =
+    let standard : IsBatchFor standard_limits schema kind b = subst (λ (l : Limits). IsBatchFor l schema kind b) std is in
+    subst (λ (cs : List Commit). batch_matches (database_of cs) b ≡ true) same (batch_fits (database_of lent) name number schema kind b h e standard)
 
 -- ONE JOB AFTER THE OTHER
 
 -- one job more: its reply behind the bytes so far
-pub one_more_turn : (db now : plain.Database) (all rest : List Job) (job : Job) (out : List ℕ) (turn : Turn) →
-    ((more : List ℕ) (after : plain.Database) → IsPlay now (job ∷ rest) more after → IsPlay db all (out ++ more) after) →
+pub one_more_turn : (first now : List Commit) (all rest : List Job) (job : Job) (out : List ℕ) (turn : Turn) →
+    ((more : List ℕ) (after : List Commit) → IsPlay now (job ∷ rest) more after → IsPlay first all (out ++ more) after) →
     IsTurn now job turn →
-    (more : List ℕ) (after : plain.Database) → IsPlay turn.after rest more after → IsPlay db all ((out ++ reply_bytes job.session turn.reply) ++ more) after
-one_more_turn db now all rest job out turn so_far is more after play =
+    (more : List ℕ) (after : List Commit) → IsPlay turn.after rest more after → IsPlay first all ((out ++ reply_bytes job.session turn.reply) ++ more) after
+one_more_turn first now all rest job out turn so_far is more after play =
     rw append_assoc (so_far (reply_bytes job.session turn.reply ++ more) after (turn, (more, (is, refl, play))))
 
 nothing_left : {X : Type 0} (xs : List X) (i : ℕ) → length xs ≤ i → drop i xs ≡ []
@@ -153,22 +154,22 @@ nothing_left (x ∷ xs) zero h = absurd (omega arith)
 nothing_left (x ∷ xs) (suc i) h = nothing_left xs i (omega arith)
 
 -- the job at a place is done, with its reply behind the bytes so far
-pub job_done : (db now : plain.Database) (all : List LentJob) (i : ℕ) (d : LentJob) (out new : List ℕ) (turn : Turn) → i < length all →
-    ((more : List ℕ) (after : plain.Database) → IsPlay now (map job_of (drop i all)) more after → IsPlay db (map job_of all) (out ++ more) after) →
+pub job_done : (first now : List Commit) (all : List LentJob) (i : ℕ) (d : LentJob) (out new : List ℕ) (turn : Turn) → i < length all →
+    ((more : List ℕ) (after : List Commit) → IsPlay now (map job_of (drop i all)) more after → IsPlay first (map job_of all) (out ++ more) after) →
     IsTurn now (job_of (get_or all i d)) turn →
     new ≡ out ++ reply_bytes (job_of (get_or all i d)).session turn.reply →
-    (more : List ℕ) (after : plain.Database) → IsPlay turn.after (map job_of (drop (i + 1) all)) more after → IsPlay db (map job_of all) (new ++ more) after
-job_done db now all i d out new turn within so_far is made more after play =
+    (more : List ℕ) (after : List Commit) → IsPlay turn.after (map job_of (drop (i + 1) all)) more after → IsPlay first (map job_of all) (new ++ more) after
+job_done first now all i d out new turn within so_far is made more after play =
     let cons : drop i all ≡ get_or all i d ∷ drop (i + 1) all = rw (add-one, drop-cons all i d) refl in
-    let from_here : (more : List ℕ) (after : plain.Database) → IsPlay now (job_of (get_or all i d) ∷ map job_of (drop (i + 1) all)) more after → IsPlay db (map job_of all) (out ++ more) after
+    let from_here : (more : List ℕ) (after : List Commit) → IsPlay now (job_of (get_or all i d) ∷ map job_of (drop (i + 1) all)) more after → IsPlay first (map job_of all) (out ++ more) after
     = λ more after p. so_far more after (subst (λ (xs : List LentJob). IsPlay now (map job_of xs) more after) (sym cons) p) in
-    rw made (one_more_turn db now (map job_of all) (map job_of (drop (i + 1) all)) (job_of (get_or all i d)) out turn from_here is more after play)
+    rw made (one_more_turn first now (map job_of all) (map job_of (drop (i + 1) all)) (job_of (get_or all i d)) out turn from_here is more after play)
 
 -- all jobs are done
-pub jobs_done : (db now : plain.Database) (all : List LentJob) (i : ℕ) (out : List ℕ) → length all ≤ i →
-    ((more : List ℕ) (after : plain.Database) → IsPlay now (map job_of (drop i all)) more after → IsPlay db (map job_of all) (out ++ more) after) →
-    IsPlayed db (map job_of all) out
-jobs_done db now all i out past so_far =
+pub jobs_done : (first now : List Commit) (all : List LentJob) (i : ℕ) (out : List ℕ) → length all ≤ i →
+    ((more : List ℕ) (after : List Commit) → IsPlay now (map job_of (drop i all)) more after → IsPlay first (map job_of all) (out ++ more) after) →
+    IsPlayed first (map job_of all) out
+jobs_done first now all i out past so_far =
     let none : drop i all ≡ [] = nothing_left all i past in
     let last = so_far [] now (subst (λ (xs : List LentJob). IsPlay now (map job_of xs) [] now) (sym none) (refl, refl)) in
     (now, rw append-nil at last)

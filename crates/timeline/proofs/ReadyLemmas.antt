@@ -33,7 +33,7 @@ ready_by : (text : List ℕ) (s : Statement) → Spells text s → HasNames s �
 ready_by text (statement.Create f) spelled h =
     record { name = h.0.named; columns = columns_named f.columns h.1; some = spelled.spelled.0.some; few = spelled.spelled.0.few }
 ready_by text (statement.Put n) spelled h = tt
-ready_by text (statement.Remove n) spelled h = spelled.spelled
+ready_by text (statement.Remove n) spelled h = tt
 ready_by text (statement.Ask (query.Select f)) spelled h =
     let bare = spelled.spelled.0 in
     ((ap (λ (p : Pred). p.any) bare.untested, bare.timeless), version_ready f.as_of h.2)

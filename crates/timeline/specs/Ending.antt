@@ -2,7 +2,7 @@
 use Rattle.std.specs.Prelude.{◌≡◌, ℕ, Bool, true, false, List, [], ◌∷◌, ◌++◌, take, codes, Option, Some, Result, Ok, Err, IfSome, IsSome, ◌⊎◌}
 use Rattle.std.specs.Fmt.{decimal}
 use Rattle.tl_types.specs.Names.{same_bytes}
-use Rattle.tl_types.specs.History.{nothing}
+use Rattle.tl_types.specs.Limits.{standard_limits}
 use Rattle.tl_device.specs.Known.{append_known, Rose}
 use Rattle.timeline.specs.declared.statuses.Status.{Status}
 use Rattle.timeline.specs.declared.statuses.Status.TheVariants as status
@@ -19,7 +19,7 @@ are_words (word ∷ other ∷ words) = false
 
 -- how many bytes the lines of a script may have
 abbrev pub most_bytes : ℕ
-most_bytes = 67108864
+most_bytes = standard_limits.phase
 
 -- the words of a script's fault
 abbrev pub script_fault_words : ScriptFault → List ℕ
@@ -47,7 +47,7 @@ pub record Outside : Type 0 where
 
 -- what a script that is read comes to: the replies to its jobs, from no commits on, or the line of its fault
 abbrev pub IsTranscript : Result (List Job) ScriptFault → List ℕ → Type 0
-IsTranscript (Ok jobs) bytes = IsPlayed nothing jobs bytes
+IsTranscript (Ok jobs) bytes = IsPlayed [] jobs bytes
 IsTranscript (Err f) bytes = bytes ≡ script_line f
 
 -- the bytes that a run writes: the line of wrong words; the line of a source that failed; or what the script
@@ -69,7 +69,7 @@ Closes bytes wanted old new before after ended =
 -- how the run of a script that is read ends, and what it writes
 abbrev pub RunsScript : List ℕ → Option (List ℕ) → Option (List ℕ) → ℕ → ℕ → Status → Type 0
 RunsScript script old new before after status.Done =
-    (after ≡ before) × ((bytes : List ℕ) × ((new ≡ append_known old bytes) × ((jobs : List Job) × ((jobs_of most_bytes script ≡ Ok jobs) × IsPlayed nothing jobs bytes))))
+    (after ≡ before) × ((bytes : List ℕ) × ((new ≡ append_known old bytes) × ((jobs : List Job) × ((jobs_of most_bytes script ≡ Ok jobs) × IsPlayed [] jobs bytes))))
 RunsScript script old new before after status.NoMemory = (new ≡ old) × (after ≡ before)
 RunsScript script old new before after status.Usage = ⊥
 RunsScript script old new before after (status.SourceFault faults) = ⊥
@@ -86,7 +86,7 @@ abbrev pub Ends : List (List ℕ) → Outside → Outside → Status → Type 0
 Ends words before after status.Done =
     (are_words words ≡ true) × IfSome after.left (λ bytes. bytes ≡ []) × (after.source_faults ≡ before.source_faults) × (after.sink_faults ≡ before.sink_faults)
     × ((bytes : List ℕ) × ((after.written ≡ append_known before.written bytes)
-    × IfSome before.left (λ script. (jobs : List Job) × ((jobs_of most_bytes script ≡ Ok jobs) × IsPlayed nothing jobs bytes))))
+    × IfSome before.left (λ script. (jobs : List Job) × ((jobs_of most_bytes script ≡ Ok jobs) × IsPlayed [] jobs bytes))))
 Ends words before after status.NoMemory = (after.written ≡ before.written) × (after.sink_faults ≡ before.sink_faults)
 Ends words before after status.Usage =
     (are_words words ≡ false) × (after.left ≡ before.left) × (after.source_faults ≡ before.source_faults) × (after.sink_faults ≡ before.sink_faults)

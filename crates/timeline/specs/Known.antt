@@ -19,7 +19,7 @@ known (Some t) = Some (t.0, t.1.now)
 abbrev pub IsReady : Statement → Type 0
 IsReady (statement.Create form) = IsWellNamed form
 IsReady (statement.Put name) = Unit {0}
-IsReady (statement.Remove name) = ⊥
+IsReady (statement.Remove name) = Unit {0}
 IsReady (statement.Ask (query.Select form)) = IsBareSelect form × ForSome form.as_of (λ stamp. IsNonNegative stamp.value)
 IsReady (statement.Ask (query.Agg form)) = ⊥
 IsReady (statement.Ask (query.Join form)) = ⊥

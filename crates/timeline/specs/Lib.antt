@@ -1,5 +1,4 @@
 pub mod Ending
-pub mod Keys
 pub mod Known
 pub mod Outcome
 pub mod Play
@@ -7,4 +6,3 @@ pub mod Reading
 pub mod Replies
 pub mod Script
 pub mod Status
-pub mod Untimed

@@ -1,18 +1,18 @@
--- What a statement comes to over the tables that it saw.
-use Rattle.std.specs.Prelude.{IsTrue, Ok}
+-- What a statement comes to over the commits that it saw.
+use Rattle.std.specs.Prelude.{IsTrue, List, Ok}
+use Rattle.tl_types.specs.declared.commits.Commit.{Commit}
 use Rattle.tl_types.specs.Limits.{standard_limits}
-use Rattle.tl_types.specs.Plain as plain
-use Rattle.tl_types.specs.History.{fits}
+use Rattle.tl_types.specs.History.{database_of, fits}
 use Rattle.timeline.specs.declared.outcomes.Outcome.{Outcome}
 use Rattle.timeline.specs.declared.outcomes.Outcome.TheVariants as outcome
 use Rattle.timeline.specs.Play.{Turn, settled}
 
--- the reply, and the database after it
-abbrev pub turn_of : plain.Database → Outcome → Turn
-turn_of db (outcome.Commits commit) = settled db (Ok commit)
-turn_of db (outcome.Replies reply) = record { reply = reply; after = db }
+-- the reply, and the commits after it
+abbrev pub turn_of : List Commit → Outcome → Turn
+turn_of commits (outcome.Commits commit) = settled commits (Ok commit)
+turn_of commits (outcome.Replies reply) = record { reply = reply; after = commits }
 
 -- a commit that it comes to fits
-abbrev pub MayBe : plain.Database → Outcome → Type 0
-MayBe db (outcome.Commits commit) = IsTrue (fits standard_limits db commit)
-MayBe db (outcome.Replies reply) = Unit {0}
+abbrev pub MayBe : List Commit → Outcome → Type 0
+MayBe commits (outcome.Commits commit) = IsTrue (fits standard_limits (database_of commits) commit)
+MayBe commits (outcome.Replies reply) = Unit {0}

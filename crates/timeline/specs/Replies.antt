@@ -63,7 +63,6 @@ refusal_words (refusal.TextFault f) = text_fault_words f
 refusal_words (refusal.CheckFault f) = check_fault_words f
 refusal_words (refusal.CsvFault f) = csv_fault_words f
 refusal_words (refusal.BatchFault f) = batch_fault_words f
-refusal_words refusal.NotBuilt = codes "NotBuilt"
 
 -- REPLIES
 

@@ -216,9 +216,10 @@ fn version_of(now: u32, asked: Option<Stamp>) -> u32
 
 /// The question by numbers at `now` commits, over the table that its name means if it means one, or its first
 /// fault: the one that stands furthest to the left. `UnknownTable` stands at the table's name; `UnknownColumn` at
-/// an item that the known table lacks; `VersionAhead` at a version after the last commit. `NoMemory` is want of
-/// memory. `*` stands for all columns in order, and then the ends of the valid period where the table's rows have
-/// one. The form is one of the language as it is: no predicate, no valid time.
+/// an item that the known table lacks; `NotValidTable` at an end of the valid period, where the rows of the known
+/// table have none; `VersionAhead` at a version after the last commit. `NoMemory` is want of memory. `*` stands for
+/// all columns in order, and then the ends of the valid period where the table's rows have one. The form is one of
+/// the language as it is: it has no predicate and asks for no valid time.
 pub fn check_select(
     alloc: Global,
     now: u32,
@@ -320,9 +321,9 @@ fn schema_of(alloc: Global, form: &CreateForm) -> Result<Schema, AllocError>
     Ok(made_schema(form.name.text.clone()?, columns, key, form.valid))
 }
 
-/// The schema of a new table, or its first fault: the one that stands furthest to the left, and at one place the
-/// one of the lesser number. `ColumnTwice` stands at the second of two columns of one name, `UnknownColumn` at a key
-/// that is no column. `NoMemory` is want of memory.
+/// The schema of a new table, or its first fault: the one that stands furthest to the left. `ColumnTwice` stands at
+/// the first column whose name an earlier one has, `UnknownColumn` at the name behind KEY where no column has it;
+/// that no table has the name of the new one is not looked at here. `NoMemory` is want of memory.
 pub fn check_create(alloc: Global, form: &CreateForm) -> Result<Schema, CheckFault>
     requires { IsWellNamed form.now }
     ensures { IsUnlessMemory result (checked_create form.now) }

@@ -3,12 +3,12 @@
 #![tactic(auto)]
 
 mod checks;
+mod histories;
 mod jobs;
 mod outcomes;
 mod plays;
 mod rebuilding;
 mod replies;
-mod resolving;
 mod scripts;
 mod statuses;
 #[cfg(test)]

@@ -19,8 +19,6 @@ pub enum Refusal {
     CsvFault(CsvFault),
     /// Its batch becomes no commit.
     BatchFault(BatchFault),
-    /// It is no statement of the language yet; no text spells one.
-    NotBuilt,
 }
 
 /// What a statement is answered with.
@@ -113,7 +111,6 @@ fn refusal_words(alloc: Global, refusal: &Refusal) -> Result<String, AllocError>
         Refusal::CheckFault(fault) => check_fault_words(alloc, fault),
         Refusal::CsvFault(fault) => csv_fault_words(alloc, fault),
         Refusal::BatchFault(fault) => batch_fault_words(alloc, fault),
-        Refusal::NotBuilt => String::from_str(alloc, "NotBuilt"),
     }
 }
 

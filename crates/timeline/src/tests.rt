@@ -117,6 +117,17 @@ fn scripts_and_their_replies(rt: HostRuntime) -> Result<(), Fail> {
             0,
             "a @1 ok\na @2 ok\na @2 rows 1\n1,2\n",
         ),
+        ("a> REMOVE t\nk\n1\n\\.\n", 0, "a @0 ! UnknownTable\n"),
+        (
+            "a> CREATE TABLE t (k INT) KEY k VALID\na> SELECT * FROM t\na> SELECT valid_to FROM t",
+            0,
+            "a @1 ok\na @1 rows 0\na @1 rows 0\n",
+        ),
+        (
+            "a> CREATE TABLE t (k INT) KEY k\na> SELECT k, valid_to FROM t",
+            0,
+            "a @1 ok\na @1 ! NotValidTable 10\n",
+        ),
         ("a> SELECT $ FROM t", 0, "a @0 ! BadByte 7\n"),
         ("a> SELECT 'x FROM t", 0, "a @0 ! OpenText 7\n"),
         (
@@ -199,9 +210,13 @@ fn faults_of_a_spreadsheet_file(rt: HostRuntime) -> Result<(), Fail> {
         (b"id,name,pay\n1,\xFF,2\n", "NotUtf8 2 2"),
         (too_long.as_slice(), "TextTooLong 2 2"),
     ];
+    let marked = b"\xEF\xBB\xBFpay,id,name\r\n100,1,\"Doe, J.\"\r\n";
+    let least = b"id,name,pay\n-9223372036854775808,x,1\n";
+    let before = "a @1 ok\na @2 ok\na @2 rows 1\n1,\"Doe, J.\",100\na @3 ok\n";
+    let rows = "a @3 rows 2\n1,\"Doe, J.\",100\n-9223372036854775808,x,1\n";
     for (block, fault) in cases {
-        let replies = format!(in alloc; "a @1 ok\na @1 ! {fault}\na @1 rows 0\n")?;
-        let written = replies_to_people(&rt, &[block])?;
+        let replies = format!(in alloc; "{before}{rows}a @3 ! {fault}\n{rows}")?;
+        let written = replies_to_people(&rt, &[marked, least, block])?;
         assert_eq!(rt; written.as_slice(), replies.as_bytes(), "{fault}");
     }
     Ok(())
@@ -295,5 +310,50 @@ fn a_failed_read_or_write_ends_the_run(rt: HostRuntime) -> Result<(), Fail> {
     let (status, written) = run(&rt, &["run"], &mut sure, &[1])?;
     assert_eq!(rt; status, 4);
     assert!(rt; written.is_empty());
+    Ok(())
+}
+
+// A table without valid time, and the batches that are put into it and taken from it.
+fn staff() -> &'static str {
+    "a> CREATE TABLE emp (id INT, dept TEXT, pay INT) KEY id\na> PUT emp\nid,dept,pay\n1,ops,100\n2,dev,50\n\\.\na> PUT emp\nid,dept,pay\n1,ops,150\n\\.\na> REMOVE emp\nid\n2\n\\.\na> PUT emp\nid,dept,pay\n2,dev,50\n\\.\na> SELECT id, pay FROM emp AS OF 2\na> SELECT id, pay FROM emp AS OF 4\na> PUT emp\nid,dept,pay\n1,ops,1\n1,ops,2\n\\.\na> REMOVE emp\nid\n9\n\\.\na> PUT emp\nid,dept,pay\n\\.\na> PUT emps\nid\n\\.\na> REMOVE emp\nid\n1\n1\n\\.\na> SELECT * FROM emp\n"
+}
+
+fn staff_replies() -> &'static str {
+    "a @1 ok\na @2 ok\na @3 ok\na @4 ok\na @5 ok\na @5 rows 2\n1,100\n2,50\na @5 rows 1\n1,150\na @5 ! KeyTwice 3\na @5 ! NoRow 2\na @6 ok\na @6 ! UnknownTable\na @6 ! KeyTwice 3\na @6 rows 2\n1,ops,150\n2,dev,50\n"
+}
+
+// A table with valid time: parts of a period are put and taken away.
+fn quotes() -> &'static str {
+    "a> CREATE TABLE q (k INT, x INT) KEY k VALID\na> PUT q\nk,x,valid_from,valid_to\n1,5,0,100\n\\.\na> PUT q\nk,x,valid_from,valid_to\n1,6,10,20\n1,7,50,60\n\\.\na> SELECT * FROM q\na> SELECT x, valid_from, valid_to FROM q\na> REMOVE q\nk,valid_from,valid_to\n1,0,5\n\\.\na> SELECT valid_from, x FROM q\na> REMOVE q\nk,valid_from,valid_to\n1,200,300\n\\.\na> PUT q\nvalid_to,k,x,valid_from\n60,1,8,15\n\\.\na> SELECT * FROM q\na> SELECT x, valid_to FROM q AS OF 2\n"
+}
+
+fn quotes_replies() -> &'static str {
+    "a @1 ok\na @2 ok\na @3 ok\na @3 rows 5\n1,5,0,10\n1,5,20,50\n1,5,60,100\n1,6,10,20\n1,7,50,60\na @3 rows 5\n5,0,10\n5,20,50\n5,60,100\n6,10,20\n7,50,60\na @4 ok\na @4 rows 5\n20,5\n60,5\n10,6\n50,7\n5,5\na @4 ! NoRow 2\na @5 ok\na @5 rows 4\n1,5,60,100\n1,5,5,10\n1,6,10,15\n1,8,15,60\na @5 rows 1\n5,100\n"
+}
+
+// The ends of valid time, and periods that hold no moment.
+fn contracts() -> &'static str {
+    "a> CREATE TABLE c (k INT) KEY k VALID\na> PUT c\nk,valid_from,valid_to\n1,5,FOREVER\n\\.\na> PUT c\nk,valid_from,valid_to\n2,5,5\n\\.\na> SELECT * FROM c\na> REMOVE c\nk,valid_from,valid_to\n1,7,9223372036854775807\n\\.\na> PUT c\nk,valid_from,valid_to\n9223372036854775807,-9223372036854775808,FOREVER\n\\.\na> SELECT * FROM c\na> REMOVE c\nk,valid_from,valid_to\n1,FOREVER,6\n\\.\na> REMOVE c\nk\n1\n\\.\n"
+}
+
+fn contracts_replies() -> &'static str {
+    "a @1 ok\na @2 ok\na @2 ! EmptyPeriod 2\na @2 rows 1\n1,5,FOREVER\na @3 ok\na @4 ok\na @4 rows 2\n1,5,7\n9223372036854775807,-9223372036854775808,FOREVER\na @4 ! NotInt 2 2\na @4 ! HeaderMissing 2\n"
+}
+
+#[test]
+fn batches_and_their_rows(rt: HostRuntime) -> Result<(), Fail> {
+    let cases = [
+        (staff(), staff_replies()),
+        (quotes(), quotes_replies()),
+        (contracts(), contracts_replies()),
+    ];
+    for (script, replies) in cases {
+        for most in [1, 65_536] {
+            let mut source = source(rt.alloc(), script.as_bytes(), most, &[])?;
+            let (status, written) = run(&rt, &["run"], &mut source, &[])?;
+            assert_eq!(rt; status, 0);
+            assert_eq!(rt; str::from_utf8(written.as_slice()).ok(), Some(replies));
+        }
+    }
     Ok(())
 }

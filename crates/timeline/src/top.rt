@@ -1,7 +1,6 @@
 //! The top call: the whole of what the program does.
 ghost use Rattle.std.specs.Prelude.{◌≡◌, ℕ, ◌≤◌, Some, None, Ok, Err, IfOk, OnOk, OnErr, IfErr, MatchResult, map, length, take, true, false, Bool, codes};
 ghost use Rattle.std.specs.String.{string_bytes};
-ghost use Rattle.tl_types.specs.History.{nothing};
 ghost use Rattle.tl_device.specs.Known.{append_known, HasRoom, Rose};
 ghost use Rattle.timeline.specs.Ending.{are_words, most_bytes, script_fault_words, usage_line, source_line, script_line, Outside, IsTranscript, IsWhole, Closes, RunsScript, Ends, Completes};
 ghost use Rattle.timeline.specs.Script.{jobs_of};
@@ -15,9 +14,7 @@ use std::alloc::{AllocError, Global};
 use std::sync::Wait;
 use std::thread::Threads;
 use tl_device::{Disk, Failed, Gate, ReadError, Sink, Source, read_front, write_all};
-
-// How many bytes the lines of a script may have.
-const MOST_BYTES: u64 = 67_108_864;
+use tl_types::Limits;
 
 /// How a run ended, and the disk that it was given.
 #[derive(Debug, Drop)]
@@ -26,6 +23,13 @@ pub struct Ending<D> {
     pub status: Status,
     /// The disk.
     pub disk: D,
+}
+
+// How many bytes the lines of a script may have.
+fn most_bytes() -> u64
+    ensures { result ≡ most_bytes }
+{
+    Limits::standard().phase
 }
 
 fn are_words(words: &[String]) -> bool
@@ -84,7 +88,7 @@ fn refused<K: Sink>(alloc: Global, sink: &mut K, fault: ScriptFault) -> Status
 fn run_script<K: Sink, G: Gate>(alloc: Global, script: &[u8], sink: &mut K, gate: &G) -> Status
     ensures { RunsScript script.now (K.written sink.old) (K.written sink.new) (K.faults sink.old) (K.faults sink.new) result }
 {
-    match read_jobs(alloc, script, MOST_BYTES) {
+    match read_jobs(alloc, script, most_bytes()) {
         Err(ScriptError::NoMemory) => Status::NoMemory,
         Err(ScriptError::Fault(fault)) => refused(alloc, sink, fault),
         Ok(jobs) => match played(alloc, jobs.as_slice(), gate) {
@@ -94,7 +98,6 @@ fn run_script<K: Sink, G: Gate>(alloc: Global, script: &[u8], sink: &mut K, gate
     }
 }
 
-#[tactic(auto, using(crate::proofs::FrontLemmas::front_ends))]
 fn run<S: Source, K: Sink, G: Gate>(
     alloc: Global,
     words: &[String],
@@ -111,7 +114,7 @@ fn run<S: Source, K: Sink, G: Gate>(
     if !are_words(words) {
         return closed(sink, b"! usage\n".as_slice(), Status::Usage);
     }
-    match read_front(alloc, source, MOST_BYTES) {
+    match read_front(alloc, source, most_bytes()) {
         Err(ReadError::NoMemory) => Status::NoMemory,
         Err(ReadError::Source { faults }) => {
             closed(

@@ -1,12 +1,10 @@
 use Rattle.std.proofs.Common.{sym}
+use Rattle.tl_types.specs.History.{database_of}
 use Rattle.timeline.proofs.PlayLemmas.{table_found, named_found}
 use Rattle.timeline.proofs.outcomes.table_named.Goals as goal
 
 pub schema-requires : goal.schema-requires
-schema-requires c = (table_found c.args.tables.now c.args.name.now.text c.in-Some.number (rw c.as_str.ensures.bytes at (sym c.in-Some.ensures))).within
+schema-requires c = (table_found (database_of c.args.store.now) c.args.name.now.text c.in-Some.number (rw c.as_str.ensures.bytes at (sym c.in-Some.ensures))).within
 
-pub returns-in-Some-clause-named : goal.returns-in-Some-clause-named
-returns-in-Some-clause-named c = named_found c.args.tables.now c.args.name.now c.in-Some.number c.schema.result.now (rw c.as_str.ensures.bytes at (sym c.in-Some.ensures)) c.schema.ensures
-
-pub returns-in-Some-clause-exists : goal.returns-in-Some-clause-exists
-returns-in-Some-clause-exists c = (table_found c.args.tables.now c.args.name.now.text c.in-Some.number (rw c.as_str.ensures.bytes at (sym c.in-Some.ensures))).within
+pub returns-in-Some : goal.returns-in-Some
+returns-in-Some c = named_found (database_of c.args.store.now) c.args.name.now c.in-Some.number c.schema.result.now (rw c.as_str.ensures.bytes at (sym c.in-Some.ensures)) c.schema.ensures.value

@@ -53,9 +53,28 @@ twice : rows ((codes "id" ∷ codes "id" ∷ codes "pay" ∷ []) ∷ []) ≡ Err
 unfolding rows people is_utf8 chars encode
 twice = refl
 
+-- bytes come before names, and names before those that are missing
+no_name : rows ((codes "nam" ∷ (255 ∷ []) ∷ []) ∷ []) ≡ Err (fault.NotUtf8 1 2)
+unfolding rows people is_utf8 chars encode
+no_name = refl
+
+misnamed_first : rows ((codes "pay" ∷ codes "nam" ∷ []) ∷ []) ≡ Err (fault.HeaderName 2)
+unfolding rows people is_utf8 chars encode
+misnamed_first = refl
+
+-- a header that comes again is a record
+again : rows (header ∷ header ∷ []) ≡ Err (fault.NotInt 2 1)
+unfolding rows people header few is_utf8 chars encode
+again = refl
+
 too_few : rows (header ∷ (codes "1" ∷ codes "x" ∷ []) ∷ []) ≡ Err (fault.FieldCount 2)
 unfolding rows people header few is_utf8 chars encode
 too_few = refl
+
+-- the number of fields comes before the fields
+count_first : rows (header ∷ ((255 ∷ []) ∷ []) ∷ []) ≡ Err (fault.FieldCount 2)
+unfolding rows people header few is_utf8 chars encode
+count_first = refl
 
 no_text : rows (header ∷ (codes "1" ∷ (255 ∷ []) ∷ codes "1" ∷ []) ∷ []) ≡ Err (fault.NotUtf8 2 2)
 unfolding rows people header few is_utf8 chars encode
@@ -95,6 +114,11 @@ endless = refl
 empty : rows_of standard_limits timed PutKind (timed_header ∷ (codes "2" ∷ codes "5" ∷ codes "5" ∷ codes "5" ∷ []) ∷ []) ≡ Err (fault.EmptyPeriod 2)
 unfolding timed timed_header is_utf8 chars encode
 empty = refl
+
+-- it comes behind the faults of all fields
+empty_last : rows_of standard_limits timed PutKind ((codes "valid_from" ∷ codes "valid_to" ∷ codes "k" ∷ codes "x" ∷ []) ∷ (codes "5" ∷ codes "5" ∷ codes "2" ∷ codes "" ∷ []) ∷ []) ≡ Err (fault.NotInt 2 4)
+unfolding timed is_utf8 chars encode
+empty_last = refl
 
 -- FOREVER is no first moment
 no_beginning : rows_of standard_limits timed PutKind (timed_header ∷ (codes "2" ∷ codes "5" ∷ codes "FOREVER" ∷ codes "5" ∷ []) ∷ []) ≡ Err (fault.NotInt 2 3)

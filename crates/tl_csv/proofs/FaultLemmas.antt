@@ -1,5 +1,5 @@
 -- Several things in order, and their first fault.
-use Rattle.std.proofs.Common.{◌≡◌, ℕ, zero, suc, ◌+◌, List, [], ◌∷◌, ◌++◌, ◌<◌, Bool, true, false, IsUtf8, length, drop, ◌∙◌, Option, Some, None, Result, Ok, Err, refl, ap, sym, append_assoc, length-append, slice_get, arith}
+use Rattle.std.proofs.Common.{◌≡◌, ℕ, zero, suc, ◌+◌, List, [], ◌∷◌, ◌++◌, ◌<◌, Bool, true, false, IsUtf8, length, drop, ◌∙◌, Some, None, Result, Ok, Err, refl, ap, sym, append_assoc, length-append, slice_get, arith}
 use Rattle.std.specs.Str.{is_utf8}
 use Rattle.std.proofs.lemmas.Str.{IsUtf8-from_is_utf8, is_utf8-from_IsUtf8}
 use Rattle.std.proofs.lemmas.Option.{slice_get_within}

@@ -1,15 +1,13 @@
 -- Names and their places.
-use Rattle.std.proofs.Common.{◌≡◌, ℕ, zero, suc, ◌+◌, ◌<◌, ◌≤◌, nat_lt, Bool, true, false, not, cond, List, [], ◌∷◌, ◌++◌, take, Option, Some, None, refl, ap, sym, ◌∙◌, arith}
-use Rattle.std.specs.List.{find, list_any, position, position_from}
+use Rattle.std.proofs.Common.{◌≡◌, ℕ, zero, suc, ◌+◌, ◌<◌, ◌≤◌, nat_lt, Bool, true, false, not, List, [], ◌∷◌, take, Option, Some, None, refl, ap, sym, ◌∙◌, arith}
+use Rattle.std.specs.List.{find, list_any, position_from}
 use Rattle.std.specs.Option.{option_map, option_or}
 use Rattle.std.specs.Str.{is_utf8}
 use Rattle.std.proofs.lemmas.Bool.Decides.{nat_tests}
 use Rattle.std.proofs.lemmas.Iterator.Adapters.{position_from-zero}
 use Rattle.std.proofs.lemmas.List.Folds.{find-append}
 use Rattle.tl_types.specs.Names.{same_bytes}
-use Rattle.tl_csv.specs.declared.faults.CsvFault.{CsvFault}
 use Rattle.tl_csv.specs.declared.faults.CsvFault.TheVariants as fault
-use Rattle.tl_csv.specs.declared.needs.FieldKind.{FieldKind}
 use Rattle.tl_csv.specs.declared.needs.Needed.{Needed}
 use Rattle.tl_csv.specs.declared.needs.Wanted.{Wanted}
 use Rattle.tl_csv.specs.Header.{kind_named, kind_needed, not_utf8, place_of, is_named}

@@ -146,11 +146,14 @@ fn scripts_and_their_replies(rt: HostRuntime) -> Result<(), Fail> {
 }
 
 // The replies to blocks that are put, one after the other, into a new table `p` of people, each with a question
-// for its rows behind it.
+// for its rows behind it, where a read gives at most so many bytes.
 fn replies_to_people<R: Threads + Wait + Sync + AllocGlobal>(
     rt: &R,
+    most: usize,
     blocks: &[&[u8]],
-) -> Result<Vec<u8>, AllocError> {
+) -> Result<Vec<u8>, AllocError>
+    requires { 0 < most }
+{
     let alloc = rt.alloc();
     let mut script = Vec::new(alloc);
     script.extend_from_slice(b"a> CREATE TABLE p (id INT, name TEXT, pay INT) KEY id\n")?;
@@ -159,7 +162,7 @@ fn replies_to_people<R: Threads + Wait + Sync + AllocGlobal>(
         script.extend_from_slice(block)?;
         script.extend_from_slice(b"\\.\na> SELECT * FROM p\n")?;
     }
-    let mut source = source(alloc, script.as_slice(), 64, &[])?;
+    let mut source = source(alloc, script.as_slice(), most, &[])?;
     let (_, written) = run(rt, &["run"], &mut source, &[])?;
     Ok(written)
 }
@@ -172,17 +175,19 @@ fn a_spreadsheet_file(rt: HostRuntime) -> Result<(), Fail> {
         b"id,name,pay\n-9223372036854775808,x,1\n",
         b"name,id,pay\n\"a\n\"\"b\"\"\",1,2\n\xC3\xA4,2,3\n,3,4\n",
     ];
-    let written = replies_to_people(&rt, &blocks)?;
     let first =
         "a @1 ok\na @2 ok\na @2 rows 1\n1,\"Doe, J.\",100\na @2 ! NotInt 2 1\na @2 rows 1\n1,\"Doe, J.\",100\n";
     let second = "a @3 ok\na @3 rows 2\n1,\"Doe, J.\",100\n-9223372036854775808,x,1\n";
     let third =
         "a @4 ok\na @4 rows 4\n-9223372036854775808,x,1\n1,\"a\n\"\"b\"\"\",2\n2,ä,3\n3,,4\n";
     let replies = format!(in rt.alloc(); "{first}{second}{third}")?;
-    assert_eq!(rt;
-        str::from_utf8(written.as_slice()).ok(),
-        Some(replies.as_str())
-    );
+    for most in [1, 65_536] {
+        let written = replies_to_people(&rt, most, &blocks)?;
+        assert_eq!(rt;
+            str::from_utf8(written.as_slice()).ok(),
+            Some(replies.as_str())
+        );
+    }
     Ok(())
 }
 
@@ -216,8 +221,10 @@ fn faults_of_a_spreadsheet_file(rt: HostRuntime) -> Result<(), Fail> {
     let rows = "a @3 rows 2\n1,\"Doe, J.\",100\n-9223372036854775808,x,1\n";
     for (block, fault) in cases {
         let replies = format!(in alloc; "{before}{rows}a @3 ! {fault}\n{rows}")?;
-        let written = replies_to_people(&rt, &[marked, least, block])?;
-        assert_eq!(rt; written.as_slice(), replies.as_bytes(), "{fault}");
+        for most in [1, 65_536] {
+            let written = replies_to_people(&rt, most, &[marked, least, block])?;
+            assert_eq!(rt; written.as_slice(), replies.as_bytes(), "{fault}");
+        }
     }
     Ok(())
 }

@@ -8,9 +8,9 @@ use tl_types::{Column, ColumnKind, Schema, Seq, Text};
 /// What a block is read as.
 #[derive(Clone, Copy, Debug, PartialEq, Eq)]
 pub enum BatchKind {
-    /// Rows that take the place of the open rows of their keys.
+    /// Rows that take the place of the open rows of their keys, in a table with valid time for their periods alone.
     PutKind,
-    /// Keys whose open rows are closed.
+    /// Keys whose open rows are closed, in a table with valid time for their periods alone.
     RemoveKind,
 }
 

@@ -28,13 +28,17 @@ script_fault_words (fault.NotUtf8 line) = codes "NotUtf8 " ++ decimal line
 script_fault_words (fault.NoSession line) = codes "NoSession " ++ decimal line
 script_fault_words (fault.BlockOpen line) = codes "BlockOpen " ++ decimal line
 
--- the closing lines
+-- THE CLOSING LINES
+
+-- of words that are no command
 abbrev pub usage_line : List ℕ
 usage_line = codes "! usage\n"
 
+-- of a source that failed
 abbrev pub source_line : List ℕ
 source_line = codes "! source\n"
 
+-- of a script with a fault
 abbrev pub script_line : ScriptFault → List ℕ
 script_line f = codes "! script " ++ (script_fault_words f ++ codes "\n")
 

@@ -14,8 +14,8 @@ abbrev pub known : Option (ℕ × Bor plain.Schema) → Option (ℕ × plain.Sch
 known None = None
 known (Some t) = Some (t.0, t.1.now)
 
--- A statement that can be run: its names are names, and its version is not negative. Only the statements of the
--- language as it is can be.
+-- A statement that can be run: the names of a new table are names, and a version is not negative. Only the
+-- statements of the language as it is can be.
 abbrev pub IsReady : Statement → Type 0
 IsReady (statement.Create form) = IsWellNamed form
 IsReady (statement.Put name) = Unit {0}

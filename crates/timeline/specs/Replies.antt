@@ -18,6 +18,7 @@ use Rattle.timeline.specs.declared.replies.Reply.{Reply}
 
 -- THE WORDS OF FAULTS: the fault's name and, after one space each, its fields
 
+-- of a text that spells no statement
 abbrev pub text_fault_words : TextFault → List ℕ
 text_fault_words (text.BadByte at) = codes "BadByte " ++ decimal at
 text_fault_words (text.OpenText at) = codes "OpenText " ++ decimal at
@@ -26,6 +27,7 @@ text_fault_words (text.Unexpected at) = codes "Unexpected " ++ decimal at
 text_fault_words text.QueryTooLong = codes "QueryTooLong"
 text_fault_words text.NoMemory = []
 
+-- of a statement that does not fit the tables
 abbrev pub check_fault_words : CheckFault → List ℕ
 check_fault_words (check.UnknownTable at) = codes "UnknownTable " ++ decimal at
 check_fault_words (check.UnknownColumn at) = codes "UnknownColumn " ++ decimal at
@@ -36,6 +38,7 @@ check_fault_words (check.EmptyRange at) = codes "EmptyRange " ++ decimal at
 check_fault_words (check.ColumnTwice at) = codes "ColumnTwice " ++ decimal at
 check_fault_words check.NoMemory = []
 
+-- of a block that is no batch for its table
 abbrev pub csv_fault_words : CsvFault → List ℕ
 csv_fault_words (csv.NotUtf8 rec column) = codes "NotUtf8 " ++ (decimal rec ++ (codes " " ++ decimal column))
 csv_fault_words (csv.HeaderMissing column) = codes "HeaderMissing " ++ decimal column
@@ -48,6 +51,7 @@ csv_fault_words (csv.EmptyPeriod rec) = codes "EmptyPeriod " ++ decimal rec
 csv_fault_words (csv.BatchTooLong rec) = codes "BatchTooLong " ++ decimal rec
 csv_fault_words csv.NoMemory = []
 
+-- of a batch that becomes no commit
 abbrev pub batch_fault_words : BatchFault → List ℕ
 batch_fault_words batch.UnknownTable = codes "UnknownTable"
 batch_fault_words batch.TableExists = codes "TableExists"
@@ -58,6 +62,7 @@ batch_fault_words batch.RowsFull = codes "RowsFull"
 batch_fault_words batch.VersionsFull = codes "VersionsFull"
 batch_fault_words batch.NoMemory = []
 
+-- of any of these
 abbrev pub refusal_words : Refusal → List ℕ
 refusal_words (refusal.TextFault f) = text_fault_words f
 refusal_words (refusal.CheckFault f) = check_fault_words f
@@ -76,5 +81,6 @@ body_bytes name version (body.Rows answer) = named name version (codes " rows " 
 body_bytes name version body.Done = named name version (codes " ok\n")
 body_bytes name version (body.Refused r) = named name version (codes " ! " ++ (refusal_words r ++ codes "\n"))
 
+-- the bytes of a reply of the session with the name
 abbrev pub reply_bytes : List ℕ → Reply → List ℕ
 reply_bytes name reply = body_bytes name reply.version reply.body

@@ -347,12 +347,22 @@ fn contracts_replies() -> &'static str {
     "a @1 ok\na @2 ok\na @2 ! EmptyPeriod 2\na @2 rows 1\n1,5,FOREVER\na @3 ok\na @4 ok\na @4 rows 2\n1,5,7\n9223372036854775807,-9223372036854775808,FOREVER\na @4 ! NotInt 2 2\na @4 ! HeaderMissing 2\n"
 }
 
+// A table whose key is a text.
+fn named() -> &'static str {
+    "a> CREATE TABLE d (n TEXT, x INT) KEY n\na> PUT d\nn,x\nb,1\n,2\n\"a,\",3\n\\.\na> PUT d\nx,n\n4,\"a,\"\n\\.\na> REMOVE d\nn\nb\n\"\"\n\\.\na> SELECT * FROM d\na> REMOVE d\nn\nB\n\\.\n"
+}
+
+fn named_replies() -> &'static str {
+    "a @1 ok\na @2 ok\na @3 ok\na @4 ok\na @4 rows 1\n\"a,\",4\na @4 ! NoRow 2\n"
+}
+
 #[test]
 fn batches_and_their_rows(rt: HostRuntime) -> Result<(), Fail> {
     let cases = [
         (staff(), staff_replies()),
         (quotes(), quotes_replies()),
         (contracts(), contracts_replies()),
+        (named(), named_replies()),
     ];
     for (script, replies) in cases {
         for most in [1, 65_536] {

@@ -368,3 +368,21 @@ fn limits_that_are_met(rt: HostRuntime) -> Result<(), Fail> {
     assert!(rt; wrong.is_none(), "{wrong:?}");
     Ok(())
 }
+
+// What is left of a row counts as rows of the table too.
+#[test]
+fn remainders_past_the_limit(rt: HostRuntime) -> Result<(), Fail> {
+    let cases: [Case; 4] = [
+        (Kind::Create, "q", &[], "a table"),
+        (Kind::Put, "q", &[(1, 5, 0, 100)], "[] 1 5 [0,100);"),
+        (Kind::Remove, "q", &[(1, 0, 10, 20)], "RowsFull"),
+        (Kind::Remove, "q", &[(1, 0, 0, 20)], "[0] 1 5 [20,100);"),
+    ];
+    let limits = Limits {
+        rows: 2,
+        ..Limits::standard()
+    };
+    let wrong = first_wrong(rt.alloc(), &limits, cases.as_slice())?;
+    assert!(rt; wrong.is_none(), "{wrong:?}");
+    Ok(())
+}

@@ -185,6 +185,16 @@ made_at db number schema k limit removes lines made e =
 -- CHANGES
 
 -- rows that match have a key
+pub rows-untimed : (schema : plain.Schema) (lines : List plain.Opened) → list_all (matches schema) lines ≡ true → schema.valid ≡ false → All (λ o. o.period ≡ None) lines
+rows-untimed schema lines m untimed = λ k d l.
+    let row : plain.Opened = get_or lines k d in
+    let this : matches schema row ≡ true = AllPass-from_list_all (matches schema) lines m k d l in
+    let timed : beq schema.valid (is_some row.period) ≡ true = (and_parts (match_columns schema.columns row.cells) (beq schema.valid (is_some row.period)) this).1 in
+    none row.period (ap (λ v. beq v (is_some row.period)) (sym untimed) ∙ timed) where
+      none : (p : Option plain.Period) → beq false (is_some p) ≡ true → p ≡ None
+      none None e = refl
+      none (Some q) e = absurd (cc)
+
 pub rows-keyed : (schema : plain.Schema) (place : ℕ) (lines : List plain.Opened) → place ≡ schema.key → schema.key < length schema.columns → list_all (matches schema) lines ≡ true → All (λ o. place < length o.cells) lines
 rows-keyed schema place lines e among m = λ k d l.
     let row : plain.Opened = get_or lines k d in

@@ -23,7 +23,7 @@ any_flat test f [] = refl
 any_flat test f (x ∷ xs) = list_any-append test (f x) (flat_map f xs) ∙ ap (λ b. list_any test (f x) || b) (any_flat test f xs)
 
 -- what no line meets is left whole
-whole_left : (valid : Bool) (lines : List (Option plain.Period)) (p : Option plain.Period) → list_any (λ line. meets valid line p) lines ≡ false → cuts valid lines p ≡ p ∷ []
+pub whole_left : (valid : Bool) (lines : List (Option plain.Period)) (p : Option plain.Period) → list_any (λ line. meets valid line p) lines ≡ false → cuts valid lines p ≡ p ∷ []
 whole_left valid [] p e = refl
 whole_left valid (line ∷ lines) p e = by_test (meets valid line p) refl e (whole_left valid lines p) where
   by_test : (b : Bool) → meets valid line p ≡ b → (b || list_any (λ l. meets valid l p) lines) ≡ false → (list_any (λ l. meets valid l p) lines ≡ false → cuts valid lines p ≡ p ∷ [])

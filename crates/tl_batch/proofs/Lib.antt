@@ -11,3 +11,11 @@ pub mod FollowLemmas
 pub mod ClosingLemmas
 pub mod Examples
 pub mod CommitLemmas
+pub mod GapLemmas
+pub mod CoverLemmas
+pub mod HoldLemmas
+pub mod BehindLemmas
+pub mod WholeLemmas
+pub mod KeyLemmas
+pub mod SwapLemmas
+pub mod RemovalLemmas

@@ -129,45 +129,6 @@ of_key-within place x rows spots ids given same stand members small = subst (All
   by_order n e (inl h) = open_within place x rows n (sym (stand x n) ∙ (and_parts (nat_le 0 n) (has_spot spots x n) (sym (members n h) ∙ e)).1)
   by_order n e (inr h) = absurd (let f : true ≡ false = sym e ∙ small n h in cc)
 
--- a row more
-pub met_more : (valid : Bool) (line : Option plain.Period) (rows : List plain.Row) (ids : List ℕ) (i id : ℕ) (whole : Option plain.Period) (b : Bool) (before start after : List ℕ) → i < length ids → id ≡ get_or ids i 0
-    → Some whole ≡ option_map (λ (r : plain.Row). r.period) (slice_get rows id) → b ≡ meets valid line whole
-    → ((n : ℕ) → holds before n ≡ ((holds (take i ids) n && met_at valid line (slice_get rows n)) || holds start n))
-    → ((n : ℕ) → holds after n ≡ cond b (nat_eq n id || holds before n) (holds before n))
-    → (n : ℕ) → holds after n ≡ ((holds (take (i + 1) ids) n && met_at valid line (slice_get rows n)) || holds start n)
-met_more valid line rows ids i id whole b before start after h at period met e f n =
-    let front : take (i + 1) ids ≡ take i ids ++ id ∷ [] = take_more ids i 0 h ∙ ap (λ m. take i ids ++ m ∷ []) (sym at) in
-    let has : holds (take (i + 1) ids) n ≡ (holds (take i ids) n || (nat_eq id n || false)) = ap (λ is. holds is n) front ∙ list_any-append (λ m. nat_eq m n) (take i ids) (id ∷ []) in
-    f n ∙ (ap (λ v. cond b (nat_eq n id || v) v) (e n) ∙ (ap (λ v. cond b (v || ((holds (take i ids) n && met_at valid line (slice_get rows n)) || holds start n)) ((holds (take i ids) n && met_at valid line (slice_get rows n)) || holds start n)) (nat_eq-sym n id)
-    ∙ (here (nat_eq id n) refl ∙ ap (λ v. (v && met_at valid line (slice_get rows n)) || holds start n) (sym has)))) where
-      at_row : (o : Option plain.Row) → Some whole ≡ option_map (λ (r : plain.Row). r.period) o → met_at valid line o ≡ b
-      at_row None p = absurd (cc)
-      at_row (Some r) p = let q : whole ≡ r.period = cc in ap (meets valid line) (sym q) ∙ sym met
-
-      m : Bool
-      m = met_at valid line (slice_get rows n)
-
-      apart : (b a c : Bool) → cond b (false || c) c ≡ c
-      apart true a c = refl
-      apart false a c = refl
-
-      table : (b a s : Bool) → cond b (true || ((a && b) || s)) ((a && b) || s) ≡ (((a || (true || false)) && b) || s)
-      table true true s = refl
-      table true false s = refl
-      table false true s = refl
-      table false false s = refl
-
-      plus : (a t s : Bool) → ((a && t) || s) ≡ (((a || (false || false)) && t) || s)
-      plus true t s = refl
-      plus false t s = refl
-
-      here : (t : Bool) → nat_eq id n ≡ t → cond b (t || ((holds (take i ids) n && m) || holds start n)) ((holds (take i ids) n && m) || holds start n) ≡ (((holds (take i ids) n || (t || false)) && m) || holds start n)
-      here false g = apart b true ((holds (take i ids) n && m) || holds start n) ∙ plus (holds (take i ids) n) m (holds start n)
-      here true g =
-          let same : id ≡ n = grind (arith, nat_tests) in
-          let is : m ≡ b = ap (λ k. met_at valid line (slice_get rows k)) (sym same) ∙ at_row (slice_get rows id) period in
-          ap (λ v. cond b (true || ((holds (take i ids) n && v) || holds start n)) ((holds (take i ids) n && v) || holds start n)) is ∙ (table b (holds (take i ids) n) (holds start n) ∙ ap (λ v. ((holds (take i ids) n || (true || false)) && v) || holds start n) (sym is))
-
 -- a line more
 periods_with-append : (key : Option Cell) (lines more : List Said) → periods_with key (lines ++ more) ≡ periods_with key lines ++ periods_with key more
 periods_with-append key [] more = refl
@@ -218,6 +179,43 @@ line_met schema rows strokes i s spots ids given before after few h at same stan
           let more : is_met schema (said_by (take i strokes) ++ said_of s ∷ []) r ≡ (is_met schema (said_by (take i strokes)) r || (same_key key (Some s.key) && meets schema.valid s.period r.period)) =
           ap (list_any (λ line. meets schema.valid line r.period)) (periods_with-append key (said_by (take i strokes)) (said_of s ∷ [])) ∙ (list_any-append (λ line. meets schema.valid line r.period) (periods_with key (said_by (take i strokes))) (periods_with key (said_of s ∷ [])) ∙ ap (λ v. is_met schema (said_by (take i strokes)) r || v) (sym (one (same_key key (Some s.key)) s.period r.period))) in
           table (is_open r) (same_key key (Some s.key)) (meets schema.valid s.period r.period) (is_met schema (said_by (take i strokes)) r) ∙ ap (λ v. is_open r && v) (sym more)
+
+-- after the last line
+pub lines_met : (schema : plain.Schema) (rows : List plain.Row) (strokes : List Stroke) (i : ℕ) (met : List ℕ) → length strokes ≤ i → ((n : ℕ) → holds met n ≡ open_met schema (said_by (take i strokes)) (slice_get rows n))
+    → (n : ℕ) → holds met n ≡ open_met schema (said_by strokes) (slice_get rows n)
+lines_met schema rows strokes i met h e n = e n ∙ ap (λ ss. open_met schema (said_by ss) (slice_get rows n)) (whole strokes i h) where
+  whole : (xs : List Stroke) (i : ℕ) → length xs ≤ i → take i xs ≡ xs
+  whole [] zero h = refl
+  whole [] (suc i) h = refl
+  whole (x ∷ xs) zero h = absurd (omega arith)
+  whole (x ∷ xs) (suc i) h = ap (λ ys. x ∷ ys) (whole xs i (omega arith))
+
+-- the same of a table without valid time, where a line meets all rows of its key
+pub line_all : (schema : plain.Schema) (rows : List plain.Row) (strokes : List Stroke) (i : ℕ) (s : Stroke) (spots : List Spot) (ids given before after : List ℕ) → schema.valid ≡ false → length rows < 4294967296 → i < length strokes → s ≡ get_or strokes i s → given ≡ ids
+    → ((y : Cell) (n : ℕ) → has_spot spots y n ≡ is_open_with schema.key y (slice_get rows n))
+    → ((n : ℕ) → n < 4294967296 → holds ids n ≡ (nat_le 0 n && has_spot spots s.key n)) → ((n : ℕ) → 4294967296 ≤ n → holds ids n ≡ false)
+    → ((n : ℕ) → holds before n ≡ open_met schema (said_by (take i strokes)) (slice_get rows n))
+    → ((n : ℕ) → holds after n ≡ (holds given n || holds before n))
+    → (n : ℕ) → holds after n ≡ open_met schema (said_by (take (i + 1) strokes)) (slice_get rows n)
+line_all schema rows strokes i s spots ids given before after untimed few h at same stand members small e f =
+    line_met schema rows strokes i s spots ids given before after few h at same stand members small e (λ n. f n ∙ ap (λ v. v || holds before n) (keyed n)) where
+      by_order : (n : ℕ) → (n < 4294967296) ⊎ (4294967296 ≤ n) → holds ids n ≡ is_open_with schema.key s.key (slice_get rows n)
+      by_order n (inl l) = let low : nat_le 0 n ≡ true = grind (arith, nat_tests) in members n l ∙ (ap (λ v. v && has_spot spots s.key n) low ∙ stand s.key n)
+      by_order n (inr l) = small n l ∙ ap (is_open_with schema.key s.key) (sym (slice_get_past rows n (omega arith)))
+
+      of_key : (n : ℕ) → holds given n ≡ is_open_with schema.key s.key (slice_get rows n)
+      of_key n = ap (λ is. holds is n) same ∙ by_order n (cases_lt n 4294967296)
+
+      and_true : (b : Bool) → b ≡ (b && true)
+      and_true true = refl
+      and_true false = refl
+
+      all_met : (o : Option plain.Row) → is_open_with schema.key s.key o ≡ (is_open_with schema.key s.key o && met_at schema.valid s.period o)
+      all_met None = refl
+      all_met (Some r) = and_true (is_open_with schema.key s.key (Some r)) ∙ ap (λ v. is_open_with schema.key s.key (Some r) && meets v s.period r.period) (sym untimed)
+
+      keyed : (n : ℕ) → holds given n ≡ (holds given n && met_at schema.valid s.period (slice_get rows n))
+      keyed n = of_key n ∙ (all_met (slice_get rows n) ∙ ap (λ v. v && met_at schema.valid s.period (slice_get rows n)) (sym (of_key n)))
 
 -- CELLS OF ROWS
 

@@ -1,5 +1,5 @@
 -- What lines take from the current rows, and what they put.
-use Rattle.std.proofs.Common.{◌≡◌, ℕ, zero, suc, ◌+◌, ◌<◌, ◌≤◌, Bool, true, false, ◌&&◌, ◌||◌, cond, nat_eq, List, [], ◌∷◌, ◌++◌, append-nil, append_assoc, length, map, drop, get_or, slice_get, Option, Some, subst, refl, sym, ap, ◌∙◌, arith}
+use Rattle.std.proofs.Common.{◌≡◌, ℕ, zero, suc, ◌+◌, ◌<◌, ◌≤◌, Bool, true, false, ◌&&◌, ◌||◌, cond, nat_eq, List, [], ◌∷◌, ◌++◌, append-nil, append_assoc, length, map, drop, get_or, slice_get, Option, Some, None, subst, refl, sym, ap, ◌∙◌, arith}
 use Rattle.std.specs.List.{list_any, flat_map, All}
 use Rattle.std.proofs.lemmas.Bool.Decides.{nat_tests}
 use Rattle.std.proofs.lemmas.List.{at_drop_more}
@@ -14,6 +14,12 @@ use Rattle.tl_batch.specs.Pieces.{meets, cuts, periods_with, is_met, met_ids, ov
 use Rattle.tl_batch.specs.Strokes.{said_of, said_by, said_by_row}
 use Rattle.tl_batch.proofs.ChangeLemmas.{met_ids-ascend, ascend_same}
 use Rattle.tl_batch.proofs.MeetingLemmas.{holds_at}
+
+-- lines leave nothing of a row that has no period
+pub nothing_left : (lines : List (Option plain.Period)) → 1 ≤ length lines → cuts false lines None ≡ []
+nothing_left [] h = absurd (omega arith)
+nothing_left (None ∷ lines) h = refl
+nothing_left (Some l ∷ lines) h = refl
 
 met_past : (schema : plain.Schema) (lines : List Said) (n : ℕ) (rows : List plain.Row) (m : ℕ) → m < n → holds (met_ids schema lines n rows) m ≡ false
 met_past schema lines n [] m h = refl

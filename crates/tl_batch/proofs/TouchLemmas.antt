@@ -1,8 +1,6 @@
 -- The rows that a line touches, found by its key.
 use Rattle.std.proofs.Common.{◌≡◌, ℕ, zero, suc, ◌+◌, ◌<◌, ◌≤◌, Bool, true, false, ◌&&◌, ◌||◌, not, cond, nat_eq, nat_le, List, [], ◌∷◌, ◌++◌, length, take, drop, get_or, slice_get, Option, Some, None, refl, sym, ap, ◌∙◌, arith, ◌⊎◌, inl, inr}
 use Rattle.std.specs.List.{list_any}
-use Rattle.std.proofs.Common.{Result, Ok, Err}
-use Rattle.std.specs.Result.{IfOk}
 use Rattle.std.specs.Cmp.{int_eq_equiv}
 use Rattle.std.specs.Cmp.Lexicographic.{nat_list_eq_equiv}
 use Rattle.std.proofs.lemmas.Bool.{cases_lt}
@@ -23,13 +21,13 @@ use Rattle.tl_batch.specs.Spots.{has_spot}
 use Rattle.tl_batch.specs.Pieces.{meets, cuts, periods_with}
 use Rattle.tl_batch.specs.Standing.{is_open_with}
 use Rattle.tl_batch.specs.Strokes.{said_of, said_by}
-use Rattle.tl_batch.specs.Faults.{is_touched, fault_from, parts_met, is_some_item}
+use Rattle.tl_batch.specs.Faults.{is_touched, fault_of, fault_from, is_some_item}
 use Rattle.tl_batch.proofs.SpotLemmas.{same_cell-sym}
 use Rattle.tl_batch.proofs.ChangeLemmas.{ascend_same}
 
 -- KEYS
 
-cell_congr : (x y z : Cell) → same_cell x y ≡ true → same_cell x z ≡ same_cell y z
+pub cell_congr : (x y z : Cell) → same_cell x y ≡ true → same_cell x z ≡ same_cell y z
 cell_congr (cell.Int i) (cell.Int j) (cell.Int k) e = int_eq_equiv.congr i j k e
 cell_congr (cell.Int i) (cell.Int j) (cell.Text t) e = refl
 cell_congr (cell.Int i) (cell.Text s) z e = absurd (cc)
@@ -37,12 +35,12 @@ cell_congr (cell.Text s) (cell.Int j) z e = absurd (cc)
 cell_congr (cell.Text s) (cell.Text t) (cell.Int k) e = refl
 cell_congr (cell.Text s) (cell.Text t) (cell.Text u) e = nat_list_eq_equiv.congr s t u e
 
-key_congr : (key : Option Cell) (x : Cell) (k : Option Cell) → same_key key (Some x) ≡ true → same_key key k ≡ same_key (Some x) k
+pub key_congr : (key : Option Cell) (x : Cell) (k : Option Cell) → same_key key (Some x) ≡ true → same_key key k ≡ same_key (Some x) k
 key_congr None x k e = absurd (cc)
 key_congr (Some y) x None e = refl
 key_congr (Some y) x (Some z) e = cell_congr y x z e
 
-periods-same : (key : Option Cell) (x : Cell) (lines : List Said) → same_key key (Some x) ≡ true → periods_with key lines ≡ periods_with (Some x) lines
+pub periods-same : (key : Option Cell) (x : Cell) (lines : List Said) → same_key key (Some x) ≡ true → periods_with key lines ≡ periods_with (Some x) lines
 periods-same key x [] e = refl
 periods-same key x (said ∷ lines) e = ap (λ b. cond b (said.period ∷ periods_with key lines) (periods_with key lines)) (key_congr key x said.key e) ∙ ap (λ ps. cond (same_key (Some x) said.key) (said.period ∷ ps) ps) (periods-same key x lines e)
 
@@ -59,11 +57,11 @@ among_lines x strokes periods given same e = ap is_some_item (same ∙ e) ∙ by
 
 -- ROWS OF A KEY
 
-abbrev key_ids : ℕ → Cell → ℕ → List plain.Row → List ℕ
+abbrev pub key_ids : ℕ → Cell → ℕ → List plain.Row → List ℕ
 key_ids place x n [] = []
 key_ids place x n (r ∷ rows) = cond (is_open r && same_key (slice_get r.cells place) (Some x)) (n ∷ key_ids place x (n + 1) rows) (key_ids place x (n + 1) rows)
 
-key_ascend : (place : ℕ) (x : Cell) (n : ℕ) (rows : List plain.Row) → AscendFrom n (key_ids place x n rows)
+pub key_ascend : (place : ℕ) (x : Cell) (n : ℕ) (rows : List plain.Row) → AscendFrom n (key_ids place x n rows)
 key_ascend place x n [] = tt
 key_ascend place x n (r ∷ rows) = split (is_open r && same_key (slice_get r.cells place) (Some x)) (key_ascend place x (n + 1) rows) where
   lower : (low high : ℕ) (ids : List ℕ) → low ≤ high → AscendFrom high ids → AscendFrom low ids
@@ -84,7 +82,7 @@ key_past place x n (r ∷ rows) m h = split (is_open r && same_key (slice_get r.
   split true later = ap (λ v. v || holds (key_ids place x (n + 1) rows) m) apart ∙ later
   split false later = later
 
-key_holds : (place : ℕ) (x : Cell) (n : ℕ) (rows : List plain.Row) (i : ℕ) → holds (key_ids place x n rows) (n + i) ≡ is_open_with place x (slice_get rows i)
+pub key_holds : (place : ℕ) (x : Cell) (n : ℕ) (rows : List plain.Row) (i : ℕ) → holds (key_ids place x n rows) (n + i) ≡ is_open_with place x (slice_get rows i)
 key_holds place x n [] i = refl
 key_holds place x n (r ∷ rows) zero =
     let here : nat_eq n (n + 0) ≡ true = grind (arith, nat_tests) in
@@ -101,41 +99,78 @@ key_holds place x n (r ∷ rows) (suc i) =
       split apart later true = ap (λ v. v || holds (key_ids place x (n + 1) rows) (n + suc i)) apart ∙ later
       split apart later false = later
 
-key_touched : (schema : plain.Schema) (earlier : List Said) (s : Stroke) (f : ℕ → Bool) (n : ℕ) (rows : List plain.Row) → ((i : ℕ) → f (n + i) ≡ parts_met schema.valid s.period (periods_with (Some s.key) earlier) (slice_get rows i))
-    → list_any f (key_ids schema.key s.key n rows) ≡ list_any (is_touched schema earlier (said_of s)) rows
-key_touched schema earlier s f n [] e = refl
-key_touched schema earlier s f n (r ∷ rows) e = by_key (is_open r) (same_key key (Some s.key)) refl (key_touched schema earlier s f (n + 1) rows (λ i. (let q : n + 1 + i ≡ n + suc i = omega arith in ap f q) ∙ e (suc i))) where
-  key : Option Cell
-  key = slice_get r.cells schema.key
+-- a current row has the key exactly where there is such an id
+some_id : (place : ℕ) (x : Cell) (n : ℕ) (rows : List plain.Row) → is_some_item (key_ids place x n rows) ≡ list_any (λ row. is_open_with place x (Some row)) rows
+some_id place x n [] = refl
+some_id place x n (r ∷ rows) = split (is_open r && same_key (slice_get r.cells place) (Some x)) (some_id place x (n + 1) rows) where
+  split : (b : Bool) → is_some_item (key_ids place x (n + 1) rows) ≡ list_any (λ row. is_open_with place x (Some row)) rows
+      → is_some_item (cond b (n ∷ key_ids place x (n + 1) rows) (key_ids place x (n + 1) rows)) ≡ (b || list_any (λ row. is_open_with place x (Some row)) rows)
+  split true later = refl
+  split false later = later
 
-  here : f n ≡ list_any (λ p. meets schema.valid s.period p) (cuts schema.valid (periods_with (Some s.key) earlier) r.period)
-  here = (let q : n ≡ n + 0 = omega arith in ap f q) ∙ e 0
+pub some_row : (place : ℕ) (x : Cell) (rows : List plain.Row) (spots : List Spot) (ids given : List ℕ) (has : Bool) → has ≡ is_some_item given → given ≡ ids → length rows < 4294967296
+    → ((y : Cell) (n : ℕ) → has_spot spots y n ≡ is_open_with place y (slice_get rows n))
+    → AscendFrom 0 ids → ((n : ℕ) → n < 4294967296 → holds ids n ≡ (nat_le 0 n && has_spot spots x n)) → ((n : ℕ) → 4294967296 ≤ n → holds ids n ≡ false)
+    → has ≡ list_any (λ row. is_open_with place x (Some row)) rows
+some_row place x rows spots ids given has is same few stand ascend members small =
+    is ∙ (ap is_some_item (same ∙ ascend_same 0 ids (key_ids place x 0 rows) ascend (key_ascend place x 0 rows) equal) ∙ some_id place x 0 rows) where
+      of_key : (n : ℕ) → (n < 4294967296) ⊎ (4294967296 ≤ n) → holds ids n ≡ is_open_with place x (slice_get rows n)
+      of_key n (inl l) = let low : nat_le 0 n ≡ true = grind (arith, nat_tests) in members n l ∙ (ap (λ v. v && has_spot spots x n) low ∙ stand x n)
+      of_key n (inr l) = small n l ∙ ap (is_open_with place x) (sym (slice_get_past rows n (omega arith)))
 
-  rest : List ℕ
-  rest = key_ids schema.key s.key (n + 1) rows
+      equal : (n : ℕ) → holds ids n ≡ holds (key_ids place x 0 rows) n
+      equal n = of_key n (cases_lt n 4294967296) ∙ (sym (key_holds place x 0 rows n) ∙ (let q : 0 + n ≡ n = omega arith in ap (holds (key_ids place x 0 rows)) q))
 
-  by_key : (o k : Bool) → same_key key (Some s.key) ≡ k → list_any f rest ≡ list_any (is_touched schema earlier (said_of s)) rows
-      → list_any f (cond (o && k) (n ∷ rest) rest) ≡ ((o && (k && list_any (λ p. meets schema.valid s.period p) (cuts schema.valid (periods_with key earlier) r.period))) || list_any (is_touched schema earlier (said_of s)) rows)
-  by_key true true g later = ap (λ b. b || list_any f rest) (here ∙ ap (λ ps. list_any (λ p. meets schema.valid s.period p) (cuts schema.valid ps r.period)) (sym (periods-same key s.key earlier g))) ∙ ap (λ b. list_any (λ p. meets schema.valid s.period p) (cuts schema.valid (periods_with key earlier) r.period) || b) later
-  by_key true false g later = later
-  by_key false k g later = later
+-- A LINE OF A TABLE WITHOUT VALID TIME
 
--- a line touches a row where it meets a part of one of the rows of its key
-pub touched_rows : (schema : plain.Schema) (rows : List plain.Row) (earlier : List Stroke) (s : Stroke) (spots : List Spot) (ids given : List ℕ) (periods lines : List (Option plain.Period)) → length rows < 4294967296
-    → ((y : Cell) (n : ℕ) → has_spot spots y n ≡ is_open_with schema.key y (slice_get rows n))
-    → AscendFrom 0 ids → ((n : ℕ) → n < 4294967296 → holds ids n ≡ (nat_le 0 n && has_spot spots s.key n)) → ((n : ℕ) → 4294967296 ≤ n → holds ids n ≡ false)
-    → given ≡ ids → lines ≡ periods → periods ≡ periods_with (Some s.key) (said_by earlier)
-    → list_any (λ row. parts_met schema.valid s.period lines (slice_get rows row)) given ≡ list_any (is_touched schema (said_by earlier) (said_of s)) rows
-touched_rows schema rows earlier s spots ids given periods lines few stand ascend members small same one two =
-    ap (list_any (λ row. parts_met schema.valid s.period lines (slice_get rows row))) (same ∙ ascend_same 0 ids (key_ids schema.key s.key 0 rows) ascend (key_ascend schema.key s.key 0 rows) equal)
-    ∙ (ap (λ ps. list_any (λ row. parts_met schema.valid s.period ps (slice_get rows row)) (key_ids schema.key s.key 0 rows)) (one ∙ two)
-    ∙ key_touched schema (said_by earlier) s (λ row. parts_met schema.valid s.period (periods_with (Some s.key) (said_by earlier)) (slice_get rows row)) 0 rows (λ i. let q : 0 + i ≡ i = omega arith in ap (λ k. parts_met schema.valid s.period (periods_with (Some s.key) (said_by earlier)) (slice_get rows k)) q)) where
-      of_key : (n : ℕ) → (n < 4294967296) ⊎ (4294967296 ≤ n) → holds ids n ≡ is_open_with schema.key s.key (slice_get rows n)
-      of_key n (inl l) = let low : nat_le 0 n ≡ true = grind (arith, nat_tests) in members n l ∙ (ap (λ v. v && has_spot spots s.key n) low ∙ stand s.key n)
-      of_key n (inr l) = small n l ∙ ap (is_open_with schema.key s.key) (sym (slice_get_past rows n (omega arith)))
+no_lines : (x : Cell) (earlier : List Said) → list_any (λ e. same_key e.key (Some x)) earlier ≡ false → periods_with (Some x) earlier ≡ []
+no_lines x [] h = refl
+no_lines x (said ∷ earlier) h =
+    let both = either_false (same_key said.key (Some x)) (list_any (λ e. same_key e.key (Some x)) earlier) h in
+    ap (λ b. cond b (said.period ∷ periods_with (Some x) earlier) (periods_with (Some x) earlier)) (key_sym said.key ∙ both.0) ∙ no_lines x earlier both.1 where
+      either_false : (a b : Bool) → (a || b) ≡ false → (a ≡ false) × (b ≡ false)
+      either_false true b g = absurd (cc)
+      either_false false b g = (refl, g)
 
-      equal : (n : ℕ) → holds ids n ≡ holds (key_ids schema.key s.key 0 rows) n
-      equal n = of_key n (cases_lt n 4294967296) ∙ (sym (key_holds schema.key s.key 0 rows n) ∙ (let q : 0 + n ≡ n = omega arith in ap (holds (key_ids schema.key s.key 0 rows)) q))
+      key_sym : (k : Option Cell) → same_key (Some x) k ≡ same_key k (Some x)
+      key_sym None = refl
+      key_sym (Some y) = same_cell-sym x y
+
+-- a line whose key no earlier line has touches the current rows of the key
+touched_keyed : (schema : plain.Schema) (rows : List plain.Row) (earlier : List Said) (s : Stroke) → schema.valid ≡ false → list_any (λ e. same_key e.key (Some s.key)) earlier ≡ false
+    → list_any (is_touched schema earlier (said_of s)) rows ≡ list_any (λ row. is_open_with schema.key s.key (Some row)) rows
+touched_keyed schema [] earlier s untimed first = refl
+touched_keyed schema (r ∷ rows) earlier s untimed first =
+    ap (λ b. b || list_any (is_touched schema earlier (said_of s)) rows) (by_key (is_open r) (same_key key (Some s.key)) refl) ∙ ap (λ b. (is_open r && same_key key (Some s.key)) || b) (touched_keyed schema rows earlier s untimed first) where
+      key : Option Cell
+      key = slice_get r.cells schema.key
+
+      met : same_key key (Some s.key) ≡ true → list_any (λ p. meets schema.valid s.period p) (cuts schema.valid (periods_with key earlier) r.period) ≡ true
+      met e =
+          ap (λ ps. list_any (λ p. meets schema.valid s.period p) (cuts schema.valid ps r.period)) (periods-same key s.key earlier e ∙ no_lines s.key earlier first)
+          ∙ ap (λ v. meets v s.period r.period || false) untimed
+
+      by_key : (o k : Bool) → same_key key (Some s.key) ≡ k → (o && (k && list_any (λ p. meets schema.valid s.period p) (cuts schema.valid (periods_with key earlier) r.period))) ≡ (o && k)
+      by_key true true g = met g
+      by_key true false g = refl
+      by_key false k g = refl
+
+-- the fault of a line, behind earlier ones
+told_fault : (t a b c : Bool) (x y : BatchFault) → t ≡ false → cond (not t && a) (Some x) (cond (b && not c) (Some y) None) ≡ cond a (Some x) (cond (b && not c) (Some y) None)
+told_fault t a b c x y e = ap (λ v. cond (not v && a) (Some x) (cond (b && not c) (Some y) None)) e
+
+pub line_fault : (schema : plain.Schema) (removes among has : Bool) (rows : List plain.Row) (earlier : List Said) (s : Stroke) (rec : ℕ) (o : Option BatchFault) → schema.valid ≡ false
+    → among ≡ list_any (λ e. same_key e.key (Some s.key)) earlier → has ≡ list_any (λ row. is_open_with schema.key s.key (Some row)) rows
+    → o ≡ cond among (Some (fault.KeyTwice rec)) (cond (removes && not has) (Some (fault.NoRow rec)) None)
+    → o ≡ fault_of schema removes rows earlier (said_of s) rec
+line_fault schema removes among has rows earlier s rec o untimed first keyed e =
+    e ∙ (by_among among refl ∙ sym (told_fault schema.valid (list_any (λ e. same_key e.key (Some s.key)) earlier) removes (list_any (is_touched schema earlier (said_of s)) rows) (fault.KeyTwice rec) (fault.NoRow rec) untimed)) where
+      all : Bool → Bool → Option BatchFault
+      all a t = cond a (Some (fault.KeyTwice rec)) (cond (removes && not t) (Some (fault.NoRow rec)) None)
+
+      by_among : (a : Bool) → among ≡ a → all among has ≡ all (list_any (λ e. same_key e.key (Some s.key)) earlier) (list_any (is_touched schema earlier (said_of s)) rows)
+      by_among true g = ap (λ b. all b has) g ∙ ap (λ b. all b (list_any (is_touched schema earlier (said_of s)) rows)) (sym g ∙ first)
+      by_among false g = ap (λ b. all b has) first ∙ ap (all (list_any (λ e. same_key e.key (Some s.key)) earlier)) (keyed ∙ sym (touched_keyed schema rows earlier s untimed (sym first ∙ g)))
 
 -- ONE LINE MORE
 
@@ -149,18 +184,14 @@ found_later true b x y o rest e g = absurd (cc)
 found_later false true x y o rest e g = absurd (cc)
 found_later false false x y o rest e g = refl
 
--- the fault of a line, behind earlier ones
-abbrev pub fault_of : plain.Schema → Bool → List plain.Row → List Said → Stroke → ℕ → Option BatchFault
-fault_of schema removes rows earlier s rec = cond (not schema.valid && list_any (λ e. same_key e.key (Some s.key)) earlier) (Some (fault.KeyTwice rec)) (cond (removes && not (list_any (is_touched schema earlier (said_of s)) rows)) (Some (fault.NoRow rec)) None)
-
-pub fault_here : (schema : plain.Schema) (removes : Bool) (rows : List plain.Row) (strokes : List Stroke) (i : ℕ) (s : Stroke) (f : BatchFault) (o all : Option BatchFault) → i < length strokes → s ≡ get_or strokes i s → o ≡ fault_of schema removes rows (said_by (take i strokes)) s (i + 2) → o ≡ Some f
+pub fault_here : (schema : plain.Schema) (removes : Bool) (rows : List plain.Row) (strokes : List Stroke) (i : ℕ) (s : Stroke) (f : BatchFault) (o all : Option BatchFault) → i < length strokes → s ≡ get_or strokes i s → o ≡ fault_of schema removes rows (said_by (take i strokes)) (said_of s) (i + 2) → o ≡ Some f
     → all ≡ fault_from schema removes rows (i + 2) (said_by (take i strokes)) (said_by (drop i strokes)) → Some f ≡ all
 fault_here schema removes rows strokes i s f o all h at e g start =
     sym (start ∙ (at_drop_more (λ ls. fault_from schema removes rows (i + 2) (said_by (take i strokes)) (said_by ls)) strokes i s h
     ∙ (ap (λ q. fault_from schema removes rows (i + 2) (said_by (take i strokes)) (said_by (q ∷ drop (i + 1) strokes))) (sym at)
     ∙ found_here (not schema.valid && list_any (λ e. same_key e.key (Some s.key)) (said_by (take i strokes))) (removes && not (list_any (is_touched schema (said_by (take i strokes)) (said_of s)) rows)) (fault.KeyTwice (i + 2)) (fault.NoRow (i + 2)) f o (fault_from schema removes rows (i + 2 + 1) (said_by (take i strokes) ++ said_of s ∷ []) (said_by (drop (i + 1) strokes))) e g)))
 
-pub fault_later : (schema : plain.Schema) (removes : Bool) (rows : List plain.Row) (strokes : List Stroke) (i : ℕ) (s : Stroke) (o all : Option BatchFault) → i < length strokes → s ≡ get_or strokes i s → o ≡ fault_of schema removes rows (said_by (take i strokes)) s (i + 2) → o ≡ None
+pub fault_later : (schema : plain.Schema) (removes : Bool) (rows : List plain.Row) (strokes : List Stroke) (i : ℕ) (s : Stroke) (o all : Option BatchFault) → i < length strokes → s ≡ get_or strokes i s → o ≡ fault_of schema removes rows (said_by (take i strokes)) (said_of s) (i + 2) → o ≡ None
     → all ≡ fault_from schema removes rows (i + 2) (said_by (take i strokes)) (said_by (drop i strokes)) → all ≡ fault_from schema removes rows (i + 1 + 2) (said_by (take (i + 1) strokes)) (said_by (drop (i + 1) strokes))
 fault_later schema removes rows strokes i s o all h at e g start =
     let number : i + 2 + 1 ≡ i + 1 + 2 = omega arith in
@@ -170,7 +201,10 @@ fault_later schema removes rows strokes i s o all h at e g start =
     ∙ (found_later (not schema.valid && list_any (λ e. same_key e.key (Some s.key)) (said_by (take i strokes))) (removes && not (list_any (is_touched schema (said_by (take i strokes)) (said_of s)) rows)) (fault.KeyTwice (i + 2)) (fault.NoRow (i + 2)) o (fault_from schema removes rows (i + 2 + 1) (said_by (take i strokes) ++ said_of s ∷ []) (said_by (drop (i + 1) strokes))) e g
     ∙ (ap (λ m. fault_from schema removes rows m (said_by (take i strokes) ++ said_of s ∷ []) (said_by (drop (i + 1) strokes))) number ∙ ap (λ ls. fault_from schema removes rows (i + 1 + 2) ls (said_by (drop (i + 1) strokes))) front))))
 
--- a result that is one value is the other
-pub if_ok : {F : Type 0} (r : Result Bool F) (a b : Bool) → IfOk r (λ v. v ≡ a) → a ≡ b → IfOk r (λ v. v ≡ b)
-if_ok (Ok v) a b p e = p ∙ e
-if_ok (Err f) a b p e = tt
+-- a line that puts a row into a table with valid time has no fault
+pub never_fault : (schema : plain.Schema) (removes : Bool) (rows : List plain.Row) (rec : ℕ) (earlier lines : List Said) → schema.valid ≡ true → removes ≡ false → None ≡ fault_from schema removes rows rec earlier lines
+never_fault schema removes rows rec earlier [] valid puts = refl
+never_fault schema removes rows rec earlier (said ∷ lines) valid puts =
+    never_fault schema removes rows (rec + 1) (earlier ++ said ∷ []) lines valid puts
+    ∙ sym (ap (λ b. cond (not b && list_any (λ e. same_key e.key said.key) earlier) (Some (fault.KeyTwice rec)) (cond (removes && not (list_any (is_touched schema earlier said) rows)) (Some (fault.NoRow rec)) (fault_from schema removes rows (rec + 1) (earlier ++ said ∷ []) lines))) valid
+    ∙ ap (λ b. cond (b && not (list_any (is_touched schema earlier said) rows)) (Some (fault.NoRow rec)) (fault_from schema removes rows (rec + 1) (earlier ++ said ∷ []) lines)) puts)

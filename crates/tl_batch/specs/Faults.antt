@@ -1,11 +1,13 @@
 -- The first fault of the lines of a batch, read off the rows of the table.
-use Rattle.std.specs.Prelude.{ℕ, ◌+◌, Bool, true, false, ◌&&◌, not, List, [], ◌∷◌, ◌++◌, Option, Some, None, if◌then◌else◌, slice_get}
+use Rattle.std.specs.Prelude.{◌≡◌, ℤ, ℕ, ◌+◌, Bool, true, false, ◌&&◌, not, List, [], ◌∷◌, ◌++◌, Option, Some, None, if◌then◌else◌, slice_get}
 use Rattle.std.specs.List.{list_any}
+use Rattle.tl_types.specs.declared.cells.Cell.{Cell}
 use Rattle.tl_types.specs.declared.batches.BatchFault.{BatchFault}
 use Rattle.tl_types.specs.declared.batches.BatchFault.TheVariants as fault
 use Rattle.tl_types.specs.Plain as plain
 use Rattle.tl_types.specs.History.{is_open}
 use Rattle.tl_types.specs.Resolving.{Said, same_key}
+use Rattle.tl_batch.specs.Covers.{Full, cover_at, is_covered, is_in, is_said}
 use Rattle.tl_batch.specs.Pieces.{meets, cuts, periods_with}
 
 -- the row is current, and the line meets a part that the earlier lines left of it
@@ -23,12 +25,29 @@ fault_from schema removes rows rec earlier (said ∷ lines) =
     else (if removes && not (list_any (is_touched schema earlier said) rows) then Some (fault.NoRow rec)
     else fault_from schema removes rows (rec + 1) (earlier ++ said ∷ []) lines)
 
--- the row is there, and the line meets a part that earlier lines of its key left of it
-abbrev pub parts_met : Bool → Option plain.Period → List (Option plain.Period) → Option plain.Row → Bool
-parts_met valid line earlier None = false
-parts_met valid line earlier (Some row) = list_any (λ p. meets valid line p) (cuts valid earlier row.period)
+-- the fault of one line with a record number, behind the earlier ones
+abbrev pub fault_of : plain.Schema → Bool → List plain.Row → List Said → Said → ℕ → Option BatchFault
+fault_of schema removes rows earlier said rec =
+    if not schema.valid && list_any (λ e. same_key e.key said.key) earlier then Some (fault.KeyTwice rec)
+    else (if removes && not (list_any (is_touched schema earlier said) rows) then Some (fault.NoRow rec) else None)
 
 -- there is an item
 abbrev pub is_some_item : {X : Type 0} → List X → Bool
 is_some_item [] = false
 is_some_item (x ∷ xs) = true
+
+-- the period of the row, where it is there
+abbrev pub period_of : Option plain.Row → Option plain.Period
+period_of None = None
+period_of (Some row) = row.period
+
+-- the periods of the current rows of a key, which is the cell at a place
+abbrev pub open_periods : ℕ → Cell → List plain.Row → List (Option plain.Period)
+open_periods place x [] = []
+open_periods place x (row ∷ rows) = if is_open row && same_key (slice_get row.cells place) (Some x) then row.period ∷ open_periods place x rows else open_periods place x rows
+
+-- for the keys of the lines, the covers have the moments of the current rows and no others, and each such row has
+-- a moment
+pub record HoldRows (place : ℕ) (covers : List (Cell × List (ℤ × ℤ))) (lines : List Said) (rows : List plain.Row) : Type 0 where
+  pub full : (x : Cell) → is_said (Some x) lines ≡ true → Full (open_periods place x rows)
+  pub same : (x : Cell) (t : ℤ) → is_covered t (cover_at x covers) ≡ (is_said (Some x) lines && list_any (is_in t) (open_periods place x rows))

@@ -4,3 +4,4 @@ pub mod Standing
 pub mod Strokes
 pub mod Faults
 pub mod Made
+pub mod Covers

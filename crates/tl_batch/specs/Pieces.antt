@@ -81,3 +81,8 @@ open_met schema lines (Some row) = is_open row && is_met schema lines row
 abbrev pub pieces_at : plain.Schema → List Said → Option plain.Row → List plain.Opened
 pieces_at schema lines None = []
 pieces_at schema lines (Some row) = row_pieces schema lines row.cells row.period
+
+-- the row is there, and one of the lines with these periods meets it
+abbrev pub met_by : Bool → List (Option plain.Period) → Option plain.Row → Bool
+met_by valid lines None = false
+met_by valid lines (Some row) = list_any (λ line. meets valid line row.period) lines

@@ -1,5 +1,5 @@
 //! What lines make of the current rows of a table.
-ghost use Rattle.std.specs.Prelude.{◌≡◌, ◌+◌, ◌++◌, ◌<◌, ◌^◌, ℕ, All, IfOk, length, map, slice_get};
+ghost use Rattle.std.specs.Prelude.{◌≡◌, ◌+◌, ◌++◌, ◌<◌, ◌^◌, ℕ, false, None, All, IfOk, length, map, slice_get};
 ghost use Rattle.tl_types.specs.declared.cells.Cell.{Cell};
 ghost use Rattle.tl_types.specs.Facts.{AscendFrom};
 ghost use Rattle.tl_types.specs.History.{database_of, rows_of};
@@ -9,6 +9,7 @@ ghost use Rattle.tl_batch.specs.Spots.{has_spot};
 ghost use Rattle.tl_batch.specs.Standing.{IsTable, is_open_with};
 ghost use Rattle.tl_batch.specs.Strokes.{said_by, said_by_row, line_has};
 
+use crate::covers::covers_of;
 use crate::meeting::met_rows;
 use crate::opening::{old_pieces, put_pieces};
 use crate::spots::Spots;
@@ -45,10 +46,13 @@ pub(crate) fn taken_by<L: Ledger>(
     ensures closes { IfOk result (λ taken. taken.closes ≡ met_ids schema.now (said_by strokes.now) 0 (rows_of (database_of store.now) table)) }
     ensures opens { IfOk result (λ taken. taken.opens.items ≡ old_pieces schema.now (said_by strokes.now) (rows_of (database_of store.now) table)) }
 {
-    let met = met_rows(alloc, spots, store, table, schema, strokes, steps)?;
+    let covers = covers_of(alloc, strokes)?;
+    let met = met_rows(alloc, spots, store, table, schema, strokes, &covers, steps)?;
     let closes = met.listed(alloc)?;
     let ids = closes.as_slice();
-    let opens = old_pieces(alloc, store, table, schema, strokes, places, ids, steps)?;
+    let opens = old_pieces(
+        alloc, store, table, schema, strokes, places, &covers, ids, steps,
+    )?;
     Ok(Taken { closes, opens })
 }
 
@@ -71,6 +75,7 @@ pub(crate) fn put_by<L: Ledger>(
     requires stand { (x : Cell) (n : ℕ) → has_spot spots.now x n ≡ is_open_with schema.now.key x (slice_get (rows_of (database_of store.now) table) n) }
     requires same { said_by strokes.now ≡ map (said_by_row schema.now.key) lines.now }
     requires keyed { All (λ o. schema.now.key < length o.cells) lines.now }
+    requires untimed { schema.now.valid ≡ false → All (λ o. o.period ≡ None) lines.now }
     ensures closes { IfOk result (λ taken. taken.closes ≡ met_ids schema.now (said_by_rows schema.now lines.now) 0 (rows_of (database_of store.now) table)) }
     ensures opens { IfOk result (λ taken. taken.opens.items ≡ old_pieces schema.now (said_by_rows schema.now lines.now) (rows_of (database_of store.now) table) ++ put_pieces schema.now (said_by_rows schema.now lines.now)) }
 {

@@ -2,6 +2,8 @@
 #![tactic(auto)]
 
 mod changing;
+mod cover;
+mod covers;
 mod faults;
 mod ids;
 mod keys;
@@ -10,6 +12,7 @@ mod opening;
 mod pieces;
 mod reading;
 mod resolving;
+mod seen;
 mod spots;
 mod strokes;
 

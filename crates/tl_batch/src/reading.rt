@@ -10,19 +10,8 @@ use crate::spots::Spot;
 use std::alloc::Global;
 use std::marker::Brand;
 use std::sync::ledger::{Blank, Ledger};
-use tl_store::{CellRef, Store};
-use tl_types::{Cell, Change, NoMemory, Steps, Text};
-
-/// A cell that is lent, as a value of its own. The error is want of memory.
-fn own_cell(alloc: Global, shown: CellRef<'_>) -> Result<Cell, NoMemory>
-    requires { IsShort shown }
-    ensures { IfOk result (λ cell. cell ≡ cell_shown shown.entry) }
-{
-    match shown {
-        CellRef::Int(number) => Ok(Cell::Int(number)),
-        CellRef::Text(text) => Ok(Cell::Text(Text::new(alloc, text)?)),
-    }
-}
+use tl_store::Store;
+use tl_types::{Cell, Change, NoMemory, Steps};
 
 /// The cell of a row of a table. The error is want of memory.
 pub(crate) fn cell_at<L: Ledger>(
@@ -37,7 +26,7 @@ pub(crate) fn cell_at<L: Ledger>(
     requires column { column < length (columns_of (database_of store.now) table) }
     ensures { IfOk result (λ cell. Some cell ≡ cell_of (database_of store.now) table row column) }
 {
-    own_cell(alloc, store.cell(table, row, column, steps))
+    store.cell(table, row, column, steps).to_cell(alloc)
 }
 
 // The spots of the rows that a change closes.

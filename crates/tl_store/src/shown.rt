@@ -1,4 +1,9 @@
 //! What the readers of a store show.
+ghost use Rattle.std.specs.Prelude.{◌≡◌, IfOk};
+ghost use Rattle.tl_store.specs.Reading.{IsShort, cell_shown};
+
+use std::alloc::Global;
+use tl_types::{Cell, NoMemory, Text};
 
 /// The versions at which a row stands: from `from` on and before `to`, which is the greatest number of 32 bits
 /// while the row is current.
@@ -17,4 +22,17 @@ pub enum CellRef<'a> {
     Int(i64),
     /// A text of at most 65,535 bytes.
     Text(&'a str),
+}
+
+impl CellRef<'_> {
+    /// The cell as a value of its own. The error is want of memory.
+    pub fn to_cell(self, alloc: Global) -> Result<Cell, NoMemory>
+        requires { IsShort self }
+        ensures { IfOk result (λ cell. cell ≡ cell_shown self.entry) }
+    {
+        match self {
+            CellRef::Int(number) => Ok(Cell::Int(number)),
+            CellRef::Text(text) => Ok(Cell::Text(Text::new(alloc, text)?)),
+        }
+    }
 }

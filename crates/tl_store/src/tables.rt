@@ -274,10 +274,7 @@ fn cell_at(alloc: Global, column: &ColumnData, row: u32) -> Result<Cell, NoMemor
     requires { row < column_length column.now }
     ensures { IfOk result (λ cell. cell ≡ cell_in row column.now) }
 {
-    match column.cell(row) {
-        CellRef::Int(number) => Ok(Cell::Int(number)),
-        CellRef::Text(text) => Ok(Cell::Text(Text::new(alloc, text)?)),
-    }
+    column.cell(row).to_cell(alloc)
 }
 
 // The cells of a row.

@@ -20,14 +20,15 @@ pub struct KeyLine {
 pub enum Batch {
     /// A new table.
     Create(Schema),
-    /// Rows that take the place of the open rows of their keys.
+    /// Rows that take the place of what the open rows of their keys say: of all of it, or, where the table has
+    /// valid time, of the part within their valid periods.
     Put {
         /// The table's name.
         table: Text,
         /// The rows, in order.
         lines: Seq<Opened>,
     },
-    /// Keys whose open rows are closed.
+    /// Keys whose open rows are closed: wholly, or, where the table has valid time, within these valid periods.
     Remove {
         /// The table's name.
         table: Text,
@@ -45,12 +46,13 @@ pub enum BatchFault {
     TableExists,
     /// There are as many tables as the limits allow.
     TablesFull,
-    /// The key stood in an earlier line of the batch.
+    /// The key stood in an earlier line of the batch, and the table has no valid time.
     KeyTwice {
         /// The record number.
         rec: u32,
     },
-    /// A removal touches no row.
+    /// A removal finds no open row of its key, or, where the table has valid time, none whose valid period meets
+    /// the line's, after the lines before it.
     NoRow {
         /// The record number.
         rec: u32,

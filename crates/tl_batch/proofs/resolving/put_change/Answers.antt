@@ -1,7 +1,7 @@
 use Rattle.std.proofs.Common.{false, refl, arith, rules}
 use Rattle.tl_types.specs.History.{database_of, rows_of}
 use Rattle.tl_types.specs.Resolving.{said_by_rows}
-use Rattle.tl_batch.proofs.CommitLemmas.{rows-keyed, rows-first, closes-ascend, closes-few, made-fault, made-change}
+use Rattle.tl_batch.proofs.CommitLemmas.{rows-keyed, rows-untimed, rows-first, closes-ascend, closes-few, made-fault, made-change}
 use Rattle.tl_batch.proofs.resolving.put_change.Goals as goal
 
 pub strokes_of_rows-requires : goal.strokes_of_rows-requires
@@ -9,6 +9,9 @@ strokes_of_rows-requires g c = rows-keyed c.args.schema.now c.key.result c.args.
 
 pub put_by-requires-clause-keyed : goal.put_by-requires-clause-keyed
 put_by-requires-clause-keyed g c = rows-keyed c.args.schema.now c.args.schema.now.key c.args.lines.now refl c.key.ensures.among c.requires.matching
+
+pub put_by-requires-clause-untimed : goal.put_by-requires-clause-untimed
+put_by-requires-clause-untimed g c = rows-untimed c.args.schema.now c.args.lines.now c.requires.matching
 
 pub returns-in-Some : goal.returns-in-Some
 returns-in-Some g c =

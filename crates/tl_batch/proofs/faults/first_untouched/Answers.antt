@@ -1,0 +1,20 @@
+use Rattle.std.proofs.Common.{◌+◌, true, false, None, Some, refl, arith}
+use Rattle.tl_types.specs.declared.batches.BatchFault.TheVariants as fault
+use Rattle.tl_types.specs.History.{database_of, rows_of}
+use Rattle.tl_batch.proofs.HoldLemmas.{stroke_held}
+use Rattle.tl_batch.proofs.TouchLemmas.{fault_here, fault_later}
+use Rattle.tl_batch.proofs.RemovalLemmas.{touched_fault, told}
+use Rattle.tl_batch.proofs.faults.first_untouched.Goals as goal
+
+pub returns-then-not-touched : goal.returns-then-not-touched
+returns-then-not-touched g c = fault_here c.args.schema.now true (rows_of (database_of c.args.store.now) c.args.table) c.args.strokes.now c.loop-i.i c.index-strokes-i.result (fault.NoRow (c.loop-i.i + 2)) (Some (fault.NoRow (c.loop-i.i + 2))) _ (omega arith) c.index-strokes-i.is
+    (told c.in_ok-touched.touched false None (Some (fault.NoRow (c.loop-i.i + 2))) _ (touched_fault c.args.schema.now (rows_of (database_of c.args.store.now) c.args.table) c.args.strokes.now c.loop-i.i (c.loop-i.i + 2) c.index-strokes-i.result c.in_ok-touched.touched c.loop-i.earlier c.in_ok-rows.rows c.requires.valid (omega arith) c.index-strokes-i.is c.in_ok-rows.ensures c.loop-i.invariant.held c.in_ok-touched.ensures) c.if-not-touched.true)
+    refl c.loop-i.invariant.none
+
+pub loop-i-preserved : goal.loop-i-preserved
+loop-i-preserved g c = record {
+  held = stroke_held c.loop-i.earlier c.add.new.self c.args.strokes.now c.loop-i.i c.index-strokes-i.result (omega arith) c.index-strokes-i.is c.loop-i.invariant.held c.in_ok-add.ensures.held c.in_ok-add.ensures.full;
+  none = fault_later c.args.schema.now true (rows_of (database_of c.args.store.now) c.args.table) c.args.strokes.now c.loop-i.i c.index-strokes-i.result None _ (omega arith) c.index-strokes-i.is
+      (told c.in_ok-touched.touched true None (Some (fault.NoRow (c.loop-i.i + 2))) _ (touched_fault c.args.schema.now (rows_of (database_of c.args.store.now) c.args.table) c.args.strokes.now c.loop-i.i (c.loop-i.i + 2) c.index-strokes-i.result c.in_ok-touched.touched c.loop-i.earlier c.in_ok-rows.rows c.requires.valid (omega arith) c.index-strokes-i.is c.in_ok-rows.ensures c.loop-i.invariant.held c.in_ok-touched.ensures) c.if-not-touched.false)
+      refl c.loop-i.invariant.none;
+}

@@ -1,0 +1,94 @@
+-- Stretches of time with something between neighbours, each kept as its end and the moment where it begins.
+use Rattle.std.specs.Prelude.{◌≡◌, ℤ, negsuc, ◌<ℤ◌, Bool, true, false, ◌&&◌, not, int_lt, List, [], ◌∷◌, ◌++◌, Option, Some, None, if◌then◌else◌, slice_get}
+use Rattle.std.specs.List.{list_any}
+use Rattle.std.specs.Ordering.{int_eq}
+use Rattle.std.specs.Map.{lookup}
+use Rattle.tl_types.specs.declared.cells.Cell.{Cell}
+use Rattle.tl_types.specs.Plain as plain
+use Rattle.tl_types.specs.History.{is_open, same_cell}
+use Rattle.tl_types.specs.Resolving.{Said, same_key}
+use Rattle.tl_batch.specs.Pieces.{part, periods_with, is_met}
+
+-- the moment is one of those from one on and before another
+abbrev pub is_between : ℤ → ℤ → ℤ → Bool
+is_between t from to = not (int_lt t from) && int_lt t to
+
+-- the moment is one of the period
+abbrev pub is_in : ℤ → Option plain.Period → Bool
+is_in t None = false
+is_in t (Some p) = is_between t p.from p.to
+
+-- a stretch has the moment
+abbrev pub is_covered : ℤ → List (ℤ × ℤ) → Bool
+is_covered t stretches = list_any (λ s. is_between t s.1 s.0) stretches
+
+-- the stretches begin after a moment, none is empty, and there is something between neighbours
+abbrev pub Beyond : ℤ → List (ℤ × ℤ) → Type 0
+Beyond low [] = Unit {0}
+Beyond low (s ∷ stretches) = (low <ℤ s.1) × (s.1 <ℤ s.0) × Beyond s.0 stretches
+
+-- each period that is there has a moment
+abbrev pub Full : List (Option plain.Period) → Type 0
+Full [] = Unit {0}
+Full (None ∷ ps) = Full ps
+Full (Some p ∷ ps) = (p.from <ℤ p.to) × Full ps
+
+-- the moment before all numbers of 64 bits
+abbrev pub before_all : ℤ
+before_all = negsuc 9223372036854775808
+
+-- the first of the stretches that has a part in common with a stretch, or touches it
+abbrev pub touching : ℤ → ℤ → List (ℤ × ℤ) → Option (ℤ × ℤ)
+touching from to [] = None
+touching from to (s ∷ stretches) = if int_lt s.0 from then touching from to stretches else (if int_lt to s.1 then None else Some s)
+
+-- the times between two moments that no stretch covers
+abbrev pub gaps : ℤ → ℤ → List (ℤ × ℤ) → List (Option plain.Period)
+gaps from to [] = part from to
+gaps from to (s ∷ stretches) =
+    if int_lt from s.0 then (if int_lt s.1 to then part from s.1 ++ gaps s.0 to stretches else part from to) else gaps from to stretches
+
+-- the same of stretches that all end after the first moment
+abbrev pub walk : ℤ → ℤ → List (ℤ × ℤ) → List (Option plain.Period)
+walk from to [] = part from to
+walk from to (s ∷ stretches) = if int_lt s.1 to then part from s.1 ++ walk s.0 to stretches else part from to
+
+-- the stretches that are there, or none
+abbrev pub stretches_or : Option (List (ℤ × ℤ)) → List (ℤ × ℤ)
+stretches_or None = []
+stretches_or (Some stretches) = stretches
+
+-- the stretches of a key
+abbrev pub cover_at : Cell → List (Cell × List (ℤ × ℤ)) → List (ℤ × ℤ)
+cover_at x covers = stretches_or (lookup (same_cell x) covers)
+
+-- key by key, the covers have the moments of the lines and no others, and each period of a line has a moment
+pub record HoldLines (covers : List (Cell × List (ℤ × ℤ))) (lines : List Said) : Type 0 where
+  pub full : (x : Cell) → Full (periods_with (Some x) lines)
+  pub same : (x : Cell) (t : ℤ) → is_covered t (cover_at x covers) ≡ list_any (is_in t) (periods_with (Some x) lines)
+
+-- the periods are the same
+abbrev pub same_period : Option plain.Period → Option plain.Period → Bool
+same_period None None = true
+same_period None (Some q) = false
+same_period (Some p) None = false
+same_period (Some p) (Some q) = int_eq p.from q.from && int_eq p.to q.to
+
+-- the parts of a period are the whole of it
+abbrev pub is_whole : Option plain.Period → List (Option plain.Period) → Bool
+is_whole whole [] = false
+is_whole whole (p ∷ []) = same_period p whole
+is_whole whole (p ∷ q ∷ ps) = false
+
+-- the cell is one of the keys
+abbrev pub has_cell : List Cell → Cell → Bool
+has_cell keys x = list_any (same_cell x) keys
+
+-- a line has the key
+abbrev pub is_said : Option Cell → List Said → Bool
+is_said key lines = list_any (λ said. same_key key said.key) lines
+
+-- the row is there and current, its key is among those of the lines so far, and one of all lines meets it
+abbrev pub met_so_far : plain.Schema → List Said → List Said → Option plain.Row → Bool
+met_so_far schema lines front None = false
+met_so_far schema lines front (Some row) = is_open row && (is_said (slice_get row.cells schema.key) front && is_met schema lines row)

@@ -9,7 +9,7 @@ use Rattle.timeline.specs.declared.statuses.Status.TheVariants as status
 use Rattle.timeline.specs.declared.jobs.ScriptFault.{ScriptFault}
 use Rattle.timeline.specs.declared.jobs.ScriptFault.TheVariants as fault
 use Rattle.timeline.specs.Script.{Job, Stand, lines_of, before_lines, and_then, with_jobs, after_line, jobs_from, at_start, jobs_of}
-use Rattle.timeline.specs.Ending.{are_words, most_bytes, Outside, IsTranscript, RunsScript, Ends}
+use Rattle.timeline.specs.Ending.{most_bytes, Outside, IsTranscript, RunsScript, RunEnds}
 
 -- the second lines are the first, but for what may stand behind the last of the first
 data Extends : List (List ℕ) → List (List ℕ) → Type 0 where
@@ -119,21 +119,20 @@ if_some None P Q f h = tt
 if_some (Some x) P Q f h = f x h
 
 -- how the run of the front that is read ends, the run of the script ends
-front_of_most : (words : List (List ℕ)) (before after : Outside) (bytes : List ℕ) (ended : Status) → are_words words ≡ true → before.left ≡ prepend_known bytes after.left → IsFront most_bytes bytes after.left → after.source_faults ≡ before.source_faults →
-    RunsScript bytes before.written after.written before.sink_faults after.sink_faults ended → Ends words before after ended
-front_of_most words before after bytes status.Done right taken front sure h =
+front_of_most : (before after : Outside) (bytes : List ℕ) (ended : Status) → before.left ≡ prepend_known bytes after.left → IsFront most_bytes bytes after.left → after.source_faults ≡ before.source_faults →
+    RunsScript bytes before.written after.written before.sink_faults after.sink_faults ended → RunEnds before after ended
+front_of_most before after bytes status.Done taken front sure h =
     let same = script_same before.left after.left bytes taken front in
     let found = h.1.1.1.1.0 in (
-      right,
       read_whole after.left bytes h.1.1.1.0 front found,
       sure,
       h.0,
       (h.1.0, (h.1.1.0, if_some before.left (λ script. jobs_of most_bytes script ≡ jobs_of most_bytes bytes) _ (λ script e. (h.1.1.1.0, (e ∙ found, h.1.1.1.1.1))) same)),
     )
-front_of_most words before after bytes status.NoMemory right taken front sure h = h
-front_of_most words before after bytes status.Usage right taken front sure h = absurd h
-front_of_most words before after bytes (status.SourceFault faults) right taken front sure h = absurd h
-front_of_most words before after bytes (status.SinkFault faults) right taken front sure h =
+front_of_most before after bytes status.NoMemory taken front sure h = h
+front_of_most before after bytes status.Usage taken front sure h = absurd h
+front_of_most before after bytes (status.SourceFault faults) taken front sure h = absurd h
+front_of_most before after bytes (status.SinkFault faults) taken front sure h =
     let same = script_same before.left after.left bytes taken front in
     let text = h.2.0 in
     let told = h.2.1.1.0 in (
@@ -144,27 +143,26 @@ front_of_most words before after bytes (status.SinkFault faults) right taken fro
         (
           h.2.1.0,
           (
-            inr (inr (
-              right,
+            inr (
               sure,
               if_some before.left (λ script. jobs_of most_bytes script ≡ jobs_of most_bytes bytes) (λ script. IsTranscript (jobs_of most_bytes script) text)
                   (λ script e. subst (λ (r : Result (List Job) ScriptFault). IsTranscript r text) (sym e) told) same,
-            )),
+            ),
             h.2.1.1.1,
           ),
         ),
       ),
     )
-front_of_most words before after bytes (status.DiskFault faults) right taken front sure h = absurd h
-front_of_most words before after bytes (status.ScriptFault f) right taken front sure h =
+front_of_most before after bytes (status.DiskFault faults) taken front sure h = absurd h
+front_of_most before after bytes (status.ScriptFault f) taken front sure h =
     let same = script_same before.left after.left bytes taken front in
-    (right, if_some before.left (λ script. jobs_of most_bytes script ≡ jobs_of most_bytes bytes) (λ script. jobs_of most_bytes script ≡ Err f) (λ script e. e ∙ h.0) same, sure, h.2, h.1)
-front_of_most words before after bytes (status.NotInitialised len) right taken front sure h = absurd h
-front_of_most words before after bytes (status.AlreadyInitialised len) right taken front sure h = absurd h
-front_of_most words before after bytes (status.Damaged at) right taken front sure h = absurd h
+    (if_some before.left (λ script. jobs_of most_bytes script ≡ jobs_of most_bytes bytes) (λ script. jobs_of most_bytes script ≡ Err f) (λ script e. e ∙ h.0) same, sure, h.2, h.1)
+front_of_most before after bytes (status.NotInitialised len) taken front sure h = absurd h
+front_of_most before after bytes (status.AlreadyInitialised len) taken front sure h = absurd h
+front_of_most before after bytes (status.Damaged at) taken front sure h = absurd h
 
 -- the same of a number that is lent
-pub front_ends : (words : List (List ℕ)) (before after : Outside) (bytes : List ℕ) (ended : Status) (most : ℕ) → most ≡ most_bytes → are_words words ≡ true → before.left ≡ prepend_known bytes after.left → IsFront most bytes after.left → after.source_faults ≡ before.source_faults →
-    RunsScript bytes before.written after.written before.sink_faults after.sink_faults ended → Ends words before after ended
-front_ends words before after bytes outcome most same right taken front sure h =
-    front_of_most words before after bytes outcome right taken (subst (λ (n : ℕ). IsFront n bytes after.left) same front) sure h
+pub front_ends : (before after : Outside) (bytes : List ℕ) (ended : Status) (most : ℕ) → most ≡ most_bytes → before.left ≡ prepend_known bytes after.left → IsFront most bytes after.left → after.source_faults ≡ before.source_faults →
+    RunsScript bytes before.written after.written before.sink_faults after.sink_faults ended → RunEnds before after ended
+front_ends before after bytes outcome most same taken front sure h =
+    front_of_most before after bytes outcome taken (subst (λ (n : ℕ). IsFront n bytes after.left) same front) sure h

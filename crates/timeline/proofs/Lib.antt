@@ -1,8 +1,9 @@
-pub mod CheckingLemmas
+pub mod CommandLemmas
 pub mod FrontLemmas
 pub mod ListLemmas
 pub mod PlayLemmas
 pub mod ReadyLemmas
+pub mod SampleLemmas
 pub mod ScriptLemmas
 pub mod StoreLemmas
 pub mod TopLemmas

@@ -1,7 +1,6 @@
 -- What a run leaves outside, and why it ended.
-use Rattle.std.specs.Prelude.{◌≡◌, ℕ, Bool, true, false, List, [], ◌∷◌, ◌++◌, take, codes, Option, Some, Result, Ok, Err, IfSome, IsSome, ◌⊎◌}
+use Rattle.std.specs.Prelude.{◌≡◌, ℕ, Bool, true, false, List, [], ◌∷◌, ◌++◌, take, codes, Option, Some, None, Result, Ok, Err, IfSome, IsSome, ◌⊎◌}
 use Rattle.std.specs.Fmt.{decimal}
-use Rattle.tl_types.specs.Names.{same_bytes}
 use Rattle.tl_types.specs.Limits.{standard_limits}
 use Rattle.tl_device.specs.Known.{append_known, Rose}
 use Rattle.timeline.specs.declared.statuses.Status.{Status}
@@ -10,12 +9,10 @@ use Rattle.timeline.specs.declared.jobs.ScriptFault.{ScriptFault}
 use Rattle.timeline.specs.declared.jobs.ScriptFault.TheVariants as fault
 use Rattle.timeline.specs.Script.{Job, jobs_of}
 use Rattle.timeline.specs.Play.{IsPlayed}
-
--- the words are those of a command: `run` alone
-abbrev pub are_words : List (List ℕ) → Bool
-are_words [] = false
-are_words (word ∷ []) = same_bytes word (codes "run")
-are_words (word ∷ other ∷ words) = false
+use Rattle.timeline.specs.Sample.{sample_jobs}
+use Rattle.timeline.specs.Commands.{command_of}
+use Rattle.timeline.specs.declared.commands.Command.{Command}
+use Rattle.timeline.specs.declared.commands.Command.TheVariants as command
 
 -- how many bytes the lines of a script may have
 abbrev pub most_bytes : ℕ
@@ -54,13 +51,11 @@ abbrev pub IsTranscript : Result (List Job) ScriptFault → List ℕ → Type 0
 IsTranscript (Ok jobs) bytes = IsPlayed [] jobs bytes
 IsTranscript (Err f) bytes = bytes ≡ script_line f
 
--- the bytes that a run writes: the line of wrong words; the line of a source that failed; or what the script
--- comes to
-abbrev pub IsWhole : List (List ℕ) → Outside → Outside → List ℕ → Type 0
-IsWhole words before after bytes =
-    ((are_words words ≡ false) × (after.left ≡ before.left) × (after.source_faults ≡ before.source_faults) × (bytes ≡ usage_line))
-    ⊎ (((are_words words ≡ true) × Rose before.source_faults after.source_faults × (bytes ≡ source_line))
-    ⊎ ((are_words words ≡ true) × (after.source_faults ≡ before.source_faults) × IfSome before.left (λ script. IsTranscript (jobs_of most_bytes script) bytes)))
+-- the bytes that a run writes: the line of a source that failed, or what the script comes to
+abbrev pub IsWhole : Outside → Outside → List ℕ → Type 0
+IsWhole before after bytes =
+    (Rose before.source_faults after.source_faults × (bytes ≡ source_line))
+    ⊎ ((after.source_faults ≡ before.source_faults) × IfSome before.left (λ script. IsTranscript (jobs_of most_bytes script) bytes))
 
 -- A text is written, and the run ends as it was to; or memory ran out before the first byte; or the sink failed
 -- behind some front of the text. What was written and the count of faults are given before and after.
@@ -85,37 +80,66 @@ RunsScript script old new before after (status.NotInitialised len) = ⊥
 RunsScript script old new before after (status.AlreadyInitialised len) = ⊥
 RunsScript script old new before after (status.Damaged at) = ⊥
 
--- why a run ended so, and what it wrote
-abbrev pub Ends : List (List ℕ) → Outside → Outside → Status → Type 0
-Ends words before after status.Done =
-    (are_words words ≡ true) × IfSome after.left (λ bytes. bytes ≡ []) × (after.source_faults ≡ before.source_faults) × (after.sink_faults ≡ before.sink_faults)
+-- why the run of a script ended so, and what it wrote
+abbrev pub RunEnds : Outside → Outside → Status → Type 0
+RunEnds before after status.Done =
+    IfSome after.left (λ bytes. bytes ≡ []) × (after.source_faults ≡ before.source_faults) × (after.sink_faults ≡ before.sink_faults)
     × ((bytes : List ℕ) × ((after.written ≡ append_known before.written bytes)
     × IfSome before.left (λ script. (jobs : List Job) × ((jobs_of most_bytes script ≡ Ok jobs) × IsPlayed [] jobs bytes))))
-Ends words before after status.NoMemory = (after.written ≡ before.written) × (after.sink_faults ≡ before.sink_faults)
-Ends words before after status.Usage =
-    (are_words words ≡ false) × (after.left ≡ before.left) × (after.source_faults ≡ before.source_faults) × (after.sink_faults ≡ before.sink_faults)
-    × (after.written ≡ append_known before.written usage_line)
-Ends words before after (status.SourceFault faults) =
-    (are_words words ≡ true) × (faults ≡ after.source_faults) × Rose before.source_faults after.source_faults × (after.sink_faults ≡ before.sink_faults)
+RunEnds before after status.NoMemory = (after.written ≡ before.written) × (after.sink_faults ≡ before.sink_faults)
+RunEnds before after status.Usage = ⊥
+RunEnds before after (status.SourceFault faults) =
+    (faults ≡ after.source_faults) × Rose before.source_faults after.source_faults × (after.sink_faults ≡ before.sink_faults)
     × (after.written ≡ append_known before.written source_line)
-Ends words before after (status.SinkFault faults) =
+RunEnds before after (status.SinkFault faults) =
     (faults ≡ after.sink_faults) × Rose before.sink_faults after.sink_faults
-    × ((bytes : List ℕ) × ((n : ℕ) × (IsWhole words before after bytes × (after.written ≡ append_known before.written (take n bytes)))))
-Ends words before after (status.DiskFault faults) = ⊥
-Ends words before after (status.ScriptFault f) =
-    (are_words words ≡ true) × IfSome before.left (λ script. jobs_of most_bytes script ≡ Err f) × (after.source_faults ≡ before.source_faults) × (after.sink_faults ≡ before.sink_faults)
+    × ((bytes : List ℕ) × ((n : ℕ) × (IsWhole before after bytes × (after.written ≡ append_known before.written (take n bytes)))))
+RunEnds before after (status.DiskFault faults) = ⊥
+RunEnds before after (status.ScriptFault f) =
+    IfSome before.left (λ script. jobs_of most_bytes script ≡ Err f) × (after.source_faults ≡ before.source_faults) × (after.sink_faults ≡ before.sink_faults)
     × (after.written ≡ append_known before.written (script_line f))
-Ends words before after (status.NotInitialised len) = ⊥
-Ends words before after (status.AlreadyInitialised len) = ⊥
-Ends words before after (status.Damaged at) = ⊥
+RunEnds before after (status.NotInitialised len) = ⊥
+RunEnds before after (status.AlreadyInitialised len) = ⊥
+RunEnds before after (status.Damaged at) = ⊥
+
+-- how the run of a sample ends, and what it writes: the replies to its jobs, from no commits on
+abbrev pub SampleEnds : ℕ → ℕ → Option (List ℕ) → Option (List ℕ) → ℕ → ℕ → Status → Type 0
+SampleEnds lines start old new before after ended =
+    ((ended ≡ status.NoMemory) × (new ≡ old) × (after ≡ before))
+    ⊎ ((bytes : List ℕ) × (IsPlayed [] (sample_jobs lines start) bytes × Closes bytes status.Done old new before after ended))
+
+-- nothing was taken from the source
+abbrev pub IsUnread : Outside → Outside → Type 0
+IsUnread before after = (after.left ≡ before.left) × (after.source_faults ≡ before.source_faults)
+
+-- why the program ended so, and what it wrote, by what its words ask for
+abbrev pub EndsBy : Option Command → Outside → Outside → Status → Type 0
+EndsBy None before after ended = IsUnread before after × Closes usage_line status.Usage before.written after.written before.sink_faults after.sink_faults ended
+EndsBy (Some command.Run) before after ended = RunEnds before after ended
+EndsBy (Some (command.Sample lines start)) before after ended =
+    IsUnread before after × SampleEnds lines start before.written after.written before.sink_faults after.sink_faults ended
+
+-- the same of the words
+abbrev pub Ends : List (List ℕ) → Outside → Outside → Status → Type 0
+Ends words before after ended = EndsBy (command_of words) before after ended
 
 -- the run is done, or memory ran out
 abbrev pub IsDoneOrNoMemory : Status → Type 0
 IsDoneOrNoMemory ended = (ended ≡ status.Done) ⊎ (ended ≡ status.NoMemory)
 
--- Completeness: with the words of a command, a script without a fault and no count that rises, a run is done,
--- unless memory runs out.
-abbrev pub Completes : List (List ℕ) → Outside → Outside → Status → Type 0
-Completes words before after ended =
-    are_words words ≡ true → ((script : List ℕ) → before.left ≡ Some script → (jobs : List Job) × (jobs_of most_bytes script ≡ Ok jobs)) → IsSome before.left
+-- the run of a script without a fault is done where no count rises, unless memory runs out
+abbrev pub RunCompletes : Outside → Outside → Status → Type 0
+RunCompletes before after ended =
+    ((script : List ℕ) → before.left ≡ Some script → (jobs : List Job) × (jobs_of most_bytes script ≡ Ok jobs)) → IsSome before.left
     → (Rose before.source_faults after.source_faults → ⊥) → (Rose before.sink_faults after.sink_faults → ⊥) → IsDoneOrNoMemory ended
+
+-- the same of what the words ask for; the run of a sample reads no script
+abbrev pub CompletesBy : Option Command → Outside → Outside → Status → Type 0
+CompletesBy None before after ended = Unit {0}
+CompletesBy (Some command.Run) before after ended = RunCompletes before after ended
+CompletesBy (Some (command.Sample lines start)) before after ended = (Rose before.sink_faults after.sink_faults → ⊥) → IsDoneOrNoMemory ended
+
+-- Completeness: with the words of a command, a script without a fault where one is read, and no count that rises,
+-- a run is done, unless memory runs out.
+abbrev pub Completes : List (List ℕ) → Outside → Outside → Status → Type 0
+Completes words before after ended = CompletesBy (command_of words) before after ended

@@ -1,8 +1,10 @@
+pub mod Commands
 pub mod Ending
 pub mod Known
 pub mod Outcome
 pub mod Play
 pub mod Reading
 pub mod Replies
+pub mod Sample
 pub mod Script
 pub mod Status

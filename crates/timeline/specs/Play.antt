@@ -15,12 +15,12 @@ use Rattle.tl_csv.specs.declared.needs.BatchKind.TheVariants.{PutKind, RemoveKin
 use Rattle.tl_csv.specs.Block.{batch_of}
 use Rattle.tl_query.specs.declared.faults.TextFault.{TextFault}
 use Rattle.tl_query.specs.declared.check_faults.CheckFault.{CheckFault}
-use Rattle.tl_query.specs.declared.forms.Query.TheVariants as query
 use Rattle.tl_query.specs.declared.forms.Statement.{Statement}
 use Rattle.tl_query.specs.declared.forms.Statement.TheVariants as statement
 use Rattle.tl_query.specs.declared.plans.Typed.{Typed}
 use Rattle.tl_query.specs.Answers.{answer_of}
-use Rattle.tl_query.specs.Checking.{table_named, checked_select, checked_create}
+use Rattle.tl_query.specs.Checking.{checked_create}
+use Rattle.tl_query.specs.CheckingQueries.{checked}
 use Rattle.tl_query.specs.Texts.{Spells, IsFault}
 use Rattle.timeline.specs.declared.replies.Refusal.{Refusal}
 use Rattle.timeline.specs.declared.replies.Refusal.TheVariants as refusal
@@ -80,14 +80,12 @@ abbrev pub block_of : Option (List ℕ) → List ℕ
 block_of None = []
 block_of (Some block) = block
 
--- what a statement does. No text spells an aggregate or a join yet, and no turn is one's.
+-- what a statement does
 abbrev pub Does : List Commit → Statement → Option (List ℕ) → Turn → Type 0
 Does commits (statement.Create form) block turn = turn ≡ created commits (checked_create form)
 Does commits (statement.Put name) block turn = turn ≡ load commits name.text PutKind (block_of block)
 Does commits (statement.Remove name) block turn = turn ≡ load commits name.text RemoveKind (block_of block)
-Does commits (statement.Ask (query.Select form)) block turn = turn ≡ asked commits (checked_select (length commits) (table_named (database_of commits) form.table) form)
-Does commits (statement.Ask (query.Agg form)) block turn = ⊥
-Does commits (statement.Ask (query.Join form)) block turn = ⊥
+Does commits (statement.Ask query) block turn = turn ≡ asked commits (checked (length commits) (database_of commits) query)
 
 -- a job is refused for the fault of its text, or does what the statement that its text spells does
 abbrev pub IsTurn : List Commit → Job → Turn → Type 0

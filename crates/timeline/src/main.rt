@@ -2,13 +2,16 @@
 // history of commits, and writes one reply for each. The top call `timeline` carries what is proved of it all.
 #![tactic(auto)]
 
-mod checks;
+mod commands;
 mod histories;
 mod jobs;
 mod outcomes;
 mod plays;
+#[cfg(test)]
+mod question_tests;
 mod rebuilding;
 mod replies;
+mod samples;
 mod scripts;
 mod statuses;
 #[cfg(test)]

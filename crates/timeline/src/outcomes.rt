@@ -1,28 +1,27 @@
 //! What a statement comes to over the commits that it saw: a commit more, or a reply that changes nothing.
 ghost use Rattle.std.specs.Prelude.{◌≡◌, ◌≢◌, ◌<◌, IfOk, IfSome, OnOk, IsTrue, length, Some, None, Ok, Err};
-ghost use Rattle.std.specs.Option.{ForSome, option_map};
-ghost use Rattle.std.specs.Int.{IsNonNegative};
 ghost use Rattle.tl_types.specs.History.{database_of};
 ghost use Rattle.tl_types.specs.declared.batches.Batch.TheVariants as batch;
 ghost use Rattle.tl_types.specs.declared.batches.BatchFault.TheVariants as batch_fault;
 ghost use Rattle.tl_batch.specs.Made.{batch_matches};
-ghost use Rattle.tl_query.specs.Checking.{IsBareSelect, IsWellNamed, table_named, checked_create, checked_select};
+ghost use Rattle.tl_query.specs.Checking.{IsWellNamed, checked_create};
+ghost use Rattle.tl_query.specs.CheckingQueries.{IsQuestion, checked};
 ghost use Rattle.tl_csv.specs.declared.faults.CsvFault.TheVariants as csv_fault;
-ghost use Rattle.timeline.specs.Known.{known, IsReady};
+ghost use Rattle.timeline.specs.Known.{IsReady};
 ghost use Rattle.timeline.specs.Outcome.{turn_of, MayBe};
 ghost use Rattle.timeline.specs.Play.{created, load, asked, resolved_turn, Does};
 ghost use Rattle.timeline.specs.declared.outcomes.Outcome.TheVariants as outcome;
 ghost use Rattle.timeline.specs.declared.replies.Refusal.TheVariants as refusal;
 ghost use Rattle.timeline.specs.declared.replies.ReplyBody.TheVariants as body;
 
-use crate::checks::{check_create, check_select};
 use crate::histories::History;
 use crate::rebuilding::tables_of;
 use crate::replies::{Refusal, Reply, ReplyBody};
 use std::alloc::{AllocError, Global};
+use tl_check::{check, check_create};
 use tl_csv::{BatchKind, CsvFault, read_batch};
 use tl_plain::answer_plain;
-use tl_query::{CheckFault, CreateForm, Name, Query, SelectForm, Statement};
+use tl_query::{CheckFault, CreateForm, Name, Query, Statement};
 use tl_store::Store;
 use tl_types::{Batch, BatchFault, Commit, Limits, Schema};
 
@@ -134,25 +133,14 @@ fn load(
     }
 }
 
-// The table that a name means: its number, and its schema.
-fn table_named<'a>(store: &'a Store, name: &Name) -> Option<(u16, &'a Schema)>
-    ensures { known result ≡ table_named (database_of store.now) name.now }
-{
-    match store.find(name.text.as_str()) {
-        None => None,
-        Some(number) => Some((number, store.schema(number))),
-    }
-}
-
-// What a question comes to: the rows at its version of the tables, which are made for it.
-fn ask(alloc: Global, store: &Store, form: &SelectForm) -> Result<Outcome, AllocError>
-    requires bare { IsBareSelect form.now }
-    requires positive { ForSome form.now.as_of (λ stamp. IsNonNegative stamp.value) }
-    ensures turn { IfOk result (λ outcome. turn_of store.now outcome ≡ asked store.now (checked_select (length store.now) (table_named (database_of store.now) form.now.table) form.now)) }
+// What a question comes to: the rows that answer it over the tables, which are made for it.
+fn ask(alloc: Global, store: &Store, query: &Query) -> Result<Outcome, AllocError>
+    requires { IsQuestion query.now }
+    ensures turn { IfOk result (λ outcome. turn_of store.now outcome ≡ asked store.now (checked (length store.now) (database_of store.now) query.now)) }
     ensures fit { IfOk result (λ outcome. MayBe store.now outcome) }
 {
     let version = store.versions();
-    let typed = match check_select(alloc, version, table_named(store, &form.table), form) {
+    let typed = match check(alloc, query, store) {
         Ok(typed) => typed,
         Err(fault) => return Ok(refused(version, check_refusal(fault)?)),
     };
@@ -179,7 +167,6 @@ pub(crate) fn outcome_of(
         Statement::Create(form) => create_table(alloc, history, form),
         Statement::Put(name) => load(alloc, history, name, BatchKind::PutKind, block),
         Statement::Remove(name) => load(alloc, history, name, BatchKind::RemoveKind, block),
-        Statement::Ask(Query::Select(form)) => ask(alloc, history.store(), form),
-        _ => unreachable!(),
+        Statement::Ask(query) => ask(alloc, history.store(), query),
     }
 }

@@ -83,7 +83,7 @@ fn turn(alloc: Global, history: &mut History, job: &Job) -> Result<Reply, AllocE
     }
 }
 
-// The replies to the jobs, as bytes, from no commits on.
+/// The replies to the jobs, as bytes, from no commits on. The error is want of memory.
 pub(crate) fn played<G: Gate>(alloc: Global, jobs: &[Job], gate: &G) -> Result<Vec<u8>, AllocError>
     ensures { IfOk result (λ bytes. IsPlayed [] (map job_of jobs.now) bytes.items) }
 {

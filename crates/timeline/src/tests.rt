@@ -17,7 +17,7 @@ fn owned(alloc: Global, words: &[&str]) -> Result<Vec<String>, AllocError> {
 }
 
 // A source of these bytes that gives at most so many a read, and whose calls with these numbers fail.
-fn source(
+pub(crate) fn source(
     alloc: Global,
     bytes: &[u8],
     most: usize,
@@ -29,7 +29,7 @@ fn source(
 }
 
 // The status number of a run, and what it wrote.
-fn run<R: Threads + Wait + Sync + AllocGlobal>(
+pub(crate) fn run<R: Threads + Wait + Sync + AllocGlobal>(
     rt: &R,
     words: &[&str],
     source: &mut MemorySource,
@@ -62,7 +62,19 @@ fn first_replies() -> &'static str {
 #[test]
 fn words_are_those_of_a_command(rt: HostRuntime) -> Result<(), Fail> {
     let none: &[&str] = &[];
-    let cases: [&[&str]; 4] = [none, &["go"], &["run", "run"], &["--help"]];
+    let cases: [&[&str]; 11] = [
+        none,
+        &["go"],
+        &["run", "run"],
+        &["--help"],
+        &["sample"],
+        &["sample", "2"],
+        &["sample", "0", "7"],
+        &["sample", "1000001", "7"],
+        &["sample", "+2", "7"],
+        &["sample", "2", "18446744073709551616"],
+        &["sample", "2", "7", "7"],
+    ];
     for words in cases {
         let mut source = source(rt.alloc(), first_row().as_bytes(), 9, &[])?;
         let (status, written) = run(&rt, words, &mut source, &[])?;

@@ -2,12 +2,16 @@
 ghost use Rattle.std.specs.Prelude.{◌≡◌, ℕ, ◌≤◌, Some, None, Ok, Err, IfOk, OnOk, OnErr, IfErr, MatchResult, map, length, take, true, false, Bool, codes};
 ghost use Rattle.std.specs.String.{string_bytes};
 ghost use Rattle.tl_device.specs.Known.{append_known, HasRoom, Rose};
-ghost use Rattle.timeline.specs.Ending.{are_words, most_bytes, script_fault_words, usage_line, source_line, script_line, Outside, IsTranscript, IsWhole, Closes, RunsScript, Ends, Completes};
+ghost use Rattle.timeline.specs.Ending.{most_bytes, script_fault_words, usage_line, source_line, script_line, Outside, IsTranscript, IsWhole, IsUnread, Closes, RunsScript, RunEnds, SampleEnds, EndsBy, Ends, Completes};
+ghost use Rattle.timeline.specs.Commands.{command_of, reads_source};
+ghost use Rattle.timeline.specs.declared.commands.Command.TheVariants as command;
 ghost use Rattle.timeline.specs.Script.{jobs_of};
 ghost use Rattle.timeline.specs.declared.statuses.Status.TheVariants as status;
 
+use crate::commands::{Command, command_of};
 use crate::jobs::{ScriptError, ScriptFault};
 use crate::plays::played;
+use crate::samples::played_sample;
 use crate::scripts::read_jobs;
 use crate::statuses::Status;
 use std::alloc::{AllocError, Global};
@@ -30,15 +34,6 @@ fn most_bytes() -> u64
     ensures { result ≡ most_bytes }
 {
     Limits::standard().phase
-}
-
-fn are_words(words: &[String]) -> bool
-    ensures { result ≡ are_words (map (λ w. string_bytes w) words.now) }
-{
-    match words {
-        [word] => word.as_str() == "run",
-        _ => false,
-    }
 }
 
 fn script_fault_words(alloc: Global, fault: &ScriptFault) -> Result<String, AllocError>
@@ -98,22 +93,13 @@ fn run_script<K: Sink, G: Gate>(alloc: Global, script: &[u8], sink: &mut K, gate
     }
 }
 
-fn run<S: Source, K: Sink, G: Gate>(
-    alloc: Global,
-    words: &[String],
-    source: &mut S,
-    sink: &mut K,
-    gate: &G,
-) -> Status
-    ensures unread { are_words (map (λ w. string_bytes w) words.now) ≡ false → source.new ≡ source.old }
-    ensures ends { Ends (map (λ w. string_bytes w) words.now)
+// Runs the script that the source gives.
+fn run<S: Source, K: Sink, G: Gate>(alloc: Global, source: &mut S, sink: &mut K, gate: &G) -> Status
+    ensures { RunEnds
         (record { left = S.left source.old; written = K.written sink.old; source_faults = S.faults source.old; sink_faults = K.faults sink.old })
         (record { left = S.left source.new; written = K.written sink.new; source_faults = S.faults source.new; sink_faults = K.faults sink.new })
         result }
 {
-    if !are_words(words) {
-        return closed(sink, b"! usage\n".as_slice(), Status::Usage);
-    }
     match read_front(alloc, source, most_bytes()) {
         Err(ReadError::NoMemory) => Status::NoMemory,
         Err(ReadError::Source { faults }) => {
@@ -127,13 +113,50 @@ fn run<S: Source, K: Sink, G: Gate>(
     }
 }
 
-/// All that the program does: it reads a script from the source, runs its statements over the tables of one
-/// history, which begins with no commits, and writes one reply for each to the sink. It hands the disk back as it
-/// was.
+// Runs the sample of so many lines, whose generator begins with `start`.
+fn run_sample<K: Sink, G: Gate>(
+    alloc: Global,
+    lines: u32,
+    start: u64,
+    sink: &mut K,
+    gate: &G,
+) -> Status
+    ensures { SampleEnds lines start (K.written sink.old) (K.written sink.new) (K.faults sink.old) (K.faults sink.new) result }
+{
+    match played_sample(alloc, lines, start, gate) {
+        Ok(replies) => closed(sink, replies.as_slice(), Status::Done),
+        Err(_) => Status::NoMemory,
+    }
+}
+
+// Does what the words ask for.
+fn command<S: Source, K: Sink, G: Gate>(
+    alloc: Global,
+    words: &[String],
+    source: &mut S,
+    sink: &mut K,
+    gate: &G,
+) -> Status
+    ensures unread { reads_source (command_of (map (λ w. string_bytes w) words.now)) ≡ false → source.new ≡ source.old }
+    ensures ends { Ends (map (λ w. string_bytes w) words.now)
+        (record { left = S.left source.old; written = K.written sink.old; source_faults = S.faults source.old; sink_faults = K.faults sink.old })
+        (record { left = S.left source.new; written = K.written sink.new; source_faults = S.faults source.new; sink_faults = K.faults sink.new })
+        result }
+{
+    match command_of(words) {
+        None => closed(sink, b"! usage\n".as_slice(), Status::Usage),
+        Some(Command::Run) => run(alloc, source, sink, gate),
+        Some(Command::Sample { lines, start }) => run_sample(alloc, lines, start, sink, gate),
+    }
+}
+
+/// All that the program does: it runs the statements of a script over the tables of one history, which begins with
+/// no commits, and writes one reply for each to the sink. It hands the disk back as it was.
 ///
-/// `words` are the words after the program's name; the one command is `run`. The statuses:
-/// - `Done`: the script was read to its end, and the bytes written are the replies to its jobs, in order. Of a
-///   longer script than may be, no more is read than that takes and 65,536 bytes.
+/// `words` are the words after the program's name. With `run` the script is read from the source. With
+/// `sample N START` its jobs are made from the two numbers, and nothing is taken from the source: a table, N rows
+/// in blocks of 10,000, and three questions. The statuses:
+/// - `Done`: the script was read to its end, and the bytes written are the replies to its jobs, in order.
 /// - `NoMemory`: memory ran out, and nothing is written.
 /// - `Usage`: where the words are no command; then no other comes but `NoMemory` and `SinkFault`. Nothing is taken
 ///   from the source, and `! usage` is written.
@@ -143,8 +166,8 @@ fn run<S: Source, K: Sink, G: Gate>(
 /// - `ScriptFault`: where the script has that fault; then no other comes but `NoMemory`, `SourceFault` and
 ///   `SinkFault`. No statement is run, and `! script` and the fault's words are written.
 ///
-/// The others do not come yet. With the words of a command, a script without a fault and no count that rises, the
-/// status is `Done` or `NoMemory`. The call waits for nobody; `rt` and its leave to wait are there for the
+/// The others do not come yet. With the words of a command, no count that rises and, for `run`, a script without a
+/// fault, the status is `Done` or `NoMemory`. The call waits for nobody; `rt` and its leave to wait are there for the
 /// sessions to come.
 #[tactic(auto, using(crate::proofs::TopLemmas::ends_complete))]
 pub fn timeline<R: Threads + Wait + Sync, S: Source, K: Sink, D: Disk + Send, G: Gate>(
@@ -164,11 +187,11 @@ pub fn timeline<R: Threads + Wait + Sync, S: Source, K: Sink, D: Disk + Send, G:
         (record { left = S.left source.old; written = K.written sink.old; source_faults = S.faults source.old; sink_faults = K.faults sink.old })
         (record { left = S.left source.new; written = K.written sink.new; source_faults = S.faults source.new; sink_faults = K.faults sink.new })
         result.status }
-    ensures unread { are_words (map (λ w. string_bytes w) words.now) ≡ false → source.new ≡ source.old }
+    ensures unread { reads_source (command_of (map (λ w. string_bytes w) words.now)) ≡ false → source.new ≡ source.old }
     ensures disk { result.disk ≡ disk }
 {
     Ending {
-        status: run(alloc, words, source, sink, gate),
+        status: command(alloc, words, source, sink, gate),
         disk,
     }
 }

@@ -1,4 +1,11 @@
+pub mod AnswerLemmas
+pub mod CollectLemmas
+pub mod CountLemmas
 pub mod Ending
 pub mod Places
+pub mod PlacingLemmas
+pub mod RunLemmas
 pub mod Selecting
+pub mod TimeLemmas
 pub mod Worked
+pub mod WorkedAnswers

@@ -1,16 +1,16 @@
 -- Filtering the rows of a table, one row more at a time, and with their ids or without.
-use Rattle.std.proofs.Common.{◌≡◌, ℕ, ◌+◌, ◌<◌, Bool, true, false, ◌==◌, cond, List, [], ◌∷◌, ◌++◌, length, take, map, get_or, Option, Some, None, refl, sym, ap, ◌∙◌}
+use Rattle.std.proofs.Common.{◌≡◌, ℕ, ℤ, ◌+◌, ◌<◌, Bool, true, false, ◌&&◌, cond, List, [], ◌∷◌, ◌++◌, length, take, map, get_or, Option, Some, None, refl, sym, ap, ◌∙◌}
 use Rattle.std.proofs.lemmas.List.{take_more, map-append, append-nil}
-use Rattle.std.proofs.lemmas.List.Elements.{filter-append}
+use Rattle.std.proofs.lemmas.List.Elements.{filter-append, filter_agree}
 use Rattle.std.specs.List.{enumerate_from, filter}
-use Rattle.tl_types.specs.History.{is_visible, rows_of}
+use Rattle.tl_types.specs.History.{is_visible, rows_of, is_within, numbered}
 use Rattle.tl_types.specs.Plain as plain
-use Rattle.tl_query.specs.declared.plans.Typed.TheVariants as typed
 use Rattle.tl_query.specs.declared.plans.TypedItem.{TypedItem}
 use Rattle.tl_query.specs.declared.plans.TypedPred.{TypedPred}
-use Rattle.tl_query.specs.Answers.{passes, selected, row_fields, is_bare}
-use Rattle.std.specs.Prelude.{ℤ}
-use Rattle.tl_plain.proofs.Places.{and_left, and_right}
+use Rattle.tl_query.specs.Passing.{passes}
+use Rattle.tl_query.specs.Fields.{row_fields}
+use Rattle.tl_query.specs.Answers.{selected}
+use Rattle.tl_plain.specs.Choosing.{is_selected}
 
 grown : {X : Type 0} → (p : X → Bool) (xs : List X) (i : ℕ) (x : X) → i < length xs → x ≡ get_or xs i x → filter p (take (i + 1) xs) ≡ filter p (take i xs) ++ filter p (x ∷ [])
 grown p xs i x h e =
@@ -30,17 +30,33 @@ row_left p f xs i x out h e px was =
     let none = append-nil (filter p (take i xs)) in
     cc
 
-without_ids : {Y : Type 0} → (f : plain.Row → Y) (p q : plain.Row → Bool) (n : ℕ) (rows : List plain.Row) → ((row : plain.Row) → q row ≡ true) → map (λ r. f r.1) (filter (λ r. q r.1) (filter (λ r. p r.1) (enumerate_from n rows))) ≡ map f (filter p rows)
-without_ids f p q n [] all = refl
-without_ids f p q n (row ∷ rows) all =
-    let later = without_ids f p q (n + 1) rows all in
-    let here = all row in
-    elim (p row) as (λ b. map (λ r. f r.1) (filter (λ r. q r.1) (cond b ((n, row) ∷ filter (λ r. p r.1) (enumerate_from (n + 1) rows)) (filter (λ r. p r.1) (enumerate_from (n + 1) rows)))) ≡ map f (cond b (row ∷ filter p rows) (filter p rows))) [ true ↦ rw here (ap (λ ys. f row ∷ ys) later) | false ↦ later ]
+pub filter_twice : {X : Type 0} (p q : X → Bool) (xs : List X) → filter q (filter p xs) ≡ filter (λ x. p x && q x) xs
+filter_twice p q [] = refl
+filter_twice p q (x ∷ xs) =
+    let later = filter_twice p q xs in
+    elim (p x) as (λ b. filter q (cond b (x ∷ filter p xs) (filter p xs)) ≡ cond (b && q x) (x ∷ filter (λ y. p y && q y) xs) (filter (λ y. p y && q y) xs)) [ true ↦ ap (λ ys. cond (q x) (x ∷ ys) ys) later | false ↦ later ]
 
--- where nothing is tested, the rows are those that stand at the version
-pub bare_selected : (db : plain.Database) (table : ℕ) (items : List TypedItem) (pred : TypedPred) (valid_at : Option ℤ) (version : ℕ) → is_bare (typed.Select table items pred valid_at version) ≡ true → map (row_fields items) (filter (is_visible version) (rows_of db table)) ≡ selected db table items pred valid_at version
-bare_selected db table items pred None version h =
-    let empty : (length pred.any == 0) ≡ true = and_left (length pred.any == 0) true h in
-    let all : (row : plain.Row) → passes pred row ≡ true = λ row. rw empty refl in
-    sym (without_ids (row_fields items) (is_visible version) (passes pred) 0 (rows_of db table) all)
-bare_selected db table items pred (Some moment) version h = let no : false ≡ true = and_right (length pred.any == 0) false h in absurd cc
+pub without_ids : {Y : Type 0} → (f : plain.Row → Y) (p : plain.Row → Bool) (n : ℕ) (rows : List plain.Row) → map (λ r. f r.1) (filter (λ r. p r.1) (enumerate_from n rows)) ≡ map f (filter p rows)
+without_ids f p n [] = refl
+without_ids f p n (row ∷ rows) =
+    let later = without_ids f p (n + 1) rows in
+    elim (p row) as (λ b. map (λ r. f r.1) (cond b ((n, row) ∷ filter (λ r. p r.1) (enumerate_from (n + 1) rows)) (filter (λ r. p r.1) (enumerate_from (n + 1) rows))) ≡ map f (cond b (row ∷ filter p rows) (filter p rows))) [ true ↦ ap (λ ys. f row ∷ ys) later | false ↦ later ]
+
+pub and_true : (b : Bool) → (b && true) ≡ b
+and_true true = refl
+and_true false = refl
+
+-- the rows that are selected, without their ids
+pub selected_plain : (db : plain.Database) (table : ℕ) (items : List TypedItem) (pred : TypedPred) (valid_at : Option ℤ) (version : ℕ) → map (row_fields items) (filter (is_selected pred valid_at version) (rows_of db table)) ≡ selected db table items pred valid_at version
+selected_plain db table items pred None version =
+    let rows = rows_of db table in
+    let both = filter_twice (λ (r : ℕ × plain.Row). is_visible version r.1) (λ (r : ℕ × plain.Row). passes pred r.1) (numbered rows) in
+    let bare = without_ids (row_fields items) (λ row. is_visible version row && passes pred row) 0 rows in
+    let same = filter_agree (is_selected pred None version) (λ (row : plain.Row). is_visible version row && passes pred row) (λ row. ap (λ b. b && passes pred row) (and_true (is_visible version row))) rows in
+    ap (map (row_fields items)) same ∙ sym bare ∙ sym (ap (map (λ (r : ℕ × plain.Row). row_fields items r.1)) both)
+selected_plain db table items pred (Some moment) version =
+    let rows = rows_of db table in
+    let seen = filter_twice (λ (r : ℕ × plain.Row). is_visible version r.1) (λ (r : ℕ × plain.Row). is_within moment r.1.period) (numbered rows) in
+    let both = filter_twice (λ (r : ℕ × plain.Row). is_visible version r.1 && is_within moment r.1.period) (λ (r : ℕ × plain.Row). passes pred r.1) (numbered rows) in
+    let bare = without_ids (row_fields items) (is_selected pred (Some moment) version) 0 rows in
+    sym bare ∙ sym (ap (λ rs. map (λ (r : ℕ × plain.Row). row_fields items r.1) (filter (λ (r : ℕ × plain.Row). passes pred r.1) rs)) seen ∙ ap (map (λ (r : ℕ × plain.Row). row_fields items r.1)) both)

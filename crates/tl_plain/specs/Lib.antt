@@ -1,0 +1,5 @@
+pub mod Choosing
+pub mod Chosen
+pub mod Counted
+pub mod Grouping
+pub mod Stretching

@@ -1,12 +1,22 @@
 // The tables of a history as plain lists of rows: what a commit makes of them, and whether it fits. It is the
-// slow and plain counterpart of the engine's store; its clauses are the definitions themselves.
+// slow and plain counterpart of the engine's store, and answers questions over its rows; its clauses are the
+// definitions themselves.
 #![tactic(auto)]
 
+mod aggregates;
 mod answers;
 mod contents;
+mod counting;
 mod database;
+mod fields;
 mod fitting;
+mod joins;
+mod passing;
 mod rows;
+mod selects;
+mod stretches;
+mod times;
+mod values;
 
 pub use answers::answer_plain;
 pub use database::Tables;

@@ -1,264 +1,549 @@
 -- What is spelled is read again.
-use Rattle.std.proofs.Common.{◌≡◌, ℕ, ◌≤◌, zero, suc, Bool, true, false, cond, List, [], ◌∷◌, ◌++◌, length, Option, Some, None, Result, Ok, Err, refl, sym, ◌∙◌, ap, arith}
+use Rattle.std.proofs.Common.{◌≡◌, ℕ, ◌+◌, ◌≤◌, zero, suc, Bool, true, false, cond, List, [], ◌∷◌, ◌++◌, length, Option, Some, None, Result, Ok, Err, refl, sym, ◌∙◌, ap, subst, append_assoc, append-nil, arith, length-append}
+use Rattle.std.specs.List.{AllByRecursion}
+use Rattle.std.specs.Option.{option_map}
 use Rattle.std.proofs.lemmas.Bool.{eq-eqb}
+use Rattle.tl_types.specs.declared.cells.Cell.{Cell}
+use Rattle.tl_types.specs.declared.cells.Cmp.{Cmp}
+use Rattle.tl_types.specs.declared.cells.Cmp.TheVariants as cmps
 use Rattle.tl_types.specs.declared.cells.ColumnKind.{ColumnKind}
 use Rattle.tl_types.specs.declared.cells.ColumnKind.TheVariants as kinds
 use Rattle.tl_query.specs.declared.marks.Mark.{Mark}
 use Rattle.tl_query.specs.declared.marks.Mark.TheVariants as marks
 use Rattle.tl_query.specs.declared.tokens.Token.{Token}
-use Rattle.tl_query.specs.declared.tokens.Token.TheVariants.{Fixed, Word, Number}
+use Rattle.tl_query.specs.declared.tokens.Token.TheVariants.{Fixed, Word, Number, Negative, Quoted, Stray}
 use Rattle.tl_query.specs.declared.tokens.Placed.{Placed}
 use Rattle.tl_query.specs.declared.forms.Name.{Name}
 use Rattle.tl_query.specs.declared.forms.Stamp.{Stamp}
 use Rattle.tl_query.specs.declared.forms.ColumnForm.{ColumnForm}
 use Rattle.tl_query.specs.declared.forms.CreateForm.{CreateForm}
 use Rattle.tl_query.specs.declared.forms.SelectForm.{SelectForm}
+use Rattle.tl_query.specs.declared.forms.AggForm.{AggForm}
+use Rattle.tl_query.specs.declared.forms.AggKind.{AggKind}
+use Rattle.tl_query.specs.declared.forms.AggKind.TheVariants as aggs
+use Rattle.tl_query.specs.declared.forms.JoinForm.{JoinForm}
+use Rattle.tl_query.specs.declared.forms.Over.{Over}
+use Rattle.tl_query.specs.declared.forms.Over.TheVariants as overs
+use Rattle.tl_query.specs.declared.forms.Pred.{Pred}
+use Rattle.tl_query.specs.declared.forms.Test.{Test}
+use Rattle.tl_query.specs.declared.forms.ValidPoint.{ValidPoint}
 use Rattle.tl_query.specs.declared.forms.Item.{Item}
 use Rattle.tl_query.specs.declared.forms.Item.TheVariants as items
 use Rattle.tl_query.specs.declared.forms.Query.TheVariants as queries
 use Rattle.tl_query.specs.declared.forms.Statement.{Statement}
 use Rattle.tl_query.specs.declared.forms.Statement.TheVariants as statements
-use Rattle.tl_query.specs.Marks.{place}
-use Rattle.tl_query.specs.Grammar.{IsSpelling, IsCreate, IsSelect, IsAsked, kind_mark, item_token, valid_parts, column_parts, further_columns, columns_parts, create_parts, further_items, items_parts, asked_parts, as_of_parts, select_parts}
-use Rattle.tl_query.specs.Reading.{◌>>=◌, place_of, is_fixed, after, expect, name_of, item_of, version_of, name_at, item_at, version_at, ended, text_kind_at, kind_at, column_at, in_front, before, further_columns_at, columns_at, valid_at, create_at, put_at, remove_at, items_at, asked_at, as_of_at, select_at, statement_at, where_some}
-use Rattle.tl_query.proofs.Laws.{words_of}
-use Rattle.tl_query.proofs.Readers.{items_comma, items_end, item_first, select_or_none, remove_or_less, put_or_less}
+use Rattle.tl_query.specs.Marks.{place, same_mark}
+use Rattle.tl_query.specs.Grammar.{Part, said, said_at, named, version, moment, bound, constant, IsPart, Fits, IsSpelling, IsCreate, IsSelect, IsAgg, IsJoin, IsAsked, IsPred, IsAggregate, name_by, version_by, constant_by, kind_mark, cmp_mark, agg_mark, item_part, column_parts, valid_parts, create_parts, item_parts, asked_parts, test_parts, conj_parts, any_parts, where_parts, valid_at_parts, as_of_parts, select_parts, column_name_parts, by_parts, over_parts, agg_parts, join_parts, end_parts, behind_each, parted}
+use Rattle.tl_query.specs.Reading.{◌>>=◌, is_fixed, after, expect, name_of, version_of, moment_of, bound_of, constant_of, item_by, item_of, kind_by, kind_of, cmp_of, agg_by, agg_of, valid_by, valid_of, take_at, peek_at, last_of, ended, where_some, place_of, in_front, up_to, further, several, column_at, columns_at, valid_at, create_at, put_at, remove_at, items_at, asked_at, test_at, conj_at, where_at, valid_point_at, as_of_at, select_at, versions_at, system_at, moments_at, over_at, column_name_at, by_at, agg_at, side_at, on_at, join_at, statement_at}
+use Rattle.tl_query.proofs.Lists.{Reads}
+use Rattle.tl_query.proofs.Readers.{agg_or_join, select_or_less, remove_or_less, put_or_less}
+use Rattle.tl_query.proofs.Takers.{some_one}
 
--- what follows mark, name and number is read next
-pub after_again : (m : Mark) (ts : List Placed) (w : List Token) → words_of ts ≡ Fixed m ∷ w → (rest : List Placed) × (words_of rest ≡ w) × (after m ts ≡ Some rest)
+-- a value is read, and what is left are the parts behind it
+abbrev pub Read : {A : Type 0} → A → List Part → Result (A × List Placed) (Option ℕ) → Type 0
+Read x w r = (rest : List Placed) × Fits w rest × (r ≡ Ok (x, rest))
+
+-- no token of the part is this mark
+abbrev pub IsOther : Mark → Part → Type 0
+IsOther m q = (p : Placed) → IsPart q p → is_fixed m p.token ≡ false
+
+-- the parts don't begin with this mark
+abbrev pub Apart : Mark → List Part → Type 0
+Apart m [] = Unit {0}
+Apart m (q ∷ w) = IsOther m q
+
+other_said : (m k : Mark) → same_mark k m ≡ false → IsOther m (said k)
+other_said m k h = λ p e. ap (is_fixed m) e ∙ h
+
+other_at : (m k : Mark) (at : ℕ) → same_mark k m ≡ false → IsOther m (said_at k at)
+other_at m k at h = λ p e. ap (λ (p : Placed). is_fixed m p.token) e ∙ h
+
+name_other : (m : Mark) (at : ℕ) (t : Token) (n : Name) → name_by at t ≡ Some n → is_fixed m t ≡ false
+name_other m at (Word w) n e = refl
+name_other m at _ n e = absurd (cc)
+
+version_other : (m : Mark) (at : ℕ) (t : Token) (s : Stamp) → version_by at t ≡ Some s → is_fixed m t ≡ false
+version_other m at (Number n) s e = refl
+version_other m at _ s e = absurd (cc)
+
+after_again : (m : Mark) (w : List Part) (ts : List Placed) → Fits (said m ∷ w) ts → (rest : List Placed) × Fits w rest × (after m ts ≡ Some rest)
 unfolding after
-after_again m [] w e = absurd (cc)
-after_again m (p ∷ ts) w e =
-    let h : p.token ≡ Fixed m = cc in
-    let k : words_of ts ≡ w = cc in
-    (ts, k, ap (λ t. cond (is_fixed m t) (Some ts) None) h ∙ ap (λ b. cond b (Some ts) None) (eq-eqb (place m) (place m) refl))
+after_again m w [] h = absurd h
+after_again m w (p ∷ ts) h = (ts, h.1, ap (λ t. cond (is_fixed m t) (Some ts) None) h.0 ∙ ap (λ b. cond b (Some ts) None) (eq-eqb (place m) (place m) refl))
 
--- another token comes
-pub after_none : (m : Mark) (ts : List Placed) (t : Token) (w : List Token) → words_of ts ≡ t ∷ w → is_fixed m t ≡ false → after m ts ≡ None
+after_none : (m : Mark) (w : List Part) (ts : List Placed) → Apart m w → Fits w ts → after m ts ≡ None
 unfolding after
-after_none m [] t w e f = absurd (cc)
-after_none m (p ∷ ts) t w e f =
-    let h : p.token ≡ t = cc in
-    ap (λ x. cond (is_fixed m x) (Some ts) None) h ∙ ap (λ b. cond b (Some ts) None) f
+after_none m [] [] a h = refl
+after_none m [] (p ∷ ts) a h = absurd h
+after_none m (q ∷ w) [] a h = absurd h
+after_none m (q ∷ w) (p ∷ ts) a h = ap (λ b. cond b (Some ts) None) (a p h.0)
 
-pub after_end : (m : Mark) (ts : List Placed) → words_of ts ≡ [] → after m ts ≡ None
-unfolding after
-after_end m [] e = refl
-after_end m (p ∷ ts) e = absurd (cc)
-
-pub expect_again : (m : Mark) (ts : List Placed) (w : List Token) → words_of ts ≡ Fixed m ∷ w → (rest : List Placed) × (words_of rest ≡ w) × (expect m ts ≡ Ok rest)
+expect_again : (m : Mark) (w : List Part) (ts : List Placed) → Fits (said m ∷ w) ts → (rest : List Placed) × Fits w rest × (expect m ts ≡ Ok rest)
 unfolding expect
-expect_again m ts w e = let h = after_again m ts w e in (h.0, h.1, ap (λ o. where_some o (Err (place_of ts)) (λ rest. Ok rest)) h.2)
+expect_again m w ts h = let a = after_again m w ts h in (a.0, a.1, ap (λ o. where_some o (Err (place_of ts)) (λ rest. Ok rest)) a.2)
 
-pub name_again : (n : Name) (ts : List Placed) (w : List Token) → words_of ts ≡ Word n ∷ w → (rest : List Placed) × (words_of rest ≡ w) × (name_at ts ≡ Ok (n, rest))
-unfolding name_at
-name_again n [] w e = absurd (cc)
-name_again n (p ∷ ts) w e =
-    let h : p.token ≡ Word n = cc in
-    let k : words_of ts ≡ w = cc in
-    (ts, k, ap (λ t. where_some (name_of t) (Err (Some p.at)) (λ n. Ok (n, ts))) h)
+take_again : {A : Type 0} (take : Placed → Option A) (part : A → Part) → ((p : Placed) (x : A) → IsPart (part x) p → take p ≡ Some x) → (x : A) (w : List Part) (ts : List Placed) → Fits (part x ∷ w) ts → Read x w (take_at take ts)
+unfolding take_at
+take_again take part back x w [] h = absurd h
+take_again take part back x w (p ∷ ts) h = (ts, h.1, ap (λ o. where_some o (Err (Some p.at)) (λ x. Ok (x, ts))) (back p x h.0))
 
-pub version_again : (s : Stamp) (ts : List Placed) (w : List Token) → words_of ts ≡ Number s ∷ w → (rest : List Placed) × (words_of rest ≡ w) × (version_at ts ≡ Ok (s, rest))
-unfolding version_at
-version_again s [] w e = absurd (cc)
-version_again s (p ∷ ts) w e =
-    let h : p.token ≡ Number s = cc in
-    let k : words_of ts ≡ w = cc in
-    (ts, k, ap (λ t. where_some (version_of t) (Err (Some p.at)) (λ s. Ok (s, ts))) h)
+name_again : (n : Name) (w : List Part) (ts : List Placed) → Fits (named n ∷ w) ts → Read n w (take_at name_of ts)
+name_again n w ts h = take_again name_of named (λ p x e. e) n w ts h
 
-pub ended_again : (s : Statement) (ts : List Placed) → words_of ts ≡ [] → ended s ts ≡ Ok s
-unfolding ended
-ended_again s [] e = refl
-ended_again s (p ∷ ts) e = absurd (cc)
+version_again : (s : Stamp) (w : List Part) (ts : List Placed) → Fits (version s ∷ w) ts → Read s w (take_at version_of ts)
+version_again s w ts h = take_again version_of version (λ p x e. e) s w ts h
+
+bound_again : (s : Stamp) (w : List Part) (ts : List Placed) → Fits (bound s ∷ w) ts → Read s w (take_at bound_of ts)
+bound_again s w ts h = take_again bound_of bound (λ p x e. e) s w ts h
+
+constant_back : (p : Placed) (x : Cell × ℕ) → IsPart (constant x.0 x.1) p → constant_of p ≡ Some x
+constant_back p x e = ap (option_map (λ c. (c, p.at))) e.0 ∙ ap (λ n. Some (x.0, n)) e.1
+
+column_back : (at : ℕ) (t : Token) (n : Name) → name_by at t ≡ Some n → item_by at t ≡ Some (items.Column n)
+column_back at (Word w) n e = ap (λ n. Some (items.Column n)) (some_one e)
+column_back at _ n e = absurd (cc)
+
+item_back : (p : Placed) (x : Item) → IsPart (item_part x) p → item_of p ≡ Some x
+item_back p (items.Column n) e = column_back p.at p.token n e
+item_back p (items.ValidFrom at) e = ap item_of e
+item_back p (items.ValidTo at) e = ap item_of e
+
+kind_back : (p : Placed) (k : ColumnKind) → IsPart (said (kind_mark k)) p → kind_of p ≡ Some k
+kind_back p kinds.IntKind e = ap kind_by e
+kind_back p kinds.TextKind e = ap kind_by e
+
+cmp_back : (p : Placed) (c : Cmp) (at : ℕ) → IsPart (said_at (cmp_mark c) at) p → cmp_of p ≡ Some (c, at)
+cmp_back p cmps.Eq at e = ap cmp_of e
+cmp_back p cmps.Ne at e = ap cmp_of e
+cmp_back p cmps.Lt at e = ap cmp_of e
+cmp_back p cmps.Le at e = ap cmp_of e
+cmp_back p cmps.Gt at e = ap cmp_of e
+cmp_back p cmps.Ge at e = ap cmp_of e
+
+agg_back : (p : Placed) (k : AggKind) → IsPart (said (agg_mark k)) p → agg_of p ≡ Some k
+agg_back p aggs.Count e = ap agg_by e
+agg_back p aggs.Sum e = ap agg_by e
+agg_back p aggs.Avg e = ap agg_by e
+agg_back p aggs.Min e = ap agg_by e
+agg_back p aggs.Max e = ap agg_by e
+
+no_valid : (at : ℕ) (t : Token) → is_fixed marks.Valid t ≡ false → valid_by at t ≡ None
+no_valid at (Fixed marks.Valid) e = absurd (cc)
+no_valid at _ e = refl
+
+valid_word_again : (at : ℕ) (w : List Part) (ts : List Placed) → Fits (said_at marks.Valid at ∷ w) ts → (rest : List Placed) × Fits w rest × (peek_at valid_of ts ≡ Some (at, rest))
+unfolding peek_at
+valid_word_again at w [] h = absurd h
+valid_word_again at w (p ∷ ts) h = (ts, h.1, ap (λ p. option_map (λ x. (x, ts)) (valid_of p)) h.0)
+
+valid_word_none : (w : List Part) (ts : List Placed) → Apart marks.Valid w → Fits w ts → peek_at valid_of ts ≡ None
+unfolding peek_at
+valid_word_none [] [] a h = refl
+valid_word_none [] (p ∷ ts) a h = absurd h
+valid_word_none (q ∷ w) [] a h = absurd h
+valid_word_none (q ∷ w) (p ∷ ts) a h = ap (option_map (λ x. (x, ts))) (no_valid p.at p.token (a p h.0))
+
+ended_again : (s : Statement) (b : Bool) (ts : List Placed) → Fits (end_parts b) ts → ended s ts ≡ Ok s
+unfolding ended last_of
+ended_again s true ts h = let a = after_again marks.Semicolon [] ts h in ap (λ o. where_some o (last_of s ts) (last_of s)) a.2 ∙ none_left a.0 a.1 where
+  none_left : (rest : List Placed) → Fits [] rest → last_of s rest ≡ Ok s
+  none_left [] h = refl
+  none_left (p ∷ rest) h = absurd h
+ended_again s false [] h = ap (λ o. where_some o (last_of s []) (last_of s)) (after_none marks.Semicolon [] [] tt tt)
+ended_again s false (p ∷ ts) h = absurd h
 
 -- one reading after another
-pub then_again : {A B : Type 0} (r : Result A (Option ℕ)) (x : A) (f : A → Result B (Option ℕ)) (y : Result B (Option ℕ)) → r ≡ Ok x → f x ≡ y → r >>= f ≡ y
+then_again : {A B : Type 0} (r : Result A (Option ℕ)) (x : A) (f : A → Result B (Option ℕ)) (y : Result B (Option ℕ)) → r ≡ Ok x → f x ≡ y → r >>= f ≡ y
 then_again r x f y e h = ap (λ r. r >>= f) e ∙ h
 
-kind_again : (k : ColumnKind) (ts : List Placed) (w : List Token) → words_of ts ≡ Fixed (kind_mark k) ∷ w → (rest : List Placed) × (words_of rest ≡ w) × (kind_at ts ≡ Ok (k, rest))
-unfolding kind_at text_kind_at
-kind_again kinds.IntKind ts w e = let a = after_again marks.Int ts w e in (a.0, a.1, ap (λ o. where_some o (text_kind_at ts) (λ rest. Ok (kinds.IntKind, rest))) a.2)
-kind_again kinds.TextKind ts w e =
-    let a = after_again marks.Text ts w e in (
-      a.0,
-      a.1,
-      ap (λ o. where_some o (text_kind_at ts) (λ rest. Ok (kinds.IntKind, rest))) (after_none marks.Int ts _ _ e refl)
-          ∙ ap (λ o. where_some o (Err (place_of ts)) (λ rest. Ok (kinds.TextKind, rest))) a.2,
-    )
+-- LISTS
 
-pub column_again : (c : ColumnForm) (ts : List Placed) (w : List Token) → words_of ts ≡ column_parts c ++ w → (rest : List Placed) × (words_of rest ≡ w) × (column_at ts ≡ Ok (c, rest))
-unfolding column_at
-column_again c ts w e =
-    let n = name_again c.name ts (Fixed (kind_mark c.kind) ∷ w) e in
-    let k = kind_again c.kind n.0 w n.1 in
-    (k.0, k.1, then_again (name_at ts) (c.name, n.0) _ _ n.2 (then_again (kind_at n.0) (c.kind, k.0) _ _ k.2 refl))
+-- A reader reads again each value that passes a test, where what follows it does too.
+abbrev Again : {A : Type 0} → (A → Type 0) → (List Part → Type 0) → Reads A → (A → List Part) → Type 0
+Again {A} Q F one parts = (x : A) → Q x → (w : List Part) → F w → (ts : List Placed) → Fits (parts x ++ w) ts → Read x w (one ts)
 
--- nothing that would go on a list of columns or items: no comma comes
-abbrev pub NoComma : List Token → Type 0
-NoComma [] = Unit {0}
-NoComma (t ∷ w) = is_fixed marks.Comma t ≡ false
+-- what follows the first of several
+more_follow : {A : Type 0} (F : List Part → Type 0) (m : Mark) (parts : A → List Part) → ((w : List Part) → F (said m ∷ w)) → (xs : List A) (w : List Part) → F w → F (behind_each m parts xs ++ w)
+more_follow F m parts behind [] w h = h
+more_follow F m parts behind (x ∷ xs) w h = behind ((parts x ++ behind_each m parts xs) ++ w)
 
-comma_none : (ts : List Placed) (w : List Token) → words_of ts ≡ w → NoComma w → after marks.Comma ts ≡ None
-comma_none ts [] e h = after_end marks.Comma ts e
-comma_none ts (t ∷ w) e h = after_none marks.Comma ts t w e h
-
-pub further_columns_again : (cs : List ColumnForm) (room : ℕ) → length cs ≤ room → (ts : List Placed) (w : List Token) → NoComma w → words_of ts ≡ further_columns cs ++ w → (rest : List Placed) × (words_of rest ≡ w) × (further_columns_at room ts ≡ Ok (cs, rest))
-unfolding further_columns_at
-further_columns_again [] zero few ts w stop e = (ts, e, refl)
-further_columns_again [] (suc room) few ts w stop e = (ts, e, ap (λ o. where_some o (Ok ([], ts)) (λ rest. column_at rest >>= λ c. in_front c.0 (further_columns_at room c.1))) (comma_none ts w e stop))
-further_columns_again (c ∷ cs) zero few ts w stop e = absurd (omega arith)
-further_columns_again (c ∷ cs) (suc room) few ts w stop e =
-    let a = after_again marks.Comma ts (column_parts c ++ (further_columns cs ++ w)) e in
-    let x = column_again c a.0 (further_columns cs ++ w) a.1 in
-    let y = further_columns_again cs room (omega arith) x.0 w stop x.1 in (
+up_to_again : {A : Type 0} (Q : A → Type 0) (F : List Part → Type 0) (m : Mark) (one : Reads A) (parts : A → List Part) → Again Q F one parts → ((w : List Part) → F (said m ∷ w))
+    → (xs : List A) → AllByRecursion Q xs → (room : ℕ) → length xs ≤ room → (w : List Part) → Apart m w → F w → (ts : List Placed) → Fits (behind_each m parts xs ++ w) ts → Read xs w (up_to m one room ts)
+unfolding up_to
+up_to_again Q F m one parts law behind [] qs zero few w stop f ts h = (ts, h, refl)
+up_to_again Q F m one parts law behind [] qs (suc room) few w stop f ts h = (ts, h, ap (λ o. where_some o (Ok ([], ts)) (λ rest. one rest >>= λ x. in_front x.0 (up_to m one room x.1))) (after_none m w ts stop h))
+up_to_again Q F m one parts law behind (x ∷ xs) qs zero few w stop f ts h = absurd (omega arith)
+up_to_again Q F m one parts law behind (x ∷ xs) qs (suc room) few w stop f ts h =
+    let a = after_again m ((parts x ++ behind_each m parts xs) ++ w) ts h in
+    let i = law x qs.0 (behind_each m parts xs ++ w) (more_follow F m parts behind xs w f) a.0 (subst (λ z. Fits z a.0) (append_assoc (parts x) (behind_each m parts xs) w) a.1) in
+    let y = up_to_again Q F m one parts law behind xs qs.1 room (omega arith) w stop f i.0 i.1 in (
       y.0,
       y.1,
-      ap (λ o. where_some o (Ok ([], ts)) (λ rest. column_at rest >>= λ c. in_front c.0 (further_columns_at room c.1))) a.2
-          ∙ then_again (column_at a.0) (c, x.0) (λ c. in_front c.0 (further_columns_at room c.1)) _ x.2 (ap (in_front c) y.2),
+      ap (λ o. where_some o (Ok ([], ts)) (λ rest. one rest >>= λ x. in_front x.0 (up_to m one room x.1))) a.2 ∙ then_again (one a.0) (x, i.0) (λ x. in_front x.0 (up_to m one room x.1)) _ i.2 (ap (in_front x) y.2),
     )
 
-pub columns_again : (cs : List ColumnForm) → 1 ≤ length cs → length cs ≤ 16 → (ts : List Placed) (w : List Token) → NoComma w → words_of ts ≡ columns_parts cs ++ w → (rest : List Placed) × (words_of rest ≡ w) × (columns_at ts ≡ Ok (cs, rest))
+-- a first value, and those behind it
+first_again : {A : Type 0} (Q : A → Type 0) (F : List Part → Type 0) (m : Mark) (one : Reads A) (parts : A → List Part) → Again Q F one parts → ((w : List Part) → F (said m ∷ w))
+    → (x : A) (xs : List A) → Q x → AllByRecursion Q xs → (room : ℕ) → length xs ≤ room → (w : List Part) → Apart m w → F w → (ts : List Placed) → (rest : List Placed) → Fits (behind_each m parts xs ++ w) rest → one ts ≡ Ok (x, rest) → Read (x ∷ xs) w (one ts >>= λ x. in_front x.0 (up_to m one room x.1))
+first_again Q F m one parts law behind x xs q qs room few w stop f ts rest h e =
+    let y = up_to_again Q F m one parts law behind xs qs room few w stop f rest h in
+    (y.0, y.1, then_again (one ts) (x, rest) (λ x. in_front x.0 (up_to m one room x.1)) _ e (ap (in_front x) y.2))
+
+fits_length : (parts : List Part) (ts : List Placed) → Fits parts ts → length ts ≡ length parts
+fits_length [] [] h = refl
+fits_length [] (p ∷ ts) h = absurd h
+fits_length (q ∷ parts) [] h = absurd h
+fits_length (q ∷ parts) (p ∷ ts) h = ap suc (fits_length parts ts h.1)
+
+each_length : {A : Type 0} (m : Mark) (parts : A → List Part) (xs : List A) (w : List Part) → length xs ≤ length (behind_each m parts xs ++ w)
+each_length m parts [] w = omega arith
+each_length m parts (x ∷ xs) w =
+    let e : length ((parts x ++ behind_each m parts xs) ++ w) ≡ length (parts x) + length (behind_each m parts xs ++ w) = ap length (append_assoc (parts x) (behind_each m parts xs) w) ∙ length-append (parts x) (behind_each m parts xs ++ w) in
+    omega (arith, each_length m parts xs w)
+
+several_again : {A : Type 0} (Q : A → Type 0) (F : List Part → Type 0) (m : Mark) (one : Reads A) (parts : A → List Part) → Again Q F one parts → ((w : List Part) → F (said m ∷ w))
+    → (xs : List A) → 1 ≤ length xs → AllByRecursion Q xs → (w : List Part) → Apart m w → F w → (ts : List Placed) → Fits (parted m parts xs ++ w) ts → Read xs w (several m one ts)
+unfolding several
+several_again Q F m one parts law behind [] some qs w stop f ts h = absurd (omega arith)
+several_again Q F m one parts law behind (x ∷ xs) some qs w stop f ts h =
+    let i = law x qs.0 (behind_each m parts xs ++ w) (more_follow F m parts behind xs w f) ts (subst (λ z. Fits z ts) (append_assoc (parts x) (behind_each m parts xs) w) h) in
+    let few : length xs ≤ length i.0 = omega (arith, fits_length (behind_each m parts xs ++ w) i.0 i.1, each_length m parts xs w) in
+    let y = up_to_again Q F m one parts law behind xs qs.1 (length i.0) few w stop f i.0 i.1 in
+    (y.0, y.1, then_again (one ts) (x, i.0) (λ x. in_front x.0 (further m one x.1)) _ i.2 (ap (in_front x) y.2))
+
+-- no test, and nothing asked of what follows
+abbrev Any : {A : Type 0} → A → Type 0
+Any x = Unit {0}
+
+every : {A : Type 0} (xs : List A) → AllByRecursion Any xs
+every [] = tt
+every (x ∷ xs) = (tt, every xs)
+
+-- PRODUCTIONS
+
+column_again : Again Any Any column_at column_parts
+unfolding column_at
+column_again c q w f ts h =
+    let n = name_again c.name (said (kind_mark c.kind) ∷ w) ts h in
+    let k = take_again kind_of (λ k. said (kind_mark k)) kind_back c.kind w n.0 n.1 in
+    (k.0, k.1, then_again (take_at name_of ts) (c.name, n.0) _ _ n.2 (then_again (take_at kind_of n.0) (c.kind, k.0) _ _ k.2 refl))
+
+columns_again : (cs : List ColumnForm) → 1 ≤ length cs → length cs ≤ 16 → (w : List Part) → Apart marks.Comma w → (ts : List Placed) → Fits (parted marks.Comma column_parts cs ++ w) ts → Read cs w (columns_at ts)
 unfolding columns_at
-columns_again [] some few ts w stop e = absurd (omega arith)
-columns_again (c ∷ cs) some few ts w stop e =
-    let x = column_again c ts (further_columns cs ++ w) e in
-    let y = further_columns_again cs 15 (omega arith) x.0 w stop x.1 in
-    (y.0, y.1, then_again (column_at ts) (c, x.0) (λ c. in_front c.0 (further_columns_at 15 c.1)) _ x.2 (ap (in_front c) y.2))
+columns_again [] some few w stop ts h = absurd (omega arith)
+columns_again (c ∷ cs) some few w stop ts h =
+    let x = column_again c tt (behind_each marks.Comma column_parts cs ++ w) tt ts (subst (λ z. Fits z ts) (append_assoc (column_parts c) (behind_each marks.Comma column_parts cs) w) h) in
+    first_again Any Any marks.Comma column_at column_parts column_again (λ w. tt) c cs tt (every cs) 15 (omega arith) w stop tt ts x.0 x.1 x.2
 
-item_of_token : (x : Item) → item_of (item_token x) ≡ Some x
-item_of_token (items.Column n) = refl
-item_of_token (items.ValidFrom at) = refl
-item_of_token (items.ValidTo at) = refl
+valid_again : (v : Bool) (w : List Part) → Apart marks.Valid w → (ts : List Placed) → Fits (valid_parts v ++ w) ts → Read v w (valid_at ts)
+unfolding valid_at
+valid_again true w stop ts h = let a = after_again marks.Valid w ts h in (a.0, a.1, ap (λ o. where_some o (Ok (false, ts)) (λ rest. Ok (true, rest))) a.2)
+valid_again false w stop ts h = (ts, h, ap (λ o. where_some o (Ok (false, ts)) (λ rest. Ok (true, rest))) (after_none marks.Valid w ts stop h))
 
-item_again : (x : Item) (ts : List Placed) (w : List Token) → words_of ts ≡ item_token x ∷ w → (rest : List Placed) × (words_of rest ≡ w) × (item_at ts ≡ Ok (x, rest))
-unfolding item_at
-item_again x [] w e = absurd (cc)
-item_again x (p ∷ ts) w e =
-    let h : p.token ≡ item_token x = cc in
-    let k : words_of ts ≡ w = cc in
-    (ts, k, ap (λ o. where_some o (Err (Some p.at)) (λ x. Ok (x, ts))) (ap item_of h ∙ item_of_token x))
+item_again : Again Any Any (take_at item_of) item_parts
+item_again x q w f ts h = take_again item_of item_part item_back x w ts h
 
-further_items_again : (xs : List Item) (ts : List Placed) (w : List Token) → NoComma w → words_of ts ≡ further_items xs ++ w → (rest : List Placed) × (words_of rest ≡ w) × (items_at false ts ≡ Ok (xs, rest))
-further_items_again [] ts w stop e = (ts, e, items_end ts (comma_none ts w e stop))
-further_items_again (x ∷ xs) ts w stop e =
-    let a = after_again marks.Comma ts (item_token x ∷ (further_items xs ++ w)) e in
-    let i = item_again x a.0 (further_items xs ++ w) a.1 in
-    let y = further_items_again xs i.0 w stop i.1 in
-    (y.0, y.1, items_comma ts a.0 a.2 ∙ item_first a.0 i.0 x i.2 ∙ ap (before (x ∷ [])) y.2)
+item_no_star : (x : Item) → IsOther marks.Star (item_part x)
+item_no_star (items.Column n) = λ p e. name_other marks.Star p.at p.token n e
+item_no_star (items.ValidFrom at) = other_at marks.Star marks.ValidFrom at refl
+item_no_star (items.ValidTo at) = other_at marks.Star marks.ValidTo at refl
 
-pub items_again : (x : Item) (xs : List Item) (ts : List Placed) (w : List Token) → NoComma w → words_of ts ≡ items_parts (x ∷ xs) ++ w → (rest : List Placed) × (words_of rest ≡ w) × (items_at true ts ≡ Ok (x ∷ xs, rest))
-items_again x xs ts w stop e =
-    let i = item_again x ts (further_items xs ++ w) e in
-    let y = further_items_again xs i.0 w stop i.1 in
-    (y.0, y.1, item_first ts i.0 x i.2 ∙ ap (before (x ∷ [])) y.2)
+items_no_star : (xs : List Item) (w : List Part) → 1 ≤ length xs → Apart marks.Star (parted marks.Comma item_parts xs ++ w)
+items_no_star [] w some = absurd (omega arith)
+items_no_star (x ∷ xs) w some = item_no_star x
 
--- an item is not `*`
-item_no_star : (x : Item) → is_fixed marks.Star (item_token x) ≡ false
-item_no_star (items.Column n) = refl
-item_no_star (items.ValidFrom at) = refl
-item_no_star (items.ValidTo at) = refl
-
-asked_again : (all : Bool) (xs : List Item) → IsAsked all xs → (ts : List Placed) (w : List Token) → NoComma w → words_of ts ≡ asked_parts all xs ++ w → (rest : List Placed) × (words_of rest ≡ w) × (asked_at ts ≡ Ok ((all, xs), rest))
+asked_again : (all : Bool) (xs : List Item) → IsAsked all xs → (w : List Part) → Apart marks.Comma w → (ts : List Placed) → Fits (asked_parts all xs ++ w) ts → Read (all, xs) w (asked_at ts)
 unfolding asked_at
-asked_again true [] is ts w stop e = let a = after_again marks.Star ts w e in (a.0, a.1, ap (λ o. where_some o (items_at true ts >>= λ x. Ok ((false, x.0), x.1)) (λ rest. Ok ((true, []), rest))) a.2)
-asked_again true (x ∷ xs) is ts w stop e = absurd (cc)
-asked_again false [] is ts w stop e = absurd (omega (arith, is))
-asked_again false (x ∷ xs) is ts w stop e =
-    let a = items_again x xs ts w stop e in (
+asked_again true [] is w stop ts h = let a = after_again marks.Star w ts h in (a.0, a.1, ap (λ o. where_some o (items_at ts >>= λ x. Ok ((false, x.0), x.1)) (λ rest. Ok ((true, []), rest))) a.2)
+asked_again true (x ∷ xs) is w stop ts h = absurd (cc)
+asked_again false xs is w stop ts h =
+    let a = several_again Any Any marks.Comma (take_at item_of) item_parts item_again (λ w. tt) xs is (every xs) w stop tt ts h in (
       a.0,
       a.1,
-      ap (λ o. where_some o (items_at true ts >>= λ x. Ok ((false, x.0), x.1)) (λ rest. Ok ((true, []), rest))) (after_none marks.Star ts (item_token x) _ e (item_no_star x))
-          ∙ then_again (items_at true ts) (x ∷ xs, a.0) _ _ a.2 refl,
+      ap (λ o. where_some o (items_at ts >>= λ x. Ok ((false, x.0), x.1)) (λ rest. Ok ((true, []), rest))) (after_none marks.Star (parted marks.Comma item_parts xs ++ w) ts (items_no_star xs w is) h) ∙ then_again (items_at ts) (xs, a.0) _ _ a.2 refl,
     )
 
-pub as_of_again : (o : Option Stamp) (ts : List Placed) → words_of ts ≡ as_of_parts o → (rest : List Placed) × (words_of rest ≡ []) × (as_of_at ts ≡ Ok (o, rest))
+test_again : Again Any Any test_at test_parts
+unfolding test_at
+test_again t q w f ts h =
+    let n = name_again t.column (said_at (cmp_mark t.cmp) t.cmp_at ∷ constant t.value t.value_at ∷ w) ts h in
+    let c = take_again cmp_of (λ x. said_at (cmp_mark x.0) x.1) (λ p x e. cmp_back p x.0 x.1 e) (t.cmp, t.cmp_at) (constant t.value t.value_at ∷ w) n.0 n.1 in
+    let v = take_again constant_of (λ x. constant x.0 x.1) constant_back (t.value, t.value_at) w c.0 c.1 in
+    (v.0, v.1, then_again (take_at name_of ts) (t.column, n.0) _ _ n.2 (then_again (take_at cmp_of n.0) ((t.cmp, t.cmp_at), c.0) _ _ c.2 (then_again (take_at constant_of c.0) ((t.value, t.value_at), v.0) _ _ v.2 refl)))
+
+conj_again : Again (λ tests. 1 ≤ length tests) (Apart marks.And) conj_at conj_parts
+conj_again tests some w stop ts h = several_again Any Any marks.And test_at test_parts test_again (λ w. tt) tests some (every tests) w stop tt ts h
+
+-- what may follow WHERE
+pub record Follows (w : List Part) : Type 0 where
+  pub no_where : Apart marks.Where w
+  pub no_and : Apart marks.And w
+  pub no_or : Apart marks.Or w
+
+any_again : (any : List (List Test)) → AllByRecursion (λ tests. 1 ≤ length tests) any → (w : List Part) → Follows w → (ts : List Placed) → Fits (any_parts any ++ w) ts → Read (record { any = any }) w (where_at ts)
+unfolding where_at
+any_again [] good w f ts h = (ts, h, ap (λ o. where_some o (Ok (record { any = [] }, ts)) (λ rest. several marks.Or conj_at rest >>= λ any. Ok (record { any = any.0 }, any.1))) (after_none marks.Where w ts f.no_where h))
+any_again (tests ∷ any) good w f ts h =
+    let a = after_again marks.Where (parted marks.Or conj_parts (tests ∷ any) ++ w) ts h in
+    let s = several_again (λ tests. 1 ≤ length tests) (Apart marks.And) marks.Or conj_at conj_parts conj_again (λ w. other_said marks.And marks.Or refl) (tests ∷ any) (omega arith) good w f.no_or f.no_and a.0 a.1 in (
+      s.0,
+      s.1,
+      ap (λ o. where_some o (Ok (record { any = [] }, ts)) (λ rest. several marks.Or conj_at rest >>= λ any. Ok (record { any = any.0 }, any.1))) a.2 ∙ then_again (several marks.Or conj_at a.0) (tests ∷ any, s.0) _ _ s.2 refl,
+    )
+
+where_again : (p : Pred) → IsPred p → (w : List Part) → Follows w → (ts : List Placed) → Fits (where_parts p ++ w) ts → Read p w (where_at ts)
+where_again p good w f ts h = any_again p.any good w f ts h
+
+valid_point_again : (o : Option ValidPoint) (w : List Part) → Apart marks.Valid w → (ts : List Placed) → Fits (valid_at_parts o ++ w) ts → Read o w (valid_point_at ts)
+unfolding valid_point_at
+valid_point_again None w stop ts h = (ts, h, ap (λ o. where_some o (Ok (None, ts)) (λ valid. expect marks.At valid.1 >>= λ rest. take_at moment_of rest >>= λ value. Ok (Some (record { pos = valid.0; value = value.0 }), value.1))) (valid_word_none w ts stop h))
+valid_point_again (Some v) w stop ts h =
+    let a = valid_word_again v.pos (said marks.At ∷ moment v.value ∷ w) ts h in
+    let o = expect_again marks.At (moment v.value ∷ w) a.0 a.1 in
+    let n = take_again moment_of moment (λ p x e. e) v.value w o.0 o.1 in (
+      n.0,
+      n.1,
+      ap (λ o. where_some o (Ok (None, ts)) (λ valid. expect marks.At valid.1 >>= λ rest. take_at moment_of rest >>= λ value. Ok (Some (record { pos = valid.0; value = value.0 }), value.1))) a.2
+          ∙ then_again (expect marks.At a.0) o.0 _ _ o.2 (then_again (take_at moment_of o.0) (v.value, n.0) _ _ n.2 refl),
+    )
+
+as_of_again : (o : Option Stamp) (w : List Part) → Apart marks.As w → (ts : List Placed) → Fits (as_of_parts o ++ w) ts → Read o w (as_of_at ts)
 unfolding as_of_at
-as_of_again None ts e = (ts, e, ap (λ o. where_some o (Ok (None, ts)) (λ rest. expect marks.Of rest >>= λ next. version_at next >>= λ s. Ok (Some s.0, s.1))) (after_end marks.As ts e))
-as_of_again (Some s) ts e =
-    let a = after_again marks.As ts (Fixed marks.Of ∷ Number s ∷ []) e in
-    let o = expect_again marks.Of a.0 (Number s ∷ []) a.1 in
-    let v = version_again s o.0 [] o.1 in (
+as_of_again None w stop ts h = (ts, h, ap (λ o. where_some o (Ok (None, ts)) (λ rest. expect marks.Of rest >>= λ next. take_at version_of next >>= λ s. Ok (Some s.0, s.1))) (after_none marks.As w ts stop h))
+as_of_again (Some s) w stop ts h =
+    let a = after_again marks.As (said marks.Of ∷ version s ∷ w) ts h in
+    let o = expect_again marks.Of (version s ∷ w) a.0 a.1 in
+    let v = version_again s w o.0 o.1 in (
       v.0,
       v.1,
-      ap (λ o. where_some o (Ok (None, ts)) (λ rest. expect marks.Of rest >>= λ next. version_at next >>= λ s. Ok (Some s.0, s.1))) a.2
-          ∙ then_again (expect marks.Of a.0) o.0 (λ next. version_at next >>= λ s. Ok (Some s.0, s.1)) _ o.2 (then_again (version_at o.0) (s, v.0) (λ s. Ok (Some s.0, s.1)) _ v.2 refl),
+      ap (λ o. where_some o (Ok (None, ts)) (λ rest. expect marks.Of rest >>= λ next. take_at version_of next >>= λ s. Ok (Some s.0, s.1))) a.2
+          ∙ then_again (expect marks.Of a.0) o.0 _ _ o.2 (then_again (take_at version_of o.0) (s, v.0) _ _ v.2 refl),
     )
 
-put_again : (n : Name) (ts : List Placed) → words_of ts ≡ Word n ∷ [] → put_at ts ≡ Ok (statements.Put n)
-unfolding put_at
-put_again n ts e =
-    let x = name_again n ts [] e in
-    then_again (name_at ts) (n, x.0) (λ x. ended (statements.Put x.0) x.1) _ x.2 (ended_again (statements.Put n) x.0 x.1)
+by_again : (o : Option Name) (w : List Part) → Apart marks.By w → (ts : List Placed) → Fits (by_parts o ++ w) ts → Read o w (by_at ts)
+unfolding by_at
+by_again None w stop ts h = (ts, h, ap (λ o. where_some o (Ok (None, ts)) (λ rest. take_at name_of rest >>= λ name. Ok (Some name.0, name.1))) (after_none marks.By w ts stop h))
+by_again (Some n) w stop ts h =
+    let a = after_again marks.By (named n ∷ w) ts h in
+    let x = name_again n w a.0 a.1 in
+    (x.0, x.1, ap (λ o. where_some o (Ok (None, ts)) (λ rest. take_at name_of rest >>= λ name. Ok (Some name.0, name.1))) a.2 ∙ then_again (take_at name_of a.0) (n, x.0) _ _ x.2 refl)
 
-remove_again : (n : Name) (ts : List Placed) → words_of ts ≡ Word n ∷ [] → remove_at ts ≡ Ok (statements.Remove n)
-unfolding remove_at
-remove_again n ts e =
-    let x = name_again n ts [] e in
-    then_again (name_at ts) (n, x.0) (λ x. ended (statements.Remove x.0) x.1) _ x.2 (ended_again (statements.Remove n) x.0 x.1)
+versions_again : (from to : Stamp) (w : List Part) (ts : List Placed) → Fits (version from ∷ said marks.To ∷ version to ∷ w) ts → Read (overs.System from to) w (versions_at ts)
+unfolding versions_at
+versions_again from to w ts h =
+    let a = version_again from (said marks.To ∷ version to ∷ w) ts h in
+    let o = expect_again marks.To (version to ∷ w) a.0 a.1 in
+    let b = version_again to w o.0 o.1 in
+    (b.0, b.1, then_again (take_at version_of ts) (from, a.0) _ _ a.2 (then_again (expect marks.To a.0) o.0 _ _ o.2 (then_again (take_at version_of o.0) (to, b.0) _ _ b.2 refl)))
 
-valid_again : (v : Bool) (ts : List Placed) → words_of ts ≡ valid_parts v → (rest : List Placed) × (words_of rest ≡ []) × (valid_at ts ≡ Ok (v, rest))
-unfolding valid_at
-valid_again true ts e = let a = after_again marks.Valid ts [] e in (a.0, a.1, ap (λ o. where_some o (Ok (false, ts)) (λ rest. Ok (true, rest))) a.2)
-valid_again false ts e = (ts, e, ap (λ o. where_some o (Ok (false, ts)) (λ rest. Ok (true, rest))) (after_end marks.Valid ts e))
+moments_again : (at : ℕ) (from to : Stamp) (as_of : Option Stamp) (w : List Part) → Apart marks.As w → (ts : List Placed) → Fits (said_at marks.Valid at ∷ bound from ∷ said marks.To ∷ bound to ∷ (as_of_parts as_of ++ w)) ts → Read (overs.Valid at from to as_of) w (moments_at ts)
+unfolding moments_at
+moments_again at from to as_of w stop ts h =
+    let v = take_again valid_of (said_at marks.Valid) (λ p x e. ap valid_of e) at (bound from ∷ said marks.To ∷ bound to ∷ (as_of_parts as_of ++ w)) ts h in
+    let a = bound_again from (said marks.To ∷ bound to ∷ (as_of_parts as_of ++ w)) v.0 v.1 in
+    let o = expect_again marks.To (bound to ∷ (as_of_parts as_of ++ w)) a.0 a.1 in
+    let b = bound_again to _ o.0 o.1 in
+    let s = as_of_again as_of w stop b.0 b.1 in (
+      s.0,
+      s.1,
+      then_again (take_at valid_of ts) (at, v.0) _ _ v.2 (then_again (take_at bound_of v.0) (from, a.0) _ _ a.2 (then_again (expect marks.To a.0) o.0 _ _ o.2 (then_again (take_at bound_of o.0) (to, b.0) _ _ b.2 (then_again (as_of_at b.0) (as_of, s.0) _ _ s.2 refl)))),
+    )
 
-create_again : (f : CreateForm) → IsCreate f → (ts : List Placed) → Fixed marks.Create ∷ words_of ts ≡ create_parts f → create_at ts ≡ Ok (statements.Create f)
+over_again : (o : Over) (w : List Part) → Apart marks.As w → (ts : List Placed) → Fits (over_parts o ++ w) ts → Read o w (over_at ts)
+unfolding over_at system_at
+over_again overs.SystemAll w stop ts h =
+    let o = expect_again marks.Over (said marks.System ∷ said marks.All ∷ w) ts h in
+    let s = after_again marks.System (said marks.All ∷ w) o.0 o.1 in
+    let a = after_again marks.All w s.0 s.1 in
+    (a.0, a.1, then_again (expect marks.Over ts) o.0 _ _ o.2 (ap (λ x. where_some x (moments_at o.0) system_at) s.2 ∙ ap (λ x. where_some x (versions_at s.0) (λ rest. Ok (overs.SystemAll, rest))) a.2))
+over_again (overs.System from to) w stop ts h =
+    let o = expect_again marks.Over (said marks.System ∷ version from ∷ said marks.To ∷ version to ∷ w) ts h in
+    let s = after_again marks.System (version from ∷ said marks.To ∷ version to ∷ w) o.0 o.1 in
+    let v = versions_again from to w s.0 s.1 in
+    let no : after marks.All s.0 ≡ None = after_none marks.All (version from ∷ said marks.To ∷ version to ∷ w) s.0 (λ p e. version_other marks.All p.at p.token from e) s.1 in
+    (v.0, v.1, then_again (expect marks.Over ts) o.0 _ _ o.2 (ap (λ x. where_some x (moments_at o.0) system_at) s.2 ∙ ap (λ x. where_some x (versions_at s.0) (λ rest. Ok (overs.SystemAll, rest))) no ∙ v.2))
+over_again (overs.Valid at from to as_of) w stop ts h =
+    let o = expect_again marks.Over (said_at marks.Valid at ∷ bound from ∷ said marks.To ∷ bound to ∷ (as_of_parts as_of ++ w)) ts h in
+    let m = moments_again at from to as_of w stop o.0 o.1 in
+    let no : after marks.System o.0 ≡ None = after_none marks.System (said_at marks.Valid at ∷ bound from ∷ said marks.To ∷ bound to ∷ (as_of_parts as_of ++ w)) o.0 (other_at marks.System marks.Valid at refl) o.1 in
+    (m.0, m.1, then_again (expect marks.Over ts) o.0 _ _ o.2 (ap (λ x. where_some x (moments_at o.0) system_at) no ∙ m.2))
+
+some_name_again : (n : Name) (w : List Part) (ts : List Placed) → Fits (named n ∷ w) ts → Read (Some n) w (take_at name_of ts >>= λ name. Ok (Some name.0, name.1))
+some_name_again n w ts h = let x = name_again n w ts h in (x.0, x.1, then_again (take_at name_of ts) (n, x.0) _ _ x.2 refl)
+
+column_name_again : (k : AggKind) (o : Option Name) → IsAggregate k o → (w : List Part) (ts : List Placed) → Fits (column_name_parts o ++ w) ts → Read o w (column_name_at k ts)
+unfolding column_name_at
+column_name_again aggs.Count None is w ts h = (ts, h, refl)
+column_name_again aggs.Count (Some n) is w ts h = absurd is
+column_name_again aggs.Sum None is w ts h = absurd is
+column_name_again aggs.Sum (Some n) is w ts h = some_name_again n w ts h
+column_name_again aggs.Avg None is w ts h = absurd is
+column_name_again aggs.Avg (Some n) is w ts h = some_name_again n w ts h
+column_name_again aggs.Min None is w ts h = absurd is
+column_name_again aggs.Min (Some n) is w ts h = some_name_again n w ts h
+column_name_again aggs.Max None is w ts h = absurd is
+column_name_again aggs.Max (Some n) is w ts h = some_name_again n w ts h
+
+side_again : (n : Name) (p : Pred) → IsPred p → (w : List Part) → Follows w → (ts : List Placed) → Fits (named n ∷ (where_parts p ++ w)) ts → Read (n, p) w (side_at ts)
+unfolding side_at
+side_again n p good w f ts h =
+    let x = name_again n _ ts h in
+    let y = where_again p good w f x.0 x.1 in
+    (y.0, y.1, then_again (take_at name_of ts) (n, x.0) _ _ x.2 (then_again (where_at x.0) (p, y.0) _ _ y.2 refl))
+
+on_again : (a b : Name) (w : List Part) (ts : List Placed) → Fits (said marks.On ∷ named a ∷ said marks.Equal ∷ named b ∷ w) ts → Read (a, b) w (on_at ts)
+unfolding on_at
+on_again a b w ts h =
+    let o = expect_again marks.On (named a ∷ said marks.Equal ∷ named b ∷ w) ts h in
+    let x = name_again a (said marks.Equal ∷ named b ∷ w) o.0 o.1 in
+    let e = expect_again marks.Equal (named b ∷ w) x.0 x.1 in
+    let y = name_again b w e.0 e.1 in
+    (y.0, y.1, then_again (expect marks.On ts) o.0 _ _ o.2 (then_again (take_at name_of o.0) (a, x.0) _ _ x.2 (then_again (expect marks.Equal x.0) e.0 _ _ e.2 (then_again (take_at name_of e.0) (b, y.0) _ _ y.2 refl))))
+
+-- WHAT FOLLOWS
+
+end_apart : (m : Mark) → same_mark marks.Semicolon m ≡ false → (b : Bool) → Apart m (end_parts b)
+end_apart m e true = other_said m marks.Semicolon e
+end_apart m e false = tt
+
+as_of_apart : (m : Mark) → same_mark marks.Semicolon m ≡ false → same_mark marks.As m ≡ false → (o : Option Stamp) (b : Bool) → Apart m (as_of_parts o ++ end_parts b)
+as_of_apart m e h None b = end_apart m e b
+as_of_apart m e h (Some s) b = other_said m marks.As h
+
+valid_apart : (m : Mark) → same_mark marks.Semicolon m ≡ false → same_mark marks.As m ≡ false → same_mark marks.Valid m ≡ false → (v : Option ValidPoint) (o : Option Stamp) (b : Bool) → Apart m (valid_at_parts v ++ (as_of_parts o ++ end_parts b))
+valid_apart m e h k None o b = as_of_apart m e h o b
+valid_apart m e h k (Some v) o b = other_at m marks.Valid v.pos k
+
+over_apart : (m : Mark) → same_mark marks.Over m ≡ false → (o : Over) (w : List Part) → Apart m (over_parts o ++ w)
+over_apart m e overs.SystemAll w = other_said m marks.Over e
+over_apart m e (overs.System from to) w = other_said m marks.Over e
+over_apart m e (overs.Valid at from to as_of) w = other_said m marks.Over e
+
+by_apart : (m : Mark) → same_mark marks.Over m ≡ false → same_mark marks.By m ≡ false → (n : Option Name) (o : Over) (w : List Part) → Apart m (by_parts n ++ (over_parts o ++ w))
+by_apart m e h None o w = over_apart m e o w
+by_apart m e h (Some n) o w = other_said m marks.By h
+
+agg_apart : (k : AggKind) → (same_mark (agg_mark k) marks.Create ≡ false) × (same_mark (agg_mark k) marks.Put ≡ false) × (same_mark (agg_mark k) marks.Remove ≡ false) × (same_mark (agg_mark k) marks.Select ≡ false) × (same_mark (agg_mark k) marks.Join ≡ false)
+agg_apart aggs.Count = (refl, refl, refl, refl, refl)
+agg_apart aggs.Sum = (refl, refl, refl, refl, refl)
+agg_apart aggs.Avg = (refl, refl, refl, refl, refl)
+agg_apart aggs.Min = (refl, refl, refl, refl, refl)
+agg_apart aggs.Max = (refl, refl, refl, refl, refl)
+
+-- STATEMENTS
+
+create_whole : (f : CreateForm) (w : List Part) → create_parts f ++ w ≡ said marks.Create ∷ said marks.Table ∷ named f.name ∷ said marks.Open ∷ (parted marks.Comma column_parts f.columns ++ (said marks.Close ∷ said marks.Key ∷ named f.key ∷ (valid_parts f.valid ++ w)))
+create_whole f w = simp append_assoc
+
+create_again : (f : CreateForm) → IsCreate f → (b : Bool) (ts : List Placed) → Fits (said marks.Table ∷ named f.name ∷ said marks.Open ∷ (parted marks.Comma column_parts f.columns ++ (said marks.Close ∷ said marks.Key ∷ named f.key ∷ (valid_parts f.valid ++ end_parts b)))) ts → create_at ts ≡ Ok (statements.Create f)
 unfolding create_at
-create_again f is ts e =
-    let k : words_of ts ≡ Fixed marks.Table ∷ Word f.name ∷ Fixed marks.Open ∷ (columns_parts f.columns ++ (Fixed marks.Close ∷ Fixed marks.Key ∷ Word f.key ∷ valid_parts f.valid)) = cc in
-    let table = expect_again marks.Table ts _ k in
-    let name = name_again f.name table.0 _ table.1 in
-    let opened = expect_again marks.Open name.0 _ name.1 in
-    let columns = columns_again f.columns is.some is.few opened.0 (Fixed marks.Close ∷ Fixed marks.Key ∷ Word f.key ∷ valid_parts f.valid) refl opened.1 in
-    let closed = expect_again marks.Close columns.0 _ columns.1 in
-    let word = expect_again marks.Key closed.0 _ closed.1 in
-    let key = name_again f.key word.0 (valid_parts f.valid) word.1 in
-    let valid = valid_again f.valid key.0 key.1 in
-    then_again (expect marks.Table ts) table.0 _ _ table.2 (then_again (name_at table.0) (f.name, name.0) _ _ name.2 (then_again (expect marks.Open name.0) opened.0 _ _ opened.2
+create_again f is b ts h =
+    let table = expect_again marks.Table (named f.name ∷ said marks.Open ∷ (parted marks.Comma column_parts f.columns ++ said marks.Close ∷ said marks.Key ∷ named f.key ∷ (valid_parts f.valid ++ end_parts b))) ts h in
+    let name = name_again f.name (said marks.Open ∷ (parted marks.Comma column_parts f.columns ++ said marks.Close ∷ said marks.Key ∷ named f.key ∷ (valid_parts f.valid ++ end_parts b))) table.0 table.1 in
+    let opened = expect_again marks.Open _ name.0 name.1 in
+    let columns = columns_again f.columns is.some is.few (said marks.Close ∷ said marks.Key ∷ named f.key ∷ (valid_parts f.valid ++ end_parts b)) (other_said marks.Comma marks.Close refl) opened.0 opened.1 in
+    let closed = expect_again marks.Close (said marks.Key ∷ named f.key ∷ (valid_parts f.valid ++ end_parts b)) columns.0 columns.1 in
+    let word = expect_again marks.Key (named f.key ∷ (valid_parts f.valid ++ end_parts b)) closed.0 closed.1 in
+    let key = name_again f.key _ word.0 word.1 in
+    let valid = valid_again f.valid (end_parts b) (end_apart marks.Valid refl b) key.0 key.1 in
+    then_again (expect marks.Table ts) table.0 _ _ table.2 (then_again (take_at name_of table.0) (f.name, name.0) _ _ name.2 (then_again (expect marks.Open name.0) opened.0 _ _ opened.2
     (then_again (columns_at opened.0) (f.columns, columns.0) _ _ columns.2 (then_again (expect marks.Close columns.0) closed.0 _ _ closed.2 (then_again (expect marks.Key closed.0) word.0 _ _ word.2
-    (then_again (name_at word.0) (f.key, key.0) _ _ key.2 (then_again (valid_at key.0) (f.valid, valid.0) _ _ valid.2 (ended_again (statements.Create f) valid.0 valid.1))))))))
+    (then_again (take_at name_of word.0) (f.key, key.0) _ _ key.2 (then_again (valid_at key.0) (f.valid, valid.0) _ _ valid.2 (ended_again (statements.Create f) b valid.0 valid.1))))))))
 
-select_same : (f : SelectForm) → f.pred ≡ record { any = [] } → f.valid_at ≡ None → record { all = f.all; items = f.items; table = f.table; pred = record { any = [] }; valid_at = None; as_of = f.as_of } ≡ f
-select_same f b c =
-    ap (λ x. record { all = f.all; items = f.items; table = f.table; pred = x; valid_at = None; as_of = f.as_of }) (sym b)
-    ∙ ap (λ x. record { all = f.all; items = f.items; table = f.table; pred = f.pred; valid_at = x; as_of = f.as_of }) (sym c)
+put_again : (n : Name) (b : Bool) (ts : List Placed) → Fits (named n ∷ end_parts b) ts → put_at ts ≡ Ok (statements.Put n)
+unfolding put_at
+put_again n b ts h = let x = name_again n (end_parts b) ts h in then_again (take_at name_of ts) (n, x.0) (λ x. ended (statements.Put x.0) x.1) _ x.2 (ended_again (statements.Put n) b x.0 x.1)
 
-select_again : (f : SelectForm) → IsSelect f → (ts : List Placed) → Fixed marks.Select ∷ words_of ts ≡ select_parts f → select_at ts ≡ Ok (statements.Ask (queries.Select f))
+remove_again : (n : Name) (b : Bool) (ts : List Placed) → Fits (named n ∷ end_parts b) ts → remove_at ts ≡ Ok (statements.Remove n)
+unfolding remove_at
+remove_again n b ts h = let x = name_again n (end_parts b) ts h in then_again (take_at name_of ts) (n, x.0) (λ x. ended (statements.Remove x.0) x.1) _ x.2 (ended_again (statements.Remove n) b x.0 x.1)
+
+select_whole : (f : SelectForm) (w : List Part) → select_parts f ++ w ≡ said marks.Select ∷ (asked_parts f.all f.items ++ (said marks.From ∷ named f.table ∷ (where_parts f.pred ++ (valid_at_parts f.valid_at ++ (as_of_parts f.as_of ++ w)))))
+select_whole f w = simp append_assoc
+
+select_again : (f : SelectForm) → IsSelect f → (b : Bool) (ts : List Placed) → Fits (asked_parts f.all f.items ++ (said marks.From ∷ named f.table ∷ (where_parts f.pred ++ (valid_at_parts f.valid_at ++ (as_of_parts f.as_of ++ end_parts b))))) ts → select_at ts ≡ Ok (statements.Ask (queries.Select f))
 unfolding select_at
-select_again f is ts e =
-    let k : words_of ts ≡ asked_parts f.all f.items ++ (Fixed marks.From ∷ Word f.table ∷ as_of_parts f.as_of) = cc in
-    let asked = asked_again f.all f.items is.asked ts (Fixed marks.From ∷ Word f.table ∷ as_of_parts f.as_of) refl k in
-    let from = expect_again marks.From asked.0 _ asked.1 in
-    let table = name_again f.table from.0 _ from.1 in
-    let as_of = as_of_again f.as_of table.0 table.1 in
-    let same : record { all = f.all; items = f.items; table = f.table; pred = record { any = [] }; valid_at = None; as_of = f.as_of } ≡ f = select_same f is.untested is.timeless in
-    then_again (asked_at ts) ((f.all, f.items), asked.0) _ _ asked.2 (then_again (expect marks.From asked.0) from.0 _ _ from.2 (then_again (name_at from.0) (f.table, table.0) _ _ table.2
-    (then_again (as_of_at table.0) (f.as_of, as_of.0) _ _ as_of.2 (ended_again (statements.Ask (queries.Select (record { all = f.all; items = f.items; table = f.table; pred = record { any = [] }; valid_at = None; as_of = f.as_of }))) as_of.0 as_of.1
-    ∙ ap (λ g. Ok (statements.Ask (queries.Select g))) same))))
+select_again f is b ts h =
+    let rest : List Part = valid_at_parts f.valid_at ++ (as_of_parts f.as_of ++ end_parts b) in
+    let follows : Follows rest = record { no_where = valid_apart marks.Where refl refl refl f.valid_at f.as_of b; no_and = valid_apart marks.And refl refl refl f.valid_at f.as_of b; no_or = valid_apart marks.Or refl refl refl f.valid_at f.as_of b } in
+    let asked = asked_again f.all f.items is.asked (said marks.From ∷ named f.table ∷ (where_parts f.pred ++ rest)) (other_said marks.Comma marks.From refl) ts h in
+    let from = expect_again marks.From (named f.table ∷ (where_parts f.pred ++ (valid_at_parts f.valid_at ++ (as_of_parts f.as_of ++ end_parts b)))) asked.0 asked.1 in
+    let side = name_again f.table _ from.0 from.1 in
+    let tested = where_again f.pred is.tested rest follows side.0 side.1 in
+    let valid = valid_point_again f.valid_at _ (as_of_apart marks.Valid refl refl f.as_of b) tested.0 tested.1 in
+    let as_of = as_of_again f.as_of (end_parts b) (end_apart marks.As refl b) valid.0 valid.1 in
+    then_again (asked_at ts) ((f.all, f.items), asked.0) _ _ asked.2 (then_again (expect marks.From asked.0) from.0 _ _ from.2 (then_again (take_at name_of from.0) (f.table, side.0) _ _ side.2 (then_again (where_at side.0) (f.pred, tested.0) _ _ tested.2
+    (then_again (valid_point_at tested.0) (f.valid_at, valid.0) _ _ valid.2 (then_again (as_of_at valid.0) (f.as_of, as_of.0) _ _ as_of.2 (ended_again (statements.Ask (queries.Select f)) b as_of.0 as_of.1))))))
+
+agg_whole : (f : AggForm) (w : List Part) → agg_parts f ++ w ≡ said (agg_mark f.kind) ∷ (column_name_parts f.column ++ (said marks.From ∷ named f.table ∷ (where_parts f.pred ++ (by_parts f.by ++ (over_parts f.over ++ w)))))
+agg_whole f w = simp append_assoc
+
+agg_again : (f : AggForm) → IsAgg f → (b : Bool) (ts : List Placed) → Fits (said (agg_mark f.kind) ∷ (column_name_parts f.column ++ (said marks.From ∷ named f.table ∷ (where_parts f.pred ++ (by_parts f.by ++ (over_parts f.over ++ end_parts b)))))) ts → agg_at ts ≡ Ok (statements.Ask (queries.Agg f))
+unfolding agg_at
+agg_again f is b ts h =
+    let rest : List Part = by_parts f.by ++ (over_parts f.over ++ end_parts b) in
+    let follows : Follows rest = record { no_where = by_apart marks.Where refl refl f.by f.over (end_parts b); no_and = by_apart marks.And refl refl f.by f.over (end_parts b); no_or = by_apart marks.Or refl refl f.by f.over (end_parts b) } in
+    let kind = take_again agg_of (λ k. said (agg_mark k)) agg_back f.kind _ ts h in
+    let column = column_name_again f.kind f.column is.aggregate _ kind.0 kind.1 in
+    let from = expect_again marks.From (named f.table ∷ (where_parts f.pred ++ (by_parts f.by ++ (over_parts f.over ++ end_parts b)))) column.0 column.1 in
+    let side = name_again f.table _ from.0 from.1 in
+    let tested = where_again f.pred is.tested rest follows side.0 side.1 in
+    let by = by_again f.by _ (over_apart marks.By refl f.over (end_parts b)) tested.0 tested.1 in
+    let over = over_again f.over (end_parts b) (end_apart marks.As refl b) by.0 by.1 in
+    then_again (take_at agg_of ts) (f.kind, kind.0) _ _ kind.2 (then_again (column_name_at f.kind kind.0) (f.column, column.0) _ _ column.2 (then_again (expect marks.From column.0) from.0 _ _ from.2 (then_again (take_at name_of from.0) (f.table, side.0) _ _ side.2
+    (then_again (where_at side.0) (f.pred, tested.0) _ _ tested.2 (then_again (by_at tested.0) (f.by, by.0) _ _ by.2 (then_again (over_at by.0) (f.over, over.0) _ _ over.2 (ended_again (statements.Ask (queries.Agg f)) b over.0 over.1)))))))
+
+join_whole : (f : JoinForm) (w : List Part) → join_parts f ++ w ≡ said marks.Join ∷ named f.left ∷ (where_parts f.left_pred ++ (said marks.With ∷ named f.right ∷ (where_parts f.right_pred ++ (said marks.On ∷ named f.left_on ∷ said marks.Equal ∷ named f.right_on ∷ (over_parts f.over ++ w)))))
+join_whole f w = simp append_assoc
+
+join_again : (f : JoinForm) → IsJoin f → (b : Bool) (ts : List Placed) → Fits (named f.left ∷ (where_parts f.left_pred ++ (said marks.With ∷ named f.right ∷ (where_parts f.right_pred ++ (said marks.On ∷ named f.left_on ∷ said marks.Equal ∷ named f.right_on ∷ (over_parts f.over ++ end_parts b)))))) ts → join_at ts ≡ Ok (statements.Ask (queries.Join f))
+unfolding join_at
+join_again f is b ts h =
+    let behind : List Part = said marks.On ∷ named f.left_on ∷ said marks.Equal ∷ named f.right_on ∷ (over_parts f.over ++ end_parts b) in
+    let rest : List Part = said marks.With ∷ named f.right ∷ (where_parts f.right_pred ++ behind) in
+    let first : Follows rest = record { no_where = other_said marks.Where marks.With refl; no_and = other_said marks.And marks.With refl; no_or = other_said marks.Or marks.With refl } in
+    let second : Follows behind = record { no_where = other_said marks.Where marks.On refl; no_and = other_said marks.And marks.On refl; no_or = other_said marks.Or marks.On refl } in
+    let left = side_again f.left f.left_pred is.left_tested rest first ts h in
+    let word = expect_again marks.With (named f.right ∷ (where_parts f.right_pred ++ said marks.On ∷ named f.left_on ∷ said marks.Equal ∷ named f.right_on ∷ (over_parts f.over ++ end_parts b))) left.0 left.1 in
+    let right = side_again f.right f.right_pred is.right_tested behind second word.0 word.1 in
+    let on = on_again f.left_on f.right_on _ right.0 right.1 in
+    let over = over_again f.over (end_parts b) (end_apart marks.As refl b) on.0 on.1 in
+    then_again (side_at ts) ((f.left, f.left_pred), left.0) _ _ left.2 (then_again (expect marks.With left.0) word.0 _ _ word.2 (then_again (side_at word.0) ((f.right, f.right_pred), right.0) _ _ right.2
+    (then_again (on_at right.0) ((f.left_on, f.right_on), on.0) _ _ on.2 (then_again (over_at on.0) (f.over, over.0) _ _ over.2 (ended_again (statements.Ask (queries.Join f)) b over.0 over.1)))))
+
+-- the word with which no other statement begins
+first_word : (ts : List Placed) (k : Mark) (w : List Part) → Fits (said k ∷ w) ts → (m : Mark) → same_mark k m ≡ false → after m ts ≡ None
+first_word ts k w h m e = after_none m (said k ∷ w) ts (other_said m k e) h
 
 -- what is spelled is read
-pub statement_again : (ts : List Placed) (s : Statement) → IsSpelling (words_of ts) s → statement_at ts ≡ Ok s
+pub statement_again : (ts : List Placed) (s : Statement) → IsSpelling ts s → statement_at ts ≡ Ok s
 unfolding statement_at
 statement_again ts (statements.Create f) h =
-    let a = after_again marks.Create ts _ h.1 in
-    ap (λ o. where_some o (put_or_less ts) create_at) a.2
-    ∙ create_again f h.0 a.0 (ap (λ w. Fixed marks.Create ∷ w) a.1)
+    let a = after_again marks.Create (said marks.Table ∷ named f.name ∷ said marks.Open ∷ (parted marks.Comma column_parts f.columns ++ said marks.Close ∷ said marks.Key ∷ named f.key ∷ (valid_parts f.valid ++ end_parts h.1.0))) ts (subst (λ z. Fits z ts) (create_whole f (end_parts h.1.0)) h.1.1) in
+    ap (λ o. where_some o (put_or_less ts) create_at) a.2 ∙ create_again f h.0 h.1.0 a.0 a.1
 statement_again ts (statements.Put n) h =
-    let a = after_again marks.Put ts _ h in
-    ap (λ o. where_some o (put_or_less ts) create_at) (after_none marks.Create ts _ _ h refl)
-    ∙ ap (λ o. where_some o (remove_or_less ts) put_at) a.2
-    ∙ put_again n a.0 a.1
+    let a = after_again marks.Put (named n ∷ end_parts h.1.0) ts h.1.1 in
+    let no : (m : Mark) → same_mark marks.Put m ≡ false → after m ts ≡ None = first_word ts marks.Put (named n ∷ end_parts h.1.0) h.1.1 in
+    ap (λ o. where_some o (put_or_less ts) create_at) (no marks.Create refl) ∙ ap (λ o. where_some o (remove_or_less ts) put_at) a.2 ∙ put_again n h.1.0 a.0 a.1
 statement_again ts (statements.Remove n) h =
-    let a = after_again marks.Remove ts _ h in
-    ap (λ o. where_some o (put_or_less ts) create_at) (after_none marks.Create ts _ _ h refl)
-    ∙ ap (λ o. where_some o (remove_or_less ts) put_at) (after_none marks.Put ts _ _ h refl)
-    ∙ ap (λ o. where_some o (select_or_none ts) remove_at) a.2
-    ∙ remove_again n a.0 a.1
+    let a = after_again marks.Remove (named n ∷ end_parts h.1.0) ts h.1.1 in
+    let no : (m : Mark) → same_mark marks.Remove m ≡ false → after m ts ≡ None = first_word ts marks.Remove (named n ∷ end_parts h.1.0) h.1.1 in
+    ap (λ o. where_some o (put_or_less ts) create_at) (no marks.Create refl) ∙ ap (λ o. where_some o (remove_or_less ts) put_at) (no marks.Put refl) ∙ ap (λ o. where_some o (select_or_less ts) remove_at) a.2 ∙ remove_again n h.1.0 a.0 a.1
 statement_again ts (statements.Ask (queries.Select f)) h =
-    let a = after_again marks.Select ts _ h.1 in
-    ap (λ o. where_some o (put_or_less ts) create_at) (after_none marks.Create ts _ _ h.1 refl)
-    ∙ ap (λ o. where_some o (remove_or_less ts) put_at) (after_none marks.Put ts _ _ h.1 refl)
-    ∙ ap (λ o. where_some o (select_or_none ts) remove_at) (after_none marks.Remove ts _ _ h.1 refl)
-    ∙ ap (λ o. where_some o (Err (place_of ts)) select_at) a.2
-    ∙ select_again f h.0 a.0 (ap (λ w. Fixed marks.Select ∷ w) a.1)
-statement_again ts (statements.Ask (queries.Agg f)) h = absurd h
-statement_again ts (statements.Ask (queries.Join f)) h = absurd h
+    let k = subst (λ z. Fits z ts) (select_whole f (end_parts h.1.0)) h.1.1 in
+    let a = after_again marks.Select _ ts k in
+    let no : (m : Mark) → same_mark marks.Select m ≡ false → after m ts ≡ None = first_word ts marks.Select _ k in
+    ap (λ o. where_some o (put_or_less ts) create_at) (no marks.Create refl) ∙ ap (λ o. where_some o (remove_or_less ts) put_at) (no marks.Put refl) ∙ ap (λ o. where_some o (select_or_less ts) remove_at) (no marks.Remove refl)
+    ∙ ap (λ o. where_some o (agg_or_join ts) select_at) a.2 ∙ select_again f h.0 h.1.0 a.0 a.1
+statement_again ts (statements.Ask (queries.Join f)) h =
+    let k = subst (λ z. Fits z ts) (join_whole f (end_parts h.1.0)) h.1.1 in
+    let a = after_again marks.Join (named f.left ∷ (where_parts f.left_pred ++ said marks.With ∷ named f.right ∷ (where_parts f.right_pred ++ said marks.On ∷ named f.left_on ∷ said marks.Equal ∷ named f.right_on ∷ (over_parts f.over ++ end_parts h.1.0)))) ts k in
+    let no : (m : Mark) → same_mark marks.Join m ≡ false → after m ts ≡ None = first_word ts marks.Join (named f.left ∷ (where_parts f.left_pred ++ said marks.With ∷ named f.right ∷ (where_parts f.right_pred ++ said marks.On ∷ named f.left_on ∷ said marks.Equal ∷ named f.right_on ∷ (over_parts f.over ++ end_parts h.1.0)))) k in
+    ap (λ o. where_some o (put_or_less ts) create_at) (no marks.Create refl) ∙ ap (λ o. where_some o (remove_or_less ts) put_at) (no marks.Put refl) ∙ ap (λ o. where_some o (select_or_less ts) remove_at) (no marks.Remove refl)
+    ∙ ap (λ o. where_some o (agg_or_join ts) select_at) (no marks.Select refl) ∙ ap (λ o. where_some o (agg_at ts) join_at) a.2 ∙ join_again f h.0 h.1.0 a.0 a.1
+statement_again ts (statements.Ask (queries.Agg f)) h =
+    let k = subst (λ z. Fits z ts) (agg_whole f (end_parts h.1.0)) h.1.1 in
+    let e = agg_apart f.kind in
+    let no : (m : Mark) → same_mark (agg_mark f.kind) m ≡ false → after m ts ≡ None = first_word ts (agg_mark f.kind) _ k in
+    ap (λ o. where_some o (put_or_less ts) create_at) (no marks.Create e.0) ∙ ap (λ o. where_some o (remove_or_less ts) put_at) (no marks.Put e.1) ∙ ap (λ o. where_some o (select_or_less ts) remove_at) (no marks.Remove e.2)
+    ∙ ap (λ o. where_some o (agg_or_join ts) select_at) (no marks.Select e.3) ∙ ap (λ o. where_some o (agg_at ts) join_at) (no marks.Join e.4) ∙ agg_again f h.0 h.1.0 ts k

@@ -2,51 +2,31 @@
 use Rattle.std.proofs.Common.{◌≡◌, ℕ, ◌+◌, ◌<◌, ◌≤◌, ◌-◌, ◌^◌, ◌==◌, nat_le, take, zero, suc, Bool, true, false, cond, nat_lt, ◌⊎◌, inl, inr, List, [], ◌∷◌, ◌++◌, length, Option, Some, None, Result, Ok, Err, IfOk, IfSome, IfErr, IsErr, MatchResult, refl, sym, ◌∙◌, ap, subst, append_assoc, append-nil, arith}
 use Rattle.std.proofs.lemmas.Bool.{cases_lt}
 use Rattle.std.proofs.lemmas.Bool.Decides.{nat_tests}
-use Rattle.tl_query.specs.declared.tokens.Token.{Token}
 use Rattle.tl_query.specs.declared.tokens.Placed.{Placed}
 use Rattle.tl_query.specs.declared.forms.Statement.{Statement}
 use Rattle.tl_query.specs.declared.faults.TextFault.{TextFault}
 use Rattle.tl_query.specs.declared.faults.TextFault.TheVariants.{BadByte, OpenText, NumberTooLarge, Unexpected, QueryTooLong, NoMemory}
 use Rattle.std.specs.List.{prefix_len}
 use Rattle.tl_types.specs.Names.{is_digit, begins_word}
-use Rattle.tl_query.specs.declared.tokens.Token.TheVariants.{Quoted}
 use Rattle.tl_query.specs.declared.scanning.Piece.{Piece}
-use Rattle.tl_query.specs.Scanning.{Tokens, scan, with_piece, is_blank, number_of, piece_at, number_piece, negative_piece, quoted_piece, symbol_piece, closing}
+use Rattle.tl_query.specs.Scanning.{Tokens, scan, with_piece, is_blank, number_of, piece_at, number_piece, negative_piece, quoted_piece, symbol_piece, closing, single, text_token}
 use Rattle.tl_query.specs.Grammar.{IsSpelling, IsViable}
 use Rattle.tl_query.specs.Reading.{place_of, statement_at}
-use Rattle.tl_query.specs.Texts.{tokens_of, words_of, Spells, IsRefused, EndsEarly, IsBroken, IsFault, outcome, text_read, Answers}
+use Rattle.tl_query.specs.Texts.{tokens_of, Spells, IsRefused, EndsEarly, IsBroken, IsFault, outcome, text_read, Answers}
 use Rattle.tl_query.proofs.Laws.{StopsRight, Reads, shorter_viable}
 use Rattle.tl_query.proofs.Parts.{statement_good}
 use Rattle.tl_query.proofs.Again.{statement_again}
 
-words_append : (xs ys : List Placed) → words_of (xs ++ ys) ≡ words_of xs ++ words_of ys
-words_append [] ys = refl
-words_append (p ∷ xs) ys = ap (λ w. p.token ∷ w) (words_append xs ys)
-
-put_down : List Token → List Placed
-put_down [] = []
-put_down (t ∷ ts) = record { token = t; at = 0 } ∷ put_down ts
-
-words_down : (ts : List Token) → words_of (put_down ts) ≡ ts
-unfolding put_down
-words_down [] = refl
-words_down (t ∷ ts) = ap (λ w. t ∷ w) (words_down ts)
-
 -- a token that is refused whatever follows makes the tokens not viable
-not_viable : (front : List Placed) (p : Placed) → ((y : List Placed) (s : Statement) → statement_at (front ++ (p ∷ y)) ≡ Ok s → ⊥) → IsViable (words_of front ++ (p.token ∷ [])) → ⊥
-not_viable front p h v =
-    let y : List Placed = put_down v.0 in
-    let e : words_of (front ++ (p ∷ y)) ≡ (words_of front ++ (p.token ∷ [])) ++ v.0 = words_append front (p ∷ y) ∙ ap (λ w. words_of front ++ (p.token ∷ w)) (words_down v.0) ∙ sym (append_assoc (words_of front) (p.token ∷ []) v.0) in
-    h y v.1 (statement_again (front ++ (p ∷ y)) v.1 (subst (λ w. IsSpelling w v.1) (sym e) v.2))
+not_viable : (front : List Placed) (p : Placed) → ((y : List Placed) (s : Statement) → statement_at (front ++ (p ∷ y)) ≡ Ok s → ⊥) → IsViable (front ++ (p ∷ [])) → ⊥
+not_viable front p h v = h v.0 v.1 (statement_again (front ++ (p ∷ v.0)) v.1 (subst (λ w. IsSpelling w v.1) (append_assoc front (p ∷ []) v.0) v.2))
 
 -- what is viable has viable fronts
-front_viable : (ts front behind : List Placed) (p : Placed) → ts ≡ front ++ (p ∷ behind) → IsViable (words_of ts) → IsViable (words_of front ++ (p.token ∷ []))
-front_viable ts front behind p e v =
-    let w : words_of ts ≡ (words_of front ++ (p.token ∷ [])) ++ words_of behind = ap words_of e ∙ words_append front (p ∷ behind) ∙ sym (append_assoc (words_of front) (p.token ∷ []) (words_of behind)) in
-    shorter_viable (words_of front ++ (p.token ∷ [])) (words_of behind) (subst (λ x. IsViable x) w v)
+front_viable : (ts front behind : List Placed) (p : Placed) → ts ≡ front ++ (p ∷ behind) → IsViable ts → IsViable (front ++ (p ∷ []))
+front_viable ts front behind p e v = shorter_viable (front ++ (p ∷ [])) behind (subst (λ x. IsViable x) (e ∙ sym (append_assoc front (p ∷ []) behind)) v)
 
-spelled_viable : (ts : List Placed) (s : Statement) → IsSpelling (words_of ts) s → IsViable (words_of ts)
-spelled_viable ts s h = ([], s, subst (λ w. IsSpelling w s) (sym (append-nil (words_of ts))) h)
+spelled_viable : (ts : List Placed) (s : Statement) → IsSpelling ts s → IsViable ts
+spelled_viable ts s h = ([], s, subst (λ w. IsSpelling w s) (sym (append-nil ts)) h)
 
 -- where two tokens of one list stand
 abbrev Order : List Placed → Placed → List Placed → Placed → Type 0
@@ -67,10 +47,10 @@ empty_rest : (rest : List Placed) → place_of rest ≡ None → rest ≡ []
 empty_rest [] e = refl
 empty_rest (p ∷ rest) e = absurd (cc)
 
-viable_from : (ts : List Placed) → StopsRight [] statement_at ts None → IsViable (words_of ts)
-viable_from ts h = subst (λ x. IsViable (words_of x)) (sym (h.parts ∙ ap (λ r. h.front ++ r) (empty_rest h.rest h.place) ∙ append-nil h.front)) h.viable
+viable_from : (ts : List Placed) → StopsRight [] statement_at ts None → IsViable ts
+viable_from ts h = subst (λ x. IsViable x) (sym (h.parts ∙ ap (λ r. h.front ++ r) (empty_rest h.rest h.place) ∙ append-nil h.front)) h.viable
 
-refused_at : (ts front rest : List Placed) (at : ℕ) → ts ≡ front ++ rest → place_of rest ≡ Some at → IsViable (words_of front) → ((p : Placed) (behind : List Placed) → rest ≡ p ∷ behind → (y : List Placed) (s : Statement) → statement_at (front ++ (p ∷ y)) ≡ Ok s → ⊥) → IsRefused ts at
+refused_at : (ts front rest : List Placed) (at : ℕ) → ts ≡ front ++ rest → place_of rest ≡ Some at → IsViable front → ((p : Placed) (behind : List Placed) → rest ≡ p ∷ behind → (y : List Placed) (s : Statement) → statement_at (front ++ (p ∷ y)) ≡ Ok s → ⊥) → IsRefused ts at
 refused_at ts front [] at e place v h = absurd (cc)
 refused_at ts front (p ∷ behind) at e place v h = record { front = front; token = p; behind = behind; parts = e; place = let k : Some p.at ≡ Some at = place in cc; viable = v; refused = not_viable front p (h p behind refl) }
 
@@ -79,16 +59,16 @@ refused_from ts at h = refused_at ts h.front h.rest at h.parts h.place h.viable 
 
 -- where reading stopped
 at_token : (ts : List Placed) (at : ℕ) → statement_at ts ≡ Err (Some at) → IsRefused ts at
-at_token ts at e = refused_from ts at (subst (λ r. Reads [] statement_at ts r) e (statement_good ts))
+at_token ts at e = refused_from ts at (subst (λ r. Reads [] statement_at ts r) e (statement_good (length ts) [] tt ts (omega arith)))
 
-at_end : (ts : List Placed) → statement_at ts ≡ Err None → IsViable (words_of ts)
-at_end ts e = viable_from ts (subst (λ r. Reads [] statement_at ts r) e (statement_good ts))
+at_end : (ts : List Placed) → statement_at ts ≡ Err None → IsViable ts
+at_end ts e = viable_from ts (subst (λ r. Reads [] statement_at ts r) e (statement_good (length ts) [] tt ts (omega arith)))
 
-at_whole : (ts : List Placed) (s : Statement) → statement_at ts ≡ Ok s → IsSpelling (words_of ts) s
-at_whole ts s e = subst (λ r. Reads [] statement_at ts r) e (statement_good ts)
+pub at_whole : (ts : List Placed) (s : Statement) → statement_at ts ≡ Ok s → IsSpelling ts s
+at_whole ts s e = subst (λ r. Reads [] statement_at ts r) e (statement_good (length ts) [] tt ts (omega arith))
 
 -- no token of viable tokens is refused
-unrefused : (ts : List Placed) (at : ℕ) → IsViable (words_of ts) → IsRefused ts at → ⊥
+unrefused : (ts : List Placed) (at : ℕ) → IsViable ts → IsRefused ts at → ⊥
 unrefused ts at v h = h.refused (front_viable ts h.front h.behind h.token h.parts v)
 
 same_by : (ts : List Placed) (m n : ℕ) (g : IsRefused ts m) (h : IsRefused ts n) → Order g.front g.token h.front h.token → m ≡ n
@@ -118,7 +98,7 @@ read_long text h = let e : nat_lt 65536 (length text) ≡ true = grind (arith, n
 pub spelled_read : (text : List ℕ) (s : Statement) → Spells text s → text_read text ≡ Ok s
 spelled_read text s h = read_short text h.short ∙ ap (λ f. outcome (length text) f (statement_at (tokens_of text).tokens)) h.whole ∙ ap (outcome (length text) None) (statement_again (tokens_of text).tokens s h.spelled)
 
-broken_by : (len : ℕ) (ts : List Placed) (fault : TextFault) (r : Result Statement (Option ℕ)) → statement_at ts ≡ r → IsViable (words_of ts) → outcome len (Some fault) r ≡ Err fault
+broken_by : (len : ℕ) (ts : List Placed) (fault : TextFault) (r : Result Statement (Option ℕ)) → statement_at ts ≡ r → IsViable ts → outcome len (Some fault) r ≡ Err fault
 broken_by len ts fault (Ok s) e v = refl
 broken_by len ts fault (Err None) e v = refl
 broken_by len ts fault (Err (Some at)) e v = absurd (unrefused ts at v (at_token ts at e))
@@ -142,7 +122,7 @@ fault_read text QueryTooLong h = read_long text h
 fault_read text NoMemory h = absurd h
 
 read_by : (text : List ℕ) (r : Result Statement (Option ℕ)) (f : Option TextFault) (s : Statement) → statement_at (tokens_of text).tokens ≡ r → (tokens_of text).fault ≡ f → length text ≤ 65536 → outcome (length text) f r ≡ Ok s → Spells text s
-read_by text (Ok t) None s e f short h = record { short = short; whole = f; spelled = let k : t ≡ s = cc in subst (λ x. IsSpelling (words_of (tokens_of text).tokens) x) k (at_whole (tokens_of text).tokens t e) }
+read_by text (Ok t) None s e f short h = record { short = short; whole = f; spelled = let k : t ≡ s = cc in subst (λ x. IsSpelling (tokens_of text).tokens x) k (at_whole (tokens_of text).tokens t e) }
 read_by text (Ok t) (Some g) s e f short h = absurd (cc)
 read_by text (Err None) None s e f short h = absurd (cc)
 read_by text (Err None) (Some g) s e f short h = absurd (cc)
@@ -192,7 +172,7 @@ lexical_if false x y h k = k
 
 quoted_lexical : (at : ℕ) (bytes : List ℕ) → IfErr (quoted_piece at bytes) IsLexical
 unfolding quoted_piece
-quoted_lexical at bytes = elim (closing false bytes) as (λ o. IfErr {T = Piece} (elim o [ None ↦ Err (OpenText at) | Some n ↦ Ok (record { token = Quoted; len = n + 1; joins = true }) ]) IsLexical) [ None ↦ tt | Some n ↦ tt ]
+quoted_lexical at bytes = elim (closing false bytes) as (λ o. IfErr {T = Piece} (elim o [ None ↦ Err (OpenText at) | Some n ↦ Ok (record { token = text_token (single false (take (n - 1) bytes)); len = n + 1; joins = true }) ]) IsLexical) [ None ↦ tt | Some n ↦ tt ]
 
 piece_lexical : (at b : ℕ) (bytes : List ℕ) → IfErr (piece_at at b bytes) IsLexical
 unfolding piece_at number_piece negative_piece symbol_piece

@@ -1,108 +1,103 @@
 -- The definitions, computed on texts.
-use Rattle.std.proofs.Common.{◌≡◌, List, [], ◌∷◌, Some, None, Ok, Err, pos, codes, Bool, true, false, refl}
+use Rattle.std.proofs.Common.{◌≡◌, ℕ, ℤ, List, [], ◌∷◌, Option, Some, None, Ok, Err, pos, negsuc, codes, Bool, true, false, refl}
+use lib.Utf8.{encode}
+use Rattle.std.specs.Str.{is_utf8, chars}
+use Rattle.tl_types.specs.declared.cells.Cell.TheVariants as cells
+use Rattle.tl_types.specs.declared.cells.Cmp.TheVariants as cmps
 use Rattle.tl_types.specs.declared.cells.ColumnKind.TheVariants.{IntKind, TextKind}
+use Rattle.tl_query.specs.declared.faults.TextFault.{TextFault}
 use Rattle.tl_query.specs.declared.faults.TextFault.TheVariants.{BadByte, OpenText, NumberTooLarge, Unexpected}
 use Rattle.tl_types.specs.Plain as plain
 use Rattle.tl_query.specs.declared.check_faults.CheckFault.TheVariants as check_fault
+use Rattle.tl_query.specs.declared.forms.Name.{Name}
+use Rattle.tl_query.specs.declared.forms.Stamp.{Stamp}
+use Rattle.tl_query.specs.declared.forms.AggKind.{AggKind}
+use Rattle.tl_query.specs.declared.forms.AggKind.TheVariants as aggs
+use Rattle.tl_query.specs.declared.forms.Over.{Over}
+use Rattle.tl_query.specs.declared.forms.Over.TheVariants as overs
+use Rattle.tl_query.specs.declared.forms.Pred.{Pred}
+use Rattle.tl_query.specs.declared.forms.Test.{Test}
+use Rattle.tl_query.specs.declared.forms.ValidPoint.{ValidPoint}
 use Rattle.tl_query.specs.declared.forms.Item.{Item}
 use Rattle.tl_query.specs.declared.forms.Item.TheVariants.{Column, ValidFrom, ValidTo}
 use Rattle.tl_query.specs.declared.forms.SelectForm.{SelectForm}
 use Rattle.tl_query.specs.declared.plans.Typed.TheVariants as typed
 use Rattle.tl_query.specs.declared.plans.TypedItem.TheVariants as typed_item
-use Rattle.tl_query.specs.Checking.{checked_select, checked_create}
+use Rattle.tl_query.specs.Checking.{checked_create}
+use Rattle.tl_query.specs.CheckingQueries.{select_checked}
 use Rattle.tl_query.specs.declared.forms.Query.TheVariants as queries
+use Rattle.tl_query.specs.declared.forms.Statement.{Statement}
 use Rattle.tl_query.specs.declared.forms.Statement.TheVariants as statements
 use Rattle.tl_query.specs.Texts.{text_read, IsFault, Spells}
-use Rattle.tl_query.specs.Scanning.{scan, piece_at, word_piece, word_token, other_token, number_piece, negative_piece, quoted_piece, symbol_piece, keyword_of, closing}
+use Rattle.tl_query.specs.Scanning.{scan, piece_at, word_piece, word_token, other_token, number_piece, negative_piece, quoted_piece, text_token, single, symbol_piece, keyword_of, statement_mark, table_mark, clause_mark, range_mark, closing}
 use Rattle.tl_types.specs.Names.{statement_words, table_words, clause_words, range_words}
-use Rattle.tl_query.specs.Reading.{after, expect, name_at, item_at, version_at, ended, text_kind_at, kind_at, column_at, further_columns_at, columns_at, valid_at, create_at, put_at, remove_at, items_at, asked_at, as_of_at, select_at, statement_at}
+use Rattle.tl_query.specs.Reading.{after, expect, take_at, peek_at, last_of, ended, up_to, several, column_at, columns_at, valid_at, create_at, put_at, remove_at, asked_at, test_at, where_at, valid_point_at, as_of_at, select_at, versions_at, system_at, moments_at, over_at, column_name_at, by_at, agg_at, side_at, on_at, join_at, statement_at}
 use Rattle.tl_query.proofs.Deciding.{read_fault, read_spelled}
 
-form : IsFault (codes "SELECT id FORM emp") (Unexpected 10)
-unfolding text_read scan piece_at word_piece word_token other_token number_piece negative_piece quoted_piece symbol_piece keyword_of closing statement_words table_words clause_words range_words after expect name_at item_at version_at ended text_kind_at kind_at column_at further_columns_at columns_at valid_at create_at put_at remove_at items_at asked_at as_of_at select_at statement_at
-form = read_fault (codes "SELECT id FORM emp") (Unexpected 10) refl
+-- a name, a number or bound, a test, and a predicate of one test
+abbrev called : List ℕ → ℕ → Name
+called text at = record { text = text; at = at }
 
-bad_byte : IsFault (codes "SELECT $ FROM emp") (BadByte 7)
-unfolding text_read scan piece_at word_piece word_token other_token number_piece negative_piece quoted_piece symbol_piece keyword_of closing statement_words table_words clause_words range_words after expect name_at item_at version_at ended text_kind_at kind_at column_at further_columns_at columns_at valid_at create_at put_at remove_at items_at asked_at as_of_at select_at statement_at
-bad_byte = read_fault (codes "SELECT $ FROM emp") (BadByte 7) refl
+abbrev stamp : ℕ → ℕ → Stamp
+stamp n at = record { value = pos n; at = at }
 
-too_large : IsFault (codes "SELECT id FROM emp AS OF 9223372036854775808") (NumberTooLarge 25)
-unfolding text_read scan piece_at word_piece word_token other_token number_piece negative_piece quoted_piece symbol_piece keyword_of closing statement_words table_words clause_words range_words after expect name_at item_at version_at ended text_kind_at kind_at column_at further_columns_at columns_at valid_at create_at put_at remove_at items_at asked_at as_of_at select_at statement_at
-too_large = read_fault (codes "SELECT id FROM emp AS OF 9223372036854775808") (NumberTooLarge 25) refl
+abbrev none : Pred
+none = record { any = [] }
 
-unknown : IsFault (codes "DROP t") (Unexpected 0)
-unfolding text_read scan piece_at word_piece word_token other_token number_piece negative_piece quoted_piece symbol_piece keyword_of closing statement_words table_words clause_words range_words after expect name_at item_at version_at ended text_kind_at kind_at column_at further_columns_at columns_at valid_at create_at put_at remove_at items_at asked_at as_of_at select_at statement_at
-unknown = read_fault (codes "DROP t") (Unexpected 0) refl
+abbrev only : Test → Pred
+only test = record { any = (test ∷ []) ∷ [] }
 
-empty : IsFault [] (Unexpected 0)
-unfolding text_read scan statement_at after
-empty = read_fault [] (Unexpected 0) refl
+-- a question for items, for an aggregate
+abbrev select_of : List Item → Name → Pred → Option ValidPoint → Option Stamp → Statement
+select_of items table pred valid as_of = statements.Ask (queries.Select (record { all = false; items = items; table = table; pred = pred; valid_at = valid; as_of = as_of }))
 
-open_text : IsFault (codes "PUT 'b''") (OpenText 4)
-unfolding text_read scan piece_at word_piece word_token other_token number_piece negative_piece quoted_piece symbol_piece keyword_of closing statement_words table_words clause_words range_words after expect name_at item_at version_at ended text_kind_at kind_at column_at further_columns_at columns_at valid_at create_at put_at remove_at items_at asked_at as_of_at select_at statement_at
-open_text = read_fault (codes "PUT 'b''") (OpenText 4) refl
+abbrev agg_of : AggKind → Option Name → Name → Pred → Option Name → Over → Statement
+agg_of kind column table pred by over = statements.Ask (queries.Agg (record { kind = kind; column = column; table = table; pred = pred; by = by; over = over }))
 
-put : Spells (codes "PUT t") (statements.Put (record { text = codes "t"; at = 4 }))
-unfolding text_read scan piece_at word_piece word_token other_token number_piece negative_piece quoted_piece symbol_piece keyword_of closing statement_words table_words clause_words range_words after expect name_at item_at version_at ended text_kind_at kind_at column_at further_columns_at columns_at valid_at create_at put_at remove_at items_at asked_at as_of_at select_at statement_at
-put = read_spelled (codes "PUT t") _ refl
+-- faults of texts, at their first byte
+text_faults : IsFault (codes "SELECT id FORM emp") (Unexpected 10) × IsFault (codes "SELECT $ FROM emp") (BadByte 7) × IsFault (codes "SELECT id FROM emp WHERE dept = 'ops") (OpenText 32) × IsFault (codes "SELECT id FROM emp AS OF 9223372036854775808") (NumberTooLarge 25)
+unfolding text_read scan piece_at word_piece word_token other_token number_piece negative_piece quoted_piece symbol_piece keyword_of statement_mark table_mark clause_mark range_mark closing statement_words table_words clause_words range_words after expect take_at peek_at last_of ended up_to several column_at columns_at valid_at create_at put_at remove_at asked_at test_at where_at valid_point_at as_of_at select_at versions_at system_at moments_at over_at column_name_at by_at agg_at side_at on_at join_at statement_at
+text_faults = (read_fault (codes "SELECT id FORM emp") (Unexpected 10) refl, read_fault (codes "SELECT $ FROM emp") (BadByte 7) refl, read_fault (codes "SELECT id FROM emp WHERE dept = 'ops") (OpenText 32) refl, read_fault (codes "SELECT id FROM emp AS OF 9223372036854775808") (NumberTooLarge 25) refl)
 
-create : Spells (codes "CREATE TABLE t (k INT, x INT) KEY k") (statements.Create (record { name = record { text = codes "t"; at = 13 }; columns = record { name = record { text = codes "k"; at = 16 }; kind = IntKind } ∷ record { name = record { text = codes "x"; at = 23 }; kind = IntKind } ∷ []; key = record { text = codes "k"; at = 34 }; valid = false }))
-unfolding text_read scan piece_at word_piece word_token other_token number_piece negative_piece quoted_piece symbol_piece keyword_of closing statement_words table_words clause_words range_words after expect name_at item_at version_at ended text_kind_at kind_at column_at further_columns_at columns_at valid_at create_at put_at remove_at items_at asked_at as_of_at select_at statement_at
-create = read_spelled (codes "CREATE TABLE t (k INT, x INT) KEY k") _ refl
-
-select : Spells (codes "SELECT k, x FROM t AS OF 2") (statements.Ask (queries.Select (record { all = false; items = Column (record { text = codes "k"; at = 7 }) ∷ Column (record { text = codes "x"; at = 10 }) ∷ []; table = record { text = codes "t"; at = 17 }; pred = record { any = [] }; valid_at = None; as_of = Some (record { value = pos 2; at = 25 }) })))
-unfolding text_read scan piece_at word_piece word_token other_token number_piece negative_piece quoted_piece symbol_piece keyword_of closing statement_words table_words clause_words range_words after expect name_at item_at version_at ended text_kind_at kind_at column_at further_columns_at columns_at valid_at create_at put_at remove_at items_at asked_at as_of_at select_at statement_at
-select = read_spelled (codes "SELECT k, x FROM t AS OF 2") _ refl
-
-texts : Spells (codes "CREATE TABLE t (k INT, x TEXT) KEY k") (statements.Create (record { name = record { text = codes "t"; at = 13 }; columns = record { name = record { text = codes "k"; at = 16 }; kind = IntKind } ∷ record { name = record { text = codes "x"; at = 23 }; kind = TextKind } ∷ []; key = record { text = codes "k"; at = 35 }; valid = false }))
-unfolding text_read scan piece_at word_piece word_token other_token number_piece negative_piece quoted_piece symbol_piece keyword_of closing statement_words table_words clause_words range_words after expect name_at item_at version_at ended text_kind_at kind_at column_at further_columns_at columns_at valid_at create_at put_at remove_at items_at asked_at as_of_at select_at statement_at
-texts = read_spelled (codes "CREATE TABLE t (k INT, x TEXT) KEY k") _ refl
-
-other_kind : IsFault (codes "CREATE TABLE t (k BLOB) KEY k") (Unexpected 18)
-unfolding text_read scan piece_at word_piece word_token other_token number_piece negative_piece quoted_piece symbol_piece keyword_of closing statement_words table_words clause_words range_words after expect name_at item_at version_at ended text_kind_at kind_at column_at further_columns_at columns_at valid_at create_at put_at remove_at items_at asked_at as_of_at select_at statement_at
-other_kind = read_fault (codes "CREATE TABLE t (k BLOB) KEY k") (Unexpected 18) refl
-
-all : Spells (codes "SELECT * FROM t") (statements.Ask (queries.Select (record { all = true; items = []; table = record { text = codes "t"; at = 14 }; pred = record { any = [] }; valid_at = None; as_of = None })))
-unfolding text_read scan piece_at word_piece word_token other_token number_piece negative_piece quoted_piece symbol_piece keyword_of closing statement_words table_words clause_words range_words after expect name_at item_at version_at ended text_kind_at kind_at column_at further_columns_at columns_at valid_at create_at put_at remove_at items_at asked_at as_of_at select_at statement_at
-all = read_spelled (codes "SELECT * FROM t") _ refl
-
-all_and_more : IsFault (codes "SELECT *, k FROM t") (Unexpected 8)
-unfolding text_read scan piece_at word_piece word_token other_token number_piece negative_piece quoted_piece symbol_piece keyword_of closing statement_words table_words clause_words range_words after expect name_at item_at version_at ended text_kind_at kind_at column_at further_columns_at columns_at valid_at create_at put_at remove_at items_at asked_at as_of_at select_at statement_at
-all_and_more = read_fault (codes "SELECT *, k FROM t") (Unexpected 8) refl
-
-with_period : Spells (codes "CREATE TABLE t (k INT) KEY k VALID") (statements.Create (record { name = record { text = codes "t"; at = 13 }; columns = record { name = record { text = codes "k"; at = 16 }; kind = IntKind } ∷ []; key = record { text = codes "k"; at = 27 }; valid = true }))
-unfolding text_read scan piece_at word_piece word_token other_token number_piece negative_piece quoted_piece symbol_piece keyword_of closing statement_words table_words clause_words range_words after expect name_at item_at version_at ended text_kind_at kind_at column_at further_columns_at columns_at valid_at create_at put_at remove_at items_at asked_at as_of_at select_at statement_at
-with_period = read_spelled (codes "CREATE TABLE t (k INT) KEY k VALID") _ refl
-
-remove : Spells (codes "REMOVE t") (statements.Remove (record { text = codes "t"; at = 7 }))
-unfolding text_read scan piece_at word_piece word_token other_token number_piece negative_piece quoted_piece symbol_piece keyword_of closing statement_words table_words clause_words range_words after expect name_at item_at version_at ended text_kind_at kind_at column_at further_columns_at columns_at valid_at create_at put_at remove_at items_at asked_at as_of_at select_at statement_at
-remove = read_spelled (codes "REMOVE t") _ refl
-
-ends : Spells (codes "SELECT valid_to, k, valid_from FROM t") (statements.Ask (queries.Select (record { all = false; items = ValidTo 7 ∷ Column (record { text = codes "k"; at = 17 }) ∷ ValidFrom 20 ∷ []; table = record { text = codes "t"; at = 36 }; pred = record { any = [] }; valid_at = None; as_of = None })))
-unfolding text_read scan piece_at word_piece word_token other_token number_piece negative_piece quoted_piece symbol_piece keyword_of closing statement_words table_words clause_words range_words after expect name_at item_at version_at ended text_kind_at kind_at column_at further_columns_at columns_at valid_at create_at put_at remove_at items_at asked_at as_of_at select_at statement_at
-ends = read_spelled (codes "SELECT valid_to, k, valid_from FROM t") _ refl
-
-no_such_table : IsFault (codes "SELECT k FROM valid_from") (Unexpected 14)
-unfolding text_read scan piece_at word_piece word_token other_token number_piece negative_piece quoted_piece symbol_piece keyword_of closing statement_words table_words clause_words range_words after expect name_at item_at version_at ended text_kind_at kind_at column_at further_columns_at columns_at valid_at create_at put_at remove_at items_at asked_at as_of_at select_at statement_at
-no_such_table = read_fault (codes "SELECT k FROM valid_from") (Unexpected 14) refl
+-- words that cannot stand where they do, and texts that end too early
+words_misplaced : IsFault (codes "DROP t") (Unexpected 0) × IsFault (codes "") (Unexpected 0) × IsFault (codes "PUT 'b''") (OpenText 4) × IsFault (codes "CREATE TABLE t (k BLOB) KEY k") (Unexpected 18) × IsFault (codes "SELECT *, k FROM t") (Unexpected 8) × IsFault (codes "SELECT k FROM valid_from") (Unexpected 14)
+unfolding text_read scan piece_at word_piece word_token other_token number_piece negative_piece quoted_piece symbol_piece keyword_of statement_mark table_mark clause_mark range_mark closing statement_words table_words clause_words range_words after expect take_at peek_at last_of ended up_to several column_at columns_at valid_at create_at put_at remove_at asked_at test_at where_at valid_point_at as_of_at select_at versions_at system_at moments_at over_at column_name_at by_at agg_at side_at on_at join_at statement_at
+words_misplaced = (read_fault (codes "DROP t") (Unexpected 0) refl, read_fault (codes "") (Unexpected 0) refl, read_fault (codes "PUT 'b''") (OpenText 4) refl, read_fault (codes "CREATE TABLE t (k BLOB) KEY k") (Unexpected 18) refl, read_fault (codes "SELECT *, k FROM t") (Unexpected 8) refl, read_fault (codes "SELECT k FROM valid_from") (Unexpected 14) refl)
 
 -- VALID, REMOVE and the ends of the period where they cannot stand, or where something lacks
 misplaced : IsFault (codes "CREATE TABLE t (k INT) KEY k VALI") (Unexpected 29) × IsFault (codes "CREATE TABLE t (k INT) KEY k VALID x") (Unexpected 35) × IsFault (codes "REMOVE") (Unexpected 6) × IsFault (codes "REMOVE 5") (Unexpected 7) × IsFault (codes "REMOVE t x") (Unexpected 9) × IsFault (codes "SELECT valid_to, FROM t") (Unexpected 17) × IsFault (codes "SELECT valid_from valid_to FROM t") (Unexpected 18)
-unfolding text_read scan piece_at word_piece word_token other_token number_piece negative_piece quoted_piece symbol_piece keyword_of closing statement_words table_words clause_words range_words after expect name_at item_at version_at ended text_kind_at kind_at column_at further_columns_at columns_at valid_at create_at put_at remove_at items_at asked_at as_of_at select_at statement_at
-misplaced = (
-  read_fault (codes "CREATE TABLE t (k INT) KEY k VALI") (Unexpected 29) refl,
-  read_fault (codes "CREATE TABLE t (k INT) KEY k VALID x") (Unexpected 35) refl,
-  read_fault (codes "REMOVE") (Unexpected 6) refl,
-  read_fault (codes "REMOVE 5") (Unexpected 7) refl,
-  read_fault (codes "REMOVE t x") (Unexpected 9) refl,
-  read_fault (codes "SELECT valid_to, FROM t") (Unexpected 17) refl,
-  read_fault (codes "SELECT valid_from valid_to FROM t") (Unexpected 18) refl,
-)
+unfolding text_read scan piece_at word_piece word_token other_token number_piece negative_piece quoted_piece symbol_piece keyword_of statement_mark table_mark clause_mark range_mark closing statement_words table_words clause_words range_words after expect take_at peek_at last_of ended up_to several column_at columns_at valid_at create_at put_at remove_at asked_at test_at where_at valid_point_at as_of_at select_at versions_at system_at moments_at over_at column_name_at by_at agg_at side_at on_at join_at statement_at
+misplaced = (read_fault (codes "CREATE TABLE t (k INT) KEY k VALI") (Unexpected 29) refl, read_fault (codes "CREATE TABLE t (k INT) KEY k VALID x") (Unexpected 35) refl, read_fault (codes "REMOVE") (Unexpected 6) refl, read_fault (codes "REMOVE 5") (Unexpected 7) refl, read_fault (codes "REMOVE t x") (Unexpected 9) refl, read_fault (codes "SELECT valid_to, FROM t") (Unexpected 17) refl, read_fault (codes "SELECT valid_from valid_to FROM t") (Unexpected 18) refl)
 
--- a word that is nearly an end names a column
-nearly : Spells (codes "SELECT validfrom FROM t") (statements.Ask (queries.Select (record { all = false; items = Column (record { text = codes "validfrom"; at = 7 }) ∷ []; table = record { text = codes "t"; at = 22 }; pred = record { any = [] }; valid_at = None; as_of = None })))
-unfolding text_read scan piece_at word_piece word_token other_token number_piece negative_piece quoted_piece symbol_piece keyword_of closing statement_words table_words clause_words range_words after expect name_at item_at version_at ended text_kind_at kind_at column_at further_columns_at columns_at valid_at create_at put_at remove_at items_at asked_at as_of_at select_at statement_at
-nearly = read_spelled (codes "SELECT validfrom FROM t") _ refl
+-- clauses where they cannot stand, or where something lacks
+clauses_misplaced : IsFault (codes "SELECT id FROM emp WHERE") (Unexpected 24) × IsFault (codes "SELECT id FROM emp WHERE id = 1 AND") (Unexpected 35) × IsFault (codes "SELECT id FROM emp WHERE id 1") (Unexpected 28) × IsFault (codes "SELECT id FROM emp AS OF 1 VALID AT 2") (Unexpected 27) × IsFault (codes "SELECT id FROM emp AS OF -0") (Unexpected 25) × IsFault (codes "SELECT id FROM emp VALID AT FOREVER") (Unexpected 28) × IsFault (codes "COUNT id FROM emp OVER SYSTEM ALL") (Unexpected 6) × IsFault (codes "SUM FROM emp OVER SYSTEM ALL") (Unexpected 4) × IsFault (codes "COUNT FROM emp") (Unexpected 14) × IsFault (codes "COUNT FROM emp OVER SYSTEM 1") (Unexpected 28) × IsFault (codes "COUNT FROM emp OVER 1 TO 2") (Unexpected 20) × IsFault (codes "COUNT FROM emp OVER SYSTEM FOREVER TO 2") (Unexpected 27) × IsFault (codes "JOIN emp ON id = id OVER SYSTEM ALL") (Unexpected 9) × IsFault (codes "JOIN a WITH b ON k < k OVER SYSTEM ALL") (Unexpected 19) × IsFault (codes "PUT t;;") (Unexpected 6) × IsFault (codes ";") (Unexpected 0)
+unfolding text_read scan piece_at word_piece word_token other_token number_piece negative_piece quoted_piece symbol_piece keyword_of statement_mark table_mark clause_mark range_mark closing statement_words table_words clause_words range_words after expect take_at peek_at last_of ended up_to several column_at columns_at valid_at create_at put_at remove_at asked_at test_at where_at valid_point_at as_of_at select_at versions_at system_at moments_at over_at column_name_at by_at agg_at side_at on_at join_at statement_at
+clauses_misplaced = (read_fault (codes "SELECT id FROM emp WHERE") (Unexpected 24) refl, read_fault (codes "SELECT id FROM emp WHERE id = 1 AND") (Unexpected 35) refl, read_fault (codes "SELECT id FROM emp WHERE id 1") (Unexpected 28) refl, read_fault (codes "SELECT id FROM emp AS OF 1 VALID AT 2") (Unexpected 27) refl, read_fault (codes "SELECT id FROM emp AS OF -0") (Unexpected 25) refl, read_fault (codes "SELECT id FROM emp VALID AT FOREVER") (Unexpected 28) refl, read_fault (codes "COUNT id FROM emp OVER SYSTEM ALL") (Unexpected 6) refl, read_fault (codes "SUM FROM emp OVER SYSTEM ALL") (Unexpected 4) refl, read_fault (codes "COUNT FROM emp") (Unexpected 14) refl, read_fault (codes "COUNT FROM emp OVER SYSTEM 1") (Unexpected 28) refl, read_fault (codes "COUNT FROM emp OVER 1 TO 2") (Unexpected 20) refl, read_fault (codes "COUNT FROM emp OVER SYSTEM FOREVER TO 2") (Unexpected 27) refl, read_fault (codes "JOIN emp ON id = id OVER SYSTEM ALL") (Unexpected 9) refl, read_fault (codes "JOIN a WITH b ON k < k OVER SYSTEM ALL") (Unexpected 19) refl, read_fault (codes "PUT t;;") (Unexpected 6) refl, read_fault (codes ";") (Unexpected 0) refl)
+
+-- tables, and what is put into them and removed
+tables : Spells (codes "PUT t") (statements.Put (called (codes "t") 4)) × Spells (codes "REMOVE t;") (statements.Remove (called (codes "t") 7)) × Spells (codes "CREATE TABLE t (k INT, x TEXT) KEY k") (statements.Create (record { name = (called (codes "t") 13); columns = record { name = (called (codes "k") 16); kind = IntKind } ∷ record { name = (called (codes "x") 23); kind = TextKind } ∷ []; key = (called (codes "k") 35); valid = false })) × Spells (codes "CREATE TABLE t (k INT) KEY k VALID") (statements.Create (record { name = (called (codes "t") 13); columns = record { name = (called (codes "k") 16); kind = IntKind } ∷ []; key = (called (codes "k") 27); valid = true }))
+unfolding text_read scan piece_at word_piece word_token other_token number_piece negative_piece quoted_piece symbol_piece keyword_of statement_mark table_mark clause_mark range_mark closing statement_words table_words clause_words range_words after expect take_at peek_at last_of ended up_to several column_at columns_at valid_at create_at put_at remove_at asked_at test_at where_at valid_point_at as_of_at select_at versions_at system_at moments_at over_at column_name_at by_at agg_at side_at on_at join_at statement_at
+tables = (read_spelled (codes "PUT t") _ refl, read_spelled (codes "REMOVE t;") _ refl, read_spelled (codes "CREATE TABLE t (k INT, x TEXT) KEY k") _ refl, read_spelled (codes "CREATE TABLE t (k INT) KEY k VALID") _ refl)
+
+-- questions for rows
+selects : Spells (codes "SELECT id, pay FROM emp AS OF 2") (select_of (Column (called (codes "id") 7) ∷ Column (called (codes "pay") 11) ∷ []) (called (codes "emp") 20) none None (Some (stamp 2 30))) × Spells (codes "SELECT valid_to, validfrom, valid_from FROM t") (select_of (ValidTo 7 ∷ Column (called (codes "validfrom") 17) ∷ ValidFrom 28 ∷ []) (called (codes "t") 44) none None None) × Spells (codes "SELECT x FROM q VALID AT -10 ;") (select_of (Column (called (codes "x") 7) ∷ []) (called (codes "q") 14) none (Some (record { pos = 16; value = negsuc 9 })) None) × Spells (codes "SELECT x, valid_to FROM q AS OF 2") (select_of (Column (called (codes "x") 7) ∷ ValidTo 10 ∷ []) (called (codes "q") 24) none None (Some (stamp 2 32))) × Spells (codes "SELECT*FROM t") (statements.Ask (queries.Select (record { all = true; items = []; table = (called (codes "t") 12); pred = none; valid_at = None; as_of = None })))
+unfolding text_read scan piece_at word_piece word_token other_token number_piece negative_piece quoted_piece symbol_piece keyword_of statement_mark table_mark clause_mark range_mark closing statement_words table_words clause_words range_words after expect take_at peek_at last_of ended up_to several column_at columns_at valid_at create_at put_at remove_at asked_at test_at where_at valid_point_at as_of_at select_at versions_at system_at moments_at over_at column_name_at by_at agg_at side_at on_at join_at statement_at
+selects = (read_spelled (codes "SELECT id, pay FROM emp AS OF 2") _ refl, read_spelled (codes "SELECT valid_to, validfrom, valid_from FROM t") _ refl, read_spelled (codes "SELECT x FROM q VALID AT -10 ;") _ refl, read_spelled (codes "SELECT x, valid_to FROM q AS OF 2") _ refl, read_spelled (codes "SELECT*FROM t") _ refl)
+
+-- questions for rows that pass tests
+tests : Spells (codes "SELECT id FROM emp WHERE dept < 'ops'") (select_of (Column (called (codes "id") 7) ∷ []) (called (codes "emp") 15) (only (record { column = (called (codes "dept") 25); cmp = cmps.Lt; cmp_at = 30; value = cells.Text (codes "ops"); value_at = 32 })) None None) × Spells (codes "SELECT id FROM emp WHERE id >= 1 AND pay <> -0 OR dept = 'o''s'") (select_of (Column (called (codes "id") 7) ∷ []) (called (codes "emp") 15) (record { any = (record { column = (called (codes "id") 25); cmp = cmps.Ge; cmp_at = 28; value = cells.Int (pos 1); value_at = 31 } ∷ record { column = (called (codes "pay") 37); cmp = cmps.Ne; cmp_at = 41; value = cells.Int (pos 0); value_at = 44 } ∷ []) ∷ (record { column = (called (codes "dept") 50); cmp = cmps.Eq; cmp_at = 55; value = cells.Text (codes "o's"); value_at = 57 } ∷ []) ∷ [] }) None None)
+unfolding text_read scan piece_at word_piece word_token other_token number_piece negative_piece quoted_piece text_token single is_utf8 chars encode symbol_piece keyword_of statement_mark table_mark clause_mark range_mark closing statement_words table_words clause_words range_words after expect take_at peek_at last_of ended up_to several column_at columns_at valid_at create_at put_at remove_at asked_at test_at where_at valid_point_at as_of_at select_at versions_at system_at moments_at over_at column_name_at by_at agg_at side_at on_at join_at statement_at
+tests = (read_spelled (codes "SELECT id FROM emp WHERE dept < 'ops'") _ refl, read_spelled (codes "SELECT id FROM emp WHERE id >= 1 AND pay <> -0 OR dept = 'o''s'") _ refl)
+
+-- questions for aggregates
+aggregates : Spells (codes "COUNT FROM emp OVER SYSTEM 1 TO 6") (agg_of aggs.Count None (called (codes "emp") 11) none None (overs.System (stamp 1 27) (stamp 6 32))) × Spells (codes "SUM pay FROM emp WHERE pay >= 100 OVER SYSTEM 1 TO 6") (agg_of aggs.Sum (Some (called (codes "pay") 4)) (called (codes "emp") 13) (only (record { column = (called (codes "pay") 23); cmp = cmps.Ge; cmp_at = 27; value = cells.Int (pos 100); value_at = 30 })) None (overs.System (stamp 1 46) (stamp 6 51))) × Spells (codes "AVG pay FROM emp BY dept OVER SYSTEM 2 TO 6") (agg_of aggs.Avg (Some (called (codes "pay") 4)) (called (codes "emp") 13) none (Some (called (codes "dept") 20)) (overs.System (stamp 2 37) (stamp 6 42))) × Spells (codes "MIN x FROM m OVER SYSTEM 2 TO 5") (agg_of aggs.Min (Some (called (codes "x") 4)) (called (codes "m") 11) none None (overs.System (stamp 2 25) (stamp 5 30))) × Spells (codes "COUNT FROM emp OVER VALID 0 TO 9") (agg_of aggs.Count None (called (codes "emp") 11) none None (overs.Valid 20 (stamp 0 26) (stamp 9 31) None)) × Spells (codes "COUNT FROM c OVER VALID 0 TO FOREVER AS OF 1") (agg_of aggs.Count None (called (codes "c") 11) none None (overs.Valid 18 (stamp 0 24) (stamp 9223372036854775807 29) (Some (stamp 1 43))))
+unfolding text_read scan piece_at word_piece word_token other_token number_piece negative_piece quoted_piece symbol_piece keyword_of statement_mark table_mark clause_mark range_mark closing statement_words table_words clause_words range_words after expect take_at peek_at last_of ended up_to several column_at columns_at valid_at create_at put_at remove_at asked_at test_at where_at valid_point_at as_of_at select_at versions_at system_at moments_at over_at column_name_at by_at agg_at side_at on_at join_at statement_at
+aggregates = (read_spelled (codes "COUNT FROM emp OVER SYSTEM 1 TO 6") _ refl, read_spelled (codes "SUM pay FROM emp WHERE pay >= 100 OVER SYSTEM 1 TO 6") _ refl, read_spelled (codes "AVG pay FROM emp BY dept OVER SYSTEM 2 TO 6") _ refl, read_spelled (codes "MIN x FROM m OVER SYSTEM 2 TO 5") _ refl, read_spelled (codes "COUNT FROM emp OVER VALID 0 TO 9") _ refl, read_spelled (codes "COUNT FROM c OVER VALID 0 TO FOREVER AS OF 1") _ refl)
+
+-- questions for pairs
+joins : Spells (codes "JOIN emp WITH emp ON id = id OVER SYSTEM 2 TO 6") (statements.Ask (queries.Join (record { left = (called (codes "emp") 5); left_pred = none; right = (called (codes "emp") 14); right_pred = none; left_on = (called (codes "id") 21); right_on = (called (codes "id") 26); over = overs.System (stamp 2 41) (stamp 6 46) }))) × Spells (codes "JOIN emp WHERE zz = 1 WITH nope ON id = id OVER SYSTEM ALL") (statements.Ask (queries.Join (record { left = (called (codes "emp") 5); left_pred = (only (record { column = (called (codes "zz") 15); cmp = cmps.Eq; cmp_at = 18; value = cells.Int (pos 1); value_at = 20 })); right = (called (codes "nope") 27); right_pred = none; left_on = (called (codes "id") 35); right_on = (called (codes "id") 40); over = overs.SystemAll })))
+unfolding text_read scan piece_at word_piece word_token other_token number_piece negative_piece quoted_piece symbol_piece keyword_of statement_mark table_mark clause_mark range_mark closing statement_words table_words clause_words range_words after expect take_at peek_at last_of ended up_to several column_at columns_at valid_at create_at put_at remove_at asked_at test_at where_at valid_point_at as_of_at select_at versions_at system_at moments_at over_at column_name_at by_at agg_at side_at on_at join_at statement_at
+joins = (read_spelled (codes "JOIN emp WITH emp ON id = id OVER SYSTEM 2 TO 6") _ refl, read_spelled (codes "JOIN emp WHERE zz = 1 WITH nope ON id = id OVER SYSTEM ALL") _ refl)
 
 -- CHECKS
 
@@ -120,27 +115,27 @@ abbrev asking : Bool → List Item → SelectForm
 asking all items = record { all = all; items = items; table = record { text = codes "emp"; at = 14 }; pred = record { any = [] }; valid_at = None; as_of = None }
 
 -- `*` is all columns in order, at the last version
-all_columns : checked_select 3 (Some (1, staff false)) (asking true []) ≡ Ok (typed.Select 1 (typed_item.Column 0 ∷ typed_item.Column 1 ∷ typed_item.Column 2 ∷ []) (record { any = [] }) None 3)
+all_columns : select_checked 3 (Some (1, staff false)) (asking true []) ≡ Ok (typed.Select 1 (typed_item.Column 0 ∷ typed_item.Column 1 ∷ typed_item.Column 2 ∷ []) (record { any = [] }) None 3)
 all_columns = refl
 
 -- and the ends of the valid period, where rows have one
-all_and_period : checked_select 3 (Some (1, staff true)) (asking true []) ≡ Ok (typed.Select 1 (typed_item.Column 0 ∷ typed_item.Column 1 ∷ typed_item.Column 2 ∷ typed_item.ValidFrom ∷ typed_item.ValidTo ∷ []) (record { any = [] }) None 3)
+all_and_period : select_checked 3 (Some (1, staff true)) (asking true []) ≡ Ok (typed.Select 1 (typed_item.Column 0 ∷ typed_item.Column 1 ∷ typed_item.Column 2 ∷ typed_item.ValidFrom ∷ typed_item.ValidTo ∷ []) (record { any = [] }) None 3)
 all_and_period = refl
 
 -- named columns are in the order in which they are named
-named_columns : checked_select 3 (Some (1, staff true)) (asking false (Column (record { text = codes "pay"; at = 7 }) ∷ Column (record { text = codes "id"; at = 12 }) ∷ [])) ≡ Ok (typed.Select 1 (typed_item.Column 2 ∷ typed_item.Column 0 ∷ []) (record { any = [] }) None 3)
+named_columns : select_checked 3 (Some (1, staff true)) (asking false (Column (record { text = codes "pay"; at = 7 }) ∷ Column (record { text = codes "id"; at = 12 }) ∷ [])) ≡ Ok (typed.Select 1 (typed_item.Column 2 ∷ typed_item.Column 0 ∷ []) (record { any = [] }) None 3)
 named_columns = refl
 
 -- the ends of the valid period, where they are named
-named_ends : checked_select 3 (Some (1, staff true)) (asking false (ValidTo 7 ∷ ValidFrom 17 ∷ [])) ≡ Ok (typed.Select 1 (typed_item.ValidTo ∷ typed_item.ValidFrom ∷ []) (record { any = [] }) None 3)
+named_ends : select_checked 3 (Some (1, staff true)) (asking false (ValidTo 7 ∷ ValidFrom 17 ∷ [])) ≡ Ok (typed.Select 1 (typed_item.ValidTo ∷ typed_item.ValidFrom ∷ []) (record { any = [] }) None 3)
 named_ends = refl
 
 -- a table whose rows have no valid period: the first of two faults
-no_ends : checked_select 3 (Some (1, staff false)) (asking false (ValidTo 7 ∷ Column (record { text = codes "x"; at = 17 }) ∷ [])) ≡ Err (check_fault.NotValidTable 7)
+no_ends : select_checked 3 (Some (1, staff false)) (asking false (ValidTo 7 ∷ Column (record { text = codes "x"; at = 17 }) ∷ [])) ≡ Err (check_fault.NotValidTable 7)
 no_ends = refl
 
 -- `*` of a table that is not there
-all_of_nothing : checked_select 3 None (asking true []) ≡ Err (check_fault.UnknownTable 14)
+all_of_nothing : select_checked 3 None (asking true []) ≡ Err (check_fault.UnknownTable 14)
 all_of_nothing = refl
 
 -- the kinds of columns are those of the schema

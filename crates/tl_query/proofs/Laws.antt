@@ -1,145 +1,209 @@
 -- What holds of each reader of a statement's tokens: what it reads is spelled, and where it stops, the
--- tokens before are viable and the token there is refused, whatever follows it.
-use Rattle.std.proofs.Common.{◌≡◌, ℕ, Bool, true, false, cond, List, [], ◌∷◌, ◌++◌, map, Option, Some, None, Result, Ok, Err, refl, sym, ◌∙◌, ap, subst, append_assoc, append-nil}
+-- tokens before are viable and the token there is refused, whatever follows it. A law speaks of at most so
+-- many tokens, so that the law of a list can go by their number.
+use Rattle.std.proofs.Common.{◌≡◌, ℕ, ◌≤◌, suc, Bool, true, false, cond, List, [], ◌∷◌, ◌++◌, length, Option, Some, None, Result, Ok, Err, refl, sym, ◌∙◌, ap, subst, append_assoc, append-nil, arith}
+use Rattle.std.specs.Option.{option_map}
 use Rattle.tl_query.specs.declared.marks.Mark.{Mark}
+use Rattle.tl_query.specs.declared.marks.Mark.TheVariants as marks
 use Rattle.tl_query.specs.declared.tokens.Token.{Token}
 use Rattle.tl_query.specs.declared.tokens.Token.TheVariants.{Fixed}
 use Rattle.tl_query.specs.declared.tokens.Placed.{Placed}
 use Rattle.tl_query.specs.declared.forms.Statement.{Statement}
-use Rattle.tl_query.specs.Grammar.{IsSpelling, IsViable}
-use Rattle.tl_query.specs.Reading.{◌>>=◌, place_of, is_fixed, after, expect, ended, where_some}
+use Rattle.tl_query.specs.Grammar.{Part, said, IsPart, Fits, IsStatement, IsSpelling, IsViable, statement_parts, end_parts}
+use Rattle.tl_query.specs.Reading.{◌>>=◌, place_of, is_fixed, after, expect, take_at, peek_at, last_of, ended, where_some}
 use Rattle.tl_query.proofs.Places.{is_fixed_true}
 
 abbrev pub Reader : Type 0
 Reader = List Placed → Result Statement (Option ℕ)
 
-abbrev pub words_of : List Placed → List Token
-words_of ts = map (λ p. p.token) ts
-
-pub record StopsRight (c : List Token) (f : Reader) (ts : List Placed) (o : Option ℕ) : Type 0 where
+pub record StopsRight (c : List Placed) (f : Reader) (ts : List Placed) (o : Option ℕ) : Type 0 where
   pub front : List Placed
   pub rest : List Placed
   pub parts : ts ≡ front ++ rest
   pub place : place_of rest ≡ o
-  pub viable : IsViable (c ++ words_of front)
+  pub viable : IsViable (c ++ front)
   pub refused : (p : Placed) (behind : List Placed) → rest ≡ p ∷ behind → (y : List Placed) (s : Statement) → f (front ++ (p ∷ y)) ≡ Ok s → ⊥
 
-abbrev pub Reads : List Token → Reader → List Placed → Result Statement (Option ℕ) → Type 0
-Reads c f ts (Ok s) = IsSpelling (c ++ words_of ts) s
+abbrev pub Reads : List Placed → Reader → List Placed → Result Statement (Option ℕ) → Type 0
+Reads c f ts (Ok s) = IsSpelling (c ++ ts) s
 Reads c f ts (Err o) = StopsRight c f ts o
 
 -- behind the tokens c, at these tokens
-abbrev pub At : List Token → Reader → List Placed → Type 0
+abbrev pub At : List Placed → Reader → List Placed → Type 0
 At c f ts = Reads c f ts (f ts)
 
-abbrev pub Good : List Token → Reader → Type 0
-Good c f = (ts : List Placed) → At c f ts
+-- behind tokens that are these parts, at n tokens or fewer
+abbrev pub Good : ℕ → List Part → Reader → Type 0
+Good n parts f = (c : List Placed) → Fits parts c → (ts : List Placed) → length ts ≤ n → At c f ts
 
-at_by : (c : List Token) (f : Reader) (ts : List Placed) (r : Result Statement (Option ℕ)) → f ts ≡ r → Reads c f ts r → At c f ts
+-- parts and tokens, one after another
+pub fits_append : (parts qs : List Part) (c d : List Placed) → Fits parts c → Fits qs d → Fits (parts ++ qs) (c ++ d)
+fits_append [] qs [] d h k = k
+fits_append [] qs (p ∷ c) d h k = absurd h
+fits_append (q ∷ parts) qs [] d h k = absurd h
+fits_append (q ∷ parts) qs (p ∷ c) d h k = (h.0, fits_append parts qs c d h.1 k)
+
+-- one part more
+pub fits_one : (parts : List Part) (q : Part) (c : List Placed) (p : Placed) → Fits parts c → IsPart q p → Fits (parts ++ (q ∷ [])) (c ++ (p ∷ []))
+fits_one parts q c p h k = fits_append parts (q ∷ []) c (p ∷ []) h (k, tt)
+
+at_by : (c : List Placed) (f : Reader) (ts : List Placed) (r : Result Statement (Option ℕ)) → f ts ≡ r → Reads c f ts r → At c f ts
 at_by c f ts r e h = subst (λ x. Reads c f ts x) (sym e) h
 
-reads_same : (c : List Token) (f g : Reader) (ts : List Placed) (r : Result Statement (Option ℕ)) → ((y : List Placed) → f y ≡ g y) → Reads c g ts r → Reads c f ts r
+reads_same : (c : List Placed) (f g : Reader) (ts : List Placed) (r : Result Statement (Option ℕ)) → ((y : List Placed) → f y ≡ g y) → Reads c g ts r → Reads c f ts r
 reads_same c f g ts (Ok s) e h = h
 reads_same c f g ts (Err o) e h = record { front = h.front; rest = h.rest; parts = h.parts; place = h.place; viable = h.viable; refused = λ p b k y s w. h.refused p b k y s (sym (e (h.front ++ (p ∷ y))) ∙ w) }
 
 -- readers that agree
-pub at_same : (c : List Token) (f g : Reader) (ts : List Placed) → ((y : List Placed) → f y ≡ g y) → At c g ts → At c f ts
+at_same : (c : List Placed) (f g : Reader) (ts : List Placed) → ((y : List Placed) → f y ≡ g y) → At c g ts → At c f ts
 at_same c f g ts e h = at_by c f ts (g ts) (e ts) (reads_same c f g ts (g ts) e h)
 
-pub good_by : (c : List Token) (f g : Reader) → ((y : List Placed) → f y ≡ g y) → Good c g → Good c f
-good_by c f g e h = λ ts. at_same c f g ts e (h ts)
+pub good_by : (n : ℕ) (parts : List Part) (f g : Reader) → ((y : List Placed) → f y ≡ g y) → Good n parts g → Good n parts f
+good_by n parts f g e h = λ c fits ts few. at_same c f g ts e (h c fits ts few)
 
-pub good_at : (c d : List Token) (f : Reader) → c ≡ d → Good c f → Good d f
-good_at c d f e h = subst (λ x. Good x f) e h
+pub good_at : (n : ℕ) (parts qs : List Part) (f : Reader) → parts ≡ qs → Good n parts f → Good n qs f
+good_at n parts qs f e h = subst (λ x. Good n x f) e h
 
-pub shorter_viable : (c d : List Token) → IsViable (c ++ d) → IsViable c
+pub shorter_viable : (c d : List Placed) → IsViable (c ++ d) → IsViable c
 shorter_viable c d h = (d ++ h.0, h.1, subst (λ x. IsSpelling x h.1) (append_assoc c d h.0) h.2)
-
-none_before : (front rest : List Placed) → [] ≡ front ++ rest → front ≡ []
-none_before [] rest e = refl
-none_before (p ∷ front) rest e = absurd (cc)
 
 none_behind : (front rest : List Placed) (p : Placed) (b : List Placed) → [] ≡ front ++ rest → rest ≡ p ∷ b → ⊥
 none_behind [] rest p b e h = cc
 none_behind (q ∷ front) rest p b e h = cc
 
-viable_from : (c : List Token) (f : Reader) (r : Result Statement (Option ℕ)) → Reads c f [] r → IsViable c
+viable_from : (c : List Placed) (f : Reader) (r : Result Statement (Option ℕ)) → Reads c f [] r → IsViable c
 viable_from c f (Ok s) h = ([], s, h)
-viable_from c f (Err o) h = shorter_viable c (words_of h.front) h.viable
+viable_from c f (Err o) h = shorter_viable c h.front h.viable
 
 -- what a reader goes on from is viable
-pub viable_of : (c : List Token) (f : Reader) → Good c f → IsViable c
-viable_of c f h = viable_from c f (f []) (h [])
+pub viable_of : (n : ℕ) (parts : List Part) (f : Reader) → Good n parts f → (c : List Placed) → Fits parts c → IsViable c
+viable_of n parts f h c fits = viable_from c f (f []) (h c fits [] (omega arith))
 
-pub fail_at : (c : List Token) (f : Reader) (p : Placed) (ts : List Placed) → ((y : List Placed) → f (p ∷ y) ≡ Err (Some p.at)) → IsViable c → At c f (p ∷ ts)
+-- the tokens before a part that may follow are viable
+pub viable_before : (n : ℕ) (parts : List Part) (q : Part) (p : Placed) (f : Reader) → IsPart q p → Good n (parts ++ (q ∷ [])) f → (c : List Placed) → Fits parts c → IsViable c
+viable_before n parts q p f is h c fits = shorter_viable c (p ∷ []) (viable_of n (parts ++ (q ∷ [])) f h (c ++ (p ∷ [])) (fits_one parts q c p fits is))
+
+pub fail_at : (c : List Placed) (f : Reader) (p : Placed) (ts : List Placed) → ((y : List Placed) → f (p ∷ y) ≡ Err (Some p.at)) → IsViable c → At c f (p ∷ ts)
 fail_at c f p ts e v = at_by c f (p ∷ ts) (Err (Some p.at)) (e ts) record { front = []; rest = p ∷ ts; parts = refl; place = refl; viable = subst (λ x. IsViable x) (sym (append-nil c)) v; refused = λ q b k y s w. let h = e y in cc }
 
-pub end_at : (c : List Token) (f : Reader) → f [] ≡ Err None → IsViable c → At c f []
+pub end_at : (c : List Placed) (f : Reader) → f [] ≡ Err None → IsViable c → At c f []
 end_at c f e v = at_by c f [] (Err None) e record { front = []; rest = []; parts = refl; place = refl; viable = subst (λ x. IsViable x) (sym (append-nil c)) v; refused = λ q b k y s w. cc }
 
-pub done_at : (c : List Token) (f : Reader) (ts : List Placed) (s : Statement) → f ts ≡ Ok s → IsSpelling (c ++ words_of ts) s → At c f ts
+done_at : (c : List Placed) (f : Reader) (ts : List Placed) (s : Statement) → f ts ≡ Ok s → IsSpelling (c ++ ts) s → At c f ts
 done_at c f ts s e h = at_by c f ts (Ok s) e h
 
-step_by : (c : List Token) (f g : Reader) (p : Placed) (ts : List Placed) (r : Result Statement (Option ℕ)) → ((y : List Placed) → f (p ∷ y) ≡ g y) → Reads (c ++ (p.token ∷ [])) g ts r → Reads c f (p ∷ ts) r
-step_by c f g p ts (Ok s) e h = subst (λ x. IsSpelling x s) (append_assoc c (p.token ∷ []) (words_of ts)) h
-step_by c f g p ts (Err o) e h = record { front = p ∷ h.front; rest = h.rest; parts = ap (λ x. p ∷ x) h.parts; place = h.place; viable = subst (λ x. IsViable x) (append_assoc c (p.token ∷ []) (words_of h.front)) h.viable; refused = λ q b k y s w. h.refused q b k y s (sym (e (h.front ++ (q ∷ y))) ∙ w) }
+step_by : (c : List Placed) (f g : Reader) (p : Placed) (ts : List Placed) (r : Result Statement (Option ℕ)) → ((y : List Placed) → f (p ∷ y) ≡ g y) → Reads (c ++ (p ∷ [])) g ts r → Reads c f (p ∷ ts) r
+step_by c f g p ts (Ok s) e h = subst (λ x. IsSpelling x s) (append_assoc c (p ∷ []) ts) h
+step_by c f g p ts (Err o) e h = record { front = p ∷ h.front; rest = h.rest; parts = ap (λ x. p ∷ x) h.parts; place = h.place; viable = subst (λ x. IsViable x) (append_assoc c (p ∷ []) h.front) h.viable; refused = λ q b k y s w. h.refused q b k y s (sym (e (h.front ++ (q ∷ y))) ∙ w) }
 
 -- one token is taken
-pub step_at : (c : List Token) (f g : Reader) (p : Placed) (ts : List Placed) → ((y : List Placed) → f (p ∷ y) ≡ g y) → At (c ++ (p.token ∷ [])) g ts → At c f (p ∷ ts)
+step_at : (c : List Placed) (f g : Reader) (p : Placed) (ts : List Placed) → ((y : List Placed) → f (p ∷ y) ≡ g y) → At (c ++ (p ∷ [])) g ts → At c f (p ∷ ts)
 step_at c f g p ts e h = at_by c f (p ∷ ts) (g ts) (e ts) (step_by c f g p ts (g ts) e h)
 
 same_begun : (f g : Reader) (p : Placed) (ts front rest : List Placed) (q : Placed) (b y : List Placed) → ((z : List Placed) → f (p ∷ z) ≡ g (p ∷ z)) → p ∷ ts ≡ front ++ rest → rest ≡ q ∷ b → f (front ++ (q ∷ y)) ≡ g (front ++ (q ∷ y))
 same_begun f g p ts [] rest q b y e h k = let w = e y in cc
 same_begun f g p ts (x ∷ front) rest q b y e h k = let w = e (front ++ (q ∷ y)) in cc
 
-pass_by : (c : List Token) (f g : Reader) (p : Placed) (ts : List Placed) (r : Result Statement (Option ℕ)) → ((y : List Placed) → f (p ∷ y) ≡ g (p ∷ y)) → Reads c g (p ∷ ts) r → Reads c f (p ∷ ts) r
+pass_by : (c : List Placed) (f g : Reader) (p : Placed) (ts : List Placed) (r : Result Statement (Option ℕ)) → ((y : List Placed) → f (p ∷ y) ≡ g (p ∷ y)) → Reads c g (p ∷ ts) r → Reads c f (p ∷ ts) r
 pass_by c f g p ts (Ok s) e h = h
 pass_by c f g p ts (Err o) e h = record { front = h.front; rest = h.rest; parts = h.parts; place = h.place; viable = h.viable; refused = λ q b k y s w. h.refused q b k y s (sym (same_begun f g p ts h.front h.rest q b y e h.parts k) ∙ w) }
 
 -- the token is left to another reader
-pub pass_at : (c : List Token) (f g : Reader) (p : Placed) (ts : List Placed) → ((y : List Placed) → f (p ∷ y) ≡ g (p ∷ y)) → At c g (p ∷ ts) → At c f (p ∷ ts)
+pass_at : (c : List Placed) (f g : Reader) (p : Placed) (ts : List Placed) → ((y : List Placed) → f (p ∷ y) ≡ g (p ∷ y)) → At c g (p ∷ ts) → At c f (p ∷ ts)
 pass_at c f g p ts e h = at_by c f (p ∷ ts) (g (p ∷ ts)) (e ts) (pass_by c f g p ts (g (p ∷ ts)) e h)
 
-pass_end_by : (c : List Token) (f g : Reader) (r : Result Statement (Option ℕ)) → Reads c g [] r → Reads c f [] r
+pass_end_by : (c : List Placed) (f g : Reader) (r : Result Statement (Option ℕ)) → Reads c g [] r → Reads c f [] r
 pass_end_by c f g (Ok s) h = h
 pass_end_by c f g (Err o) h = record { front = h.front; rest = h.rest; parts = h.parts; place = h.place; viable = h.viable; refused = λ q b k y s w. none_behind h.front h.rest q b h.parts k }
 
-pub pass_end : (c : List Token) (f g : Reader) → f [] ≡ g [] → At c g [] → At c f []
+-- the end is left to another reader
+pub pass_end : (c : List Placed) (f g : Reader) → f [] ≡ g [] → At c g [] → At c f []
 pass_end c f g e h = at_by c f [] (g []) e (pass_end_by c f g (g []) h)
 
+-- a token for each mark
+token_for : Mark → Placed
+token_for m = record { token = Fixed m; at = 0 }
+
+is_token_for : (m : Mark) → IsPart (said m) (token_for m)
+unfolding token_for
+is_token_for m = refl
+
 -- a mark that has to come
-mark_at : (c : List Token) (m : Mark) (g : Reader) (p : Placed) (ts : List Placed) (b : Bool) → is_fixed m p.token ≡ b → Good (c ++ (Fixed m ∷ [])) g → At c (λ ts. expect m ts >>= g) (p ∷ ts)
+mark_at : (n : ℕ) (parts : List Part) (m : Mark) (g : Reader) (c : List Placed) → Fits parts c → (p : Placed) (ts : List Placed) (b : Bool) → length (p ∷ ts) ≤ n → is_fixed m p.token ≡ b → Good n (parts ++ (said m ∷ [])) g → At c (λ ts. expect m ts >>= g) (p ∷ ts)
 unfolding expect after
-mark_at c m g p ts true e h = step_at c (λ ts. expect m ts >>= g) g p ts (λ y. ap (λ b. where_some (cond b (Some y) None) (Err (Some p.at)) (λ rest. Ok rest) >>= g) e) (subst (λ t. At (c ++ (t ∷ [])) g ts) (sym (is_fixed_true m p.token e)) (h ts))
-mark_at c m g p ts false e h = fail_at c (λ ts. expect m ts >>= g) p ts (λ y. ap (λ b. where_some (cond b (Some y) None) (Err (Some p.at)) (λ rest. Ok rest) >>= g) e) (shorter_viable c (Fixed m ∷ []) (viable_of (c ++ (Fixed m ∷ [])) g h))
+mark_at n parts m g c fits p ts true few e h = step_at c (λ ts. expect m ts >>= g) g p ts (λ y. ap (λ b. where_some (cond b (Some y) None) (Err (Some p.at)) (λ rest. Ok rest) >>= g) e) (h (c ++ (p ∷ [])) (fits_one parts (said m) c p fits (is_fixed_true m p.token e)) ts (omega arith))
+mark_at n parts m g c fits p ts false few e h = fail_at c (λ ts. expect m ts >>= g) p ts (λ y. ap (λ b. where_some (cond b (Some y) None) (Err (Some p.at)) (λ rest. Ok rest) >>= g) e) (viable_before n parts (said m) (token_for m) g (is_token_for m) h c fits)
 
-pub expect_good : (c : List Token) (m : Mark) (g : Reader) → Good (c ++ (Fixed m ∷ [])) g → Good c (λ ts. expect m ts >>= g)
+expect_at : (n : ℕ) (parts : List Part) (m : Mark) (g : Reader) → Good n (parts ++ (said m ∷ [])) g → (c : List Placed) → Fits parts c → (ts : List Placed) → length ts ≤ n → At c (λ ts. expect m ts >>= g) ts
 unfolding expect after
-expect_good c m g h [] = end_at c (λ ts. expect m ts >>= g) refl (shorter_viable c (Fixed m ∷ []) (viable_of (c ++ (Fixed m ∷ [])) g h))
-expect_good c m g h (p ∷ ts) = mark_at c m g p ts (is_fixed m p.token) refl h
+expect_at n parts m g h c fits [] few = end_at c (λ ts. expect m ts >>= g) refl (viable_before n parts (said m) (token_for m) g (is_token_for m) h c fits)
+expect_at n parts m g h c fits (p ∷ ts) few = mark_at n parts m g c fits p ts (is_fixed m p.token) few refl h
 
--- a token that a test takes
-taken_at : {A : Type 0} (take : Token → Option A) (word : A → Token) → ((t : Token) (a : A) → take t ≡ Some a → t ≡ word a) → (read : List Placed → Result (A × List Placed) (Option ℕ)) → ((p : Placed) (ts : List Placed) → read (p ∷ ts) ≡ where_some (take p.token) (Err (Some p.at)) (λ a. Ok (a, ts))) → (c : List Token) (g : A × List Placed → Result Statement (Option ℕ)) → ((a : A) → Good (c ++ (word a ∷ [])) (λ ts. g (a, ts))) → A → (p : Placed) (ts : List Placed) (o : Option A) → take p.token ≡ o → At c (λ ts. read ts >>= g) (p ∷ ts)
-taken_at take word back read by c g h a0 p ts None e = fail_at c (λ ts. read ts >>= g) p ts (λ y. ap (λ r. r >>= g) (by p y ∙ ap (λ o. where_some o (Err (Some p.at)) (λ a. Ok (a, y))) e)) (shorter_viable c (word a0 ∷ []) (viable_of (c ++ (word a0 ∷ [])) (λ ts. g (a0, ts)) (h a0)))
-taken_at take word back read by c g h a0 p ts (Some a) e = step_at c (λ ts. read ts >>= g) (λ ts. g (a, ts)) p ts (λ y. ap (λ r. r >>= g) (by p y ∙ ap (λ o. where_some o (Err (Some p.at)) (λ a. Ok (a, y))) e)) (subst (λ t. At (c ++ (t ∷ [])) (λ ts. g (a, ts)) ts) (sym (back p.token a e)) (h a ts))
+pub expect_good : (n : ℕ) (parts : List Part) (m : Mark) (g : Reader) → Good n (parts ++ (said m ∷ [])) g → Good n parts (λ ts. expect m ts >>= g)
+expect_good n parts m g h = expect_at n parts m g h
 
-pub one_good : {A : Type 0} (take : Token → Option A) (word : A → Token) → ((t : Token) (a : A) → take t ≡ Some a → t ≡ word a) → (read : List Placed → Result (A × List Placed) (Option ℕ)) → read [] ≡ Err None → ((p : Placed) (ts : List Placed) → read (p ∷ ts) ≡ where_some (take p.token) (Err (Some p.at)) (λ a. Ok (a, ts))) → (c : List Token) (g : A × List Placed → Result Statement (Option ℕ)) → ((a : A) → Good (c ++ (word a ∷ [])) (λ ts. g (a, ts))) → A → Good c (λ ts. read ts >>= g)
-one_good take word back read none by c g h a0 [] = end_at c (λ ts. read ts >>= g) (ap (λ r. r >>= g) none) (shorter_viable c (word a0 ∷ []) (viable_of (c ++ (word a0 ∷ [])) (λ ts. g (a0, ts)) (h a0)))
-one_good take word back read none by c g h a0 (p ∷ ts) = taken_at take word back read by c g h a0 p ts (take p.token) refl
+-- what a token is: how it is taken, its part, and one that there is
+pub record Takes (A : Type 0) (take : Placed → Option A) (part : A → Part) : Type 0 where
+  pub is : (p : Placed) (x : A) → take p ≡ Some x → IsPart (part x) p
+  pub some : A
+  pub token : Placed
+  pub there : IsPart (part some) token
 
--- a mark that may come
-peek_at : (c : List Token) (m : Mark) (f g h : Reader) (p : Placed) (ts : List Placed) (b : Bool) → ((y : List Placed) → f y ≡ where_some (after m y) (g y) h) → is_fixed m p.token ≡ b → Good (c ++ (Fixed m ∷ [])) h → Good c g → At c f (p ∷ ts)
+-- a token that has to be something
+taken_at : {A : Type 0} (take : Placed → Option A) (part : A → Part) → Takes A take part → (n : ℕ) (parts : List Part) (g : A × List Placed → Result Statement (Option ℕ)) → ((x : A) → Good n (parts ++ (part x ∷ [])) (λ ts. g (x, ts))) → (c : List Placed) → Fits parts c → (p : Placed) (ts : List Placed) → length (p ∷ ts) ≤ n → (o : Option A) → take p ≡ o → At c (λ ts. take_at take ts >>= g) (p ∷ ts)
+unfolding take_at
+taken_at take part of n parts g h c fits p ts few None e = fail_at c (λ ts. take_at take ts >>= g) p ts (λ y. ap (λ o. where_some o (Err (Some p.at)) (λ x. Ok (x, y)) >>= g) e) (viable_before n parts (part of.some) of.token (λ ts. g (of.some, ts)) of.there (h of.some) c fits)
+taken_at take part of n parts g h c fits p ts few (Some x) e = step_at c (λ ts. take_at take ts >>= g) (λ ts. g (x, ts)) p ts (λ y. ap (λ o. where_some o (Err (Some p.at)) (λ x. Ok (x, y)) >>= g) e) (h x (c ++ (p ∷ [])) (fits_one parts (part x) c p fits (of.is p x e)) ts (omega arith))
+
+take_good_at : {A : Type 0} (take : Placed → Option A) (part : A → Part) → Takes A take part → (n : ℕ) (parts : List Part) (g : A × List Placed → Result Statement (Option ℕ)) → ((x : A) → Good n (parts ++ (part x ∷ [])) (λ ts. g (x, ts))) → (c : List Placed) → Fits parts c → (ts : List Placed) → length ts ≤ n → At c (λ ts. take_at take ts >>= g) ts
+unfolding take_at
+take_good_at take part of n parts g h c fits [] few = end_at c (λ ts. take_at take ts >>= g) refl (viable_before n parts (part of.some) of.token (λ ts. g (of.some, ts)) of.there (h of.some) c fits)
+take_good_at take part of n parts g h c fits (p ∷ ts) few = taken_at take part of n parts g h c fits p ts few (take p) refl
+
+pub take_good : {A : Type 0} (take : Placed → Option A) (part : A → Part) → Takes A take part → (n : ℕ) (parts : List Part) (g : A × List Placed → Result Statement (Option ℕ)) → ((x : A) → Good n (parts ++ (part x ∷ [])) (λ ts. g (x, ts))) → Good n parts (λ ts. take_at take ts >>= g)
+take_good take part of n parts g h = take_good_at take part of n parts g h
+
+-- a token that may be something
+peeked_at : {A : Type 0} (take : Placed → Option A) (part : A → Part) → Takes A take part → (n : ℕ) (parts : List Part) (f g : Reader) (h : A × List Placed → Result Statement (Option ℕ)) → ((y : List Placed) → f y ≡ where_some (peek_at take y) (g y) h) → ((x : A) → Good n (parts ++ (part x ∷ [])) (λ ts. h (x, ts))) → Good n parts g → (c : List Placed) → Fits parts c → (p : Placed) (ts : List Placed) → length (p ∷ ts) ≤ n → (o : Option A) → take p ≡ o → At c f (p ∷ ts)
+unfolding peek_at
+peeked_at take part of n parts f g h by hh hg c fits p ts few None e = pass_at c f g p ts (λ y. by (p ∷ y) ∙ ap (λ o. where_some (option_map (λ x. (x, y)) o) (g (p ∷ y)) h) e) (hg c fits (p ∷ ts) few)
+peeked_at take part of n parts f g h by hh hg c fits p ts few (Some x) e = step_at c f (λ ts. h (x, ts)) p ts (λ y. by (p ∷ y) ∙ ap (λ o. where_some (option_map (λ x. (x, y)) o) (g (p ∷ y)) h) e) (hh x (c ++ (p ∷ [])) (fits_one parts (part x) c p fits (of.is p x e)) ts (omega arith))
+
+peek_token_at : {A : Type 0} (take : Placed → Option A) (part : A → Part) → Takes A take part → (n : ℕ) (parts : List Part) (f g : Reader) (h : A × List Placed → Result Statement (Option ℕ)) → ((y : List Placed) → f y ≡ where_some (peek_at take y) (g y) h) → ((x : A) → Good n (parts ++ (part x ∷ [])) (λ ts. h (x, ts))) → Good n parts g → (c : List Placed) → Fits parts c → (ts : List Placed) → length ts ≤ n → At c f ts
+unfolding peek_at
+peek_token_at take part of n parts f g h by hh hg c fits [] few = pass_end c f g (by []) (hg c fits [] few)
+peek_token_at take part of n parts f g h by hh hg c fits (p ∷ ts) few = peeked_at take part of n parts f g h by hh hg c fits p ts few (take p) refl
+
+pub peek_token_good : {A : Type 0} (take : Placed → Option A) (part : A → Part) → Takes A take part → (n : ℕ) (parts : List Part) (f g : Reader) (h : A × List Placed → Result Statement (Option ℕ)) → ((y : List Placed) → f y ≡ where_some (peek_at take y) (g y) h) → ((x : A) → Good n (parts ++ (part x ∷ [])) (λ ts. h (x, ts))) → Good n parts g → Good n parts f
+peek_token_good take part of n parts f g h by hh hg = peek_token_at take part of n parts f g h by hh hg
+
+-- a mark that may come, and what follows it, of which one token less is left
+marked_at : (k n : ℕ) (parts : List Part) (m : Mark) (f g h : Reader) → ((y : List Placed) → f y ≡ where_some (after m y) (g y) h) → n ≤ suc k → Good k (parts ++ (said m ∷ [])) h → Good n parts g → (c : List Placed) → Fits parts c → (p : Placed) (ts : List Placed) → length (p ∷ ts) ≤ n → (b : Bool) → is_fixed m p.token ≡ b → At c f (p ∷ ts)
 unfolding after
-peek_at c m f g h p ts true by e hh hg = step_at c f h p ts (λ y. by (p ∷ y) ∙ ap (λ b. where_some (cond b (Some y) None) (g (p ∷ y)) h) e) (subst (λ t. At (c ++ (t ∷ [])) h ts) (sym (is_fixed_true m p.token e)) (hh ts))
-peek_at c m f g h p ts false by e hh hg = pass_at c f g p ts (λ y. by (p ∷ y) ∙ ap (λ b. where_some (cond b (Some y) None) (g (p ∷ y)) h) e) (hg (p ∷ ts))
+marked_at k n parts m f g h by less hh hg c fits p ts few true e = step_at c f h p ts (λ y. by (p ∷ y) ∙ ap (λ b. where_some (cond b (Some y) None) (g (p ∷ y)) h) e) (hh (c ++ (p ∷ [])) (fits_one parts (said m) c p fits (is_fixed_true m p.token e)) ts (omega arith))
+marked_at k n parts m f g h by less hh hg c fits p ts few false e = pass_at c f g p ts (λ y. by (p ∷ y) ∙ ap (λ b. where_some (cond b (Some y) None) (g (p ∷ y)) h) e) (hg c fits (p ∷ ts) few)
 
-pub peek_good : (c : List Token) (m : Mark) (f g h : Reader) → ((y : List Placed) → f y ≡ where_some (after m y) (g y) h) → Good (c ++ (Fixed m ∷ [])) h → Good c g → Good c f
+peek_mark_at : (k n : ℕ) (parts : List Part) (m : Mark) (f g h : Reader) → ((y : List Placed) → f y ≡ where_some (after m y) (g y) h) → n ≤ suc k → Good k (parts ++ (said m ∷ [])) h → Good n parts g → (c : List Placed) → Fits parts c → (ts : List Placed) → length ts ≤ n → At c f ts
 unfolding after
-peek_good c m f g h by hh hg [] = pass_end c f g (by []) (hg [])
-peek_good c m f g h by hh hg (p ∷ ts) = peek_at c m f g h p ts (is_fixed m p.token) by refl hh hg
+peek_mark_at k n parts m f g h by less hh hg c fits [] few = pass_end c f g (by []) (hg c fits [] few)
+peek_mark_at k n parts m f g h by less hh hg c fits (p ∷ ts) few = marked_at k n parts m f g h by less hh hg c fits p ts few (is_fixed m p.token) refl
+
+pub peek_less_good : (k n : ℕ) (parts : List Part) (m : Mark) (f g h : Reader) → ((y : List Placed) → f y ≡ where_some (after m y) (g y) h) → n ≤ suc k → Good k (parts ++ (said m ∷ [])) h → Good n parts g → Good n parts f
+peek_less_good k n parts m f g h by less hh hg = peek_mark_at k n parts m f g h by less hh hg
+
+pub peek_good : (n : ℕ) (parts : List Part) (m : Mark) (f g h : Reader) → ((y : List Placed) → f y ≡ where_some (after m y) (g y) h) → Good n (parts ++ (said m ∷ [])) h → Good n parts g → Good n parts f
+peek_good n parts m f g h by hh hg = peek_less_good n n parts m f g h by (omega arith) hh hg
 
 -- no token may be left
-pub end_good : (c : List Token) (s : Statement) → IsSpelling c s → Good c (λ ts. ended s ts)
+last_at : (n : ℕ) (parts : List Part) (s : Statement) → ((c : List Placed) → Fits parts c → IsSpelling c s) → (c : List Placed) → Fits parts c → (ts : List Placed) → length ts ≤ n → At c (λ ts. last_of s ts) ts
+unfolding last_of
+last_at n parts s h c fits [] few = done_at c (λ ts. last_of s ts) [] s refl (subst (λ x. IsSpelling x s) (sym (append-nil c)) (h c fits))
+last_at n parts s h c fits (p ∷ ts) few = fail_at c (λ ts. last_of s ts) p ts (λ y. refl) ([], s, subst (λ x. IsSpelling x s) (sym (append-nil c)) (h c fits))
+
+-- a `;` or nothing may be left
+pub end_good : (n : ℕ) (parts : List Part) (s : Statement) → IsStatement s → parts ≡ statement_parts s → Good n parts (λ ts. ended s ts)
 unfolding ended
-end_good c s h [] = done_at c (λ ts. ended s ts) [] s refl (subst (λ x. IsSpelling x s) (sym (append-nil c)) h)
-end_good c s h (p ∷ ts) = fail_at c (λ ts. ended s ts) p ts (λ y. refl) ([], s, subst (λ x. IsSpelling x s) (sym (append-nil c)) h)
+end_good n parts s is e =
+    peek_good n parts marks.Semicolon (λ ts. ended s ts) (λ ts. last_of s ts) (λ ts. last_of s ts) (λ y. refl)
+    (last_at n (parts ++ (said marks.Semicolon ∷ [])) s (λ c fits. (is, (true, subst (λ x. Fits (x ++ end_parts true) c) e fits))))
+    (last_at n parts s (λ c fits. (is, (false, subst (λ x. Fits x c) (e ∙ sym (append-nil (statement_parts s))) fits))))

@@ -1,10 +1,16 @@
-pub mod Readers
 pub mod Closing
 pub mod Turns
 pub mod Places
 pub mod Laws
+pub mod Takers
+pub mod Lists
+pub mod Readers
 pub mod Parts
 pub mod Again
 pub mod Deciding
 pub mod Examples
 pub mod Naming
+pub mod Writing
+pub mod Unplaced
+pub mod Words
+pub mod Spelled

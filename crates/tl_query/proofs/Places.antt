@@ -1,19 +1,15 @@
--- Marks are told apart by their places.
-use Rattle.std.proofs.Common.{◌≡◌, true, List, [], ◌∷◌, get_or, refl, sym, ◌∙◌, ap, Option, Some, None}
+-- Marks are told apart by their places, and a token is what it was taken for.
+use Rattle.std.proofs.Common.{◌≡◌, ℕ, true, false, Bool, List, [], ◌∷◌, get_or, refl, sym, ◌∙◌, ap, Option, Some, None, ◌==◌}
 use Rattle.std.proofs.lemmas.Bool.Decides.{Decides-eqb}
 use Rattle.tl_query.specs.declared.marks.Mark.{Mark}
-use Rattle.tl_query.specs.declared.marks.Mark.TheVariants.{Create, Table, Key, Valid, Int, Text, Put, Remove, Select, From, As, Of, Open, Close, Comma, Semicolon, Star, Equal, Unequal, Less, AtMost, Greater, AtLeast}
+use Rattle.tl_query.specs.declared.marks.Mark.TheVariants.{Create, Table, Key, Valid, Int, Text, Put, Remove, Select, From, Where, And, Or, As, Of, At, Count, Sum, Avg, Min, Max, By, Over, System, All, To, Join, With, On, Forever, ValidFrom, ValidTo, Open, Close, Comma, Semicolon, Star, Equal, Unequal, Less, AtMost, Greater, AtLeast}
 use Rattle.tl_query.specs.declared.tokens.Token.{Token}
-use Rattle.tl_query.specs.declared.tokens.Token.TheVariants.{Fixed, Word, Number, ValidFrom, ValidTo, Negative, Quoted, Stray}
-use Rattle.tl_query.specs.declared.forms.Name.{Name}
-use Rattle.tl_query.specs.declared.forms.Stamp.{Stamp}
+use Rattle.tl_query.specs.declared.tokens.Token.TheVariants.{Fixed, Word, Number, Negative, Quoted, Stray}
 use Rattle.tl_query.specs.Marks.{place, same_mark}
-use Rattle.tl_query.specs.declared.forms.Item.{Item}
-use Rattle.tl_query.specs.Grammar.{item_token}
-use Rattle.tl_query.specs.Reading.{is_fixed, name_of, item_of, version_of}
+use Rattle.tl_query.specs.Reading.{is_fixed}
 
 every : List Mark
-every = Create ∷ Table ∷ Key ∷ Valid ∷ Int ∷ Text ∷ Put ∷ Remove ∷ Select ∷ From ∷ As ∷ Of ∷ Open ∷ Close ∷ Comma ∷ Semicolon ∷ Star ∷ Equal ∷ Unequal ∷ Less ∷ AtMost ∷ Greater ∷ AtLeast ∷ []
+every = Create ∷ Table ∷ Key ∷ Valid ∷ Int ∷ Text ∷ Put ∷ Remove ∷ Select ∷ From ∷ Where ∷ And ∷ Or ∷ As ∷ Of ∷ At ∷ Count ∷ Sum ∷ Avg ∷ Min ∷ Max ∷ By ∷ Over ∷ System ∷ All ∷ To ∷ Join ∷ With ∷ On ∷ Forever ∷ ValidFrom ∷ ValidTo ∷ Open ∷ Close ∷ Comma ∷ Semicolon ∷ Star ∷ Equal ∷ Unequal ∷ Less ∷ AtMost ∷ Greater ∷ AtLeast ∷ []
 
 there : (m : Mark) → get_or every (place m) Create ≡ m
 unfolding every
@@ -27,8 +23,28 @@ there Put = refl
 there Remove = refl
 there Select = refl
 there From = refl
+there Where = refl
+there And = refl
+there Or = refl
 there As = refl
 there Of = refl
+there At = refl
+there Count = refl
+there Sum = refl
+there Avg = refl
+there Min = refl
+there Max = refl
+there By = refl
+there Over = refl
+there System = refl
+there All = refl
+there To = refl
+there Join = refl
+there With = refl
+there On = refl
+there Forever = refl
+there ValidFrom = refl
+there ValidTo = refl
 there Open = refl
 there Close = refl
 there Comma = refl
@@ -46,46 +62,8 @@ same_mark_true a b e = sym (there a) ∙ ap (λ n. get_or every n Create) ((Deci
 
 pub is_fixed_true : (m : Mark) (t : Token) → is_fixed m t ≡ true → t ≡ Fixed m
 is_fixed_true m (Fixed k) e = ap Fixed (same_mark_true k m e)
-is_fixed_true m (Word n) e = absurd (cc)
-is_fixed_true m (Number s) e = absurd (cc)
-is_fixed_true m (ValidFrom at) e = absurd (cc)
-is_fixed_true m (ValidTo at) e = absurd (cc)
-is_fixed_true m Negative e = absurd (cc)
-is_fixed_true m Quoted e = absurd (cc)
+is_fixed_true m (Word w) e = absurd (cc)
+is_fixed_true m (Number n) e = absurd (cc)
+is_fixed_true m (Negative n) e = absurd (cc)
+is_fixed_true m (Quoted t) e = absurd (cc)
 is_fixed_true m Stray e = absurd (cc)
-
-pub name_of_some : (t : Token) (n : Name) → name_of t ≡ Some n → t ≡ Word n
-name_of_some (Fixed k) n e = absurd (cc)
-name_of_some (Word k) n e = cc
-name_of_some (Number s) n e = absurd (cc)
-name_of_some (ValidFrom at) n e = absurd (cc)
-name_of_some (ValidTo at) n e = absurd (cc)
-name_of_some Negative n e = absurd (cc)
-name_of_some Quoted n e = absurd (cc)
-name_of_some Stray n e = absurd (cc)
-
-pub version_of_some : (t : Token) (s : Stamp) → version_of t ≡ Some s → t ≡ Number s
-version_of_some (Fixed k) n e = absurd (cc)
-version_of_some (Word k) n e = absurd (cc)
-version_of_some (Number s) n e = cc
-version_of_some (ValidFrom at) n e = absurd (cc)
-version_of_some (ValidTo at) n e = absurd (cc)
-version_of_some Negative n e = absurd (cc)
-version_of_some Quoted n e = absurd (cc)
-version_of_some Stray n e = absurd (cc)
-
--- the token of an item, where there is one
-token_of : Option Item → Token
-token_of None = Stray
-token_of (Some x) = item_token x
-
-pub item_of_some : (t : Token) (x : Item) → item_of t ≡ Some x → t ≡ item_token x
-unfolding token_of
-item_of_some (Fixed k) x e = absurd (cc)
-item_of_some (Word k) x e = ap token_of e
-item_of_some (Number s) x e = absurd (cc)
-item_of_some (ValidFrom at) x e = ap token_of e
-item_of_some (ValidTo at) x e = ap token_of e
-item_of_some Negative x e = absurd (cc)
-item_of_some Quoted x e = absurd (cc)
-item_of_some Stray x e = absurd (cc)

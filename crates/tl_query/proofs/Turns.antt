@@ -7,8 +7,7 @@ use Rattle.tl_query.specs.declared.tokens.Placed.{Placed}
 use Rattle.tl_query.specs.declared.scanning.Piece.{Piece}
 use Rattle.tl_query.specs.declared.faults.TextFault.{TextFault}
 use Rattle.tl_query.specs.declared.faults.TextFault.TheVariants.{OpenText}
-use Rattle.tl_query.specs.declared.tokens.Token.TheVariants.{Quoted}
-use Rattle.tl_query.specs.Scanning.{is_blank, number_of, word_piece, number_piece, negative_piece, one_more, closing, quoted_piece, less_piece, greater_piece, symbol_piece, piece_at, piece_of, Tokens, tokens_before, placed, with_piece, scan}
+use Rattle.tl_query.specs.Scanning.{is_blank, number_of, word_piece, number_piece, negative_piece, one_more, closing, single, text_token, quoted_piece, less_piece, greater_piece, symbol_piece, piece_at, piece_of, Tokens, tokens_before, placed, with_piece, scan}
 
 -- passing bytes of a token that was read
 skip_on : (bytes : List ℕ) (skip at : ℕ) (joined : Bool) → skip ≤ length bytes → scan at joined skip bytes ≡ scan (at + skip) joined 0 (drop skip bytes)
@@ -54,9 +53,9 @@ within_if n false x y h k = k
 begun : (b : ℕ) → begins_word b ≡ true → continues_word b ≡ true
 begun b e = ap (λ t. t || is_digit b) e
 
-word_within : (at b : ℕ) (bytes : List ℕ) → begins_word b ≡ true → Within (length (b ∷ bytes)) (Ok (word_piece at (b ∷ bytes)))
+word_within : (b : ℕ) (bytes : List ℕ) → begins_word b ≡ true → Within (length (b ∷ bytes)) (Ok (word_piece (b ∷ bytes)))
 unfolding word_piece
-word_within at b bytes e =
+word_within b bytes e =
     let n : prefix_len continues_word (b ∷ bytes) ≡ 1 + prefix_len continues_word bytes = ap (λ t. cond t (1 + prefix_len continues_word bytes) 0) (begun b e) in
     (omega (arith, n), prefix_len-le-length continues_word (b ∷ bytes))
 
@@ -88,7 +87,7 @@ closing_within false (b ∷ bytes) = some_if (suc (length bytes)) (b == 39) (one
 
 quoted_within : (at b : ℕ) (bytes : List ℕ) → Within (length (b ∷ bytes)) (quoted_piece at bytes)
 unfolding quoted_piece
-quoted_within at b bytes = elim (closing false bytes) as (λ o. IfSome o (λ m. m ≤ length bytes) → Within (length (b ∷ bytes)) (elim o [ None ↦ Err (OpenText at) | Some n ↦ Ok (record { token = Quoted; len = n + 1; joins = true }) ])) [ None ↦ λ h. tt | Some n ↦ λ h. (omega arith, omega arith) ] (closing_within false bytes)
+quoted_within at b bytes = elim (closing false bytes) as (λ o. IfSome o (λ m. m ≤ length bytes) → Within (length (b ∷ bytes)) (elim o [ None ↦ Err (OpenText at) | Some n ↦ Ok (record { token = text_token (single false (take (n - 1) bytes)); len = n + 1; joins = true }) ])) [ None ↦ λ h. tt | Some n ↦ λ h. (omega arith, omega arith) ] (closing_within false bytes)
 
 piece_if : (n : ℕ) (t : Bool) (x y : Piece) → (1 ≤ x.len) × (x.len ≤ n) → (1 ≤ y.len) × (y.len ≤ n) → (1 ≤ (cond t x y).len) × ((cond t x y).len ≤ n)
 piece_if n true x y h k = h
@@ -113,7 +112,7 @@ pub piece_within : (at b : ℕ) (bytes : List ℕ) → IfOk (piece_at at b bytes
 unfolding piece_at
 piece_within at b bytes =
     let n : ℕ = length (b ∷ bytes) in
-    within_if n (begins_word b) _ _ (word_within at b bytes) (within_if n (is_digit b) _ _ (number_within at b bytes) (within_if n (b == 45) _ _ (λ _. negative_within at b bytes) (within_if n (b == 39) _ _ (λ _. quoted_within at b bytes) (symbol_within at b bytes))))
+    within_if n (begins_word b) _ _ (word_within b bytes) (within_if n (is_digit b) _ _ (number_within at b bytes) (within_if n (b == 45) _ _ (λ _. negative_within at b bytes) (within_if n (b == 39) _ _ (λ _. quoted_within at b bytes) (symbol_within at b bytes))))
 
 pub read_within : (at b : ℕ) (bytes : List ℕ) (p : Piece) → Ok p ≡ piece_at at b bytes → (1 ≤ p.len) × (p.len ≤ length (b ∷ bytes))
 read_within at b bytes p e = subst (λ r. IfOk r (λ p. (1 ≤ p.len) × (p.len ≤ length (b ∷ bytes)))) (sym e) (piece_within at b bytes)

@@ -1,4 +1,5 @@
--- The check of a question against the tables, and of a new table: what it means, or its first fault.
+-- The check of a new table, and the parts of the check of a question: what names mean, and the first of several
+-- faults.
 use Rattle.std.specs.Prelude.{ℕ, ◌≡◌, ◌≤◌, IsTrue, nat_abs, Bool, true, false, ◌&&◌, ◌||◌, not, nat_lt, ◌==◌, List, [], ◌∷◌, ◌++◌, length, map, take, Option, Some, None, is_some, Result, Ok, Err, if◌then◌else◌}
 use Rattle.std.specs.List.{list_all, list_any, fold, position, enumerate_from}
 use Rattle.tl_types.specs.declared.schemas.Column.{Column}
@@ -12,8 +13,6 @@ use Rattle.tl_query.specs.declared.forms.Item.TheVariants as item
 use Rattle.tl_query.specs.declared.forms.SelectForm.{SelectForm}
 use Rattle.tl_query.specs.declared.forms.ColumnForm.{ColumnForm}
 use Rattle.tl_query.specs.declared.forms.CreateForm.{CreateForm}
-use Rattle.tl_query.specs.declared.plans.Typed.{Typed}
-use Rattle.tl_query.specs.declared.plans.Typed.TheVariants as typed
 use Rattle.tl_query.specs.declared.plans.TypedItem.{TypedItem}
 use Rattle.tl_query.specs.declared.plans.TypedItem.TheVariants as typed_item
 use Rattle.tl_query.specs.declared.check_faults.CheckFault.{CheckFault}
@@ -90,15 +89,6 @@ abbrev pub version_fault : ℕ → Option Stamp → Option CheckFault
 version_fault now None = None
 version_fault now (Some stamp) = fault_if (nat_lt now (nat_abs stamp.value)) (fault.VersionAhead stamp.at (nat_abs stamp.value) now)
 
--- the table is unknown, or the first fault of the items
-abbrev pub name_fault : Option (ℕ × plain.Schema) → SelectForm → Option CheckFault
-name_fault None form = Some (fault.UnknownTable form.table.at)
-name_fault (Some t) form = first_of (map (item_fault t.1) form.items)
-
--- the first fault of a SELECT at so many commits: of its items, its table, its version
-abbrev pub select_fault : ℕ → Option (ℕ × plain.Schema) → SelectForm → Option CheckFault
-select_fault now table form = earlier (name_fault table form) (version_fault now form.as_of)
-
 -- a number, 0 where there is none
 abbrev pub or_zero : Option ℕ → ℕ
 or_zero None = 0
@@ -127,23 +117,6 @@ typed_items_of schema form = if form.all then all_items schema else map (typed_i
 abbrev pub version_of : ℕ → Option Stamp → ℕ
 version_of now None = now
 version_of now (Some stamp) = nat_abs stamp.value
-
--- a SELECT by numbers, over the table that its name means
-abbrev pub typed_select : ℕ → ℕ × plain.Schema → SelectForm → Typed
-typed_select now table form =
-    typed.Select table.0 (typed_items_of table.1 form) (record { any = [] }) None (version_of now form.as_of)
-
--- the SELECT by numbers at so many commits, over the table that its name means if it means one, or its first fault
-abbrev pub checked_select : ℕ → Option (ℕ × plain.Schema) → SelectForm → Result Typed CheckFault
-checked_select now table form = unless (select_fault now table form) table where
-  unless : Option CheckFault → Option (ℕ × plain.Schema) → Result Typed CheckFault
-  unless (Some f) t = Err f
-  unless None None = Err (fault.UnknownTable form.table.at)
-  unless None (Some t) = Ok (typed_select now t form)
-
--- a SELECT of the language as it is: no predicate, no valid time
-abbrev pub IsBareSelect : SelectForm → Type 0
-IsBareSelect form = (form.pred.any ≡ []) × (form.valid_at ≡ None)
 
 -- NEW TABLES
 

@@ -1,7 +1,16 @@
+pub mod Aggregates
 pub mod Answers
 pub mod Checking
+pub mod CheckingQueries
+pub mod Fields
 pub mod Grammar
+pub mod Joins
 pub mod Marks
+pub mod Ordered
+pub mod Passing
+pub mod Printing
 pub mod Reading
+pub mod Runs
 pub mod Scanning
 pub mod Texts
+pub mod TypedFor

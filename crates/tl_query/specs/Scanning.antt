@@ -1,11 +1,12 @@
 -- The tokens of a text. A token is as long as it can be; spaces and tabs stand between tokens.
-use Rattle.std.specs.Prelude.{ℕ, ◌+◌, ◌-◌, ◌*◌, ◌^◌, Bool, true, false, ◌&&◌, ◌||◌, nat_lt, nat_le, ◌==◌, zero, suc, if◌then◌else◌, pos, List, [], ◌∷◌, ◌++◌, take, codes, Option, Some, None, Result, Ok, Err}
+use Rattle.std.specs.Prelude.{ℕ, ◌+◌, ◌-◌, ◌*◌, ◌^◌, Bool, true, false, ◌&&◌, ◌||◌, nat_lt, nat_le, ◌==◌, zero, suc, if◌then◌else◌, pos, neg_ℤ, List, [], ◌∷◌, ◌++◌, length, take, codes, Option, Some, None, Result, Ok, Err}
+use Rattle.std.specs.Str.{is_utf8}
 use Rattle.std.specs.List.{prefix_len, fold}
 use Rattle.tl_types.specs.Names.{same_bytes, is_digit, begins_word, continues_word, is_name}
 use Rattle.tl_query.specs.declared.marks.Mark.{Mark}
 use Rattle.tl_query.specs.declared.marks.Mark.TheVariants as marks
 use Rattle.tl_query.specs.declared.tokens.Token.{Token}
-use Rattle.tl_query.specs.declared.tokens.Token.TheVariants.{Fixed, Word, Number, ValidFrom, ValidTo, Negative, Quoted, Stray}
+use Rattle.tl_query.specs.declared.tokens.Token.TheVariants.{Fixed, Word, Number, Negative, Quoted, Stray}
 use Rattle.tl_query.specs.declared.tokens.Placed.{Placed}
 use Rattle.tl_query.specs.declared.scanning.Piece.{Piece}
 use Rattle.tl_query.specs.declared.scanning.Scanned.{Scanned}
@@ -20,54 +21,95 @@ is_blank b = (b == 32) || (b == 9)
 abbrev pub number_of : List ℕ → ℕ
 number_of digits = fold (λ n d. 10 * n + (d - 48)) 0 digits
 
--- the keyword that a word is, of those that a statement has
-unfoldable pub keyword_of : List ℕ → Option Mark
-keyword_of word =
+-- a word that names a statement or an aggregate
+unfoldable pub statement_mark : List ℕ → Option Mark
+statement_mark word =
     if same_bytes word (codes "CREATE") then Some marks.Create else
+    if same_bytes word (codes "PUT") then Some marks.Put else
+    if same_bytes word (codes "REMOVE") then Some marks.Remove else
+    if same_bytes word (codes "SELECT") then Some marks.Select else
+    if same_bytes word (codes "COUNT") then Some marks.Count else
+    if same_bytes word (codes "SUM") then Some marks.Sum else
+    if same_bytes word (codes "AVG") then Some marks.Avg else
+    if same_bytes word (codes "MIN") then Some marks.Min else
+    if same_bytes word (codes "MAX") then Some marks.Max else
+    if same_bytes word (codes "JOIN") then Some marks.Join else
+    None
+
+-- a word that describes a table
+unfoldable pub table_mark : List ℕ → Option Mark
+table_mark word =
     if same_bytes word (codes "TABLE") then Some marks.Table else
     if same_bytes word (codes "KEY") then Some marks.Key else
     if same_bytes word (codes "VALID") then Some marks.Valid else
     if same_bytes word (codes "INT") then Some marks.Int else
     if same_bytes word (codes "TEXT") then Some marks.Text else
-    if same_bytes word (codes "PUT") then Some marks.Put else
-    if same_bytes word (codes "REMOVE") then Some marks.Remove else
-    if same_bytes word (codes "SELECT") then Some marks.Select else
-    if same_bytes word (codes "FROM") then Some marks.From else
-    if same_bytes word (codes "AS") then Some marks.As else
-    if same_bytes word (codes "OF") then Some marks.Of else
+    if same_bytes word (codes "valid_from") then Some marks.ValidFrom else
+    if same_bytes word (codes "valid_to") then Some marks.ValidTo else
     None
 
--- the token that a word at this offset is, where it is none of the fixed words
-unfoldable pub other_token : ℕ → List ℕ → Token
-other_token at word =
-    if same_bytes word (codes "valid_from") then ValidFrom at else
-    if same_bytes word (codes "valid_to") then ValidTo at else
-    if is_name word then Word (record { text = word; at = at }) else
-    Stray
+-- a word between the parts of a query
+unfoldable pub clause_mark : List ℕ → Option Mark
+clause_mark word =
+    if same_bytes word (codes "FROM") then Some marks.From else
+    if same_bytes word (codes "WHERE") then Some marks.Where else
+    if same_bytes word (codes "AND") then Some marks.And else
+    if same_bytes word (codes "OR") then Some marks.Or else
+    if same_bytes word (codes "AS") then Some marks.As else
+    if same_bytes word (codes "OF") then Some marks.Of else
+    if same_bytes word (codes "AT") then Some marks.At else
+    if same_bytes word (codes "BY") then Some marks.By else
+    None
 
--- the token that a word at this offset is
-unfoldable pub word_token : ℕ → List ℕ → Token
-word_token at word = elim (keyword_of word) [ Some mark ↦ Fixed mark | None ↦ other_token at word ]
+-- a word of a range or a join
+unfoldable pub range_mark : List ℕ → Option Mark
+range_mark word =
+    if same_bytes word (codes "OVER") then Some marks.Over else
+    if same_bytes word (codes "SYSTEM") then Some marks.System else
+    if same_bytes word (codes "ALL") then Some marks.All else
+    if same_bytes word (codes "TO") then Some marks.To else
+    if same_bytes word (codes "WITH") then Some marks.With else
+    if same_bytes word (codes "ON") then Some marks.On else
+    if same_bytes word (codes "FOREVER") then Some marks.Forever else
+    None
+
+-- the first, or the second where there is none
+abbrev pub or_else : Option Mark → Option Mark → Option Mark
+or_else None other = other
+or_else (Some mark) other = Some mark
+
+-- the keyword that a word is
+unfoldable pub keyword_of : List ℕ → Option Mark
+keyword_of word = or_else (statement_mark word) (or_else (table_mark word) (or_else (clause_mark word) (range_mark word)))
+
+-- the token that a word is, where it is no keyword: a name, if it isn't too long
+unfoldable pub other_token : List ℕ → Token
+other_token word = if is_name word then Word word else Stray
+
+-- the token that a word is
+unfoldable pub word_token : List ℕ → Token
+word_token word = elim (keyword_of word) [ Some mark ↦ Fixed mark | None ↦ other_token word ]
 
 -- the word at the front
-unfoldable pub word_piece : ℕ → List ℕ → Piece
-word_piece at bytes =
+unfoldable pub word_piece : List ℕ → Piece
+word_piece bytes =
     let len : ℕ = prefix_len continues_word bytes in
-    record { token = word_token at (take len bytes); len = len; joins = true }
+    record { token = word_token (take len bytes); len = len; joins = true }
 
 -- the number at the front, without a sign
 unfoldable pub number_piece : ℕ → List ℕ → Result Piece TextFault
 number_piece at bytes =
     let len : ℕ = prefix_len is_digit bytes in
     let n : ℕ = number_of (take len bytes) in
-    if nat_lt n (2 ^ 63) then Ok (record { token = Number (record { value = pos n; at = at }); len = len; joins = true }) else Err (NumberTooLarge at)
+    if nat_lt n (2 ^ 63) then Ok (record { token = Number (pos n); len = len; joins = true }) else Err (NumberTooLarge at)
 
 -- the number whose `-` stands before these bytes
 unfoldable pub negative_piece : ℕ → List ℕ → Result Piece TextFault
 negative_piece at bytes =
     let len : ℕ = prefix_len is_digit bytes in
+    let n : ℕ = number_of (take len bytes) in
     if len == 0 then Err (BadByte at) else
-    if nat_le (number_of (take len bytes)) (2 ^ 63) then Ok (record { token = Negative; len = len + 1; joins = true }) else Err (NumberTooLarge at)
+    if nat_le n (2 ^ 63) then Ok (record { token = Negative (neg_ℤ (pos n)); len = len + 1; joins = true }) else Err (NumberTooLarge at)
 
 -- one more, where there is a number
 abbrev pub one_more : Option ℕ → Option ℕ
@@ -82,9 +124,20 @@ closing false [] = None
 closing true (b ∷ bytes) = if b == 39 then one_more (closing false bytes) else Some 0
 closing false (b ∷ bytes) = if b == 39 then one_more (closing true bytes) else one_more (closing false bytes)
 
+-- The bytes of a text constant between its quotes, with one quote for two. After a quote that was kept (the
+-- first argument) another one is passed over.
+unfoldable pub single : Bool → List ℕ → List ℕ
+single kept [] = []
+single true (b ∷ bytes) = if b == 39 then single false bytes else b ∷ single false bytes
+single false (b ∷ bytes) = b ∷ single (b == 39) bytes
+
+-- the token that a text constant is: a text of at most 65,535 bytes, whose characters are spelled in UTF-8
+unfoldable pub text_token : List ℕ → Token
+text_token text = if is_utf8 text && nat_le (length text) 65535 then Quoted text else Stray
+
 -- the text constant whose quote stands before these bytes
 unfoldable pub quoted_piece : ℕ → List ℕ → Result Piece TextFault
-quoted_piece at bytes = elim (closing false bytes) [ None ↦ Err (OpenText at) | Some n ↦ Ok (record { token = Quoted; len = n + 1; joins = true }) ]
+quoted_piece at bytes = elim (closing false bytes) [ None ↦ Err (OpenText at) | Some n ↦ Ok (record { token = text_token (single false (take (n - 1) bytes)); len = n + 1; joins = true }) ]
 
 -- a symbol of so many bytes
 abbrev pub symbol : Mark → ℕ → Piece
@@ -116,7 +169,7 @@ symbol_piece at b bytes =
 -- the token at the front
 unfoldable pub piece_at : ℕ → ℕ → List ℕ → Result Piece TextFault
 piece_at at b bytes =
-    if begins_word b then Ok (word_piece at (b ∷ bytes)) else
+    if begins_word b then Ok (word_piece (b ∷ bytes)) else
     if is_digit b then number_piece at (b ∷ bytes) else
     if b == 45 then negative_piece at bytes else
     if b == 39 then quoted_piece at bytes else

@@ -1,6 +1,5 @@
 -- What a text spells, and the fault of a text that spells nothing.
-use Rattle.std.specs.Prelude.{◌≡◌, ℕ, ◌<◌, ◌≤◌, nat_lt, false, if◌then◌else◌, ◌⊎◌, List, [], ◌∷◌, ◌++◌, length, map, Option, Some, None, Result, Ok, Err}
-use Rattle.tl_query.specs.declared.tokens.Token.{Token}
+use Rattle.std.specs.Prelude.{◌≡◌, ℕ, ◌<◌, ◌≤◌, nat_lt, false, if◌then◌else◌, ◌⊎◌, List, [], ◌∷◌, ◌++◌, length, Option, Some, None, Result, Ok, Err}
 use Rattle.tl_query.specs.declared.tokens.Placed.{Placed}
 use Rattle.tl_query.specs.declared.forms.Statement.{Statement}
 use Rattle.tl_query.specs.declared.faults.TextFault.{TextFault}
@@ -8,20 +7,23 @@ use Rattle.tl_query.specs.declared.faults.TextFault.TheVariants.{BadByte, OpenTe
 use Rattle.tl_query.specs.Scanning.{Tokens, scan}
 use Rattle.tl_query.specs.Grammar.{IsSpelling, IsViable}
 use Rattle.tl_query.specs.Reading.{statement_at}
+use Rattle.tl_query.specs.Printing.{unplaced}
 
 -- the tokens of a text, up to the first character, text or number at which there is none
 abbrev pub tokens_of : List ℕ → Tokens
 tokens_of text = scan 0 false 0 text
 
--- the tokens without their places
-abbrev pub words_of : List Placed → List Token
-words_of ts = map (λ p. p.token) ts
-
 -- The text has at most 65,536 bytes, is made of tokens, and they spell the statement.
 pub record Spells (text : List ℕ) (s : Statement) : Type 0 where
   pub short : length text ≤ 65536
   pub whole : (tokens_of text).fault ≡ None
-  pub spelled : IsSpelling (words_of (tokens_of text).tokens) s
+  pub spelled : IsSpelling (tokens_of text).tokens s
+
+-- The text spells the statement but for its offsets: what it spells is the same with each offset 0.
+pub record SpellsAgain (text : List ℕ) (s : Statement) : Type 0 where
+  pub read : Statement
+  pub spelled : Spells text read
+  pub same : unplaced read ≡ unplaced s
 
 -- at this offset stands the first token that no statement has after the tokens before it
 pub record IsRefused (ts : List Placed) (at : ℕ) : Type 0 where
@@ -30,19 +32,19 @@ pub record IsRefused (ts : List Placed) (at : ℕ) : Type 0 where
   pub behind : List Placed
   pub parts : ts ≡ front ++ (token ∷ behind)
   pub place : token.at ≡ at
-  pub viable : IsViable (words_of front)
-  pub refused : IsViable (words_of front ++ (token.token ∷ [])) → ⊥
+  pub viable : IsViable front
+  pub refused : IsViable (front ++ (token ∷ [])) → ⊥
 
 -- the tokens begin a statement and are none
 pub record EndsEarly (ts : List Placed) : Type 0 where
-  pub viable : IsViable (words_of ts)
-  pub unspelled : (s : Statement) → IsSpelling (words_of ts) s → ⊥
+  pub viable : IsViable ts
+  pub unspelled : (s : Statement) → IsSpelling ts s → ⊥
 
 -- a fault that stands where no token does, behind tokens that begin a statement
 pub record IsBroken (text : List ℕ) (fault : TextFault) : Type 0 where
   pub short : length text ≤ 65536
   pub first : (tokens_of text).fault ≡ Some fault
-  pub viable : IsViable (words_of (tokens_of text).tokens)
+  pub viable : IsViable (tokens_of text).tokens
 
 -- The fault of a text: it is too long; or the one of least offset among what is no token, the first token
 -- that cannot stand where it does, and the end of a text that ends too early.

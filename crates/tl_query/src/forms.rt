@@ -1,7 +1,4 @@
 //! What a statement says, as it is written. Offsets count bytes from the statement's first, which is 0.
-ghost use Rattle.std.specs.Prelude.{◌≡◌, IfOk};
-
-use std::alloc::AllocError;
 use tl_types::{Cell, Cmp, ColumnKind, Seq, Text};
 
 /// The name of a table or a column, and where it stands.
@@ -22,7 +19,7 @@ pub struct Stamp {
     pub at: u32,
 }
 
-/// One statement. Texts spell those of the first three variants, and the questions for rows.
+/// One statement.
 #[derive(Debug, Drop, PartialEq, Eq)]
 pub enum Statement {
     /// `CREATE TABLE`: makes a table.
@@ -64,9 +61,9 @@ pub struct ColumnForm {
 pub enum Query {
     /// Rows of one table.
     Select(SelectForm),
-    /// An aggregate over time; no text spells one yet.
+    /// An aggregate over time.
     Agg(AggForm),
-    /// A join over time; no text spells one yet.
+    /// A join over time.
     Join(JoinForm),
 }
 
@@ -81,8 +78,9 @@ pub enum Item {
     ValidTo(u32),
 }
 
-/// A question for rows: `SELECT` with `*` or one or more items, parted by commas, then `FROM table`, and
-/// `AS OF version` where a version is given. What a text spells has no predicate and no valid time yet.
+/// A question for rows: `SELECT` with `*` or one or more items, parted by commas, then `FROM table`, `WHERE`
+/// where rows are tested, `VALID AT number` where a valid time is given, and `AS OF version` where a version
+/// is given.
 #[derive(Debug, Drop, PartialEq, Eq)]
 pub struct SelectForm {
     /// Whether `*` stands for the items; then `items` is empty.
@@ -108,7 +106,8 @@ pub struct ValidPoint {
     pub value: i64,
 }
 
-/// A row passes where it passes all tests of one of these lists, or where there is no list.
+/// A row passes where it passes all tests of one of these lists, or where there is no list: what follows
+/// `WHERE`.
 #[derive(Debug, Drop, PartialEq, Eq)]
 pub struct Pred {
     /// The lists, joined by `OR`, of tests joined by `AND`.
@@ -145,7 +144,8 @@ pub enum AggKind {
     Max,
 }
 
-/// A question for an aggregate over time.
+/// A question for an aggregate over time: `COUNT`, or another aggregate and its column, then `FROM table`,
+/// `WHERE` where rows are tested, `BY column` where they are parted into groups, and the range.
 #[derive(Debug, Drop, PartialEq, Eq)]
 pub struct AggForm {
     /// The kind.
@@ -162,7 +162,8 @@ pub struct AggForm {
     pub over: Over,
 }
 
-/// A question for the pairs of rows of two tables that exist at one time.
+/// A question for the pairs of rows of two tables that exist at one time: `JOIN table WITH table`, each with
+/// `WHERE` where its rows are tested, `ON column = column`, and the range.
 #[derive(Debug, Drop, PartialEq, Eq)]
 pub struct JoinForm {
     /// The left table.
@@ -181,19 +182,19 @@ pub struct JoinForm {
     pub over: Over,
 }
 
-/// A range of time.
+/// A range of time, behind `OVER`.
 #[derive(Clone, Copy, Debug, PartialEq, Eq)]
 pub enum Over {
-    /// All versions.
+    /// All versions: `SYSTEM ALL`.
     SystemAll,
-    /// The versions from the first up to before the second.
+    /// The versions from the first up to before the second: `SYSTEM from TO to`.
     System {
         /// The first version.
         from: Stamp,
         /// The version that ends the range.
         to: Stamp,
     },
-    /// The valid times from the first up to before the second, at a version.
+    /// The valid times from the first up to before the second, at a version: `VALID from TO to [AS OF version]`.
     Valid {
         /// The byte offset of `VALID`.
         pos: u32,
@@ -204,16 +205,4 @@ pub enum Over {
         /// The version, where it is given.
         as_of: Option<Stamp>,
     },
-}
-
-impl Name {
-    /// A copy of the name. The error is want of memory.
-    pub(crate) fn copied(&self) -> Result<Name, AllocError>
-        ensures { IfOk result (λ name. name ≡ self.now) }
-    {
-        Ok(Name {
-            text: self.text.clone()?,
-            at: self.at,
-        })
-    }
 }

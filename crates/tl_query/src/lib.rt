@@ -2,13 +2,16 @@
 #![tactic(auto)]
 
 mod check_faults;
+mod clauses;
 mod faults;
 mod forms;
 mod marks;
 mod parsing;
 mod plans;
+mod printing;
 mod scanning;
 mod statements;
+mod taking;
 mod tokens;
 
 pub use check_faults::CheckFault;
@@ -19,3 +22,4 @@ pub use forms::{
 };
 pub use parsing::parse;
 pub use plans::{AggPlan, JoinPlan, Span, Typed, TypedItem, TypedPred, TypedTest};
+pub use printing::print;

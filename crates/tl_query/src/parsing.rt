@@ -3,13 +3,14 @@ ghost use Rattle.std.specs.Prelude.{◌≡◌, ◌≤◌, ◌⊎◌, length, IfO
 ghost use Rattle.tl_query.specs.declared.forms.Statement.{Statement};
 ghost use Rattle.tl_query.specs.declared.faults.TextFault.{TextFault};
 ghost use Rattle.tl_query.specs.declared.faults.TextFault.TheVariants as faults;
-ghost use Rattle.tl_query.specs.Grammar.{HasNames};
+ghost use Rattle.tl_query.specs.Grammar.{HasNames, IsParsed};
 ghost use Rattle.tl_query.specs.Texts.{Spells, IsFault, Answers, text_read};
 
 use crate::faults::TextFault;
 use crate::forms::Statement;
 use crate::scanning::{Scanned, scan};
-use crate::statements::{Stop, statement_at};
+use crate::statements::statement_at;
+use crate::taking::Stop;
 use std::alloc::Global;
 
 /// How many bytes a statement's text can have.
@@ -41,14 +42,19 @@ fn read(alloc: Global, text: &str) -> Result<Statement, TextFault>
     }
 }
 
-/// The statement that the text spells, whose offsets count bytes from the text's first: a
-/// `CREATE TABLE name (column INT or TEXT, ..) KEY name [VALID]`, `PUT name`, `REMOVE name`, or
-/// `SELECT items FROM name [AS OF version]`, where the items are `*`, or column names, `valid_from` and
-/// `valid_to` in any order. A word `valid_from` or `valid_to` is no name. The error is the
-/// text's fault, or want of memory, which leaves nothing behind: `QueryTooLong` for more than 65,536 bytes;
-/// else the fault of least offset: `BadByte` where no token begins, `OpenText` at a text constant that
-/// isn't closed, `NumberTooLarge` at a number that isn't an i64, and `Unexpected` at a token that no
-/// statement has after those before it, or at the text's length where the text ends too early.
+/// The statement that the text spells, whose offsets count bytes from the text's first. It is one of
+/// `CREATE TABLE name (column INT or TEXT, ..) KEY name [VALID]`, `PUT name`, `REMOVE name`;
+/// `SELECT items FROM name [WHERE ..] [VALID AT number] [AS OF version]`, where the items are `*`, or column
+/// names, `valid_from` and `valid_to` in any order; `COUNT` or `SUM`, `AVG`, `MIN`, `MAX` and a column, then
+/// `FROM name [WHERE ..] [BY name]` and a range; `JOIN name [WHERE ..] WITH name [WHERE ..] ON name = name`
+/// and a range. A range is `OVER SYSTEM ALL`, `OVER SYSTEM version TO version`, or
+/// `OVER VALID bound TO bound [AS OF version]`, a bound being a number or `FOREVER`. `WHERE` takes
+/// comparisons of a column with a number or a text, joined by `AND` and, between these, by `OR`. A `;` may
+/// end the statement. The error is the text's fault, or want of memory, which leaves nothing behind:
+/// `QueryTooLong` for more than 65,536 bytes; else the fault of least offset: `BadByte` where no token
+/// begins, `OpenText` at a text constant that isn't closed, `NumberTooLarge` at a number that isn't an i64,
+/// and `Unexpected` at a token that no statement has after those before it, or at the text's length where
+/// the text ends too early.
 pub fn parse(alloc: Global, text: &str) -> Result<Statement, TextFault>
     // What is read is spelled.
     ensures found { IfOk result (λ s. Spells text.now s) }
@@ -61,8 +67,10 @@ pub fn parse(alloc: Global, text: &str) -> Result<Statement, TextFault>
     ensures cause { (e : TextFault) → IsFault text.now e → IfErr result
         (λ found. (found ≡ faults.NoMemory) ⊎ (found ≡ e)) }
     ensures refused { (e : TextFault) → IsFault text.now e → IsErr result }
-    // Its names are names, and its version isn't negative.
+    // Its names are names, and its versions aren't negative.
     ensures names { IfOk result (λ s. HasNames s) }
+    // It can be printed.
+    ensures parsed { IfOk result (λ s. IsParsed s) }
     // What reading the text gives, as a value.
     ensures exact { Answers result (text_read text.now) }
 {
@@ -93,7 +101,29 @@ mod tests {
                 "SELECT id FROM emp AS OF - 1",
                 TextFault::BadByte { at: 25 },
             ),
-            ("SELECT id FROM emp;", TextFault::Unexpected { at: 18 }),
+            ("SELECT id FROM emp;;", TextFault::Unexpected { at: 19 }),
+            (
+                "SELECT id FROM emp WHERE dept = 'ops",
+                TextFault::OpenText { at: 32 },
+            ),
+            ("SELECT id FROM emp WHERE", TextFault::Unexpected { at: 24 }),
+            (
+                "SELECT id FROM emp AS OF 1 VALID AT 2",
+                TextFault::Unexpected { at: 27 },
+            ),
+            ("COUNT FROM emp", TextFault::Unexpected { at: 14 }),
+            (
+                "COUNT id FROM emp OVER SYSTEM ALL",
+                TextFault::Unexpected { at: 6 },
+            ),
+            (
+                "SUM FROM emp OVER SYSTEM ALL",
+                TextFault::Unexpected { at: 4 },
+            ),
+            (
+                "JOIN a WITH b ON k < k OVER SYSTEM ALL",
+                TextFault::Unexpected { at: 19 },
+            ),
             ("SELECT id, FROM emp", TextFault::Unexpected { at: 11 }),
             ("SELECT id FROM emp AS", TextFault::Unexpected { at: 21 }),
             ("PUT 'b''", TextFault::OpenText { at: 4 }),

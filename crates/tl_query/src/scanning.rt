@@ -1,16 +1,18 @@
 //! Cutting a text into tokens.
-ghost use Rattle.std.specs.Prelude.{◌≡◌, ℕ, ◌+◌, ◌-◌, ◌^◌, ◌<◌, ◌≤◌, length, min, IfOk, IfSome, Some, None, Ok, Err, true, false};
+ghost use Rattle.std.specs.Prelude.{◌≡◌, ℕ, ◌+◌, ◌-◌, ◌^◌, ◌<◌, ◌≤◌, length, min, IfOk, IfSome, Some, None, Ok, Err, true, false, pos, neg_ℤ};
 ghost use Rattle.std.specs.List.{prefix_len};
 ghost use Rattle.std.specs.Str.{IsAscii};
 ghost use Rattle.tl_types.specs.Names.{is_digit, continues_word};
-ghost use Rattle.tl_query.specs.Scanning.{is_blank, number_of, keyword_of, other_token, word_token, word_piece, number_piece, negative_piece, closing, quoted_piece, symbol, less_piece, greater_piece, symbol_piece, piece_of, placed, seen, scan};
+ghost use Rattle.tl_query.specs.Scanning.{is_blank, number_of, statement_mark, table_mark, clause_mark, range_mark, keyword_of, other_token, word_token, word_piece, number_piece, negative_piece, closing, single, text_token, quoted_piece, symbol, less_piece, greater_piece, symbol_piece, piece_of, placed, seen, scan};
 
 use crate::faults::TextFault;
-use crate::forms::{Name, Stamp};
 use crate::marks::Mark;
 use crate::tokens::{Placed, Token};
 use std::alloc::{AllocError, Global};
 use tl_types::{Text, begins_word, continues_word, is_name};
+
+/// How many bytes a text constant can have.
+const MOST_TEXT_BYTES: usize = 65535;
 
 /// The token at the front of some bytes.
 #[derive(Debug, Drop)]
@@ -63,13 +65,47 @@ fn number_of(digits: &[u8]) -> u64
     number
 }
 
-#[tactic(auto, unfolding(crate::specs::Scanning::keyword_of))]
-fn keyword_of(word: &str) -> Option<Mark>
-    ensures { result ≡ keyword_of word.now }
+#[tactic(auto, unfolding(crate::specs::Scanning::statement_mark))]
+fn statement_mark(word: &str) -> Option<Mark>
+    ensures { result ≡ statement_mark word.now }
 {
     if word == "CREATE" {
         return Some(Mark::Create);
     }
+    if word == "PUT" {
+        return Some(Mark::Put);
+    }
+    if word == "REMOVE" {
+        return Some(Mark::Remove);
+    }
+    if word == "SELECT" {
+        return Some(Mark::Select);
+    }
+    if word == "COUNT" {
+        return Some(Mark::Count);
+    }
+    if word == "SUM" {
+        return Some(Mark::Sum);
+    }
+    if word == "AVG" {
+        return Some(Mark::Avg);
+    }
+    if word == "MIN" {
+        return Some(Mark::Min);
+    }
+    if word == "MAX" {
+        return Some(Mark::Max);
+    }
+    if word == "JOIN" {
+        return Some(Mark::Join);
+    }
+    None
+}
+
+#[tactic(auto, unfolding(crate::specs::Scanning::table_mark))]
+fn table_mark(word: &str) -> Option<Mark>
+    ensures { result ≡ table_mark word.now }
+{
     if word == "TABLE" {
         return Some(Mark::Table);
     }
@@ -85,17 +121,30 @@ fn keyword_of(word: &str) -> Option<Mark>
     if word == "TEXT" {
         return Some(Mark::Text);
     }
-    if word == "PUT" {
-        return Some(Mark::Put);
+    if word == "valid_from" {
+        return Some(Mark::ValidFrom);
     }
-    if word == "REMOVE" {
-        return Some(Mark::Remove);
+    if word == "valid_to" {
+        return Some(Mark::ValidTo);
     }
-    if word == "SELECT" {
-        return Some(Mark::Select);
-    }
+    None
+}
+
+#[tactic(auto, unfolding(crate::specs::Scanning::clause_mark))]
+fn clause_mark(word: &str) -> Option<Mark>
+    ensures { result ≡ clause_mark word.now }
+{
     if word == "FROM" {
         return Some(Mark::From);
+    }
+    if word == "WHERE" {
+        return Some(Mark::Where);
+    }
+    if word == "AND" {
+        return Some(Mark::And);
+    }
+    if word == "OR" {
+        return Some(Mark::Or);
     }
     if word == "AS" {
         return Some(Mark::As);
@@ -103,33 +152,76 @@ fn keyword_of(word: &str) -> Option<Mark>
     if word == "OF" {
         return Some(Mark::Of);
     }
+    if word == "AT" {
+        return Some(Mark::At);
+    }
+    if word == "BY" {
+        return Some(Mark::By);
+    }
     None
 }
 
-#[tactic(auto, unfolding(crate::specs::Scanning::other_token))]
-fn other_token(alloc: Global, at: u32, word: &str) -> Result<Token, AllocError>
-    ensures { IfOk result (λ token. token ≡ other_token at word.now) }
+#[tactic(auto, unfolding(crate::specs::Scanning::range_mark))]
+fn range_mark(word: &str) -> Option<Mark>
+    ensures { result ≡ range_mark word.now }
 {
-    if word == "valid_from" {
-        return Ok(Token::ValidFrom(at));
+    if word == "OVER" {
+        return Some(Mark::Over);
     }
-    if word == "valid_to" {
-        return Ok(Token::ValidTo(at));
+    if word == "SYSTEM" {
+        return Some(Mark::System);
     }
+    if word == "ALL" {
+        return Some(Mark::All);
+    }
+    if word == "TO" {
+        return Some(Mark::To);
+    }
+    if word == "WITH" {
+        return Some(Mark::With);
+    }
+    if word == "ON" {
+        return Some(Mark::On);
+    }
+    if word == "FOREVER" {
+        return Some(Mark::Forever);
+    }
+    None
+}
+
+#[tactic(auto, unfolding(crate::specs::Scanning::keyword_of))]
+fn keyword_of(word: &str) -> Option<Mark>
+    ensures { result ≡ keyword_of word.now }
+{
+    if let Some(mark) = statement_mark(word) {
+        return Some(mark);
+    }
+    if let Some(mark) = table_mark(word) {
+        return Some(mark);
+    }
+    if let Some(mark) = clause_mark(word) {
+        return Some(mark);
+    }
+    range_mark(word)
+}
+
+#[tactic(auto, unfolding(crate::specs::Scanning::other_token))]
+fn other_token(alloc: Global, word: &str) -> Result<Token, AllocError>
+    ensures { IfOk result (λ token. token ≡ other_token word.now) }
+{
     if !is_name(word) {
         return Ok(Token::Stray);
     }
-    let text = Text::new(alloc, word)?;
-    Ok(Token::Word(Name { text, at }))
+    Ok(Token::Word(Text::new(alloc, word)?))
 }
 
 #[tactic(auto, unfolding(crate::specs::Scanning::word_token))]
-fn word_token(alloc: Global, at: u32, word: &str) -> Result<Token, AllocError>
-    ensures { IfOk result (λ token. token ≡ word_token at word.now) }
+fn word_token(alloc: Global, word: &str) -> Result<Token, AllocError>
+    ensures { IfOk result (λ token. token ≡ word_token word.now) }
 {
     match keyword_of(word) {
         Some(mark) => Ok(Token::Fixed(mark)),
-        None => other_token(alloc, at, word),
+        None => other_token(alloc, word),
     }
 }
 
@@ -145,12 +237,12 @@ fn as_text(bytes: &[u8]) -> &str
 }
 
 #[tactic(auto, unfolding(crate::specs::Scanning::word_piece))]
-fn word_piece(alloc: Global, at: u32, bytes: &[u8]) -> Result<Piece, AllocError>
-    ensures { IfOk result (λ piece. piece ≡ word_piece at bytes.now) }
+fn word_piece(alloc: Global, bytes: &[u8]) -> Result<Piece, AllocError>
+    ensures { IfOk result (λ piece. piece ≡ word_piece bytes.now) }
 {
     let len = word_len(bytes);
     let (word, _) = bytes.split_at(len);
-    let token = word_token(alloc, at, as_text(word))?;
+    let token = word_token(alloc, as_text(word))?;
     let joins = true;
     Ok(Piece { token, len, joins })
 }
@@ -166,9 +258,20 @@ fn number_piece(at: u32, bytes: &[u8]) -> Result<Piece, TextFault>
         return Err(TextFault::NumberTooLarge { at });
     }
     let value = number as i64;
-    let token = Token::Number(Stamp { value, at });
+    let token = Token::Number(value);
     let joins = true;
     Ok(Piece { token, len, joins })
+}
+
+/// The number, below 0.
+fn negative(number: u64) -> i64
+    requires { number ≤ 2 ^ 63 }
+    ensures { result ≡ neg_ℤ (pos number) }
+{
+    if number == 1 << 63 {
+        return i64::MIN;
+    }
+    -(number as i64)
 }
 
 #[tactic(auto, unfolding(crate::specs::Scanning::negative_piece))]
@@ -181,10 +284,11 @@ fn negative_piece(at: u32, bytes: &[u8]) -> Result<Piece, TextFault>
         return Err(TextFault::BadByte { at });
     }
     let (digits, _) = bytes.split_at(count);
-    if number_of(digits) > 1 << 63 {
+    let number = number_of(digits);
+    if number > 1 << 63 {
         return Err(TextFault::NumberTooLarge { at });
     }
-    let token = Token::Negative;
+    let token = Token::Negative(negative(number));
     let len = count + 1;
     let joins = true;
     Ok(Piece { token, len, joins })
@@ -205,20 +309,55 @@ fn closing(bytes: &[u8]) -> Option<usize>
     if quoted { Some(bytes.len()) } else { None }
 }
 
-#[tactic(auto, unfolding(crate::specs::Scanning::quoted_piece))]
-fn quoted_piece(at: u32, bytes: &[u8]) -> Result<Piece, TextFault>
-    requires { length bytes.now < 2 ^ 32 }
-    ensures { result ≡ quoted_piece at bytes.now }
+/// The bytes between the quotes of a text constant, with one quote for two.
+#[tactic(auto, unfolding(crate::specs::Scanning::single))]
+fn single(alloc: Global, bytes: &[u8]) -> Result<Vec<u8>, AllocError>
+    ensures { IfOk result (λ text. text.items ≡ single false bytes.now) }
 {
-    match closing(bytes) {
-        None => Err(TextFault::OpenText { at }),
-        Some(count) => {
-            let token = Token::Quoted;
-            let len = count + 1;
-            let joins = true;
-            Ok(Piece { token, len, joins })
+    let mut text = Vec::new(alloc);
+    let mut kept = false;
+    for byte in bytes {
+        if kept && *byte == b'\'' {
+            kept = false;
+        } else {
+            text.push(*byte)?;
+            kept = !kept && *byte == b'\'';
         }
     }
+    Ok(text)
+}
+
+#[tactic(auto, unfolding(crate::specs::Scanning::text_token))]
+fn text_token(alloc: Global, bytes: &[u8]) -> Result<Token, AllocError>
+    ensures { IfOk result (λ token. token ≡ text_token bytes.now) }
+{
+    let Ok(text) = str::from_utf8(bytes) else {
+        return Ok(Token::Stray);
+    };
+    if text.len() > MOST_TEXT_BYTES {
+        return Ok(Token::Stray);
+    }
+    Ok(Token::Quoted(Text::new(alloc, text)?))
+}
+
+#[tactic(auto, unfolding(crate::specs::Scanning::quoted_piece))]
+fn quoted_piece(
+    alloc: Global,
+    at: u32,
+    bytes: &[u8],
+) -> Result<Result<Piece, TextFault>, AllocError>
+    requires { length bytes.now < 2 ^ 32 }
+    ensures { IfOk result (λ piece. piece ≡ quoted_piece at bytes.now) }
+{
+    let Some(count) = closing(bytes) else {
+        return Ok(Err(TextFault::OpenText { at }));
+    };
+    let (inside, _) = bytes.split_at(count.saturating_sub(1));
+    let text = single(alloc, inside)?;
+    let token = text_token(alloc, text.as_slice())?;
+    let len = count + 1;
+    let joins = true;
+    Ok(Ok(Piece { token, len, joins }))
 }
 
 fn symbol(mark: Mark, len: usize) -> Piece
@@ -275,7 +414,7 @@ fn piece_of(alloc: Global, at: u32, bytes: &[u8]) -> Result<Result<Piece, TextFa
         return Ok(Err(TextFault::BadByte { at }));
     };
     if begins_word(*first) {
-        let piece = word_piece(alloc, at, bytes)?;
+        let piece = word_piece(alloc, bytes)?;
         return Ok(Ok(piece));
     }
     if is_digit(*first) {
@@ -285,7 +424,7 @@ fn piece_of(alloc: Global, at: u32, bytes: &[u8]) -> Result<Result<Piece, TextFa
         return Ok(negative_piece(at, behind));
     }
     if *first == b'\'' {
-        return Ok(quoted_piece(at, behind));
+        return quoted_piece(alloc, at, behind);
     }
     Ok(symbol_piece(at, *first, behind))
 }

@@ -1,165 +1,19 @@
 //! Reading the tokens of a statement, from left to right.
-ghost use Rattle.std.specs.Prelude.{◌≡◌, ◌+◌, ◌-◌, ◌<◌, ◌≤◌, length, Some, None, Ok, Err, IfOk, IfSome, MatchOption, true, false};
-ghost use Rattle.tl_query.specs.Reading.{IsStopAt, Gives, place_of, is_fixed, after, expect, name_at, item_at, version_at, ended, text_kind_at, kind_at, column_at, columns_at, valid_at, create_at, put_at, remove_at, items_at, asked_at, as_of_at, select_at, statement_at};
+ghost use Rattle.std.specs.Prelude.{◌≡◌, ◌-◌, ◌<◌, ◌≤◌, length, Some, None, Ok, Err, IfOk, true, false};
+ghost use Rattle.tl_query.specs.Reading.{Gives, after, expect, take_at, column_at, columns_at, valid_at, create_at, put_at, remove_at, items_at, asked_at, select_at, agg_at, join_at, statement_at};
 
-use crate::forms::{ColumnForm, CreateForm, Item, Name, Pred, Query, SelectForm, Stamp, Statement};
-use crate::marks::{Mark, same_mark};
-use crate::tokens::{Placed, Token};
-use std::alloc::{AllocError, AllocFailed, Global};
-use tl_types::{ColumnKind, Seq};
+use crate::clauses::{
+    as_of_at, by_at, column_name_at, on_at, over_at, side_at, valid_point_at, where_at,
+};
+use crate::forms::{AggForm, ColumnForm, CreateForm, Item, JoinForm, Query, SelectForm, Statement};
+use crate::marks::Mark;
+use crate::taking::{Stop, after, agg_kind_at, ended, expect, item_at, kind_at, name_at};
+use crate::tokens::Placed;
+use std::alloc::Global;
+use tl_types::Seq;
 
 /// How many columns a table can have.
 const MOST_COLUMNS: usize = 16;
-
-/// Where reading stops.
-#[derive(Clone, Copy, Debug)]
-pub(crate) enum Stop {
-    /// At the token at this byte offset, which cannot stand there.
-    Token(u32),
-    /// At the end, which comes too early.
-    End,
-    /// Memory ran out.
-    NoMemory,
-}
-
-impl From<AllocError> for Stop {
-    ghost use Rattle.tl_query.specs.declared.statements.Stop.TheVariants as stops;
-
-    ghost from_gives = { λ _ e. e ≡ stops.NoMemory };
-
-    fn from(_error: AllocError) -> Self {
-        Stop::NoMemory
-    }
-}
-
-impl<T: Drop> From<AllocFailed<T>> for Stop {
-    ghost use Rattle.tl_query.specs.declared.statements.Stop.TheVariants as stops;
-
-    ghost from_gives = { λ _ e. e ≡ stops.NoMemory };
-
-    fn from(_error: AllocFailed<T>) -> Self {
-        Stop::NoMemory
-    }
-}
-
-fn stop_at(tokens: &[Placed]) -> Stop
-    ensures { IsStopAt result (place_of tokens.now) }
-{
-    match tokens {
-        [] => Stop::End,
-        [first, ..] => Stop::Token(first.at),
-    }
-}
-
-fn is_fixed(token: &Token, mark: Mark) -> bool
-    ensures { result ≡ is_fixed mark token.now }
-{
-    match token {
-        Token::Fixed(found) => same_mark(*found, mark),
-        _ => false,
-    }
-}
-
-#[tactic(auto, unfolding(crate::specs::Reading::after))]
-fn after(tokens: &[Placed], mark: Mark) -> Option<&[Placed]>
-    ensures value { MatchOption result (after mark tokens.now ≡ None)
-        (λ rest. after mark tokens.now ≡ Some rest.now) }
-    ensures shorter { IfSome result (λ rest. length rest.now < length tokens.now) }
-{
-    match tokens {
-        [] => None,
-        [first, rest @ ..] => {
-            if is_fixed(&first.token, mark) {
-                Some(rest)
-            } else {
-                None
-            }
-        }
-    }
-}
-
-#[tactic(auto, using(crate::proofs::Readers::fails_by), unfolding(crate::specs::Reading::expect))]
-fn expect(tokens: &[Placed], mark: Mark) -> Result<&[Placed], Stop>
-    ensures { Gives (λ rest. rest.now) result (expect mark tokens.now) }
-{
-    match after(tokens, mark) {
-        Some(rest) => Ok(rest),
-        None => Err(stop_at(tokens)),
-    }
-}
-
-#[tactic(auto, unfolding(crate::specs::Reading::name_at))]
-fn name_at(tokens: &[Placed]) -> Result<(Name, &[Placed]), Stop>
-    ensures value { Gives (λ x. (x.0, x.1.now)) result (name_at tokens.now) }
-    ensures shorter { IfOk result (λ x. length x.1.now < length tokens.now) }
-{
-    match tokens {
-        [] => Err(Stop::End),
-        [first, rest @ ..] => match &first.token {
-            Token::Word(name) => Ok((name.copied()?, rest)),
-            _ => Err(Stop::Token(first.at)),
-        },
-    }
-}
-
-#[tactic(auto, unfolding(crate::specs::Reading::item_at))]
-fn item_at(tokens: &[Placed]) -> Result<(Item, &[Placed]), Stop>
-    ensures value { Gives (λ x. (x.0, x.1.now)) result (item_at tokens.now) }
-    ensures shorter { IfOk result (λ x. length x.1.now < length tokens.now) }
-{
-    match tokens {
-        [] => Err(Stop::End),
-        [first, rest @ ..] => match &first.token {
-            Token::Word(name) => Ok((Item::Column(name.copied()?), rest)),
-            Token::ValidFrom(at) => Ok((Item::ValidFrom(*at), rest)),
-            Token::ValidTo(at) => Ok((Item::ValidTo(*at), rest)),
-            _ => Err(Stop::Token(first.at)),
-        },
-    }
-}
-
-#[tactic(auto, unfolding(crate::specs::Reading::version_at))]
-fn version_at(tokens: &[Placed]) -> Result<(Stamp, &[Placed]), Stop>
-    ensures { Gives (λ x. (x.0, x.1.now)) result (version_at tokens.now) }
-{
-    match tokens {
-        [] => Err(Stop::End),
-        [first, rest @ ..] => match &first.token {
-            Token::Number(stamp) => Ok((*stamp, rest)),
-            _ => Err(Stop::Token(first.at)),
-        },
-    }
-}
-
-#[tactic(auto, unfolding(crate::specs::Reading::ended))]
-fn ended(statement: Statement, tokens: &[Placed]) -> Result<Statement, Stop>
-    ensures { Gives (λ s. s) result (ended statement tokens.now) }
-{
-    match tokens {
-        [] => Ok(statement),
-        [first, ..] => Err(Stop::Token(first.at)),
-    }
-}
-
-#[tactic(auto, using(crate::proofs::Readers::fails_by), unfolding(crate::specs::Reading::text_kind_at))]
-fn text_kind_at(tokens: &[Placed]) -> Result<(ColumnKind, &[Placed]), Stop>
-    ensures { Gives (λ x. (x.0, x.1.now)) result (text_kind_at tokens.now) }
-{
-    match after(tokens, Mark::Text) {
-        Some(rest) => Ok((ColumnKind::TextKind, rest)),
-        None => Err(stop_at(tokens)),
-    }
-}
-
-#[tactic(auto, unfolding(crate::specs::Reading::kind_at))]
-fn kind_at(tokens: &[Placed]) -> Result<(ColumnKind, &[Placed]), Stop>
-    ensures { Gives (λ x. (x.0, x.1.now)) result (kind_at tokens.now) }
-{
-    match after(tokens, Mark::Int) {
-        Some(rest) => Ok((ColumnKind::IntKind, rest)),
-        None => text_kind_at(tokens),
-    }
-}
 
 #[tactic(auto, unfolding(crate::specs::Reading::column_at))]
 fn column_at(tokens: &[Placed]) -> Result<(ColumnForm, &[Placed]), Stop>
@@ -237,9 +91,8 @@ fn remove_at(tokens: &[Placed]) -> Result<Statement, Stop>
     ended(Statement::Remove(name), rest)
 }
 
-#[tactic(auto, unfolding(crate::specs::Reading::items_at))]
 fn items_at(alloc: Global, tokens: &[Placed]) -> Result<(Seq<Item>, &[Placed]), Stop>
-    ensures { Gives (λ x. (x.0, x.1.now)) result (items_at true tokens.now) }
+    ensures { Gives (λ x. (x.0, x.1.now)) result (items_at tokens.now) }
 {
     let (first, mut rest) = item_at(tokens)?;
     let mut items = Vec::new(alloc);
@@ -263,18 +116,6 @@ fn asked_at(alloc: Global, tokens: &[Placed]) -> Result<(bool, Seq<Item>, &[Plac
     Ok((false, items, rest))
 }
 
-#[tactic(auto, unfolding(crate::specs::Reading::as_of_at))]
-fn as_of_at(tokens: &[Placed]) -> Result<(Option<Stamp>, &[Placed]), Stop>
-    ensures { Gives (λ x. (x.0, x.1.now)) result (as_of_at tokens.now) }
-{
-    let Some(rest) = after(tokens, Mark::As) else {
-        return Ok((None, tokens));
-    };
-    let rest = expect(rest, Mark::Of)?;
-    let (version, rest) = version_at(rest)?;
-    Ok((Some(version), rest))
-}
-
 #[tactic(auto, unfolding(crate::specs::Reading::select_at))]
 fn select_at(alloc: Global, tokens: &[Placed]) -> Result<Statement, Stop>
     ensures { Gives (λ s. s) result (select_at tokens.now) }
@@ -282,22 +123,65 @@ fn select_at(alloc: Global, tokens: &[Placed]) -> Result<Statement, Stop>
     let (all, items, rest) = asked_at(alloc, tokens)?;
     let rest = expect(rest, Mark::From)?;
     let (table, rest) = name_at(rest)?;
+    let (pred, rest) = where_at(alloc, rest)?;
+    let (valid_at, rest) = valid_point_at(rest)?;
     let (as_of, rest) = as_of_at(rest)?;
     let form = SelectForm {
         all,
         items,
         table,
-        pred: Pred {
-            any: Seq::new(alloc),
-        },
-        valid_at: None,
+        pred,
+        valid_at,
         as_of,
     };
     ended(Statement::Ask(Query::Select(form)), rest)
 }
 
+#[tactic(auto, unfolding(crate::specs::Reading::agg_at))]
+fn agg_at(alloc: Global, tokens: &[Placed]) -> Result<Statement, Stop>
+    ensures { Gives (λ s. s) result (agg_at tokens.now) }
+{
+    let (kind, rest) = agg_kind_at(tokens)?;
+    let (column, rest) = column_name_at(kind, rest)?;
+    let rest = expect(rest, Mark::From)?;
+    let (table, rest) = name_at(rest)?;
+    let (pred, rest) = where_at(alloc, rest)?;
+    let (by, rest) = by_at(rest)?;
+    let (over, rest) = over_at(rest)?;
+    let form = AggForm {
+        kind,
+        column,
+        table,
+        pred,
+        by,
+        over,
+    };
+    ended(Statement::Ask(Query::Agg(form)), rest)
+}
+
+#[tactic(auto, unfolding(crate::specs::Reading::join_at))]
+fn join_at(alloc: Global, tokens: &[Placed]) -> Result<Statement, Stop>
+    ensures { Gives (λ s. s) result (join_at tokens.now) }
+{
+    let (left, left_pred, rest) = side_at(alloc, tokens)?;
+    let rest = expect(rest, Mark::With)?;
+    let (right, right_pred, rest) = side_at(alloc, rest)?;
+    let (left_on, right_on, rest) = on_at(rest)?;
+    let (over, rest) = over_at(rest)?;
+    let form = JoinForm {
+        left,
+        left_pred,
+        right,
+        right_pred,
+        left_on,
+        right_on,
+        over,
+    };
+    ended(Statement::Ask(Query::Join(form)), rest)
+}
+
 /// The statement that the tokens spell, or where reading it stops.
-#[tactic(auto, using(crate::proofs::Readers::fails_by), unfolding(crate::specs::Reading::statement_at))]
+#[tactic(auto, unfolding(crate::specs::Reading::statement_at))]
 pub(crate) fn statement_at(alloc: Global, tokens: &[Placed]) -> Result<Statement, Stop>
     ensures { Gives (λ s. s) result (statement_at tokens.now) }
 {
@@ -313,5 +197,8 @@ pub(crate) fn statement_at(alloc: Global, tokens: &[Placed]) -> Result<Statement
     if let Some(rest) = after(tokens, Mark::Select) {
         return select_at(alloc, rest);
     }
-    Err(stop_at(tokens))
+    if let Some(rest) = after(tokens, Mark::Join) {
+        return join_at(alloc, rest);
+    }
+    agg_at(alloc, tokens)
 }

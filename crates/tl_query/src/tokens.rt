@@ -1,26 +1,22 @@
 //! The tokens of a text.
-use crate::forms::{Name, Stamp};
 use crate::marks::Mark;
+use tl_types::Text;
 
-/// A token, with what a statement keeps of it.
+/// A token.
 #[derive(Debug, Drop, PartialEq, Eq)]
 pub(crate) enum Token {
     /// A keyword or a symbol.
     Fixed(Mark),
     /// A name.
-    Word(Name),
+    Word(Text),
     /// A number spelled without `-`.
-    Number(Stamp),
-    /// `valid_from`, and its byte offset.
-    ValidFrom(u32),
-    /// `valid_to`, and its byte offset.
-    ValidTo(u32),
-    /// A number spelled with `-`.
-    Negative,
-    /// A text constant.
-    Quoted,
-    /// What can stand nowhere: a word too long for a name, a keyword that no statement has, or a word,
-    /// number or text that directly follows one.
+    Number(i64),
+    /// A number spelled with `-`, which may be 0.
+    Negative(i64),
+    /// A text constant: the text that it stands for.
+    Quoted(Text),
+    /// What can stand nowhere: a word too long for a name, a text too long for a cell, or a word, number or
+    /// text that directly follows one.
     Stray,
 }
 

@@ -1,5 +1,5 @@
 use Rattle.tl_query.proofs.Deciding.{found_of, only_of, fault_of, cause_of, refused_of}
-use Rattle.tl_query.proofs.Naming.{named_of}
+use Rattle.tl_query.proofs.Naming.{named_of, parsed_of}
 use Rattle.tl_query.proofs.parsing.parse.Goals as goal
 
 pub returns-clause-found : goal.returns-clause-found
@@ -19,3 +19,6 @@ returns-clause-refused c = refused_of c.args.text.now c.read.result c.read.ensur
 
 pub returns-clause-names : goal.returns-clause-names
 returns-clause-names c = named_of c.args.text.now c.read.result c.read.ensures
+
+pub returns-clause-parsed : goal.returns-clause-parsed
+returns-clause-parsed c = parsed_of c.args.text.now c.read.result c.read.ensures

@@ -1,8 +1,9 @@
 use Rattle.std.proofs.Common.{◌≡◌, ◌∙◌, sym, ap, suc, ◌+◌, ◌-◌, Ok, [], ◌∷◌, ◌++◌, append-nil, arith, vec_len}
 use Rattle.std.proofs.lemmas.Grind.{common_steps}
 use Rattle.std.proofs.lemmas.Result.{err_from_is_err_and}
+use Rattle.tl_query.specs.declared.marks.Mark.TheVariants as marks
 use Rattle.tl_query.specs.Reading.{columns_at, column_at}
-use Rattle.tl_query.proofs.Readers.{fails_through, column_turn, column_fails, columns_end, columns_full}
+use Rattle.tl_query.proofs.Readers.{fails_through, room_turn, room_fails, room_ends, room_full}
 use Rattle.tl_query.proofs.statements.columns_at.Goals as goal
 use Rattle.tl_query.proofs.statements.columns_at.Goals.{else-loop-rest-test, then-loop-rest-test+in_default}
 
@@ -11,7 +12,7 @@ returns-in_err-column c =
     let p = err_from_is_err_and c.from_residual-in_err-column.result c.from_residual-in_err-column.ensures.1 in
     let room : 16 - vec_len c.loop-rest.columns ≡ suc (15 - vec_len c.loop-rest.columns) = omega arith in
     rw (p.1, p.2) (fails_through _ _ c.in_err-column.field-0.0 (column_at c.in-Some.next.now) (columns_at c.args.tokens.now)
-    (λ o h. c.loop-rest.invariant.read ∙ column_fails c.loop-rest.columns.items (16 - vec_len c.loop-rest.columns) (15 - vec_len c.loop-rest.columns) c.loop-rest.rest.now c.in-Some.next.now o room c.in-Some.ensures.value h) c.in_err-column.ensures)
+    (λ o h. c.loop-rest.invariant.read ∙ room_fails marks.Comma column_at c.loop-rest.columns.items (16 - vec_len c.loop-rest.columns) (15 - vec_len c.loop-rest.columns) c.loop-rest.rest.now c.in-Some.next.now o room c.in-Some.ensures.value h) c.in_err-column.ensures)
 
 pub loop-rest-preserved : goal.loop-rest-preserved
 loop-rest-preserved c =
@@ -21,13 +22,13 @@ loop-rest-preserved c =
     record {
       some = omega arith;
       few = omega arith;
-      read = rw e (c.loop-rest.invariant.read ∙ column_turn c.loop-rest.columns.items (16 - vec_len c.loop-rest.columns) (16 - vec_len c.push-in-loop-rest.new.self) c.loop-rest.rest.now c.in-Some.next.now c.in_ok-column.behind.now c.in_ok-column.column room c.in-Some.ensures.value c.in_ok-column.ensures);
+      read = rw e (c.loop-rest.invariant.read ∙ room_turn marks.Comma column_at c.loop-rest.columns.items (16 - vec_len c.loop-rest.columns) (16 - vec_len c.push-in-loop-rest.new.self) c.loop-rest.rest.now c.in-Some.next.now c.in_ok-column.behind.now c.in_ok-column.column room c.in-Some.ensures.value c.in_ok-column.ensures);
     }
 
 pub returns : goal.returns
 returns c =
     let whole = ap (λ xs. Ok (xs, c.loop-rest.rest.now)) (append-nil c.loop-rest.columns.items ∙ sym c.from_vec.ensures) in
     elim c.loop-rest-test.branch [
-      | else-loop-rest-test w ↦ c.loop-rest.invariant.read ∙ columns_full c.loop-rest.columns.items (16 - vec_len c.loop-rest.columns) c.loop-rest.rest.now (omega arith) ∙ whole
-      | then-loop-rest-test+in_default w ↦ c.loop-rest.invariant.read ∙ columns_end c.loop-rest.columns.items (16 - vec_len c.loop-rest.columns) c.loop-rest.rest.now w.in_default.ensures.value ∙ whole
+      | else-loop-rest-test w ↦ c.loop-rest.invariant.read ∙ room_full marks.Comma column_at c.loop-rest.columns.items (16 - vec_len c.loop-rest.columns) c.loop-rest.rest.now (omega arith) ∙ whole
+      | then-loop-rest-test+in_default w ↦ c.loop-rest.invariant.read ∙ room_ends marks.Comma column_at c.loop-rest.columns.items (16 - vec_len c.loop-rest.columns) c.loop-rest.rest.now w.in_default.ensures.value ∙ whole
     ]

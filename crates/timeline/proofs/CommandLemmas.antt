@@ -1,0 +1,57 @@
+-- The numbers that words spell.
+use Rattle.std.proofs.Common.{◌≡◌, ℕ, ◌<◌, ◌≤◌, ◌^◌, nat_lt, nat_le, Bool, true, false, ◌&&◌, cond, List, [], ◌∷◌, length, Option, Some, None, IfSome, Result, Ok, Err, refl, ap, sym, ◌∙◌, arith}
+use Rattle.std.specs.Result.{OkIff, result_ok}
+use Rattle.std.specs.Char.{is_ascii_digit}
+use Rattle.std.specs.List.{list_all}
+use Rattle.std.specs.Str.{all_ascii_digits}
+use Rattle.std.specs.Str.Parse.{digits_value, ParsesUnsigned}
+use Rattle.std.proofs.lemmas.Str.Parse.{IsNumeralModel, numerals_by_value, tells_all_ascii_digits, parse_digits}
+use Rattle.std.proofs.lemmas.Bool.{ltb-true}
+use Rattle.std.proofs.lemmas.Bool.Decides.{nat_tests}
+use Rattle.std.proofs.lemmas.Grind.{common_steps}
+use Rattle.timeline.specs.Commands.{number_of, within}
+
+own : IsNumeralModel (λ ds. all_ascii_digits ds ≡ true) (digits_value 10)
+own = numerals_by_value _ tells_all_ascii_digits
+
+lt_true : (a b : ℕ) → a < b → nat_lt a b ≡ true
+lt_true a b h = grind (arith, common_steps)
+
+-- a result that is right exactly where a test is
+ok_by_test : {E : Type 0} {P : Type 0} (r : Result ℕ E) (t : Bool) (v : ℕ) → OkIff r P v → (t ≡ true → P) → (P → t ≡ true) → result_ok r ≡ cond t (Some v) None
+ok_by_test (Ok x) true v h to from = ap Some h.1
+ok_by_test (Ok x) false v h to from = absurd (let e = from h.0 in cc)
+ok_by_test (Err e) true v h to from = absurd (h (to refl))
+ok_by_test (Err e) false v h to from = refl
+
+both_tests : (a b c : Bool) → (a && b && c) ≡ true → (a ≡ true) × (b ≡ true) × (c ≡ true)
+both_tests true true true h = (refl, refl, refl)
+both_tests true true false h = absurd (cc)
+both_tests true false c h = absurd (cc)
+both_tests false b c h = absurd (cc)
+
+all_tests : (a b c : Bool) → a ≡ true → b ≡ true → c ≡ true → (a && b && c) ≡ true
+all_tests a b c p q r = cc
+
+all_digits : (bs : List ℕ) → all_ascii_digits bs ≡ list_all is_ascii_digit bs
+all_digits [] = refl
+all_digits (b ∷ bs) = ap (λ t. is_ascii_digit b && t) (all_digits bs)
+
+-- what parsing digits gives
+pub number_parsed : {E : Type 0} (bs : List ℕ) (r : Result ℕ E) → ParsesUnsigned 64 10 bs r → list_all is_ascii_digit bs ≡ true → result_ok r ≡ number_of bs
+number_parsed bs r h digits =
+    ok_by_test r (nat_lt 0 (length bs) && list_all is_ascii_digit bs && nat_lt (digits_value 10 bs) (2 ^ 64)) _ (parse_digits own 64 bs r h (all_digits bs ∙ digits))
+    (λ t. let p = both_tests _ _ _ t in (ltb-true _ _ p.0, ltb-true _ _ p.2))
+    (λ p. all_tests _ _ _ (lt_true _ _ p.0) digits (lt_true _ _ p.1))
+
+-- at most 1,000,000 lines are fewer than 2 ^ 32
+pub few_lines : (o : Option ℕ) → IfSome (within 1 1000000 o) (λ n. n < 4294967296)
+few_lines None = tt
+few_lines (Some n) = by_test (nat_le 1 n && nat_le n 1000000) refl where
+  both : (a b : Bool) → (a && b) ≡ true → b ≡ true
+  both true b h = h
+  both false b h = absurd (cc)
+
+  by_test : (t : Bool) → (nat_le 1 n && nat_le n 1000000) ≡ t → IfSome (cond t (Some n) None) (λ m. m < 4294967296)
+  by_test true e = let h = both (nat_le 1 n) (nat_le n 1000000) e in grind (arith, nat_tests)
+  by_test false e = tt

@@ -1,6 +1,0 @@
-use Rattle.std.proofs.Common.{◌≡◌, map, take}
-use Rattle.tl_query.specs.Checking.{first_of, item_fault}
-use Rattle.timeline.proofs.checks.items_fault.Given as goal
-
-abbrev pub invariant-loop-item : goal.invariant-loop-item
-invariant-loop-item l = l.first ≡ first_of (map (item_fault l.schema) (take l.item-index l.items))

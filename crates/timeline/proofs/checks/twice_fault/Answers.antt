@@ -1,9 +1,0 @@
-use Rattle.std.proofs.Common.{arith}
-use Rattle.std.proofs.lemmas.Grind.{common_steps}
-use Rattle.timeline.proofs.ListLemmas.{enumerated_more}
-use Rattle.timeline.proofs.checks.twice_fault.Goals as goal
-
-pub loop-place-preserved : goal.loop-place-preserved
-loop-place-preserved c =
-    let more = enumerated_more c.args.columns.now c.loop-place.place c.index-columns-place.result c.loop-place-test.true c.index-columns-place.is in
-    grind (arith, common_steps, more)

@@ -1,0 +1,38 @@
+-- What the words after the program's name ask for.
+use Rattle.std.specs.Prelude.{ℕ, ◌^◌, Bool, true, false, ◌&&◌, nat_le, nat_lt, List, [], ◌∷◌, length, codes, Option, Some, None, if◌then◌else◌}
+use Rattle.std.specs.Char.{is_ascii_digit}
+use Rattle.std.specs.List.{list_all}
+use Rattle.std.specs.Str.Parse.{digits_value}
+use Rattle.tl_types.specs.Names.{same_bytes}
+use Rattle.timeline.specs.declared.commands.Command.{Command}
+use Rattle.timeline.specs.declared.commands.Command.TheVariants as command
+
+-- the number below 2 ^ 64 that a word spells by one or more digits and nothing else
+abbrev pub number_of : List ℕ → Option ℕ
+number_of word = if nat_lt 0 (length word) && list_all is_ascii_digit word && nat_lt (digits_value 10 word) (2 ^ 64) then Some (digits_value 10 word) else None
+
+-- the number, where it lies between two bounds
+abbrev pub within : ℕ → ℕ → Option ℕ → Option ℕ
+within least most None = None
+within least most (Some n) = if nat_le least n && nat_le n most then Some n else None
+
+-- a sample of so many lines that begins with a number, where both are given
+abbrev pub sample_of : Option ℕ → Option ℕ → Option Command
+sample_of None start = None
+sample_of (Some lines) None = None
+sample_of (Some lines) (Some start) = Some (command.Sample lines start)
+
+-- the command that the words are: `run`, or `sample`, 1 to 1,000,000 and a number below 2 ^ 64
+abbrev pub command_of : List (List ℕ) → Option Command
+command_of [] = None
+command_of (word ∷ []) = if same_bytes word (codes "run") then Some command.Run else None
+command_of (word ∷ lines ∷ []) = None
+command_of (word ∷ lines ∷ start ∷ []) =
+    if same_bytes word (codes "sample") then sample_of (within 1 1000000 (number_of lines)) (number_of start) else None
+command_of (word ∷ lines ∷ start ∷ more ∷ words) = None
+
+-- the source is read by `run` alone
+abbrev pub reads_source : Option Command → Bool
+reads_source None = false
+reads_source (Some command.Run) = true
+reads_source (Some (command.Sample lines start)) = false

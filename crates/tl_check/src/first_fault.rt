@@ -1,0 +1,72 @@
+//! The first of several faults.
+ghost use Rattle.std.specs.Prelude.{◌≡◌};
+ghost use Rattle.tl_query.specs.Checking.{comes_before, earlier, first_of, place_of, rank_of};
+
+use tl_query::CheckFault;
+
+fn place_of(fault: &CheckFault) -> u32
+    ensures { result ≡ place_of fault.now }
+{
+    match fault {
+        CheckFault::UnknownTable { at } => *at,
+        CheckFault::UnknownColumn { at } => *at,
+        CheckFault::WrongType { at } => *at,
+        CheckFault::NotValidTable { at } => *at,
+        CheckFault::VersionAhead { at, .. } => *at,
+        CheckFault::EmptyRange { at } => *at,
+        CheckFault::ColumnTwice { at } => *at,
+        CheckFault::NoMemory => 0,
+    }
+}
+
+fn rank_of(fault: &CheckFault) -> u8
+    ensures { result ≡ rank_of fault.now }
+{
+    match fault {
+        CheckFault::UnknownTable { .. } => 1,
+        CheckFault::UnknownColumn { .. } => 2,
+        CheckFault::WrongType { .. } => 3,
+        CheckFault::NotValidTable { .. } => 4,
+        CheckFault::VersionAhead { .. } => 5,
+        CheckFault::EmptyRange { .. } => 6,
+        CheckFault::ColumnTwice { .. } => 7,
+        CheckFault::NoMemory => 8,
+    }
+}
+
+fn comes_before(first: &CheckFault, second: &CheckFault) -> bool
+    ensures { result ≡ comes_before first.now second.now }
+{
+    let left = place_of(first);
+    let right = place_of(second);
+    left < right || (left == right && rank_of(first) < rank_of(second))
+}
+
+/// The earlier of two faults, where there are two: the one that stands further to the left, at one place the one
+/// of the lesser number.
+pub(crate) fn earlier(first: Option<CheckFault>, second: Option<CheckFault>) -> Option<CheckFault>
+    ensures { result ≡ earlier first second }
+{
+    match (first, second) {
+        (None, other) => other,
+        (Some(one), None) => Some(one),
+        (Some(one), Some(other)) => {
+            if comes_before(&other, &one) {
+                Some(other)
+            } else {
+                Some(one)
+            }
+        }
+    }
+}
+
+/// The first of the faults that there are.
+pub(crate) fn first_of(faults: &[Option<CheckFault>]) -> Option<CheckFault>
+    ensures { result ≡ first_of faults.now }
+{
+    let mut first = None;
+    for fault in faults {
+        first = earlier(first, *fault);
+    }
+    first
+}

@@ -1,0 +1,20 @@
+// The check of questions against the tables of a store, and of new tables. A question is checked place by place;
+// of the faults that it has, the one that stands furthest to the left is its fault, and of several at one place
+// the one of the least number. A question without faults comes with its tables and columns by number.
+#![tactic(auto)]
+
+mod aggregates;
+mod checking;
+mod columns;
+mod creates;
+mod first_fault;
+mod joins;
+mod predicates;
+mod ranges;
+mod selects;
+
+pub use checking::check;
+pub use creates::check_create;
+
+#[cfg(test)]
+mod tests;

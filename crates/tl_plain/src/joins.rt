@@ -1,0 +1,197 @@
+//! Answers to questions for the pairs of rows that hold at one time.
+ghost use Rattle.std.specs.Prelude.{◌≡◌, ◌++◌, ◌≤◌, ◌<◌, ◌^◌, length, map, insert, IfOk, OnOk};
+ghost use Rattle.std.specs.List.{filter_map};
+ghost use Rattle.tl_types.specs.History.{numbered, cell_at};
+ghost use Rattle.tl_query.specs.Fields.{cell_field};
+ghost use Rattle.tl_types.specs.Resolving.{same_key};
+ghost use Rattle.tl_query.specs.Ordered.{pair_before, inserted};
+ghost use Rattle.tl_query.specs.Joins.{pair_from, common_pair};
+ghost use Rattle.tl_query.specs.Answers.{cells_with};
+ghost use Rattle.tl_plain.specs.Chosen.{match_sides, pair_on, pairs_on, with_pairs, fields_on};
+
+use crate::fields::{add_cells, moment_field};
+use crate::passing::passes;
+use crate::rows::Row;
+use crate::stretches::{span_end, span_start};
+use crate::times::{Times, times_of};
+use crate::values::same_cell;
+use std::alloc::Global;
+use tl_query::{Span, TypedPred};
+use tl_types::{Field, NoMemory, Pair, Seq};
+
+/// What is joined: the rows of two tables, the predicates that they pass, the columns in which their cells are
+/// equal, and the range of time.
+#[derive(Clone, Copy)]
+pub(crate) struct Sides<'a> {
+    /// The left table's rows.
+    pub lefts: &'a [Row],
+    /// What they pass.
+    pub left_pred: &'a TypedPred,
+    /// The place of the left table's column.
+    pub left_on: u8,
+    /// The right table's rows.
+    pub rights: &'a [Row],
+    /// What they pass.
+    pub right_pred: &'a TypedPred,
+    /// The place of the right table's column.
+    pub right_on: u8,
+    /// The range of time.
+    pub span: Span,
+}
+
+fn pair_from(left: u32, right: u32, from: i64, to: i64) -> Option<Pair>
+    ensures { result ≡ pair_from left right from to }
+{
+    if from < to {
+        Some(Pair {
+            from,
+            to,
+            left,
+            right,
+        })
+    } else {
+        None
+    }
+}
+
+fn common_pair(
+    span: Span,
+    left: u32,
+    right: u32,
+    first: Option<Times>,
+    second: Option<Times>,
+) -> Option<Pair>
+    ensures { result ≡ common_pair span left right first second }
+{
+    match first {
+        None => None,
+        Some(first) => match second {
+            None => None,
+            Some(second) => {
+                let from = first.from().max(second.from()).max(span_start(span));
+                let to = first.to().min(second.to()).min(span_end(span));
+                pair_from(left, right, from, to)
+            }
+        },
+    }
+}
+
+fn same_key(left: &Row, left_on: u8, right: &Row, right_on: u8) -> bool
+    ensures { result ≡ same_key (cell_at left.now.cells left_on) (cell_at right.now.cells right_on) }
+{
+    match left.cells().get(left_on as usize) {
+        None => false,
+        Some(first) => match right.cells().get(right_on as usize) {
+            None => false,
+            Some(second) => same_cell(first, second),
+        },
+    }
+}
+
+fn match_rows(sides: &Sides, left: &Row, right: &Row) -> bool
+    ensures { result ≡ match_sides sides.now left.now right.now }
+{
+    passes(sides.left_pred, left)
+        && passes(sides.right_pred, right)
+        && same_key(left, sides.left_on, right, sides.right_on)
+}
+
+fn pair_of(sides: &Sides, left_id: u32, left: &Row, right_id: u32, right: &Row) -> Option<Pair>
+    ensures { result ≡ pair_on sides.now (left_id, left.now) (right_id, right.now) }
+{
+    if match_rows(sides, left, right) {
+        let first = times_of(sides.span, left);
+        let second = times_of(sides.span, right);
+        common_pair(sides.span, left_id, right_id, first, second)
+    } else {
+        None
+    }
+}
+
+fn pair_before(first: &Pair, second: &Pair) -> bool
+    ensures { result ≡ pair_before first.now second.now }
+{
+    first.from < second.from
+        || first.from == second.from
+            && (first.left < second.left || first.left == second.left && first.right < second.right)
+}
+
+/// The place behind the pairs at the front that come before this one.
+fn place_for(pairs: &[Pair], pair: &Pair) -> usize
+    ensures within { result ≤ length pairs.now }
+    ensures place { insert pairs.now result pair.now ≡ inserted pair_before pair.now pairs.now }
+{
+    let mut place = 0;
+    while place < pairs.len() && pair_before(&pairs[place], pair) {
+        place += 1;
+    }
+    place
+}
+
+fn insert_pair(pairs: &mut Vec<Pair>, pair: Pair) -> Result<(), NoMemory>
+    ensures { OnOk result (pairs.new.items ≡ inserted pair_before pair pairs.old.items) }
+{
+    let place = place_for(pairs.as_slice(), &pair);
+    pairs.insert(place, pair)?;
+    Ok(())
+}
+
+/// Puts the pairs of one left row in their places. The error is want of memory.
+fn add_pairs(pairs: &mut Vec<Pair>, sides: &Sides, left_id: u32, left: &Row) -> Result<(), NoMemory>
+    requires { length sides.now.rights.now < 2 ^ 32 }
+    ensures { OnOk result (pairs.new.items ≡ with_pairs pairs.old.items (filter_map (pair_on sides.now (left_id, left.now)) (numbered sides.now.rights.now))) }
+{
+    for (right_id, right) in sides.rights.iter().enumerate() {
+        if let Some(pair) = pair_of(sides, left_id, left, right_id as u32, right) {
+            insert_pair(pairs, pair)?;
+        }
+    }
+    Ok(())
+}
+
+fn joined_pairs(alloc: Global, sides: &Sides) -> Result<Vec<Pair>, NoMemory>
+    requires lefts { length sides.now.lefts.now < 2 ^ 32 }
+    requires rights { length sides.now.rights.now < 2 ^ 32 }
+    ensures { IfOk result (λ pairs. pairs.items ≡ pairs_on sides.now) }
+{
+    let mut pairs = Vec::new(alloc);
+    for (left_id, left) in sides.lefts.iter().enumerate() {
+        add_pairs(&mut pairs, sides, left_id as u32, left)?;
+    }
+    Ok(pairs)
+}
+
+/// Appends the cells of the row with an id. The error is want of memory.
+fn add_row(fields: &mut Vec<Field>, rows: &[Row], id: u32) -> Result<(), NoMemory>
+    ensures { OnOk result (fields.new.items ≡ fields.old.items ++ map cell_field (cells_with rows.now id)) }
+{
+    if (id as usize) < rows.len() {
+        add_cells(fields, rows[id as usize].cells())?;
+    }
+    Ok(())
+}
+
+fn pair_fields(alloc: Global, sides: &Sides, pair: Pair) -> Result<Seq<Field>, NoMemory>
+    ensures { IfOk result (λ fields. fields ≡ fields_on sides.now pair) }
+{
+    let mut fields = Vec::new(alloc);
+    fields.push(moment_field(pair.from))?;
+    fields.push(moment_field(pair.to))?;
+    add_row(&mut fields, sides.lefts, pair.left)?;
+    add_row(&mut fields, sides.rights, pair.right)?;
+    Ok(Seq::from_vec(fields))
+}
+
+/// The answer to a question for pairs of rows. The error is want of memory.
+pub(crate) fn join_rows(alloc: Global, sides: &Sides) -> Result<Vec<Seq<Field>>, NoMemory>
+    requires lefts { length sides.now.lefts.now < 2 ^ 32 }
+    requires rights { length sides.now.rights.now < 2 ^ 32 }
+    ensures { IfOk result (λ answer. answer.items ≡ map (fields_on sides.now) (pairs_on sides.now)) }
+{
+    let pairs = joined_pairs(alloc, sides)?;
+    let mut answer = Vec::with_capacity(alloc, pairs.len())?;
+    for pair in &pairs {
+        answer.push(pair_fields(alloc, sides, *pair)?)?;
+    }
+    Ok(answer)
+}

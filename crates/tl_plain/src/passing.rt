@@ -1,0 +1,82 @@
+//! Whether a row passes a predicate.
+ghost use Rattle.std.specs.Prelude.{◌≡◌};
+ghost use Rattle.std.specs.List.{list_any};
+ghost use Rattle.tl_query.specs.Passing.{compare_numbers, compare_texts, compare_cells, passes_test, passes_all, passes};
+
+use crate::rows::Row;
+use tl_query::{TypedPred, TypedTest};
+use tl_types::{Cell, Cmp, Text};
+
+fn compare_numbers(cmp: Cmp, first: i64, second: i64) -> bool
+    ensures { result ≡ compare_numbers cmp first second }
+{
+    match cmp {
+        Cmp::Eq => first == second,
+        Cmp::Ne => first != second,
+        Cmp::Lt => first < second,
+        Cmp::Le => first <= second,
+        Cmp::Gt => second < first,
+        Cmp::Ge => second <= first,
+    }
+}
+
+fn compare_texts(cmp: Cmp, first: &Text, second: &Text) -> bool
+    ensures { result ≡ compare_texts cmp first.now second.now }
+{
+    let same = first.as_str() == second.as_str();
+    match cmp {
+        Cmp::Eq => same,
+        Cmp::Ne => !same,
+        Cmp::Lt => false,
+        Cmp::Le => false,
+        Cmp::Gt => false,
+        Cmp::Ge => false,
+    }
+}
+
+fn compare_cells(cmp: Cmp, first: &Cell, second: &Cell) -> bool
+    ensures { result ≡ compare_cells cmp first.now second.now }
+{
+    match first {
+        Cell::Int(first) => match second {
+            Cell::Int(second) => compare_numbers(cmp, *first, *second),
+            Cell::Text(_) => false,
+        },
+        Cell::Text(first) => match second {
+            Cell::Int(_) => false,
+            Cell::Text(second) => compare_texts(cmp, first, second),
+        },
+    }
+}
+
+fn passes_test(row: &Row, test: &TypedTest) -> bool
+    ensures { result ≡ passes_test row.now test.now }
+{
+    match row.cells().get(test.column as usize) {
+        Some(cell) => compare_cells(test.cmp, cell, &test.value),
+        None => false,
+    }
+}
+
+/// Whether a row passes all of the tests.
+pub(crate) fn passes_all(row: &Row, tests: &[TypedTest]) -> bool
+    ensures { result ≡ passes_all row.now tests.now }
+{
+    tests.iter().all(|test| passes_test(row, test))
+}
+
+fn passes_any(row: &Row, pred: &TypedPred) -> bool
+    ensures { result ≡ list_any (passes_all row.now) pred.now.any }
+{
+    pred.any
+        .as_slice()
+        .iter()
+        .any(|tests| passes_all(row, tests.as_slice()))
+}
+
+/// Whether a row passes all tests of one of the predicate's lists, or there is no list.
+pub(crate) fn passes(pred: &TypedPred, row: &Row) -> bool
+    ensures { result ≡ passes pred.now row.now }
+{
+    pred.any.is_empty() || passes_any(row, pred)
+}

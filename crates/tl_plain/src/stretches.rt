@@ -1,0 +1,100 @@
+//! The maximal runs of an aggregate over time.
+ghost use Rattle.std.specs.Prelude.{◌≡◌, ◌<◌, ◌^◌, length, IfOk, OnOk};
+ghost use Rattle.tl_query.specs.Fields.{same_field};
+ghost use Rattle.tl_query.specs.Runs.{add_stretch};
+ghost use Rattle.tl_query.specs.Aggregates.{span_start, span_end, runs_in};
+ghost use Rattle.tl_plain.specs.Chosen.{chosen};
+ghost use Rattle.tl_plain.specs.Stretching.{ends_with_value};
+
+use crate::counting::{Choice, value_at};
+use crate::rows::Row;
+use crate::times::next_change;
+use std::alloc::Global;
+use tl_query::{AggPlan, Span};
+use tl_types::{Field, NoMemory, Run};
+
+fn same_field(first: &Field, second: &Field) -> bool
+    ensures { result ≡ same_field first.now second.now }
+{
+    *first == *second
+}
+
+fn ends_with_value(runs: &[Run], value: &Field) -> bool
+    ensures { result ≡ ends_with_value runs.now value.now }
+{
+    match runs {
+        [] => false,
+        [.., last] => same_field(&last.value, value),
+    }
+}
+
+/// Appends a stretch of time: the last run goes on where it has the same value, else a run begins. The error
+/// is want of memory.
+fn add_stretch(runs: &mut Vec<Run>, stretch: Run) -> Result<(), NoMemory>
+    ensures { OnOk result (runs.new.items ≡ add_stretch runs.old.items stretch) }
+{
+    if ends_with_value(runs.as_slice(), &stretch.value) {
+        let last = runs.len() - 1;
+        runs[last].to = stretch.to;
+    } else {
+        runs.push(stretch)?;
+    }
+    Ok(())
+}
+
+/// The first moment of a range.
+pub(crate) fn span_start(span: Span) -> i64
+    ensures { result ≡ span_start span }
+{
+    match span {
+        Span::System { from, to: _ } => i64::from(from),
+        Span::Valid {
+            version: _,
+            from,
+            to: _,
+        } => from,
+    }
+}
+
+/// The moment that ends a range.
+pub(crate) fn span_end(span: Span) -> i64
+    ensures { result ≡ span_end span }
+{
+    match span {
+        Span::System { from: _, to } => i64::from(to),
+        Span::Valid {
+            version: _,
+            from: _,
+            to,
+        } => to,
+    }
+}
+
+/// The runs of an aggregate over the rows that are counted at each moment of the range. It looks at the
+/// aggregate at the first moment and where a row begins or ends, and nowhere else. The error is want of memory.
+pub(crate) fn runs_in(
+    alloc: Global,
+    plan: AggPlan,
+    choice: &Choice,
+    rows: &[Row],
+) -> Result<Vec<Run>, NoMemory>
+    requires { length rows.now < 2 ^ 32 }
+    ensures { IfOk result (λ runs. runs.items ≡ runs_in plan.kind plan.column choice.now.span (chosen choice.now rows.now)) }
+{
+    let end = span_end(choice.span);
+    let mut at = span_start(choice.span);
+    let mut runs = Vec::new(alloc);
+    while at < end {
+        let next = next_change(choice.span, rows, at, end);
+        let value = value_at(alloc, plan, choice, rows, at)?;
+        let stretch = Run {
+            group: None,
+            from: at,
+            to: next,
+            value,
+        };
+        add_stretch(&mut runs, stretch)?;
+        at = next;
+    }
+    Ok(runs)
+}

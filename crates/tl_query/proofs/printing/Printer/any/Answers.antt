@@ -1,0 +1,13 @@
+use Rattle.std.proofs.Common.{◌≡◌, ◌∙◌, ap, List}
+use Rattle.tl_query.specs.declared.marks.Mark.TheVariants as marks
+use Rattle.tl_query.specs.declared.forms.Test.{Test}
+use Rattle.tl_query.specs.Grammar.{conj_parts, behind_each}
+use Rattle.tl_query.specs.Printing.{Written, write}
+use Rattle.tl_query.proofs.Writing.{write_first}
+use Rattle.tl_query.proofs.printing.Printer.any.Goals as goal
+
+pub returns-in_ok-further_any : goal.returns-in_ok-further_any
+returns-in_ok-further_any c =
+    c.in_ok-further_any.ensures
+    ∙ ap (λ (w : Written). write w (behind_each marks.Or conj_parts c.split_at.result.1.now)) (c.in_ok-tests.ensures ∙ ap (λ (tests : List Test). write c.args.self.now (conj_parts tests)) c.as_slice.ensures)
+    ∙ write_first marks.Or conj_parts c.args.any.now c.tests-item.result c.split_at.result.1.now c.args.self.now c.in-len1-up.len_at_least c.tests-item.is c.split_at.ensures.back

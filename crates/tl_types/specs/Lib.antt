@@ -4,3 +4,5 @@ pub mod Facts
 pub mod Limits
 pub mod History
 pub mod Resolving
+pub mod Entries
+pub mod Events

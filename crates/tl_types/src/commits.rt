@@ -1,11 +1,13 @@
 //! Commits, and the entries of a history.
-ghost use Rattle.std.specs.Prelude.{◌≡◌};
+ghost use Rattle.std.specs.Prelude.{◌≡◌, IfOk};
 ghost use Rattle.tl_types.specs.Plain as plain;
 ghost use Rattle.tl_types.specs.Facts.{IsChange};
+ghost use Rattle.tl_types.specs.Entries.{is_break, has_break};
 
 use crate::rows::Opened;
 use crate::schemas::Schema;
 use crate::sequences::Seq;
+use std::alloc::AllocError;
 use std::marker::Model;
 
 /// A change of one table: the ids of the rows that it closes, strictly ascending, and the rows that it opens.
@@ -67,6 +69,18 @@ impl Change {
     }
 }
 
+impl Clone for Change {
+    ghost is_clone = { λ v w. w ≡ v };
+
+    fn clone(&self) -> Result<Self, AllocError> {
+        Ok(Change {
+            table: self.table,
+            closes: self.closes.clone()?,
+            opens: self.opens.clone()?,
+        })
+    }
+}
+
 /// What a commit does.
 #[derive(Debug, Drop, PartialEq, Eq)]
 pub enum Body {
@@ -76,6 +90,17 @@ pub enum Body {
     Change(Change),
 }
 
+impl Clone for Body {
+    ghost is_clone = { λ v w. w ≡ v };
+
+    fn clone(&self) -> Result<Self, AllocError> {
+        match self {
+            Body::Create(schema) => Ok(Body::Create(schema.clone()?)),
+            Body::Change(change) => Ok(Body::Change(change.clone()?)),
+        }
+    }
+}
+
 /// One step of the history: who made it (the session's number), and what it does.
 #[derive(Debug, Drop, PartialEq, Eq)]
 pub struct Commit {
@@ -83,6 +108,17 @@ pub struct Commit {
     pub author: u32,
     /// What it does.
     pub body: Body,
+}
+
+impl Clone for Commit {
+    ghost is_clone = { λ v w. w ≡ v };
+
+    fn clone(&self) -> Result<Self, AllocError> {
+        Ok(Commit {
+            author: self.author,
+            body: self.body.clone()?,
+        })
+    }
 }
 
 /// An entry of the history.
@@ -102,4 +138,37 @@ pub enum Entry {
         /// The commit, which the journal may hold or not.
         commit: Commit,
     },
+}
+
+impl Clone for Entry {
+    ghost is_clone = { λ v w. w ≡ v };
+
+    fn clone(&self) -> Result<Self, AllocError> {
+        match self {
+            Entry::Commit(commit) => Ok(Entry::Commit(commit.clone()?)),
+            Entry::Mark { table, version } => Ok(Entry::Mark {
+                table: *table,
+                version: *version,
+            }),
+            Entry::Break { commit } => Ok(Entry::Break {
+                commit: commit.clone()?,
+            }),
+        }
+    }
+}
+
+impl Entry {
+    /// Whether the entry is a break.
+    pub fn is_break(&self) -> bool
+        ensures { result ≡ is_break self.now }
+    {
+        matches!(self, Entry::Break { .. })
+    }
+}
+
+/// Whether a break is among the entries of a history.
+pub fn has_break(entries: &[Entry]) -> bool
+    ensures { result ≡ has_break entries.now }
+{
+    entries.iter().any(|entry| entry.is_break())
 }

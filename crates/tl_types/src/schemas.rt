@@ -1,5 +1,5 @@
 //! Columns, and the schema of a table.
-ghost use Rattle.std.specs.Prelude.{◌≡◌, ◌<◌, ◌≤◌, Some, None, length, IfOk, true};
+ghost use Rattle.std.specs.Prelude.{◌≡◌, ◌<◌, ◌≤◌, Some, None, length, IfOk, IsTrue, true};
 ghost use Rattle.std.specs.List.{list_all, list_any};
 ghost use Rattle.tl_types.specs.Names.{is_name, same_bytes};
 ghost use Rattle.tl_types.specs.Facts.{are_distinct, names_of, schema_of, is_schema};
@@ -78,7 +78,8 @@ impl Schema {
 
     /// The table's name.
     pub fn name(&self) -> &Text
-        ensures { result.now ≡ self.now.name }
+        ensures value { result.now ≡ self.now.name }
+        ensures kept { IsTrue (is_schema self.now) }
     {
         &self.name
     }
@@ -88,6 +89,7 @@ impl Schema {
         ensures value { result.now ≡ self.now.columns }
         ensures some { 1 ≤ length self.now.columns }
         ensures few { length self.now.columns ≤ 16 }
+        ensures kept { IsTrue (is_schema self.now) }
     {
         self.columns.as_slice()
     }
@@ -96,13 +98,15 @@ impl Schema {
     pub fn key(&self) -> u8
         ensures value { result ≡ self.now.key }
         ensures among { self.now.key < length self.now.columns }
+        ensures kept { IsTrue (is_schema self.now) }
     {
         self.key
     }
 
     /// Whether the rows have a valid period.
     pub fn valid(&self) -> bool
-        ensures { result ≡ self.now.valid }
+        ensures value { result ≡ self.now.valid }
+        ensures kept { IsTrue (is_schema self.now) }
     {
         self.valid
     }

@@ -6,16 +6,16 @@ use Rattle.std.proofs.lemmas.Bool.Decides.{nat_tests}
 use Rattle.std.proofs.lemmas.List.Elements.{filter_map-append}
 use Rattle.tl_types.specs.Plain as plain
 use Rattle.tl_types.specs.Facts.{AscendFrom}
-use Rattle.tl_types.specs.History.{is_open, holds}
-use Rattle.tl_types.specs.Resolving.{Held, Said, open_rows, worked, ids_of, new_rows, change_of}
+use Rattle.tl_types.specs.History.{is_open, has_id}
+use Rattle.tl_types.specs.Resolving.{WorkingRow, BatchLine, open_rows, working_list, ids_of, new_rows, change_of}
 use Rattle.tl_batch.specs.Pieces.{cuts, periods_with, is_met, met_ids, over, row_pieces, old_pieces, put_pieces}
 use Rattle.tl_batch.proofs.Rows.{filter_map-flat_map, rows_left, puts_left, worked_by_rows, fresh, rows_left-old, fresh-ids, fresh-rows, puts_left-ids, puts_left-rows}
 
 -- the open rows, from an id on
-abbrev pub open_from : ℕ → List plain.Row → List Held
+abbrev pub open_from : ℕ → List plain.Row → List WorkingRow
 open_from n rows = map (λ r. record { id = Some r.0; row = record { cells = r.1.cells; period = r.1.period } }) (filter (λ r. is_open r.1) (enumerate_from n rows))
 
-abbrev old : ℕ → plain.Row → Held
+abbrev old : ℕ → plain.Row → WorkingRow
 old n r = record { id = Some n; row = record { cells = r.cells; period = r.period } }
 
 -- their ids
@@ -24,7 +24,7 @@ open_ids n [] = []
 open_ids n (r ∷ rows) = cond (is_open r) (n ∷ open_ids (n + 1) rows) (open_ids (n + 1) rows)
 
 -- the ids of those that no line meets
-abbrev pub kept_ids : plain.Schema → List Said → ℕ → List plain.Row → List ℕ
+abbrev pub kept_ids : plain.Schema → List BatchLine → ℕ → List plain.Row → List ℕ
 kept_ids schema lines n [] = []
 kept_ids schema lines n (r ∷ rows) = cond (is_open r) (cond (is_met schema lines r) (kept_ids schema lines (n + 1) rows) (n ∷ kept_ids schema lines (n + 1) rows)) (kept_ids schema lines (n + 1) rows)
 
@@ -38,7 +38,7 @@ open_from-ids n (r ∷ rows) = split (is_open r) (open_from-ids (n + 1) rows) wh
   split true later = ap (λ ids. n ∷ ids) later
   split false later = later
 
-old-ids : (schema : plain.Schema) (lines : List Said) (n : ℕ) (r : plain.Row) → ids_of (rows_left schema lines (old n r)) ≡ cond (is_met schema lines r) [] (n ∷ [])
+old-ids : (schema : plain.Schema) (lines : List BatchLine) (n : ℕ) (r : plain.Row) → ids_of (rows_left schema lines (old n r)) ≡ cond (is_met schema lines r) [] (n ∷ [])
 old-ids schema lines n r = ap ids_of (rows_left-old schema lines n r.cells r.period) ∙ split (is_met schema lines r) where
   pieces : List (Option plain.Period)
   pieces = cuts schema.valid (periods_with (slice_get r.cells schema.key) lines) r.period
@@ -47,7 +47,7 @@ old-ids schema lines n r = ap ids_of (rows_left-old schema lines n r.cells r.per
   split true = fresh-ids r.cells pieces
   split false = refl
 
-old-rows : (schema : plain.Schema) (lines : List Said) (n : ℕ) (r : plain.Row) → new_rows (rows_left schema lines (old n r)) ≡ cond (is_met schema lines r) (row_pieces schema lines r.cells r.period) []
+old-rows : (schema : plain.Schema) (lines : List BatchLine) (n : ℕ) (r : plain.Row) → new_rows (rows_left schema lines (old n r)) ≡ cond (is_met schema lines r) (row_pieces schema lines r.cells r.period) []
 old-rows schema lines n r = ap new_rows (rows_left-old schema lines n r.cells r.period) ∙ split (is_met schema lines r) where
   pieces : List (Option plain.Period)
   pieces = cuts schema.valid (periods_with (slice_get r.cells schema.key) lines) r.period
@@ -56,7 +56,7 @@ old-rows schema lines n r = ap new_rows (rows_left-old schema lines n r.cells r.
   split true = fresh-rows r.cells pieces
   split false = refl
 
-left-ids : (schema : plain.Schema) (lines : List Said) (n : ℕ) (rows : List plain.Row) → flat_map (λ h. ids_of (rows_left schema lines h)) (open_from n rows) ≡ kept_ids schema lines n rows
+left-ids : (schema : plain.Schema) (lines : List BatchLine) (n : ℕ) (rows : List plain.Row) → flat_map (λ h. ids_of (rows_left schema lines h)) (open_from n rows) ≡ kept_ids schema lines n rows
 left-ids schema lines n [] = refl
 left-ids schema lines n (r ∷ rows) = split (is_open r) (left-ids schema lines (n + 1) rows) where
   rest : List ℕ
@@ -71,7 +71,7 @@ left-ids schema lines n (r ∷ rows) = split (is_open r) (left-ids schema lines 
   split true later = ap (λ ids. ids ++ flat_map (λ h. ids_of (rows_left schema lines h)) (open_from (n + 1) rows)) (old-ids schema lines n r) ∙ (ap (λ ids. cond (is_met schema lines r) [] (n ∷ []) ++ ids) later ∙ both (is_met schema lines r))
   split false later = later
 
-left-rows : (schema : plain.Schema) (lines : List Said) (n : ℕ) (rows : List plain.Row) → flat_map (λ h. new_rows (rows_left schema lines h)) (open_from n rows) ≡ old_pieces schema lines rows
+left-rows : (schema : plain.Schema) (lines : List BatchLine) (n : ℕ) (rows : List plain.Row) → flat_map (λ h. new_rows (rows_left schema lines h)) (open_from n rows) ≡ old_pieces schema lines rows
 left-rows schema lines n [] = refl
 left-rows schema lines n (r ∷ rows) = split (is_open r) (left-rows schema lines (n + 1) rows) where
   rest : List plain.Opened
@@ -89,7 +89,7 @@ left-rows schema lines n (r ∷ rows) = split (is_open r) (left-rows schema line
   split true later = ap (λ os. os ++ flat_map (λ h. new_rows (rows_left schema lines h)) (open_from (n + 1) rows)) (old-rows schema lines n r) ∙ (ap (λ os. cond (is_met schema lines r) pieces [] ++ os) later ∙ both (is_met schema lines r))
   split false later = later
 
-kept_before : (schema : plain.Schema) (lines : List Said) (n : ℕ) (rows : List plain.Row) (m : ℕ) → m < n → holds (kept_ids schema lines n rows) m ≡ false
+kept_before : (schema : plain.Schema) (lines : List BatchLine) (n : ℕ) (rows : List plain.Row) (m : ℕ) → m < n → has_id (kept_ids schema lines n rows) m ≡ false
 kept_before schema lines n [] m h = refl
 kept_before schema lines n (r ∷ rows) m h = split (is_open r) (is_met schema lines r) (kept_before schema lines (n + 1) rows m (omega arith)) where
   rest : List ℕ
@@ -98,12 +98,12 @@ kept_before schema lines n (r ∷ rows) m h = split (is_open r) (is_met schema l
   apart : nat_eq n m ≡ false
   apart = grind (arith, nat_tests)
 
-  split : (a b : Bool) → holds rest m ≡ false → holds (cond a (cond b rest (n ∷ rest)) rest) m ≡ false
+  split : (a b : Bool) → has_id rest m ≡ false → has_id (cond a (cond b rest (n ∷ rest)) rest) m ≡ false
   split true true later = later
-  split true false later = ap (λ v. v || holds rest m) apart ∙ later
+  split true false later = ap (λ v. v || has_id rest m) apart ∙ later
   split false b later = later
 
-filter_past : (k : ℕ) (kept : List ℕ) (n : ℕ) (rows : List plain.Row) → k < n → filter (λ id. not (holds (k ∷ kept) id)) (open_ids n rows) ≡ filter (λ id. not (holds kept id)) (open_ids n rows)
+filter_past : (k : ℕ) (kept : List ℕ) (n : ℕ) (rows : List plain.Row) → k < n → filter (λ id. not (has_id (k ∷ kept) id)) (open_ids n rows) ≡ filter (λ id. not (has_id kept id)) (open_ids n rows)
 filter_past k kept n [] h = refl
 filter_past k kept n (r ∷ rows) h = split (is_open r) (filter_past k kept (n + 1) rows (omega arith)) where
   rest : List ℕ
@@ -112,20 +112,20 @@ filter_past k kept n (r ∷ rows) h = split (is_open r) (filter_past k kept (n +
   apart : nat_eq k n ≡ false
   apart = grind (arith, nat_tests)
 
-  split : (a : Bool) → filter (λ id. not (holds (k ∷ kept) id)) rest ≡ filter (λ id. not (holds kept id)) rest
-      → filter (λ id. not (holds (k ∷ kept) id)) (cond a (n ∷ rest) rest) ≡ filter (λ id. not (holds kept id)) (cond a (n ∷ rest) rest)
-  split true later = ap (λ b. cond (not (b || holds kept n)) (n ∷ filter (λ id. not (holds (k ∷ kept) id)) rest) (filter (λ id. not (holds (k ∷ kept) id)) rest)) apart ∙ ap (λ ids. cond (not (holds kept n)) (n ∷ ids) ids) later
+  split : (a : Bool) → filter (λ id. not (has_id (k ∷ kept) id)) rest ≡ filter (λ id. not (has_id kept id)) rest
+      → filter (λ id. not (has_id (k ∷ kept) id)) (cond a (n ∷ rest) rest) ≡ filter (λ id. not (has_id kept id)) (cond a (n ∷ rest) rest)
+  split true later = ap (λ b. cond (not (b || has_id kept n)) (n ∷ filter (λ id. not (has_id (k ∷ kept) id)) rest) (filter (λ id. not (has_id (k ∷ kept) id)) rest)) apart ∙ ap (λ ids. cond (not (has_id kept n)) (n ∷ ids) ids) later
   split false later = later
 
-closed_here : (a b : Bool) (n : ℕ) (kept rest closed : List ℕ) → holds kept n ≡ false → filter (λ id. not (holds (n ∷ kept) id)) rest ≡ filter (λ id. not (holds kept id)) rest → filter (λ id. not (holds kept id)) rest ≡ closed
-    → filter (λ id. not (holds (cond a (cond b kept (n ∷ kept)) kept) id)) (cond a (n ∷ rest) rest) ≡ cond (a && b) (n ∷ closed) closed
-closed_here true true n kept rest closed gone past e = ap (λ v. cond (not v) (n ∷ filter (λ id. not (holds kept id)) rest) (filter (λ id. not (holds kept id)) rest)) gone ∙ ap (λ ids. n ∷ ids) e
+closed_here : (a b : Bool) (n : ℕ) (kept rest closed : List ℕ) → has_id kept n ≡ false → filter (λ id. not (has_id (n ∷ kept) id)) rest ≡ filter (λ id. not (has_id kept id)) rest → filter (λ id. not (has_id kept id)) rest ≡ closed
+    → filter (λ id. not (has_id (cond a (cond b kept (n ∷ kept)) kept) id)) (cond a (n ∷ rest) rest) ≡ cond (a && b) (n ∷ closed) closed
+closed_here true true n kept rest closed gone past e = ap (λ v. cond (not v) (n ∷ filter (λ id. not (has_id kept id)) rest) (filter (λ id. not (has_id kept id)) rest)) gone ∙ ap (λ ids. n ∷ ids) e
 closed_here true false n kept rest closed gone past e =
     let same : nat_eq n n ≡ true = grind (arith, nat_tests) in
-    ap (λ v. cond (not (v || holds kept n)) (n ∷ filter (λ id. not (holds (n ∷ kept) id)) rest) (filter (λ id. not (holds (n ∷ kept) id)) rest)) same ∙ (past ∙ e)
+    ap (λ v. cond (not (v || has_id kept n)) (n ∷ filter (λ id. not (has_id (n ∷ kept) id)) rest) (filter (λ id. not (has_id (n ∷ kept) id)) rest)) same ∙ (past ∙ e)
 closed_here false b n kept rest closed gone past e = e
 
-closed_ids : (schema : plain.Schema) (lines : List Said) (n : ℕ) (rows : List plain.Row) → filter (λ id. not (holds (kept_ids schema lines n rows) id)) (open_ids n rows) ≡ met_ids schema lines n rows
+closed_ids : (schema : plain.Schema) (lines : List BatchLine) (n : ℕ) (rows : List plain.Row) → filter (λ id. not (has_id (kept_ids schema lines n rows) id)) (open_ids n rows) ≡ met_ids schema lines n rows
 closed_ids schema lines n [] = refl
 closed_ids schema lines n (r ∷ rows) =
     let kept : List ℕ = kept_ids schema lines (n + 1) rows in
@@ -133,34 +133,34 @@ closed_ids schema lines n (r ∷ rows) =
 
 -- the change that the lines make: it closes the current rows that a line meets, and opens what is left of them and
 -- then what is left of the rows put
-pub change_by_rows : (number : ℕ) (t : plain.Table) (lines : List Said) → change_of number t lines ≡ record { table = number; closes = met_ids t.schema lines 0 t.rows; opens = old_pieces t.schema lines t.rows ++ put_pieces t.schema lines }
-change_by_rows number t lines = ap (λ cs. made cs (new_rows (worked t lines))) closes ∙ ap (made (met_ids t.schema lines 0 t.rows)) opens where
+pub change_by_rows : (number : ℕ) (t : plain.Table) (lines : List BatchLine) → change_of number t lines ≡ record { table = number; closes = met_ids t.schema lines 0 t.rows; opens = old_pieces t.schema lines t.rows ++ put_pieces t.schema lines }
+change_by_rows number t lines = ap (λ cs. made cs (new_rows (working_list t lines))) closes ∙ ap (made (met_ids t.schema lines 0 t.rows)) opens where
   made : List ℕ → List plain.Opened → plain.Change
   made cs os = record { table = number; closes = cs; opens = os }
 
-  by_rows : worked t lines ≡ flat_map (rows_left t.schema lines) (open_from 0 t.rows) ++ puts_left t.schema lines
+  by_rows : working_list t lines ≡ flat_map (rows_left t.schema lines) (open_from 0 t.rows) ++ puts_left t.schema lines
   by_rows = worked_by_rows t.schema lines (open_rows t)
 
-  opens : new_rows (worked t lines) ≡ old_pieces t.schema lines t.rows ++ put_pieces t.schema lines
+  opens : new_rows (working_list t lines) ≡ old_pieces t.schema lines t.rows ++ put_pieces t.schema lines
   opens = ap new_rows by_rows
       ∙ (filter_map-append (λ h. cond (is_some h.id) None (Some h.row)) (flat_map (rows_left t.schema lines) (open_from 0 t.rows)) (puts_left t.schema lines)
       ∙ (ap (λ os. os ++ new_rows (puts_left t.schema lines)) (filter_map-flat_map (λ h. cond (is_some h.id) None (Some h.row)) (rows_left t.schema lines) (open_from 0 t.rows) ∙ left-rows t.schema lines 0 t.rows)
       ∙ ap (λ os. old_pieces t.schema lines t.rows ++ os) (puts_left-rows t.schema lines)))
 
-  kept : ids_of (worked t lines) ≡ kept_ids t.schema lines 0 t.rows
+  kept : ids_of (working_list t lines) ≡ kept_ids t.schema lines 0 t.rows
   kept = ap ids_of by_rows
       ∙ (filter_map-append (λ h. h.id) (flat_map (rows_left t.schema lines) (open_from 0 t.rows)) (puts_left t.schema lines)
       ∙ (ap (λ ids. ids_of (flat_map (rows_left t.schema lines) (open_from 0 t.rows)) ++ ids) (puts_left-ids t.schema lines)
       ∙ (append-nil (ids_of (flat_map (rows_left t.schema lines) (open_from 0 t.rows)))
       ∙ (filter_map-flat_map (λ h. h.id) (rows_left t.schema lines) (open_from 0 t.rows) ∙ left-ids t.schema lines 0 t.rows))))
 
-  closes : filter (λ id. not (holds (ids_of (worked t lines)) id)) (ids_of (open_rows t)) ≡ met_ids t.schema lines 0 t.rows
-  closes = ap (λ ids. filter (λ id. not (holds ids id)) (ids_of (open_rows t))) kept ∙ (ap (λ ids. filter (λ id. not (holds (kept_ids t.schema lines 0 t.rows) id)) ids) (open_from-ids 0 t.rows) ∙ closed_ids t.schema lines 0 t.rows)
+  closes : filter (λ id. not (has_id (ids_of (working_list t lines)) id)) (ids_of (open_rows t)) ≡ met_ids t.schema lines 0 t.rows
+  closes = ap (λ ids. filter (λ id. not (has_id ids id)) (ids_of (open_rows t))) kept ∙ (ap (λ ids. filter (λ id. not (has_id (kept_ids t.schema lines 0 t.rows) id)) ids) (open_from-ids 0 t.rows) ∙ closed_ids t.schema lines 0 t.rows)
 
 -- ASCENDING LISTS
 
 -- the ids that are closed ascend
-pub met_ids-ascend : (schema : plain.Schema) (lines : List Said) (n : ℕ) (rows : List plain.Row) → AscendFrom n (met_ids schema lines n rows)
+pub met_ids-ascend : (schema : plain.Schema) (lines : List BatchLine) (n : ℕ) (rows : List plain.Row) → AscendFrom n (met_ids schema lines n rows)
 met_ids-ascend schema lines n [] = tt
 met_ids-ascend schema lines n (r ∷ rows) = split (is_open r && is_met schema lines r) (met_ids-ascend schema lines (n + 1) rows) where
   lower : (low high : ℕ) (ids : List ℕ) → low ≤ high → AscendFrom high ids → AscendFrom low ids
@@ -171,25 +171,25 @@ met_ids-ascend schema lines n (r ∷ rows) = split (is_open r && is_met schema l
   split true later = (let h : n ≤ n = omega arith in h, later)
   split false later = lower n (n + 1) (met_ids schema lines (n + 1) rows) (omega arith) later
 
-ascend_past : (low : ℕ) (ids : List ℕ) (n : ℕ) → AscendFrom low ids → n < low → holds ids n ≡ false
+ascend_past : (low : ℕ) (ids : List ℕ) (n : ℕ) → AscendFrom low ids → n < low → has_id ids n ≡ false
 ascend_past low [] n all h = refl
 ascend_past low (id ∷ ids) n all h =
     let l = all.0 in
     let apart : nat_eq id n ≡ false = grind (arith, nat_tests) in
-    ap (λ v. v || holds ids n) apart ∙ ascend_past (id + 1) ids n all.1 (omega arith)
+    ap (λ v. v || has_id ids n) apart ∙ ascend_past (id + 1) ids n all.1 (omega arith)
 
-holds_first : (id : ℕ) (ids : List ℕ) → holds (id ∷ ids) id ≡ true
-holds_first id ids = let same : nat_eq id id ≡ true = grind (arith, nat_tests) in ap (λ v. v || holds ids id) same
+holds_first : (id : ℕ) (ids : List ℕ) → has_id (id ∷ ids) id ≡ true
+holds_first id ids = let same : nat_eq id id ≡ true = grind (arith, nat_tests) in ap (λ v. v || has_id ids id) same
 
 -- ascending lists with the same members are the same
-pub ascend_same : (low : ℕ) (xs ys : List ℕ) → AscendFrom low xs → AscendFrom low ys → ((n : ℕ) → holds xs n ≡ holds ys n) → xs ≡ ys
+pub ascend_same : (low : ℕ) (xs ys : List ℕ) → AscendFrom low xs → AscendFrom low ys → ((n : ℕ) → has_id xs n ≡ has_id ys n) → xs ≡ ys
 ascend_same low [] [] a b same = refl
 ascend_same low [] (y ∷ ys) a b same = absurd (let e : false ≡ true = same y ∙ holds_first y ys in cc)
 ascend_same low (x ∷ xs) [] a b same = absurd (let e : true ≡ false = sym (holds_first x xs) ∙ same x in cc)
 ascend_same low (x ∷ xs) (y ∷ ys) a b same = ap (λ z. z ∷ xs) first ∙ ap (λ zs. y ∷ zs) (ascend_same (x + 1) xs ys a.1 (subst (λ z. AscendFrom (z + 1) ys) (sym first) b.1) rest) where
-  before : (z w : ℕ) (ws : List ℕ) → AscendFrom (w + 1) ws → holds (w ∷ ws) z ≡ true → w ≤ z
+  before : (z w : ℕ) (ws : List ℕ) → AscendFrom (w + 1) ws → has_id (w ∷ ws) z ≡ true → w ≤ z
   before z w ws all e = by_test (nat_eq w z) refl e where
-    by_test : (t : Bool) → nat_eq w z ≡ t → (t || holds ws z) ≡ true → w ≤ z
+    by_test : (t : Bool) → nat_eq w z ≡ t → (t || has_id ws z) ≡ true → w ≤ z
     by_test true f g = let h : w ≡ z = grind (arith, nat_tests) in omega arith
     by_test false f g = by_order (cases_lt z (w + 1)) where
       by_order : (z < w + 1) ⊎ (w + 1 ≤ z) → w ≤ z
@@ -202,12 +202,12 @@ ascend_same low (x ∷ xs) (y ∷ ys) a b same = ap (λ z. z ∷ xs) first ∙ a
       let k = before y x xs a.1 (same y ∙ holds_first y ys) in
       omega arith
 
-  rest : (n : ℕ) → holds xs n ≡ holds ys n
+  rest : (n : ℕ) → has_id xs n ≡ has_id ys n
   rest n = by_order (cases_lt n (x + 1)) where
-    by_order : (n < x + 1) ⊎ (x + 1 ≤ n) → holds xs n ≡ holds ys n
+    by_order : (n < x + 1) ⊎ (x + 1 ≤ n) → has_id xs n ≡ has_id ys n
     by_order (inl h) = ascend_past (x + 1) xs n a.1 h ∙ sym (ascend_past (y + 1) ys n b.1 (let e = first in omega arith))
     by_order (inr h) =
         let apart : nat_eq x n ≡ false = grind (arith, nat_tests) in
         let e = first in
         let also : nat_eq y n ≡ false = grind (arith, nat_tests) in
-        sym (ap (λ v. v || holds xs n) apart) ∙ (same n ∙ ap (λ v. v || holds ys n) also)
+        sym (ap (λ v. v || has_id xs n) apart) ∙ (same n ∙ ap (λ v. v || has_id ys n) also)

@@ -5,7 +5,7 @@ use Rattle.std.proofs.lemmas.List.{take_more}
 use Rattle.std.proofs.lemmas.List.Folds.{list_any-append}
 use Rattle.tl_types.specs.declared.cells.Cell.{Cell}
 use Rattle.tl_types.specs.Plain as plain
-use Rattle.tl_types.specs.History.{holds, same_cell}
+use Rattle.tl_types.specs.History.{has_id, same_cell}
 use Rattle.tl_types.specs.Resolving.{same_key}
 use Rattle.tl_store.specs.Reading.{cell_of_row}
 use Rattle.tl_batch.specs.declared.spots.Spot.{Spot}
@@ -21,14 +21,14 @@ key_of_row place (Some r) key x e = ap (λ c. same_key c (Some x)) (sym e)
 -- a closed row more
 pub closing_more : (place i id : ℕ) (closes : List ℕ) (rows : List plain.Row) (key : Cell) (before after : List Spot) → i < length closes → id ≡ get_or closes i 0 → Some key ≡ cell_of_row place (slice_get rows id)
     → after ≡ before ++ record { key = key; id = id } ∷ []
-    → ((x : Cell) (n : ℕ) → has_spot before x n ≡ (holds (take i closes) n && has_key place x (slice_get rows n)))
-    → (x : Cell) (n : ℕ) → has_spot after x n ≡ (holds (take (i + 1) closes) n && has_key place x (slice_get rows n))
+    → ((x : Cell) (n : ℕ) → has_spot before x n ≡ (has_id (take i closes) n && has_key place x (slice_get rows n)))
+    → (x : Cell) (n : ℕ) → has_spot after x n ≡ (has_id (take (i + 1) closes) n && has_key place x (slice_get rows n))
 closing_more place i id closes rows key before after h at cell made e x n =
     let spots : has_spot after x n ≡ (has_spot before x n || ((same_cell x key && nat_eq n id) || false)) = ap (λ ss. has_spot ss x n) made ∙ list_any-append (λ (s : Spot). same_cell x s.key && nat_eq n s.id) before (record { key = key; id = id } ∷ []) in
     let front : take (i + 1) closes ≡ take i closes ++ id ∷ [] = take_more closes i 0 h ∙ ap (λ m. take i closes ++ m ∷ []) (sym at) in
-    let ids : holds (take (i + 1) closes) n ≡ (holds (take i closes) n || (nat_eq id n || false)) = ap (λ is. holds is n) front ∙ list_any-append (λ m. nat_eq m n) (take i closes) (id ∷ []) in
+    let ids : has_id (take (i + 1) closes) n ≡ (has_id (take i closes) n || (nat_eq id n || false)) = ap (λ is. has_id is n) front ∙ list_any-append (λ m. nat_eq m n) (take i closes) (id ∷ []) in
     spots ∙ (ap (λ v. v || ((same_cell x key && nat_eq n id) || false)) (e x n)
-    ∙ (ap (λ v. (holds (take i closes) n && has_key place x (slice_get rows n)) || ((same_cell x key && v) || false)) (nat_eq-sym n id)
+    ∙ (ap (λ v. (has_id (take i closes) n && has_key place x (slice_get rows n)) || ((same_cell x key && v) || false)) (nat_eq-sym n id)
     ∙ (here (nat_eq id n) refl ∙ ap (λ v. v && has_key place x (slice_get rows n)) (sym ids)))) where
       table : (a k : Bool) → ((a && k) || ((k && true) || false)) ≡ ((a || (true || false)) && k)
       table true true = refl
@@ -46,9 +46,9 @@ closing_more place i id closes rows key before after h at cell made e x n =
       apart false false true = refl
       apart false false false = refl
 
-      here : (b : Bool) → nat_eq id n ≡ b → ((holds (take i closes) n && has_key place x (slice_get rows n)) || ((same_cell x key && b) || false)) ≡ ((holds (take i closes) n || (b || false)) && has_key place x (slice_get rows n))
-      here false f = apart (holds (take i closes) n) (has_key place x (slice_get rows n)) (same_cell x key)
+      here : (b : Bool) → nat_eq id n ≡ b → ((has_id (take i closes) n && has_key place x (slice_get rows n)) || ((same_cell x key && b) || false)) ≡ ((has_id (take i closes) n || (b || false)) && has_key place x (slice_get rows n))
+      here false f = apart (has_id (take i closes) n) (has_key place x (slice_get rows n)) (same_cell x key)
       here true f =
           let same : id ≡ n = grind (arith, nat_tests) in
           let is : has_key place x (slice_get rows n) ≡ same_cell x key = ap (λ m. has_key place x (slice_get rows m)) (sym same) ∙ (key_of_row place (slice_get rows id) key x cell ∙ same_cell-sym key x) in
-          ap (λ v. (holds (take i closes) n && has_key place x (slice_get rows n)) || ((v && true) || false)) (sym is) ∙ table (holds (take i closes) n) (has_key place x (slice_get rows n))
+          ap (λ v. (has_id (take i closes) n && has_key place x (slice_get rows n)) || ((v && true) || false)) (sym is) ∙ table (has_id (take i closes) n) (has_key place x (slice_get rows n))

@@ -20,7 +20,7 @@ use Rattle.tl_types.specs.declared.limits.Limits.{Limits}
 use Rattle.tl_types.specs.Plain as plain
 use Rattle.tl_types.specs.Facts.{AscendFrom}
 use Rattle.tl_types.specs.History.{is_open, has_name, matches, match_columns, fits, fits_body, fits_table, rows_of}
-use Rattle.tl_types.specs.Resolving.{Said, same_key, open_rows, line_fault, said_by_rows, said_by_keys, find_from, find_table, resolved, resolved_change}
+use Rattle.tl_types.specs.Resolving.{BatchLine, same_key, open_rows, line_fault, put_lines, removal_lines, find_from, find_table, resolved, resolved_change}
 use Rattle.tl_batch.specs.declared.spots.Spot.{Spot}
 use Rattle.tl_batch.specs.declared.strokes.Stroke.{Stroke}
 use Rattle.tl_batch.specs.Faults.{fault_from}
@@ -120,12 +120,12 @@ none_named None h = refl
 none_named (Some x) h = absurd (cc)
 
 -- no table has the name
-pub change-unknown : (limits : Limits) (db : plain.Database) (author : ℕ) (name : List ℕ) (lines : plain.Schema → List Said) → option_map (λ found. found.0) (find_table name db.tables) ≡ None
+pub change-unknown : (limits : Limits) (db : plain.Database) (author : ℕ) (name : List ℕ) (lines : plain.Schema → List BatchLine) → option_map (λ found. found.0) (find_table name db.tables) ≡ None
     → resolved_change limits db author (find_table name db.tables) lines ≡ Err fault.UnknownTable
 change-unknown limits db author name lines h = ap (λ o. resolved_change limits db author o lines) (none_named (find_table name db.tables) h)
 
 -- no version is left
-pub named-late : (limits : Limits) (db : plain.Database) (author number : ℕ) (name : List ℕ) (lines : plain.Schema → List Said) → IsNamed db name number → limits.versions ≤ db.version
+pub named-late : (limits : Limits) (db : plain.Database) (author number : ℕ) (name : List ℕ) (lines : plain.Schema → List BatchLine) → IsNamed db name number → limits.versions ≤ db.version
     → resolved_change limits db author (find_table name db.tables) lines ≡ Err fault.VersionsFull
 named-late limits db author number name lines n full = ap (λ o. resolved_change limits db author o lines) n.named ∙ change-late limits db author number n.table lines full
 
@@ -176,7 +176,7 @@ pub known-within : (db : plain.Database) (number : ℕ) (schema : plain.Schema) 
 known-within db number schema k = slice_get_within db.tables number k.table k.at
 
 -- what is made at a table
-pub made_at : (db : plain.Database) (number : ℕ) (schema : plain.Schema) (k : IsTable db number schema) (limit : ℕ) (removes : Bool) (lines : plain.Schema → List Said) (made : Result plain.Change BatchFault) → made ≡ made_by limit number removes schema (rows_of db number) (lines schema)
+pub made_at : (db : plain.Database) (number : ℕ) (schema : plain.Schema) (k : IsTable db number schema) (limit : ℕ) (removes : Bool) (lines : plain.Schema → List BatchLine) (made : Result plain.Change BatchFault) → made ≡ made_by limit number removes schema (rows_of db number) (lines schema)
     → Some made ≡ option_map (λ t. made_by limit number removes t.schema t.rows (lines t.schema)) (slice_get db.tables number)
 made_at db number schema k limit removes lines made e =
     ap Some (e ∙ (ap (λ rs. made_by limit number removes schema rs (lines schema)) (known-rows db number schema k) ∙ ap (λ c. made_by limit number removes c k.table.rows (lines c)) k.same))
@@ -209,52 +209,52 @@ map_number f (x ∷ xs) = ap suc (map_number f xs)
 pub rows-number : (strokes : List Stroke) (place : ℕ) (lines : List plain.Opened) → said_by strokes ≡ map (said_by_row place) lines → length strokes ≡ length lines
 rows-number strokes place lines e = sym (map_number said_of strokes) ∙ (ap length e ∙ map_number (said_by_row place) lines)
 
-pub keys-number : (strokes : List Stroke) (lines : List KeyLine) → said_by strokes ≡ said_by_keys lines → length strokes ≡ length lines
+pub keys-number : (strokes : List Stroke) (lines : List KeyLine) → said_by strokes ≡ removal_lines lines → length strokes ≡ length lines
 keys-number strokes lines e = sym (map_number said_of strokes) ∙ (ap length e ∙ keys_length lines) where
-  keys_length : (ks : List KeyLine) → length (said_by_keys ks) ≡ length ks
+  keys_length : (ks : List KeyLine) → length (removal_lines ks) ≡ length ks
   keys_length [] = refl
   keys_length (k ∷ ks) = ap suc (keys_length ks)
 
 -- a list has no more ids that are met than rows
-pub met-few : (schema : plain.Schema) (lines : List Said) (n : ℕ) (rows : List plain.Row) → length (met_ids schema lines n rows) ≤ length rows
+pub met-few : (schema : plain.Schema) (lines : List BatchLine) (n : ℕ) (rows : List plain.Row) → length (met_ids schema lines n rows) ≤ length rows
 met-few schema lines n [] = omega arith
 met-few schema lines n (r ∷ rows) = split (is_open r && is_met schema lines r) (met-few schema lines (n + 1) rows) where
   split : (b : Bool) → length (met_ids schema lines (n + 1) rows) ≤ length rows → length (cond b (n ∷ met_ids schema lines (n + 1) rows) (met_ids schema lines (n + 1) rows)) ≤ suc (length rows)
   split true later = omega arith
   split false later = omega arith
 
-pub closes-ascend : (schema : plain.Schema) (lines : List Said) (rows : List plain.Row) (closes : List ℕ) → closes ≡ met_ids schema lines 0 rows → AscendFrom 0 closes
+pub closes-ascend : (schema : plain.Schema) (lines : List BatchLine) (rows : List plain.Row) (closes : List ℕ) → closes ≡ met_ids schema lines 0 rows → AscendFrom 0 closes
 closes-ascend schema lines rows closes e = subst (AscendFrom 0) (sym e) (met_ids-ascend schema lines 0 rows)
 
-pub closes-few : (schema : plain.Schema) (lines : List Said) (rows : List plain.Row) (closes : List ℕ) → closes ≡ met_ids schema lines 0 rows → length closes ≤ length rows
+pub closes-few : (schema : plain.Schema) (lines : List BatchLine) (rows : List plain.Row) (closes : List ℕ) → closes ≡ met_ids schema lines 0 rows → length closes ≤ length rows
 closes-few schema lines rows closes e = let h = met-few schema lines 0 rows in let f = ap length e in omega arith
 
 -- the first fault of rows that are put reads the keys of the lines alone
-fault-rows : (schema : plain.Schema) (rows : List plain.Row) (rec : ℕ) (some more : List Said) (lines : List plain.Opened) → ((k : Option Cell) → list_any (λ e. same_key e.key k) some ≡ list_any (λ e. same_key e.key k) more)
-    → fault_from schema false rows rec some (map (said_by_row schema.key) lines) ≡ fault_from schema false rows rec more (said_by_rows schema lines)
+fault-rows : (schema : plain.Schema) (rows : List plain.Row) (rec : ℕ) (some more : List BatchLine) (lines : List plain.Opened) → ((k : Option Cell) → list_any (λ e. same_key e.key k) some ≡ list_any (λ e. same_key e.key k) more)
+    → fault_from schema false rows rec some (map (said_by_row schema.key) lines) ≡ fault_from schema false rows rec more (put_lines schema lines)
 fault-rows schema rows rec some more [] same = refl
 fault-rows schema rows rec some more (o ∷ lines) same =
     let key : Option Cell = slice_get o.cells schema.key in
-    let one : Said = said_by_row schema.key o in
-    let other : Said = record { key = key; period = o.period; puts = Some o } in
-    let any : Option Cell → Said → Bool = λ k e. same_key e.key k in
+    let one : BatchLine = said_by_row schema.key o in
+    let other : BatchLine = record { key = key; period = o.period; puts = Some o } in
+    let any : Option Cell → BatchLine → Bool = λ k e. same_key e.key k in
     let later = fault-rows schema rows (rec + 1) (some ++ one ∷ []) (more ++ other ∷ []) lines
     (λ k. list_any-append (any k) some (one ∷ []) ∙ (ap (λ b. b || (same_key key k || false)) (same k) ∙ sym (list_any-append (any k) more (other ∷ [])))) in
     ap (λ b. cond (not schema.valid && b) (Some (fault.KeyTwice rec)) (fault_from schema false rows (rec + 1) (some ++ one ∷ []) (map (said_by_row schema.key) lines))) (same key)
     ∙ ap (λ f. cond (not schema.valid && list_any (any key) more) (Some (fault.KeyTwice rec)) f) later
 
 pub rows-first : (schema : plain.Schema) (rows : List plain.Row) (strokes given : List Stroke) (lines : List plain.Opened) (place : ℕ) (found : Option BatchFault) → place ≡ schema.key → given ≡ strokes → said_by strokes ≡ map (said_by_row place) lines
-    → found ≡ fault_from schema false rows 2 [] (said_by given) → found ≡ fault_from schema false rows 2 [] (said_by_rows schema lines)
+    → found ≡ fault_from schema false rows 2 [] (said_by given) → found ≡ fault_from schema false rows 2 [] (put_lines schema lines)
 rows-first schema rows strokes given lines place found at same e f =
     f ∙ (ap (λ ss. fault_from schema false rows 2 [] (said_by ss)) same ∙ (ap (fault_from schema false rows 2 []) (e ∙ ap (λ p. map (said_by_row p) lines) at) ∙ fault-rows schema rows 2 [] [] lines (λ k. refl)))
 
 -- a fault is what is made
-pub made-fault : (limit number : ℕ) (removes : Bool) (schema : plain.Schema) (rows : List plain.Row) (lines : List Said) (found : Option BatchFault) (f : BatchFault) → found ≡ fault_from schema removes rows 2 [] lines → found ≡ Some f
+pub made-fault : (limit number : ℕ) (removes : Bool) (schema : plain.Schema) (rows : List plain.Row) (lines : List BatchLine) (found : Option BatchFault) (f : BatchFault) → found ≡ fault_from schema removes rows 2 [] lines → found ≡ Some f
     → Err f ≡ made_by limit number removes schema rows lines
 made-fault limit number removes schema rows lines found f e is = ap (unless_fault limit (length rows) (change_by number schema rows lines)) (sym is ∙ e)
 
 -- no fault, and the change
-pub made-change : (limit number : ℕ) (removes : Bool) (schema : plain.Schema) (rows : List plain.Row) (lines : List Said) (found : Option BatchFault) (count : ℕ) (closes : List ℕ) (opens : List plain.Opened) (made : Result plain.Change BatchFault)
+pub made-change : (limit number : ℕ) (removes : Bool) (schema : plain.Schema) (rows : List plain.Row) (lines : List BatchLine) (found : Option BatchFault) (count : ℕ) (closes : List ℕ) (opens : List plain.Opened) (made : Result plain.Change BatchFault)
     → found ≡ fault_from schema removes rows 2 [] lines → found ≡ None → count ≡ length rows → closes ≡ met_ids schema lines 0 rows → opens ≡ old_pieces schema lines rows ++ put_pieces schema lines
     → made ≡ unless_fault limit count (record { table = number; closes = closes; opens = opens }) None → made ≡ made_by limit number removes schema rows lines
 made-change limit number removes schema rows lines found count closes opens made e none number_of_rows c o is =
@@ -263,17 +263,17 @@ made-change limit number removes schema rows lines found count closes opens made
     ∙ (ap (λ os. unless_fault limit (length rows) (record { table = number; closes = met_ids schema lines 0 rows; opens = os }) None) o
     ∙ ap (unless_fault limit (length rows) (change_by number schema rows lines)) (sym none ∙ e))))
 
-puts-nothing : (schema : plain.Schema) (lines : List KeyLine) → put_pieces schema (said_by_keys lines) ≡ []
+puts-nothing : (schema : plain.Schema) (lines : List KeyLine) → put_pieces schema (removal_lines lines) ≡ []
 puts-nothing schema [] = refl
 puts-nothing schema (k ∷ lines) = puts-nothing schema lines
 
-pub keys-open : (schema : plain.Schema) (rows : List plain.Row) (lines : List KeyLine) (opens : List plain.Opened) → opens ≡ old_pieces schema (said_by_keys lines) rows → opens ≡ old_pieces schema (said_by_keys lines) rows ++ put_pieces schema (said_by_keys lines)
-keys-open schema rows lines opens e = e ∙ (sym (append-nil (old_pieces schema (said_by_keys lines) rows)) ∙ ap (λ ps. old_pieces schema (said_by_keys lines) rows ++ ps) (sym (puts-nothing schema lines)))
+pub keys-open : (schema : plain.Schema) (rows : List plain.Row) (lines : List KeyLine) (opens : List plain.Opened) → opens ≡ old_pieces schema (removal_lines lines) rows → opens ≡ old_pieces schema (removal_lines lines) rows ++ put_pieces schema (removal_lines lines)
+keys-open schema rows lines opens e = e ∙ (sym (append-nil (old_pieces schema (removal_lines lines) rows)) ∙ ap (λ ps. old_pieces schema (removal_lines lines) rows ++ ps) (sym (puts-nothing schema lines)))
 
 -- THE COMMIT
 
 -- by the first fault, and else by the number of rows
-committed-is : (limits : Limits) (db : plain.Database) (author number : ℕ) (t : plain.Table) (lines : plain.Schema → List Said) → db.version < limits.versions → (f : Option BatchFault) → line_fault t.schema 2 [] (open_rows t) (lines t.schema) ≡ f
+committed-is : (limits : Limits) (db : plain.Database) (author number : ℕ) (t : plain.Table) (lines : plain.Schema → List BatchLine) → db.version < limits.versions → (f : Option BatchFault) → line_fault t.schema 2 [] (open_rows t) (lines t.schema) ≡ f
     → resolved_change limits db author (Some (number, t)) lines ≡ committed author (unless_fault limits.rows (length t.rows) (change_by number t.schema t.rows (lines t.schema)) f)
 committed-is limits db author number t lines next (Some f) e = change-fault limits db author number t lines f next e
 committed-is limits db author number t lines next None e = by_room (nat_lt limits.rows all) refl where
@@ -285,15 +285,15 @@ committed-is limits db author number t lines next None e = by_room (nat_lt limit
   by_room false h = let few : all ≤ limits.rows = grind (arith, nat_tests) in change-made limits db author number t lines next e few
 
 -- the lines' first fault is what the rows of their keys say
-abbrev pub ReadsRows : Bool → (plain.Schema → List Said) → Type 0
+abbrev pub ReadsRows : Bool → (plain.Schema → List BatchLine) → Type 0
 ReadsRows removes lines = (t : plain.Table) → line_fault t.schema 2 [] (open_rows t) (lines t.schema) ≡ fault_from t.schema removes t.rows 2 [] (lines t.schema)
 
-some_at : (limit number : ℕ) (removes : Bool) (lines : plain.Schema → List Said) (made : Result plain.Change BatchFault) (o : Option plain.Table) (t : plain.Table) → o ≡ Some t → Some made ≡ option_map (λ u. made_by limit number removes u.schema u.rows (lines u.schema)) o
+some_at : (limit number : ℕ) (removes : Bool) (lines : plain.Schema → List BatchLine) (made : Result plain.Change BatchFault) (o : Option plain.Table) (t : plain.Table) → o ≡ Some t → Some made ≡ option_map (λ u. made_by limit number removes u.schema u.rows (lines u.schema)) o
     → made ≡ made_by limit number removes t.schema t.rows (lines t.schema)
 some_at limit number removes lines made None t at e = absurd (cc)
 some_at limit number removes lines made (Some u) t at e = let here : made ≡ made_by limit number removes u.schema u.rows (lines u.schema) = cc in let same : u ≡ t = cc in here ∙ ap (λ (v : plain.Table). made_by limit number removes v.schema v.rows (lines v.schema)) same
 
-pub named-made : (limits : Limits) (db : plain.Database) (author number : ℕ) (name : List ℕ) (removes : Bool) (lines : plain.Schema → List Said) (made : Result plain.Change BatchFault) → ReadsRows removes lines → IsNamed db name number → db.version < limits.versions
+pub named-made : (limits : Limits) (db : plain.Database) (author number : ℕ) (name : List ℕ) (removes : Bool) (lines : plain.Schema → List BatchLine) (made : Result plain.Change BatchFault) → ReadsRows removes lines → IsNamed db name number → db.version < limits.versions
     → Some made ≡ option_map (λ t. made_by limits.rows number removes t.schema t.rows (lines t.schema)) (slice_get db.tables number)
     → resolved_change limits db author (find_table name db.tables) lines ≡ committed author made
 named-made limits db author number name removes lines made reads n next e =
@@ -301,7 +301,7 @@ named-made limits db author number name removes lines made reads n next e =
     ∙ (committed-is limits db author number n.table lines next (fault_from n.table.schema removes n.table.rows 2 [] (lines n.table.schema)) (reads n.table)
     ∙ ap (committed author) (sym (some_at limits.rows number removes lines made (slice_get db.tables number) n.table n.at e)))
 
-made-fits : (limits : Limits) (db : plain.Database) (author number : ℕ) (t : plain.Table) (lines : List Said) → slice_get db.tables number ≡ Some t → db.version < limits.versions → rows_match (Some t) ≡ true → list_all (matches t.schema) (put_pieces t.schema lines) ≡ true
+made-fits : (limits : Limits) (db : plain.Database) (author number : ℕ) (t : plain.Table) (lines : List BatchLine) → slice_get db.tables number ≡ Some t → db.version < limits.versions → rows_match (Some t) ≡ true → list_all (matches t.schema) (put_pieces t.schema lines) ≡ true
     → (f : Option BatchFault) (c : Commit) → Ok c ≡ committed author (unless_fault limits.rows (length t.rows) (change_by number t.schema t.rows lines) f) → fits limits db c ≡ true
 made-fits limits db author number t lines at next rows puts (Some f) c e = absurd (cc)
 made-fits limits db author number t lines at next rows puts None c e = by_room (nat_lt limits.rows all) refl e where
@@ -315,7 +315,7 @@ made-fits limits db author number t lines at next rows puts None c e = by_room (
       let same : c ≡ record { author = author; body = body.Change (change_by number t.schema t.rows lines) } = cc in
       ap (fits limits db) same ∙ change-fits limits db author number t lines at next rows puts few
 
-pub named-fits : (keys : List (List Spot)) (limits : Limits) (db : plain.Database) (author number : ℕ) (name : List ℕ) (removes : Bool) (lines : plain.Schema → List Said) (made : Result plain.Change BatchFault) → StandFor keys db → (n : IsNamed db name number) → db.version < limits.versions
+pub named-fits : (keys : List (List Spot)) (limits : Limits) (db : plain.Database) (author number : ℕ) (name : List ℕ) (removes : Bool) (lines : plain.Schema → List BatchLine) (made : Result plain.Change BatchFault) → StandFor keys db → (n : IsNamed db name number) → db.version < limits.versions
     → list_all (matches n.table.schema) (put_pieces n.table.schema (lines n.table.schema)) ≡ true
     → Some made ≡ option_map (λ t. made_by limits.rows number removes t.schema t.rows (lines t.schema)) (slice_get db.tables number)
     → (r : Result Commit BatchFault) → r ≡ committed author made → IfOk r (λ c. fits limits db c ≡ true)

@@ -15,7 +15,7 @@ use Rattle.tl_types.specs.Limits.{standard_limits}
 use Rattle.tl_types.specs.declared.commits.Commit.{Commit}
 use Rattle.tl_types.specs.declared.commits.Body.TheVariants as body
 use Rattle.tl_types.specs.Plain as plain
-use Rattle.tl_types.specs.History.{is_open, open_end, numbered, ended, begun, new_table, changed, at_place, after_body, after_commit, nothing, database_of, matches, match_columns, is_of_kind, rows_of, is_open_at, fits_table, fits_body, holds}
+use Rattle.tl_types.specs.History.{is_open, open_end, with_ids, row_after, new_row, new_table, table_after, at_place, after_body, after_commit, nothing, database_of, matches, match_columns, is_of_kind, rows_of, is_open_at, fits_table, fits_body, has_id}
 use Rattle.tl_types.specs.Resolving.{same_key}
 use Rattle.tl_batch.specs.declared.spots.Spot.{Spot}
 use Rattle.tl_batch.specs.Spots.{has_spot}
@@ -24,7 +24,7 @@ use Rattle.tl_batch.proofs.SpotLemmas.{opens_from}
 
 -- ONE TABLE
 
-begun_open : (key version n : ℕ) (opens : List plain.Opened) (x : Cell) (i : ℕ) → is_open_with key x (slice_get (map (begun version) opens) i) ≡ opens_with key n opens x (n + i)
+begun_open : (key version n : ℕ) (opens : List plain.Opened) (x : Cell) (i : ℕ) → is_open_with key x (slice_get (map (new_row version) opens) i) ≡ opens_with key n opens x (n + i)
 begun_open key version n [] x i = refl
 begun_open key version n (o ∷ opens) x zero =
     let here : nat_eq (n + 0) n ≡ true = grind (arith, nat_tests) in
@@ -44,17 +44,17 @@ begun_open key version n (o ∷ opens) x (suc i) =
 
 -- a row after the commit is current and has the key exactly where it was so and is not closed, or is opened
 pub rows_after : (key version n : ℕ) (closes : List ℕ) (rows : List plain.Row) (opens : List plain.Opened) (x : Cell) (i : ℕ) → nat_eq version open_end ≡ false
-    → is_open_with key x (slice_get (map (ended version closes) (enumerate_from n rows) ++ map (begun version) opens) i) ≡ ((not (holds closes (n + i)) && is_open_with key x (slice_get rows i)) || opens_with key (n + length rows) opens x (n + i))
+    → is_open_with key x (slice_get (map (row_after version closes) (enumerate_from n rows) ++ map (new_row version) opens) i) ≡ ((not (has_id closes (n + i)) && is_open_with key x (slice_get rows i)) || opens_with key (n + length rows) opens x (n + i))
 rows_after key version n closes [] opens x i apart =
     let start : n + 0 ≡ n = omega arith in
-    begun_open key version n opens x i ∙ (ap (λ m. opens_with key m opens x (n + i)) (sym start) ∙ ap (λ v. v || opens_with key (n + 0) opens x (n + i)) (sym (and_none (not (holds closes (n + i)))))) where
+    begun_open key version n opens x i ∙ (ap (λ m. opens_with key m opens x (n + i)) (sym start) ∙ ap (λ v. v || opens_with key (n + 0) opens x (n + i)) (sym (and_none (not (has_id closes (n + i)))))) where
       and_none : (b : Bool) → (b && false) ≡ false
       and_none true = refl
       and_none false = refl
 rows_after key version n closes (r ∷ rows) opens x zero apart =
     let number : n + 0 ≡ n = omega arith in
     let later : opens_with key (n + suc (length rows)) opens x n ≡ false = opens_from key (n + suc (length rows)) opens x n (omega arith) in
-    by_close (holds closes n) ∙ (ap (λ m. (not (holds closes m) && (is_open r && same_key (slice_get r.cells key) (Some x))) || false) (sym number) ∙ (ap (λ v. (not (holds closes (n + 0)) && (is_open r && same_key (slice_get r.cells key) (Some x))) || v) (sym later) ∙ ap (λ m. (not (holds closes (n + 0)) && (is_open r && same_key (slice_get r.cells key) (Some x))) || opens_with key (n + suc (length rows)) opens x m) (sym number))) where
+    by_close (has_id closes n) ∙ (ap (λ m. (not (has_id closes m) && (is_open r && same_key (slice_get r.cells key) (Some x))) || false) (sym number) ∙ (ap (λ v. (not (has_id closes (n + 0)) && (is_open r && same_key (slice_get r.cells key) (Some x))) || v) (sym later) ∙ ap (λ m. (not (has_id closes (n + 0)) && (is_open r && same_key (slice_get r.cells key) (Some x))) || opens_with key (n + suc (length rows)) opens x m) (sym number))) where
       none : (b : Bool) → b ≡ (b || false)
       none true = refl
       none false = refl
@@ -65,27 +65,27 @@ rows_after key version n closes (r ∷ rows) opens x zero apart =
 rows_after key version n closes (r ∷ rows) opens x (suc i) apart =
     let number : n + 1 + i ≡ n + suc i = omega arith in
     let end : n + 1 + length rows ≡ n + suc (length rows) = omega arith in
-    rows_after key version (n + 1) closes rows opens x i apart ∙ (ap (λ m. (not (holds closes m) && is_open_with key x (slice_get rows i)) || opens_with key (n + 1 + length rows) opens x m) number ∙ ap (λ m. (not (holds closes (n + suc i)) && is_open_with key x (slice_get rows i)) || opens_with key m opens x (n + suc i)) end)
+    rows_after key version (n + 1) closes rows opens x i apart ∙ (ap (λ m. (not (has_id closes m) && is_open_with key x (slice_get rows i)) || opens_with key (n + 1 + length rows) opens x m) number ∙ ap (λ m. (not (has_id closes (n + suc i)) && is_open_with key x (slice_get rows i)) || opens_with key m opens x (n + suc i)) end)
 
 rows_after_all : (key version : ℕ) (closes : List ℕ) (rows : List plain.Row) (opens : List plain.Opened) (x : Cell) (i : ℕ) → nat_eq version open_end ≡ false
-    → is_open_with key x (slice_get (map (ended version closes) (numbered rows) ++ map (begun version) opens) i) ≡ ((not (holds closes i) && is_open_with key x (slice_get rows i)) || opens_with key (length rows) opens x i)
+    → is_open_with key x (slice_get (map (row_after version closes) (with_ids rows) ++ map (new_row version) opens) i) ≡ ((not (has_id closes i) && is_open_with key x (slice_get rows i)) || opens_with key (length rows) opens x i)
 rows_after_all key version closes rows opens x i apart =
     let number : 0 + i ≡ i = omega arith in
     let end : 0 + length rows ≡ length rows = omega arith in
-    rows_after key version 0 closes rows opens x i apart ∙ (ap (λ m. (not (holds closes m) && is_open_with key x (slice_get rows i)) || opens_with key (0 + length rows) opens x m) number ∙ ap (λ m. (not (holds closes i) && is_open_with key x (slice_get rows i)) || opens_with key m opens x i) end)
+    rows_after key version 0 closes rows opens x i apart ∙ (ap (λ m. (not (has_id closes m) && is_open_with key x (slice_get rows i)) || opens_with key (0 + length rows) opens x m) number ∙ ap (λ m. (not (has_id closes i) && is_open_with key x (slice_get rows i)) || opens_with key m opens x i) end)
 
 open_within : (rows : List plain.Row) (n : ℕ) → is_open_at rows n ≡ true → n < length rows
 open_within [] n e = absurd (cc)
 open_within (r ∷ rows) zero e = omega arith
 open_within (r ∷ rows) (suc n) e = let h = open_within rows n e in omega arith
 
-closed_within : (rows : List plain.Row) (closes : List ℕ) (n : ℕ) → list_all (is_open_at rows) closes ≡ true → holds closes n ≡ true → n < length rows
+closed_within : (rows : List plain.Row) (closes : List ℕ) (n : ℕ) → list_all (is_open_at rows) closes ≡ true → has_id closes n ≡ true → n < length rows
 closed_within rows [] n all e = absurd (cc)
 closed_within rows (id ∷ closes) n all e = by_test (nat_eq id n) refl (closed_within rows closes n parts.1) e where
   parts : (is_open_at rows id ≡ true) × (list_all (is_open_at rows) closes ≡ true)
   parts = and_parts (is_open_at rows id) (list_all (is_open_at rows) closes) all
 
-  by_test : (b : Bool) → nat_eq id n ≡ b → (holds closes n ≡ true → n < length rows) → (b || holds closes n) ≡ true → n < length rows
+  by_test : (b : Bool) → nat_eq id n ≡ b → (has_id closes n ≡ true → n < length rows) → (b || has_id closes n) ≡ true → n < length rows
   by_test true f later g = let same : id ≡ n = grind (arith, nat_tests) in let h = open_within rows id parts.0 in omega arith
   by_test false f later g = later g
 
@@ -106,25 +106,25 @@ joint true false false false f g = refl
 -- the spots of a table after a change that fits
 new_after : (version : ℕ) (change : plain.Change) (t : plain.Table) (old closing new : List Spot) → nat_eq version open_end ≡ false → list_all (is_open_at t.rows) change.closes ≡ true
     → ((x : Cell) (n : ℕ) → has_spot old x n ≡ is_open_with t.schema.key x (slice_get t.rows n))
-    → ((x : Cell) (n : ℕ) → has_spot closing x n ≡ (holds change.closes n && has_key t.schema.key x (slice_get t.rows n)))
+    → ((x : Cell) (n : ℕ) → has_spot closing x n ≡ (has_id change.closes n && has_key t.schema.key x (slice_get t.rows n)))
     → ((x : Cell) (n : ℕ) → has_spot new x n ≡ (not (has_spot closing x n) && (opens_with t.schema.key (length t.rows) change.opens x n || has_spot old x n)))
-    → (x : Cell) (n : ℕ) → has_spot new x n ≡ is_open_with t.schema.key x (slice_get (changed version change t).rows n)
+    → (x : Cell) (n : ℕ) → has_spot new x n ≡ is_open_with t.schema.key x (slice_get (table_after version change t).rows n)
 new_after version change t old closing new apart current was gone left x n =
     let key : ℕ = t.schema.key in
     let opened : Bool = opens_with key (length t.rows) change.opens x n in
     let row : Option plain.Row = slice_get t.rows n in
-    let late : holds change.closes n ≡ true → opened ≡ false = λ e. opens_from key (length t.rows) change.opens x n (closed_within t.rows change.closes n current e) in
+    let late : has_id change.closes n ≡ true → opened ≡ false = λ e. opens_from key (length t.rows) change.opens x n (closed_within t.rows change.closes n current e) in
     left x n
     ∙ (ap (λ v. not v && (opened || has_spot old x n)) (gone x n)
-    ∙ (ap (λ v. not (holds change.closes n && has_key key x row) && (opened || v)) (was x n)
-    ∙ (joint (holds change.closes n) (has_key key x row) opened (is_open_with key x row) (has_with key x row) late
+    ∙ (ap (λ v. not (has_id change.closes n && has_key key x row) && (opened || v)) (was x n)
+    ∙ (joint (has_id change.closes n) (has_key key x row) opened (is_open_with key x row) (has_with key x row) late
     ∙ sym (rows_after_all key version change.closes t.rows change.opens x n apart))))
 
 -- each row after a change matches
 ended_match : (schema : plain.Schema) (version n : ℕ) (closes : List ℕ) (rows : List plain.Row) → list_all (λ r. matches schema (record { cells = r.cells; period = r.period })) rows ≡ true
-    → list_all (λ r. matches schema (record { cells = r.cells; period = r.period })) (map (ended version closes) (enumerate_from n rows)) ≡ true
+    → list_all (λ r. matches schema (record { cells = r.cells; period = r.period })) (map (row_after version closes) (enumerate_from n rows)) ≡ true
 ended_match schema version n closes [] all = refl
-ended_match schema version n closes (r ∷ rows) all = and_from _ _ (by_close (holds closes n)) (ended_match schema version (n + 1) closes rows parts.1) where
+ended_match schema version n closes (r ∷ rows) all = and_from _ _ (by_close (has_id closes n)) (ended_match schema version (n + 1) closes rows parts.1) where
   one : plain.Row → Bool
   one r = matches schema (record { cells = r.cells; period = r.period })
 
@@ -135,7 +135,7 @@ ended_match schema version n closes (r ∷ rows) all = and_from _ _ (by_close (h
   by_close true = parts.0
   by_close false = parts.0
 
-begun_match : (schema : plain.Schema) (version : ℕ) (opens : List plain.Opened) → list_all (matches schema) opens ≡ true → list_all (λ r. matches schema (record { cells = r.cells; period = r.period })) (map (begun version) opens) ≡ true
+begun_match : (schema : plain.Schema) (version : ℕ) (opens : List plain.Opened) → list_all (matches schema) opens ≡ true → list_all (λ r. matches schema (record { cells = r.cells; period = r.period })) (map (new_row version) opens) ≡ true
 begun_match schema version [] all = refl
 begun_match schema version (o ∷ opens) all =
     let parts = and_parts (matches schema o) (list_all (matches schema) opens) all in
@@ -145,8 +145,8 @@ pub all_joined : {X : Type 0} (test : X → Bool) (xs ys : List X) → list_all 
 all_joined test [] ys e f = f
 all_joined test (x ∷ xs) ys e f = let parts = and_parts (test x) (list_all test xs) e in and_from _ _ parts.0 (all_joined test xs ys parts.1 f)
 
-pub match_after : (version : ℕ) (change : plain.Change) (t : plain.Table) → list_all (matches t.schema) change.opens ≡ true → rows_match (Some t) ≡ true → rows_match (Some (changed version change t)) ≡ true
-match_after version change t opened all = all_joined (λ r. matches t.schema (record { cells = r.cells; period = r.period })) (map (ended version change.closes) (numbered t.rows)) (map (begun version) change.opens) (ended_match t.schema version 0 change.closes t.rows all) (begun_match t.schema version change.opens opened)
+pub match_after : (version : ℕ) (change : plain.Change) (t : plain.Table) → list_all (matches t.schema) change.opens ≡ true → rows_match (Some t) ≡ true → rows_match (Some (table_after version change t)) ≡ true
+match_after version change t opened all = all_joined (λ r. matches t.schema (record { cells = r.cells; period = r.period })) (map (row_after version change.closes) (with_ids t.rows)) (map (new_row version) change.opens) (ended_match t.schema version 0 change.closes t.rows all) (begun_match t.schema version change.opens opened)
 
 -- THE TABLES
 
@@ -217,21 +217,21 @@ match_changed (suc at) (s ∷ tables) f here old (suc t) = match_changed at tabl
 -- the keys after a change of a table that is there
 pub stands_changed : (keys new : List (List Spot)) (spots : List Spot) (db : plain.Database) (author : ℕ) (change : plain.Change) (t : plain.Table) → StandFor keys db
     → slice_get db.tables change.table ≡ Some t → list_all (matches t.schema) change.opens ≡ true → new ≡ slice_set keys change.table spots
-    → ((x : Cell) (n : ℕ) → has_spot spots x n ≡ is_open_with t.schema.key x (slice_get (changed (db.version + 1) change t).rows n))
+    → ((x : Cell) (n : ℕ) → has_spot spots x n ≡ is_open_with t.schema.key x (slice_get (table_after (db.version + 1) change t).rows n))
     → StandFor new (after_commit db (record { author = author; body = body.Change change }))
 stands_changed keys new spots db author change t old found opened made here = record {
-  tables = ap length made ∙ (length-set keys change.table spots ∙ (old.tables ∙ sym (place_length change.table db.tables (changed (db.version + 1) change))));
-  spots = λ u x n. ap (λ ks. has_spot (spots_at ks u) x n) made ∙ table_changed keys change.table spots db.tables (changed (db.version + 1) change) old.tables one old.spots u x n;
-  matching = match_changed change.table db.tables (changed (db.version + 1) change) matched old.matching;
+  tables = ap length made ∙ (length-set keys change.table spots ∙ (old.tables ∙ sym (place_length change.table db.tables (table_after (db.version + 1) change))));
+  spots = λ u x n. ap (λ ks. has_spot (spots_at ks u) x n) made ∙ table_changed keys change.table spots db.tables (table_after (db.version + 1) change) old.tables one old.spots u x n;
+  matching = match_changed change.table db.tables (table_after (db.version + 1) change) matched old.matching;
 } where
   only : (s : plain.Table) → slice_get db.tables change.table ≡ Some s → s ≡ t
   only s e = ap (λ (o : Option plain.Table). unwrap_or o t) (sym e ∙ found)
 
-  one : (s : plain.Table) → slice_get db.tables change.table ≡ Some s → (x : Cell) (n : ℕ) → has_spot spots x n ≡ table_has (Some (changed (db.version + 1) change s)) x n
-  one s e x n = here x n ∙ ap (λ q. table_has (Some (changed (db.version + 1) change q)) x n) (sym (only s e))
+  one : (s : plain.Table) → slice_get db.tables change.table ≡ Some s → (x : Cell) (n : ℕ) → has_spot spots x n ≡ table_has (Some (table_after (db.version + 1) change s)) x n
+  one s e x n = here x n ∙ ap (λ q. table_has (Some (table_after (db.version + 1) change q)) x n) (sym (only s e))
 
-  matched : (s : plain.Table) → slice_get db.tables change.table ≡ Some s → rows_match (Some (changed (db.version + 1) change s)) ≡ true
-  matched s e = ap (λ q. rows_match (Some (changed (db.version + 1) change q))) (only s e) ∙ match_after (db.version + 1) change t opened (ap rows_match (sym found) ∙ old.matching change.table)
+  matched : (s : plain.Table) → slice_get db.tables change.table ≡ Some s → rows_match (Some (table_after (db.version + 1) change s)) ≡ true
+  matched s e = ap (λ q. rows_match (Some (table_after (db.version + 1) change q))) (only s e) ∙ match_after (db.version + 1) change t opened (ap rows_match (sym found) ∙ old.matching change.table)
 
 -- A CHANGE THAT FITS
 
@@ -315,13 +315,13 @@ fitting-below keys db change f spots first old is number x n h =
 -- the keys after the change
 pub fitting-after : (keys : List (List Spot)) (db : plain.Database) (change : plain.Change) (f : Fitting db change) (spots closing new : List Spot) (place first : ℕ) → StandFor keys db → db.version < 16777215 → spots ≡ get_or keys change.table spots
     → first ≡ length (rows_of db change.table) → place ≡ f.table.schema.key
-    → ((x : Cell) (n : ℕ) → has_spot closing x n ≡ (holds change.closes n && has_key place x (slice_get (rows_of db change.table) n)))
+    → ((x : Cell) (n : ℕ) → has_spot closing x n ≡ (has_id change.closes n && has_key place x (slice_get (rows_of db change.table) n)))
     → ((x : Cell) (n : ℕ) → has_spot new x n ≡ (not (has_spot closing x n) && (opens_with place first change.opens x n || has_spot spots x n)))
     → StandFor (slice_set keys change.table new) (record { version = db.version + 1; tables = after_body (db.version + 1) (body.Change change) db.tables })
 fitting-after keys db change f spots closing new place first old version is number at gone left =
     stands_changed keys (slice_set keys change.table new) new db 0 change f.table old f.at f.opened refl (λ x n.
     new_after (db.version + 1) change f.table spots closing new apart f.current (fitting-spots keys db change f spots old is)
-    (λ y m. gone y m ∙ (ap (λ p. holds change.closes m && has_key p y (slice_get (rows_of db change.table) m)) at ∙ ap (λ rs. holds change.closes m && has_key f.table.schema.key y (slice_get rs m)) rows))
+    (λ y m. gone y m ∙ (ap (λ p. has_id change.closes m && has_key p y (slice_get (rows_of db change.table) m)) at ∙ ap (λ rs. has_id change.closes m && has_key f.table.schema.key y (slice_get rs m)) rows))
     (λ y m. left y m ∙ (ap (λ p. not (has_spot closing y m) && (opens_with p first change.opens y m || has_spot spots y m)) at ∙ ap (λ q. not (has_spot closing y m) && (opens_with f.table.schema.key q change.opens y m || has_spot spots y m)) (number ∙ ap length rows))) x n) where
       rows : rows_of db change.table ≡ f.table.rows
       rows = fitting-rows db change f

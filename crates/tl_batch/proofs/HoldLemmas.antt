@@ -10,7 +10,7 @@ use Rattle.tl_types.specs.declared.cells.Cell.{Cell}
 use Rattle.tl_types.specs.contracts.cells.CellOrd.TheImpl as cells
 use Rattle.tl_types.specs.Plain as plain
 use Rattle.tl_types.specs.History.{same_cell}
-use Rattle.tl_types.specs.Resolving.{Said, same_key}
+use Rattle.tl_types.specs.Resolving.{BatchLine, same_key}
 use Rattle.tl_batch.specs.declared.strokes.Stroke.{Stroke}
 use Rattle.tl_batch.specs.Pieces.{cuts, periods_with}
 use Rattle.tl_batch.specs.Covers.{Full, HoldLines, cover_at, is_between, is_covered, is_in, stretches_or}
@@ -72,7 +72,7 @@ full_both (Some p ∷ ps) qs h k = (h.0, full_both ps qs h.1 k)
 abbrev pub Adds : Cell → Option plain.Period → List (Cell × List (ℤ × ℤ)) → List (Cell × List (ℤ × ℤ)) → Type 0
 Adds key period before after = (x : Cell) (t : ℤ) → is_covered t (cover_at x after) ≡ ((same_cell x key && is_in t period) || is_covered t (cover_at x before))
 
-pub hold_front : (before after : List (Cell × List (ℤ × ℤ))) (lines : List Said) (key : Cell) (period : Option plain.Period) (puts : Option plain.Opened) → HoldLines before lines → Adds key period before after → Full (period ∷ [])
+pub hold_front : (before after : List (Cell × List (ℤ × ℤ))) (lines : List BatchLine) (key : Cell) (period : Option plain.Period) (puts : Option plain.Opened) → HoldLines before lines → Adds key period before after → Full (period ∷ [])
     → HoldLines after (record { key = Some key; period = period; puts = puts } ∷ lines)
 hold_front before after lines key period puts h adds full = record {
   full = λ x. all_full x (same_cell x key);
@@ -86,7 +86,7 @@ hold_front before after lines key period puts h adds full = record {
   split x t true = refl
   split x t false = refl
 
-periods_more : (k : Option Cell) (lines : List Said) (said : Said) → periods_with k (lines ++ said ∷ []) ≡ periods_with k lines ++ cond (same_key k said.key) (said.period ∷ []) []
+periods_more : (k : Option Cell) (lines : List BatchLine) (said : BatchLine) → periods_with k (lines ++ said ∷ []) ≡ periods_with k lines ++ cond (same_key k said.key) (said.period ∷ []) []
 periods_more k [] said = refl
 periods_more k (line ∷ lines) said = ap (λ ps. cond (same_key k line.key) (line.period ∷ ps) ps) (periods_more k lines said) ∙ split (same_key k line.key) where
   more : List (Option plain.Period)
@@ -96,14 +96,14 @@ periods_more k (line ∷ lines) said = ap (λ ps. cond (same_key k line.key) (li
   split true = refl
   split false = refl
 
-pub hold_behind : (before after : List (Cell × List (ℤ × ℤ))) (lines : List Said) (key : Cell) (period : Option plain.Period) (puts : Option plain.Opened) → HoldLines before lines → Adds key period before after → Full (period ∷ [])
+pub hold_behind : (before after : List (Cell × List (ℤ × ℤ))) (lines : List BatchLine) (key : Cell) (period : Option plain.Period) (puts : Option plain.Opened) → HoldLines before lines → Adds key period before after → Full (period ∷ [])
     → HoldLines after (lines ++ record { key = Some key; period = period; puts = puts } ∷ [])
 hold_behind before after lines key period puts h adds full = record {
   full = λ x. subst Full (sym (periods_more (Some x) lines said)) (full_both (periods_with (Some x) lines) (cond (same_cell x key) (period ∷ []) []) (h.full x) (one_full (same_cell x key)));
   same = λ x t. adds x t ∙ (ap (λ b. (same_cell x key && is_in t period) || b) (h.same x t) ∙ (or_comm (same_cell x key && is_in t period) (list_any (is_in t) (periods_with (Some x) lines)) ∙ (ap (λ b. list_any (is_in t) (periods_with (Some x) lines) || b) (one_any t (same_cell x key))
       ∙ (sym (list_any-append (is_in t) (periods_with (Some x) lines) (cond (same_cell x key) (period ∷ []) [])) ∙ ap (list_any (is_in t)) (sym (periods_more (Some x) lines said))))));
 } where
-  said : Said
+  said : BatchLine
   said = record { key = Some key; period = period; puts = puts }
 
   one_full : (b : Bool) → Full (cond b (period ∷ []) [])

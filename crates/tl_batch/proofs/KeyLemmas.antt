@@ -9,8 +9,8 @@ use Rattle.std.proofs.lemmas.List.Folds.{list_any-append}
 use Rattle.std.proofs.lemmas.Option.{slice_get_past}
 use Rattle.tl_types.specs.declared.cells.Cell.{Cell}
 use Rattle.tl_types.specs.Plain as plain
-use Rattle.tl_types.specs.History.{is_open, holds, same_cell}
-use Rattle.tl_types.specs.Resolving.{Said, same_key}
+use Rattle.tl_types.specs.History.{is_open, has_id, same_cell}
+use Rattle.tl_types.specs.Resolving.{BatchLine, same_key}
 use Rattle.tl_batch.specs.declared.spots.Spot.{Spot}
 use Rattle.tl_batch.specs.declared.strokes.Stroke.{Stroke}
 use Rattle.tl_batch.specs.Spots.{has_spot}
@@ -24,7 +24,7 @@ front_is : (strokes : List Stroke) (i : ℕ) (s : Stroke) → i < length strokes
 front_is strokes i s h at = ap said_by (take_more strokes i s h ∙ ap (λ q. take i strokes ++ q ∷ []) (sym at)) ∙ map-append said_of (take i strokes) (s ∷ [])
 
 pub said_more : (key : Option Cell) (strokes : List Stroke) (i : ℕ) (s : Stroke) → i < length strokes → s ≡ get_or strokes i s → is_said key (said_by (take (i + 1) strokes)) ≡ (is_said key (said_by (take i strokes)) || same_key key (Some s.key))
-said_more key strokes i s h at = ap (is_said key) (front_is strokes i s h at) ∙ (list_any-append (λ (e : Said). same_key key e.key) (said_by (take i strokes)) (said_of s ∷ []) ∙ ap (λ b. is_said key (said_by (take i strokes)) || b) (none (same_key key (Some s.key)))) where
+said_more key strokes i s h at = ap (is_said key) (front_is strokes i s h at) ∙ (list_any-append (λ (e : BatchLine). same_key key e.key) (said_by (take i strokes)) (said_of s ∷ []) ∙ ap (λ b. is_said key (said_by (take i strokes)) || b) (none (same_key key (Some s.key)))) where
   none : (b : Bool) → (b || false) ≡ b
   none true = refl
   none false = refl
@@ -37,18 +37,18 @@ seen_stroke strokes i s before after h at e f x = f x ∙ (or_comm (same_cell x 
 -- the rows of a key that was not seen
 pub fresh_met : (schema : plain.Schema) (rows : List plain.Row) (strokes : List Stroke) (i : ℕ) (s : Stroke) (spots : List Spot) (ids given before after : List ℕ) → schema.valid ≡ true → length rows < 4294967296 → i < length strokes → s ≡ get_or strokes i s → given ≡ ids
     → ((y : Cell) (n : ℕ) → has_spot spots y n ≡ is_open_with schema.key y (slice_get rows n))
-    → ((n : ℕ) → n < 4294967296 → holds ids n ≡ (nat_le 0 n && has_spot spots s.key n)) → ((n : ℕ) → 4294967296 ≤ n → holds ids n ≡ false)
-    → ((n : ℕ) → holds before n ≡ met_so_far schema (said_by strokes) (said_by (take i strokes)) (slice_get rows n))
-    → ((n : ℕ) → holds after n ≡ ((holds given n && met_by true (periods_with (Some s.key) (said_by strokes)) (slice_get rows n)) || holds before n))
-    → (n : ℕ) → holds after n ≡ met_so_far schema (said_by strokes) (said_by (take (i + 1) strokes)) (slice_get rows n)
+    → ((n : ℕ) → n < 4294967296 → has_id ids n ≡ (nat_le 0 n && has_spot spots s.key n)) → ((n : ℕ) → 4294967296 ≤ n → has_id ids n ≡ false)
+    → ((n : ℕ) → has_id before n ≡ met_so_far schema (said_by strokes) (said_by (take i strokes)) (slice_get rows n))
+    → ((n : ℕ) → has_id after n ≡ ((has_id given n && met_by true (periods_with (Some s.key) (said_by strokes)) (slice_get rows n)) || has_id before n))
+    → (n : ℕ) → has_id after n ≡ met_so_far schema (said_by strokes) (said_by (take (i + 1) strokes)) (slice_get rows n)
 fresh_met schema rows strokes i s spots ids given before after valid few h at same stand members small e f n =
-    f n ∙ (ap (λ is. (holds is n && met_by true own (slice_get rows n)) || holds before n) same
-    ∙ (ap (λ v. (v && met_by true own (slice_get rows n)) || holds before n) (of_key (cases_lt n 4294967296))
+    f n ∙ (ap (λ is. (has_id is n && met_by true own (slice_get rows n)) || has_id before n) same
+    ∙ (ap (λ v. (v && met_by true own (slice_get rows n)) || has_id before n) (of_key (cases_lt n 4294967296))
     ∙ (ap (λ v. (is_open_with schema.key s.key (slice_get rows n) && met_by true own (slice_get rows n)) || v) (e n) ∙ row_met (slice_get rows n)))) where
       own : List (Option plain.Period)
       own = periods_with (Some s.key) (said_by strokes)
 
-      of_key : (n < 4294967296) ⊎ (4294967296 ≤ n) → holds ids n ≡ is_open_with schema.key s.key (slice_get rows n)
+      of_key : (n < 4294967296) ⊎ (4294967296 ≤ n) → has_id ids n ≡ is_open_with schema.key s.key (slice_get rows n)
       of_key (inl l) = let low : nat_le 0 n ≡ true = grind (arith, nat_tests) in members n l ∙ (ap (λ v. v && has_spot spots s.key n) low ∙ stand s.key n)
       of_key (inr l) = small n l ∙ ap (is_open_with schema.key s.key) (sym (slice_get_past rows n (omega arith)))
 
@@ -84,8 +84,8 @@ fresh_met schema rows strokes i s spots ids given before after valid few h at sa
 -- a key that was seen
 pub known_met : (schema : plain.Schema) (rows : List plain.Row) (strokes : List Stroke) (i : ℕ) (s : Stroke) (seen : List Cell) (met : List ℕ) (fresh : Bool) → i < length strokes → s ≡ get_or strokes i s → fresh ≡ not (has_cell seen s.key) → fresh ≡ false
     → ((x : Cell) → has_cell seen x ≡ is_said (Some x) (said_by (take i strokes)))
-    → ((n : ℕ) → holds met n ≡ met_so_far schema (said_by strokes) (said_by (take i strokes)) (slice_get rows n))
-    → (n : ℕ) → holds met n ≡ met_so_far schema (said_by strokes) (said_by (take (i + 1) strokes)) (slice_get rows n)
+    → ((n : ℕ) → has_id met n ≡ met_so_far schema (said_by strokes) (said_by (take i strokes)) (slice_get rows n))
+    → (n : ℕ) → has_id met n ≡ met_so_far schema (said_by strokes) (said_by (take (i + 1) strokes)) (slice_get rows n)
 known_met schema rows strokes i s seen met fresh h at new gone e f n = f n ∙ row (slice_get rows n) where
   has : is_said (Some s.key) (said_by (take i strokes)) ≡ true
   has = sym (e s.key) ∙ turn (has_cell seen s.key) (sym new ∙ gone) where
@@ -93,7 +93,7 @@ known_met schema rows strokes i s seen met fresh h at new gone e f n = f n ∙ r
     turn true g = refl
     turn false g = absurd (cc)
 
-  said_same : (key : Option Cell) (lines : List Said) → same_key key (Some s.key) ≡ true → is_said key lines ≡ is_said (Some s.key) lines
+  said_same : (key : Option Cell) (lines : List BatchLine) → same_key key (Some s.key) ≡ true → is_said key lines ≡ is_said (Some s.key) lines
   said_same key [] g = refl
   said_same key (l ∷ lines) g = ap (λ b. b || is_said key lines) (key_congr key s.key l.key g) ∙ ap (λ b. same_key (Some s.key) l.key || b) (said_same key lines g)
 
@@ -112,8 +112,8 @@ known_met schema rows strokes i s seen met fresh h at new gone e f n = f n ∙ r
     by_key false g = or_none (is_said key (said_by (take i strokes))) ∙ ap (λ b. is_said key (said_by (take i strokes)) || b) (sym g)
 
 -- all lines
-pub all_met : (schema : plain.Schema) (rows : List plain.Row) (strokes : List Stroke) (i : ℕ) (met : List ℕ) → length strokes ≤ i → ((n : ℕ) → holds met n ≡ met_so_far schema (said_by strokes) (said_by (take i strokes)) (slice_get rows n))
-    → (n : ℕ) → holds met n ≡ open_met schema (said_by strokes) (slice_get rows n)
+pub all_met : (schema : plain.Schema) (rows : List plain.Row) (strokes : List Stroke) (i : ℕ) (met : List ℕ) → length strokes ≤ i → ((n : ℕ) → has_id met n ≡ met_so_far schema (said_by strokes) (said_by (take i strokes)) (slice_get rows n))
+    → (n : ℕ) → has_id met n ≡ open_met schema (said_by strokes) (slice_get rows n)
 all_met schema rows strokes i met h e n = e n ∙ (ap (λ ss. met_so_far schema (said_by strokes) (said_by ss) (slice_get rows n)) (whole strokes i h) ∙ row (slice_get rows n)) where
   whole : (xs : List Stroke) (i : ℕ) → length xs ≤ i → take i xs ≡ xs
   whole [] zero h = refl
@@ -121,7 +121,7 @@ all_met schema rows strokes i met h e n = e n ∙ (ap (λ ss. met_so_far schema 
   whole (x ∷ xs) zero h = absurd (omega arith)
   whole (x ∷ xs) (suc i) h = ap (λ ys. x ∷ ys) (whole xs i (omega arith))
 
-  said_met : (valid : Bool) (key : Option Cell) (p : Option plain.Period) (lines : List Said) → (is_said key lines && list_any (λ line. meets valid line p) (periods_with key lines)) ≡ list_any (λ line. meets valid line p) (periods_with key lines)
+  said_met : (valid : Bool) (key : Option Cell) (p : Option plain.Period) (lines : List BatchLine) → (is_said key lines && list_any (λ line. meets valid line p) (periods_with key lines)) ≡ list_any (λ line. meets valid line p) (periods_with key lines)
   said_met valid key p [] = refl
   said_met valid key p (l ∷ lines) = split (same_key key l.key) (said_met valid key p lines) where
     split : (b : Bool) → (is_said key lines && list_any (λ line. meets valid line p) (periods_with key lines)) ≡ list_any (λ line. meets valid line p) (periods_with key lines)

@@ -17,8 +17,8 @@ use Rattle.tl_types.specs.declared.schemas.Column.{Column}
 use Rattle.tl_store.specs.Reading.{columns_of, cell_of, cell_of_row}
 use Rattle.tl_types.specs.Plain as plain
 use Rattle.tl_types.specs.Facts.{AscendFrom}
-use Rattle.tl_types.specs.History.{is_open, holds, matches, match_columns, is_of_kind, rows_of}
-use Rattle.tl_types.specs.Resolving.{Said, same_key}
+use Rattle.tl_types.specs.History.{is_open, has_id, matches, match_columns, is_of_kind, rows_of}
+use Rattle.tl_types.specs.Resolving.{BatchLine, same_key}
 use Rattle.tl_batch.specs.declared.spots.Spot.{Spot}
 use Rattle.tl_batch.specs.declared.strokes.Stroke.{Stroke}
 use Rattle.tl_batch.specs.Spots.{has_spot}
@@ -29,14 +29,14 @@ use Rattle.tl_batch.proofs.SpotLemmas.{nat_eq-sym}
 
 -- SETS OF IDS
 
-has_id : (n : ℕ) (keys : List ℕ) → list_any (is_at (nat_cmp n)) keys ≡ holds keys n
+has_id : (n : ℕ) (keys : List ℕ) → list_any (is_at (nat_cmp n)) keys ≡ has_id keys n
 has_id n [] = refl
 has_id n (k ∷ keys) = ap (λ b. b || list_any (is_at (nat_cmp n)) keys) (unsigned_tied n k ∙ nat_eq-sym n k) ∙ ap (λ b. nat_eq k n || b) (has_id n keys)
 
 pub id_added : (id : ℕ) (keys list more : List ℕ) → ((q : ℕ) → list_any (is_at (nat_cmp q)) more ≡ cond (is_at (nat_cmp id) q) true (list_any (is_at (nat_cmp q)) keys)) → keys ≡ list
-    → (n : ℕ) → holds more n ≡ (nat_eq n id || holds list n)
+    → (n : ℕ) → has_id more n ≡ (nat_eq n id || has_id list n)
 id_added id keys list more update view n =
-    sym (has_id n more) ∙ (update n ∙ (split (is_eq (nat_cmp id n)) (list_any (is_at (nat_cmp n)) keys) ∙ (ap (λ b. b || list_any (is_at (nat_cmp n)) keys) (unsigned_tied id n ∙ nat_eq-sym id n) ∙ ap (λ b. nat_eq n id || b) (has_id n keys ∙ ap (λ ks. holds ks n) view)))) where
+    sym (has_id n more) ∙ (update n ∙ (split (is_eq (nat_cmp id n)) (list_any (is_at (nat_cmp n)) keys) ∙ (ap (λ b. b || list_any (is_at (nat_cmp n)) keys) (unsigned_tied id n ∙ nat_eq-sym id n) ∙ ap (λ b. nat_eq n id || b) (has_id n keys ∙ ap (λ ks. has_id ks n) view)))) where
       split : (b c : Bool) → cond b true c ≡ (b || c)
       split true c = refl
       split false c = refl
@@ -112,9 +112,9 @@ open_within place x [] n e = absurd (cc)
 open_within place x (r ∷ rows) zero e = omega arith
 open_within place x (r ∷ rows) (suc n) e = let h = open_within place x rows n e in omega arith
 
-pub holds_at : (ids : List ℕ) (k d : ℕ) → k < length ids → holds ids (get_or ids k d) ≡ true
+pub holds_at : (ids : List ℕ) (k d : ℕ) → k < length ids → has_id ids (get_or ids k d) ≡ true
 holds_at [] k d h = absurd (omega arith)
-holds_at (id ∷ ids) zero d h = let same : nat_eq id id ≡ true = grind (arith, nat_tests) in ap (λ v. v || holds ids id) same
+holds_at (id ∷ ids) zero d h = let same : nat_eq id id ≡ true = grind (arith, nat_tests) in ap (λ v. v || has_id ids id) same
 holds_at (id ∷ ids) (suc k) d h = ap (λ v. nat_eq id (get_or ids k d) || v) (holds_at ids k d (omega arith)) ∙ either (nat_eq id (get_or ids k d)) where
   either : (b : Bool) → (b || true) ≡ true
   either true = refl
@@ -122,15 +122,15 @@ holds_at (id ∷ ids) (suc k) d h = ap (λ v. nat_eq id (get_or ids k d) || v) (
 
 pub of_key-within : (place : ℕ) (x : Cell) (rows : List plain.Row) (spots : List Spot) (ids given : List ℕ) → given ≡ ids
     → ((y : Cell) (n : ℕ) → has_spot spots y n ≡ is_open_with place y (slice_get rows n))
-    → ((n : ℕ) → n < 4294967296 → holds ids n ≡ (nat_le 0 n && has_spot spots x n)) → ((n : ℕ) → 4294967296 ≤ n → holds ids n ≡ false)
+    → ((n : ℕ) → n < 4294967296 → has_id ids n ≡ (nat_le 0 n && has_spot spots x n)) → ((n : ℕ) → 4294967296 ≤ n → has_id ids n ≡ false)
     → All (λ id. id < length rows) given
 of_key-within place x rows spots ids given same stand members small = subst (All (λ id. id < length rows)) (sym same) (λ k d l. by_order (get_or ids k d) (holds_at ids k d l) (cases_lt (get_or ids k d) 4294967296)) where
-  by_order : (n : ℕ) → holds ids n ≡ true → (n < 4294967296) ⊎ (4294967296 ≤ n) → n < length rows
+  by_order : (n : ℕ) → has_id ids n ≡ true → (n < 4294967296) ⊎ (4294967296 ≤ n) → n < length rows
   by_order n e (inl h) = open_within place x rows n (sym (stand x n) ∙ (and_parts (nat_le 0 n) (has_spot spots x n) (sym (members n h) ∙ e)).1)
   by_order n e (inr h) = absurd (let f : true ≡ false = sym e ∙ small n h in cc)
 
 -- a line more
-periods_with-append : (key : Option Cell) (lines more : List Said) → periods_with key (lines ++ more) ≡ periods_with key lines ++ periods_with key more
+periods_with-append : (key : Option Cell) (lines more : List BatchLine) → periods_with key (lines ++ more) ≡ periods_with key lines ++ periods_with key more
 periods_with-append key [] more = refl
 periods_with-append key (said ∷ lines) more = split (same_key key said.key) (periods_with-append key lines more) where
   split : (b : Bool) → periods_with key (lines ++ more) ≡ periods_with key lines ++ periods_with key more
@@ -140,16 +140,16 @@ periods_with-append key (said ∷ lines) more = split (same_key key said.key) (p
 
 pub line_met : (schema : plain.Schema) (rows : List plain.Row) (strokes : List Stroke) (i : ℕ) (s : Stroke) (spots : List Spot) (ids given before after : List ℕ) → length rows < 4294967296 → i < length strokes → s ≡ get_or strokes i s → given ≡ ids
     → ((y : Cell) (n : ℕ) → has_spot spots y n ≡ is_open_with schema.key y (slice_get rows n))
-    → ((n : ℕ) → n < 4294967296 → holds ids n ≡ (nat_le 0 n && has_spot spots s.key n)) → ((n : ℕ) → 4294967296 ≤ n → holds ids n ≡ false)
-    → ((n : ℕ) → holds before n ≡ open_met schema (said_by (take i strokes)) (slice_get rows n))
-    → ((n : ℕ) → holds after n ≡ ((holds given n && met_at schema.valid s.period (slice_get rows n)) || holds before n))
-    → (n : ℕ) → holds after n ≡ open_met schema (said_by (take (i + 1) strokes)) (slice_get rows n)
+    → ((n : ℕ) → n < 4294967296 → has_id ids n ≡ (nat_le 0 n && has_spot spots s.key n)) → ((n : ℕ) → 4294967296 ≤ n → has_id ids n ≡ false)
+    → ((n : ℕ) → has_id before n ≡ open_met schema (said_by (take i strokes)) (slice_get rows n))
+    → ((n : ℕ) → has_id after n ≡ ((has_id given n && met_at schema.valid s.period (slice_get rows n)) || has_id before n))
+    → (n : ℕ) → has_id after n ≡ open_met schema (said_by (take (i + 1) strokes)) (slice_get rows n)
 line_met schema rows strokes i s spots ids given before after few h at same stand members small e f n =
-    f n ∙ (ap (λ is. (holds is n && met_at schema.valid s.period (slice_get rows n)) || holds before n) same
-    ∙ (ap (λ v. (v && met_at schema.valid s.period (slice_get rows n)) || holds before n) (of_key (cases_lt n 4294967296))
+    f n ∙ (ap (λ is. (has_id is n && met_at schema.valid s.period (slice_get rows n)) || has_id before n) same
+    ∙ (ap (λ v. (v && met_at schema.valid s.period (slice_get rows n)) || has_id before n) (of_key (cases_lt n 4294967296))
     ∙ (ap (λ v. (is_open_with schema.key s.key (slice_get rows n) && met_at schema.valid s.period (slice_get rows n)) || v) (e n)
     ∙ (row_met (slice_get rows n) ∙ ap (λ ls. open_met schema ls (slice_get rows n)) (sym lines))))) where
-      of_key : (n < 4294967296) ⊎ (4294967296 ≤ n) → holds ids n ≡ is_open_with schema.key s.key (slice_get rows n)
+      of_key : (n < 4294967296) ⊎ (4294967296 ≤ n) → has_id ids n ≡ is_open_with schema.key s.key (slice_get rows n)
       of_key (inl l) = let low : nat_le 0 n ≡ true = grind (arith, nat_tests) in members n l ∙ (ap (λ v. v && has_spot spots s.key n) low ∙ stand s.key n)
       of_key (inr l) = small n l ∙ ap (is_open_with schema.key s.key) (sym (slice_get_past rows n (omega arith)))
 
@@ -181,8 +181,8 @@ line_met schema rows strokes i s spots ids given before after few h at same stan
           table (is_open r) (same_key key (Some s.key)) (meets schema.valid s.period r.period) (is_met schema (said_by (take i strokes)) r) ∙ ap (λ v. is_open r && v) (sym more)
 
 -- after the last line
-pub lines_met : (schema : plain.Schema) (rows : List plain.Row) (strokes : List Stroke) (i : ℕ) (met : List ℕ) → length strokes ≤ i → ((n : ℕ) → holds met n ≡ open_met schema (said_by (take i strokes)) (slice_get rows n))
-    → (n : ℕ) → holds met n ≡ open_met schema (said_by strokes) (slice_get rows n)
+pub lines_met : (schema : plain.Schema) (rows : List plain.Row) (strokes : List Stroke) (i : ℕ) (met : List ℕ) → length strokes ≤ i → ((n : ℕ) → has_id met n ≡ open_met schema (said_by (take i strokes)) (slice_get rows n))
+    → (n : ℕ) → has_id met n ≡ open_met schema (said_by strokes) (slice_get rows n)
 lines_met schema rows strokes i met h e n = e n ∙ ap (λ ss. open_met schema (said_by ss) (slice_get rows n)) (whole strokes i h) where
   whole : (xs : List Stroke) (i : ℕ) → length xs ≤ i → take i xs ≡ xs
   whole [] zero h = refl
@@ -193,18 +193,18 @@ lines_met schema rows strokes i met h e n = e n ∙ ap (λ ss. open_met schema (
 -- the same of a table without valid time, where a line meets all rows of its key
 pub line_all : (schema : plain.Schema) (rows : List plain.Row) (strokes : List Stroke) (i : ℕ) (s : Stroke) (spots : List Spot) (ids given before after : List ℕ) → schema.valid ≡ false → length rows < 4294967296 → i < length strokes → s ≡ get_or strokes i s → given ≡ ids
     → ((y : Cell) (n : ℕ) → has_spot spots y n ≡ is_open_with schema.key y (slice_get rows n))
-    → ((n : ℕ) → n < 4294967296 → holds ids n ≡ (nat_le 0 n && has_spot spots s.key n)) → ((n : ℕ) → 4294967296 ≤ n → holds ids n ≡ false)
-    → ((n : ℕ) → holds before n ≡ open_met schema (said_by (take i strokes)) (slice_get rows n))
-    → ((n : ℕ) → holds after n ≡ (holds given n || holds before n))
-    → (n : ℕ) → holds after n ≡ open_met schema (said_by (take (i + 1) strokes)) (slice_get rows n)
+    → ((n : ℕ) → n < 4294967296 → has_id ids n ≡ (nat_le 0 n && has_spot spots s.key n)) → ((n : ℕ) → 4294967296 ≤ n → has_id ids n ≡ false)
+    → ((n : ℕ) → has_id before n ≡ open_met schema (said_by (take i strokes)) (slice_get rows n))
+    → ((n : ℕ) → has_id after n ≡ (has_id given n || has_id before n))
+    → (n : ℕ) → has_id after n ≡ open_met schema (said_by (take (i + 1) strokes)) (slice_get rows n)
 line_all schema rows strokes i s spots ids given before after untimed few h at same stand members small e f =
-    line_met schema rows strokes i s spots ids given before after few h at same stand members small e (λ n. f n ∙ ap (λ v. v || holds before n) (keyed n)) where
-      by_order : (n : ℕ) → (n < 4294967296) ⊎ (4294967296 ≤ n) → holds ids n ≡ is_open_with schema.key s.key (slice_get rows n)
+    line_met schema rows strokes i s spots ids given before after few h at same stand members small e (λ n. f n ∙ ap (λ v. v || has_id before n) (keyed n)) where
+      by_order : (n : ℕ) → (n < 4294967296) ⊎ (4294967296 ≤ n) → has_id ids n ≡ is_open_with schema.key s.key (slice_get rows n)
       by_order n (inl l) = let low : nat_le 0 n ≡ true = grind (arith, nat_tests) in members n l ∙ (ap (λ v. v && has_spot spots s.key n) low ∙ stand s.key n)
       by_order n (inr l) = small n l ∙ ap (is_open_with schema.key s.key) (sym (slice_get_past rows n (omega arith)))
 
-      of_key : (n : ℕ) → holds given n ≡ is_open_with schema.key s.key (slice_get rows n)
-      of_key n = ap (λ is. holds is n) same ∙ by_order n (cases_lt n 4294967296)
+      of_key : (n : ℕ) → has_id given n ≡ is_open_with schema.key s.key (slice_get rows n)
+      of_key n = ap (λ is. has_id is n) same ∙ by_order n (cases_lt n 4294967296)
 
       and_true : (b : Bool) → b ≡ (b && true)
       and_true true = refl
@@ -214,7 +214,7 @@ line_all schema rows strokes i s spots ids given before after untimed few h at s
       all_met None = refl
       all_met (Some r) = and_true (is_open_with schema.key s.key (Some r)) ∙ ap (λ v. is_open_with schema.key s.key (Some r) && meets v s.period r.period) (sym untimed)
 
-      keyed : (n : ℕ) → holds given n ≡ (holds given n && met_at schema.valid s.period (slice_get rows n))
+      keyed : (n : ℕ) → has_id given n ≡ (has_id given n && met_at schema.valid s.period (slice_get rows n))
       keyed n = of_key n ∙ (all_met (slice_get rows n) ∙ ap (λ v. v && met_at schema.valid s.period (slice_get rows n)) (sym (of_key n)))
 
 -- CELLS OF ROWS

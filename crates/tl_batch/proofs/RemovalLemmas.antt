@@ -13,8 +13,8 @@ use Rattle.std.specs.Cmp.Lexicographic.{nat_list_eq_equiv}
 use Rattle.tl_types.specs.declared.cells.Cell.TheVariants as cell
 use Rattle.tl_types.specs.Plain as plain
 use Rattle.tl_types.specs.Facts.{AscendFrom}
-use Rattle.tl_types.specs.History.{is_open, holds, same_cell}
-use Rattle.tl_types.specs.Resolving.{Said, same_key}
+use Rattle.tl_types.specs.History.{is_open, has_id, same_cell}
+use Rattle.tl_types.specs.Resolving.{BatchLine, same_key}
 use Rattle.tl_batch.specs.declared.spots.Spot.{Spot}
 use Rattle.tl_batch.specs.declared.strokes.Stroke.{Stroke}
 use Rattle.tl_batch.specs.Spots.{has_spot}
@@ -31,7 +31,7 @@ use Rattle.tl_batch.proofs.SpotLemmas.{same_cell-sym}
 use Rattle.tl_batch.proofs.SwapLemmas.{meets_left}
 
 -- a line touches a row where it meets what earlier lines left of the periods of the rows of its key
-pub open_touched : (schema : plain.Schema) (earlier : List Said) (s : Stroke) (rows : List plain.Row) → schema.valid ≡ true → meets_left s.period (periods_with (Some s.key) earlier) (open_periods schema.key s.key rows) ≡ list_any (is_touched schema earlier (said_of s)) rows
+pub open_touched : (schema : plain.Schema) (earlier : List BatchLine) (s : Stroke) (rows : List plain.Row) → schema.valid ≡ true → meets_left s.period (periods_with (Some s.key) earlier) (open_periods schema.key s.key rows) ≡ list_any (is_touched schema earlier (said_of s)) rows
 open_touched schema earlier s [] valid = refl
 open_touched schema earlier s (r ∷ rows) valid = by_key (is_open r) (same_key key (Some s.key)) refl (open_touched schema earlier s rows valid) where
   key : Option Cell
@@ -64,16 +64,16 @@ id_periods place x all n (r ∷ rows) stands = split (is_open r && same_key (sli
 
 -- the periods of the rows of a key, by their ids
 pub key_periods : (place : ℕ) (x : Cell) (rows : List plain.Row) (spots : List Spot) (ids given : List ℕ) → length rows < 4294967296 → ((y : Cell) (n : ℕ) → has_spot spots y n ≡ is_open_with place y (slice_get rows n))
-    → AscendFrom 0 ids → ((n : ℕ) → n < 4294967296 → holds ids n ≡ (nat_le 0 n && has_spot spots x n)) → ((n : ℕ) → 4294967296 ≤ n → holds ids n ≡ false) → given ≡ ids
+    → AscendFrom 0 ids → ((n : ℕ) → n < 4294967296 → has_id ids n ≡ (nat_le 0 n && has_spot spots x n)) → ((n : ℕ) → 4294967296 ≤ n → has_id ids n ≡ false) → given ≡ ids
     → map (λ id. period_of (slice_get rows id)) given ≡ open_periods place x rows
 key_periods place x rows spots ids given few stand ascend members small same =
     ap (map (λ id. period_of (slice_get rows id))) (same ∙ ascend_same 0 ids (key_ids place x 0 rows) ascend (key_ascend place x 0 rows) equal) ∙ id_periods place x rows 0 rows (λ i. ap (slice_get rows) (let e : 0 + i ≡ i = omega arith in e)) where
-      of_key : (n : ℕ) → (n < 4294967296) ⊎ (4294967296 ≤ n) → holds ids n ≡ is_open_with place x (slice_get rows n)
+      of_key : (n : ℕ) → (n < 4294967296) ⊎ (4294967296 ≤ n) → has_id ids n ≡ is_open_with place x (slice_get rows n)
       of_key n (inl l) = let low : nat_le 0 n ≡ true = grind (arith, nat_tests) in members n l ∙ (ap (λ v. v && has_spot spots x n) low ∙ stand x n)
       of_key n (inr l) = small n l ∙ ap (is_open_with place x) (sym (slice_get_past rows n (omega arith)))
 
-      equal : (n : ℕ) → holds ids n ≡ holds (key_ids place x 0 rows) n
-      equal n = of_key n (cases_lt n 4294967296) ∙ (sym (key_holds place x 0 rows n) ∙ (let q : 0 + n ≡ n = omega arith in ap (holds (key_ids place x 0 rows)) q))
+      equal : (n : ℕ) → has_id ids n ≡ has_id (key_ids place x 0 rows) n
+      equal n = of_key n (cases_lt n 4294967296) ∙ (sym (key_holds place x 0 rows n) ∙ (let q : 0 + n ≡ n = omega arith in ap (has_id (key_ids place x 0 rows)) q))
 
 -- a row more
 one_more : (rows : List plain.Row) (ids : List ℕ) (i id : ℕ) (whole : Option plain.Period) → i < length ids → id ≡ get_or ids i 0 → Some whole ≡ option_map (λ (r : plain.Row). r.period) (slice_get rows id)
@@ -156,7 +156,7 @@ known_rows place rows strokes i s seen fresh covers h at new gone e held = recor
     turn true g = refl
     turn false g = absurd (cc)
 
-  said_same : (x : Cell) (lines : List Said) → same_cell x s.key ≡ true → is_said (Some x) lines ≡ is_said (Some s.key) lines
+  said_same : (x : Cell) (lines : List BatchLine) → same_cell x s.key ≡ true → is_said (Some x) lines ≡ is_said (Some s.key) lines
   said_same x [] g = refl
   said_same x (l ∷ lines) g = ap (λ b. b || is_said (Some x) lines) (key_congr (Some x) s.key l.key g) ∙ ap (λ b. same_key (Some s.key) l.key || b) (said_same x lines g)
 
@@ -189,13 +189,13 @@ said_at (r ∷ strokes) (suc i) s h at = ap (λ b. same_cell s.key r.key || b) (
 
 -- what the step says of a line
 abbrev pub Tells : Bool → Stroke → List (Cell × List (ℤ × ℤ)) → List (Cell × List (ℤ × ℤ)) → Type 0
-Tells touched s earlier covers = (lines : List Said) (wholes : List (Option plain.Period)) → HoldLines earlier lines → Full wholes → ((t : ℤ) → is_covered t (cover_at s.key covers) ≡ list_any (is_in t) wholes) → touched ≡ meets_left s.period (periods_with (Some s.key) lines) wholes
+Tells touched s earlier covers = (lines : List BatchLine) (wholes : List (Option plain.Period)) → HoldLines earlier lines → Full wholes → ((t : ℤ) → is_covered t (cover_at s.key covers) ≡ list_any (is_in t) wholes) → touched ≡ meets_left s.period (periods_with (Some s.key) lines) wholes
 
 pub touched_fault : (schema : plain.Schema) (rows : List plain.Row) (strokes : List Stroke) (i rec : ℕ) (s : Stroke) (touched : Bool) (earlier covers : List (Cell × List (ℤ × ℤ))) → schema.valid ≡ true → i < length strokes → s ≡ get_or strokes i s → HoldRows schema.key covers (said_by strokes) rows → HoldLines earlier (said_by (take i strokes))
     → Tells touched s earlier covers → cond touched None (Some (fault.NoRow rec)) ≡ fault_of schema true rows (said_by (take i strokes)) (said_of s) rec
 touched_fault schema rows strokes i rec s touched earlier covers valid h at held lines tells =
     ap (λ b. cond b None (Some (fault.NoRow rec))) is ∙ (turned (list_any (is_touched schema (said_by (take i strokes)) (said_of s)) rows)
-    ∙ ap (λ v. cond (not v && list_any (λ (e : Said). same_key e.key (Some s.key)) (said_by (take i strokes))) (Some (fault.KeyTwice rec)) (cond (true && not (list_any (is_touched schema (said_by (take i strokes)) (said_of s)) rows)) (Some (fault.NoRow rec)) None)) (sym valid)) where
+    ∙ ap (λ v. cond (not v && list_any (λ (e : BatchLine). same_key e.key (Some s.key)) (said_by (take i strokes))) (Some (fault.KeyTwice rec)) (cond (true && not (list_any (is_touched schema (said_by (take i strokes)) (said_of s)) rows)) (Some (fault.NoRow rec)) None)) (sym valid)) where
       has : is_said (Some s.key) (said_by strokes) ≡ true
       has = said_at strokes i s h at
 

@@ -11,7 +11,7 @@ use Rattle.tl_types.specs.declared.batches.BatchFault.TheVariants as fault
 use Rattle.tl_types.specs.declared.batches.KeyLine.{KeyLine}
 use Rattle.tl_types.specs.declared.limits.Limits.{Limits}
 use Rattle.tl_types.specs.Plain as plain
-use Rattle.tl_types.specs.Resolving.{Said, open_rows, line_fault, said_by_rows, said_by_keys, resolved_change}
+use Rattle.tl_types.specs.Resolving.{BatchLine, open_rows, line_fault, put_lines, removal_lines, resolved_change}
 use Rattle.tl_types.specs.History.{is_open, is_open_at, matches, match_columns, fits_table, fits}
 use Rattle.tl_batch.specs.Pieces.{meets, rest_of, cut, cuts, periods_with, is_met, met_ids, over, row_pieces, old_pieces, put_pieces}
 use Rattle.tl_batch.proofs.FollowLemmas.{all_joined}
@@ -20,27 +20,27 @@ use Rattle.tl_batch.proofs.ChangeLemmas.{change_by_rows}
 use Rattle.tl_batch.proofs.FaultLemmas.{fault_of_keys, fault_of_rows}
 
 -- the change of lines in a table, by its rows
-abbrev pub row_change : ℕ → plain.Table → List Said → plain.Change
+abbrev pub row_change : ℕ → plain.Table → List BatchLine → plain.Change
 row_change number t lines = record { table = number; closes = met_ids t.schema lines 0 t.rows; opens = old_pieces t.schema lines t.rows ++ put_pieces t.schema lines }
 
 -- no version is left
-pub change-late : (limits : Limits) (db : plain.Database) (author number : ℕ) (t : plain.Table) (lines : plain.Schema → List Said) → limits.versions ≤ db.version → resolved_change limits db author (Some (number, t)) lines ≡ Err fault.VersionsFull
+pub change-late : (limits : Limits) (db : plain.Database) (author number : ℕ) (t : plain.Table) (lines : plain.Schema → List BatchLine) → limits.versions ≤ db.version → resolved_change limits db author (Some (number, t)) lines ≡ Err fault.VersionsFull
 change-late limits db author number t lines full = cond-true _ _ _ (le-leb _ _ full)
 
 -- a line has a fault
-pub change-fault : (limits : Limits) (db : plain.Database) (author number : ℕ) (t : plain.Table) (lines : plain.Schema → List Said) (f : BatchFault) → db.version < limits.versions
+pub change-fault : (limits : Limits) (db : plain.Database) (author number : ℕ) (t : plain.Table) (lines : plain.Schema → List BatchLine) (f : BatchFault) → db.version < limits.versions
     → line_fault t.schema 2 [] (open_rows t) (lines t.schema) ≡ Some f → resolved_change limits db author (Some (number, t)) lines ≡ Err f
 change-fault limits db author number t lines f next e = cond-false _ _ _ (lt-leb _ _ next) ∙ rw e refl
 
 -- there would be too many rows
-pub change-full : (limits : Limits) (db : plain.Database) (author number : ℕ) (t : plain.Table) (lines : plain.Schema → List Said) → db.version < limits.versions
+pub change-full : (limits : Limits) (db : plain.Database) (author number : ℕ) (t : plain.Table) (lines : plain.Schema → List BatchLine) → db.version < limits.versions
     → line_fault t.schema 2 [] (open_rows t) (lines t.schema) ≡ None → limits.rows < length t.rows + length (row_change number t (lines t.schema)).opens → resolved_change limits db author (Some (number, t)) lines ≡ Err fault.RowsFull
 change-full limits db author number t lines next e many =
     let made : plain.Change → Result Commit BatchFault = λ ch. cond (nat_lt limits.rows (length t.rows + length ch.opens)) (Err fault.RowsFull) (Ok (record { author = author; body = body.Change ch })) in
     cond-false _ _ _ (lt-leb _ _ next) ∙ rw e (ap made (change_by_rows number t (lines t.schema)) ∙ cond-true _ _ _ (lt-ltb _ _ many))
 
 -- the commit
-pub change-made : (limits : Limits) (db : plain.Database) (author number : ℕ) (t : plain.Table) (lines : plain.Schema → List Said) → db.version < limits.versions
+pub change-made : (limits : Limits) (db : plain.Database) (author number : ℕ) (t : plain.Table) (lines : plain.Schema → List BatchLine) → db.version < limits.versions
     → line_fault t.schema 2 [] (open_rows t) (lines t.schema) ≡ None → length t.rows + length (row_change number t (lines t.schema)).opens ≤ limits.rows
     → resolved_change limits db author (Some (number, t)) lines ≡ Ok (record { author = author; body = body.Change (row_change number t (lines t.schema)) })
 change-made limits db author number t lines next e few =
@@ -48,10 +48,10 @@ change-made limits db author number t lines next e few =
     cond-false _ _ _ (lt-leb _ _ next) ∙ rw e (ap made (change_by_rows number t (lines t.schema)) ∙ cond-false _ _ _ (le-ltb _ _ few))
 
 -- the first fault of a whole batch of rows, and of keys
-pub rows-fault : (t : plain.Table) (lines : List plain.Opened) → line_fault t.schema 2 [] (open_rows t) (said_by_rows t.schema lines) ≡ fault_from t.schema false t.rows 2 [] (said_by_rows t.schema lines)
+pub rows-fault : (t : plain.Table) (lines : List plain.Opened) → line_fault t.schema 2 [] (open_rows t) (put_lines t.schema lines) ≡ fault_from t.schema false t.rows 2 [] (put_lines t.schema lines)
 rows-fault t lines = fault_of_rows t 2 [] [] (open_rows t) lines (λ k. refl)
 
-pub keys-fault : (t : plain.Table) (lines : List KeyLine) → line_fault t.schema 2 [] (open_rows t) (said_by_keys lines) ≡ fault_from t.schema true t.rows 2 [] (said_by_keys lines)
+pub keys-fault : (t : plain.Table) (lines : List KeyLine) → line_fault t.schema 2 [] (open_rows t) (removal_lines lines) ≡ fault_from t.schema true t.rows 2 [] (removal_lines lines)
 keys-fault t lines = fault_of_keys t 2 [] [] lines (λ k. refl)
 
 -- THE COMMIT FITS
@@ -105,10 +105,10 @@ over-match schema cells whole (p ∷ ps) m all =
     let same = beq-is (is_some whole) (is_some p) parts.0 in
     and_from _ _ (ap (λ b. match_columns schema.columns cells && beq schema.valid b) (sym same) ∙ m) (over-match schema cells whole ps m parts.1)
 
-pub pieces-match : (schema : plain.Schema) (lines : List Said) (cells : List Cell) (whole : Option plain.Period) → matches schema (record { cells = cells; period = whole }) ≡ true → list_all (matches schema) (row_pieces schema lines cells whole) ≡ true
+pub pieces-match : (schema : plain.Schema) (lines : List BatchLine) (cells : List Cell) (whole : Option plain.Period) → matches schema (record { cells = cells; period = whole }) ≡ true → list_all (matches schema) (row_pieces schema lines cells whole) ≡ true
 pieces-match schema lines cells whole m = over-match schema cells whole (cuts schema.valid (periods_with (slice_get cells schema.key) lines) whole) m (cuts-alike schema.valid (periods_with (slice_get cells schema.key) lines) whole)
 
-old-match : (schema : plain.Schema) (lines : List Said) (rows : List plain.Row) → list_all (λ r. matches schema (record { cells = r.cells; period = r.period })) rows ≡ true → list_all (matches schema) (old_pieces schema lines rows) ≡ true
+old-match : (schema : plain.Schema) (lines : List BatchLine) (rows : List plain.Row) → list_all (λ r. matches schema (record { cells = r.cells; period = r.period })) rows ≡ true → list_all (matches schema) (old_pieces schema lines rows) ≡ true
 old-match schema lines [] all = refl
 old-match schema lines (r ∷ rows) all = split (is_open r && is_met schema lines r) (old-match schema lines rows parts.1) where
   parts : (matches schema (record { cells = r.cells; period = r.period }) ≡ true) × (list_all (λ s. matches schema (record { cells = s.cells; period = s.period })) rows ≡ true)
@@ -118,17 +118,17 @@ old-match schema lines (r ∷ rows) all = split (is_open r && is_met schema line
   split true later = all_joined (matches schema) (row_pieces schema lines r.cells r.period) (old_pieces schema lines rows) (pieces-match schema lines r.cells r.period parts.0) later
   split false later = later
 
-pub put-match : (schema : plain.Schema) (lines : List plain.Opened) → list_all (matches schema) lines ≡ true → list_all (matches schema) (put_pieces schema (said_by_rows schema lines)) ≡ true
+pub put-match : (schema : plain.Schema) (lines : List plain.Opened) → list_all (matches schema) lines ≡ true → list_all (matches schema) (put_pieces schema (put_lines schema lines)) ≡ true
 put-match schema [] all = refl
 put-match schema (o ∷ lines) all =
     let parts = and_parts (matches schema o) (list_all (matches schema) lines) all in
-    all_joined (matches schema) (row_pieces schema (said_by_rows schema lines) o.cells o.period) (put_pieces schema (said_by_rows schema lines)) (pieces-match schema (said_by_rows schema lines) o.cells o.period parts.0) (put-match schema lines parts.1)
+    all_joined (matches schema) (row_pieces schema (put_lines schema lines) o.cells o.period) (put_pieces schema (put_lines schema lines)) (pieces-match schema (put_lines schema lines) o.cells o.period parts.0) (put-match schema lines parts.1)
 
-pub keys-match : (schema : plain.Schema) (lines : List KeyLine) → list_all (matches schema) (put_pieces schema (said_by_keys lines)) ≡ true
+pub keys-match : (schema : plain.Schema) (lines : List KeyLine) → list_all (matches schema) (put_pieces schema (removal_lines lines)) ≡ true
 keys-match schema [] = refl
 keys-match schema (k ∷ lines) = keys-match schema lines
 
-closes-open : (test : ℕ → Bool) (schema : plain.Schema) (lines : List Said) (n : ℕ) (rows : List plain.Row) → ((i : ℕ) → test (n + i) ≡ is_open_at rows i) → list_all test (met_ids schema lines n rows) ≡ true
+closes-open : (test : ℕ → Bool) (schema : plain.Schema) (lines : List BatchLine) (n : ℕ) (rows : List plain.Row) → ((i : ℕ) → test (n + i) ≡ is_open_at rows i) → list_all test (met_ids schema lines n rows) ≡ true
 closes-open test schema lines n [] e = refl
 closes-open test schema lines n (r ∷ rows) e = split (is_open r) (is_met schema lines r) refl (closes-open test schema lines (n + 1) rows (λ i. (let q : n + 1 + i ≡ n + suc i = omega arith in ap test q) ∙ e (suc i))) where
   here : test n ≡ is_open r
@@ -140,7 +140,7 @@ closes-open test schema lines n (r ∷ rows) e = split (is_open r) (is_met schem
   split false b f later = later
 
 -- the commit of the change fits
-pub change-fits : (limits : Limits) (db : plain.Database) (author number : ℕ) (t : plain.Table) (lines : List Said) → slice_get db.tables number ≡ Some t → db.version < limits.versions → list_all (λ r. matches t.schema (record { cells = r.cells; period = r.period })) t.rows ≡ true
+pub change-fits : (limits : Limits) (db : plain.Database) (author number : ℕ) (t : plain.Table) (lines : List BatchLine) → slice_get db.tables number ≡ Some t → db.version < limits.versions → list_all (λ r. matches t.schema (record { cells = r.cells; period = r.period })) t.rows ≡ true
     → list_all (matches t.schema) (put_pieces t.schema lines) ≡ true → length t.rows + length (row_change number t lines).opens ≤ limits.rows → fits limits db (record { author = author; body = body.Change (row_change number t lines) }) ≡ true
 change-fits limits db author number t lines at next rows puts few =
     let closes : list_all (is_open_at t.rows) (met_ids t.schema lines 0 t.rows) ≡ true = closes-open (is_open_at t.rows) t.schema lines 0 t.rows (λ k. ap (is_open_at t.rows) (let e : 0 + k ≡ k = omega arith in e)) in
@@ -149,10 +149,10 @@ change-fits limits db author number t lines at next rows puts few =
     and_from (nat_lt db.version limits.versions) (fits_table limits (row_change number t lines) (slice_get db.tables number)) (lt-ltb _ _ next) (ap (fits_table limits (row_change number t lines)) at ∙ inside)
 
 -- both kinds of batch, for an answer by name
-pub made_of_keys : (limits : Limits) (db : plain.Database) (author number : ℕ) (t : plain.Table) (lines : List KeyLine) → db.version < limits.versions → fault_from t.schema true t.rows 2 [] (said_by_keys lines) ≡ None
-    → length t.rows + length (row_change number t (said_by_keys lines)).opens ≤ limits.rows → resolved_change limits db author (Some (number, t)) (λ schema. said_by_keys lines) ≡ Ok (record { author = author; body = body.Change (row_change number t (said_by_keys lines)) })
-made_of_keys limits db author number t lines next e few = change-made limits db author number t (λ schema. said_by_keys lines) next (keys-fault t lines ∙ e) few
+pub made_of_keys : (limits : Limits) (db : plain.Database) (author number : ℕ) (t : plain.Table) (lines : List KeyLine) → db.version < limits.versions → fault_from t.schema true t.rows 2 [] (removal_lines lines) ≡ None
+    → length t.rows + length (row_change number t (removal_lines lines)).opens ≤ limits.rows → resolved_change limits db author (Some (number, t)) (λ schema. removal_lines lines) ≡ Ok (record { author = author; body = body.Change (row_change number t (removal_lines lines)) })
+made_of_keys limits db author number t lines next e few = change-made limits db author number t (λ schema. removal_lines lines) next (keys-fault t lines ∙ e) few
 
-pub made_of_rows : (limits : Limits) (db : plain.Database) (author number : ℕ) (t : plain.Table) (lines : List plain.Opened) → db.version < limits.versions → fault_from t.schema false t.rows 2 [] (said_by_rows t.schema lines) ≡ None
-    → length t.rows + length (row_change number t (said_by_rows t.schema lines)).opens ≤ limits.rows → resolved_change limits db author (Some (number, t)) (λ schema. said_by_rows schema lines) ≡ Ok (record { author = author; body = body.Change (row_change number t (said_by_rows t.schema lines)) })
-made_of_rows limits db author number t lines next e few = change-made limits db author number t (λ schema. said_by_rows schema lines) next (rows-fault t lines ∙ e) few
+pub made_of_rows : (limits : Limits) (db : plain.Database) (author number : ℕ) (t : plain.Table) (lines : List plain.Opened) → db.version < limits.versions → fault_from t.schema false t.rows 2 [] (put_lines t.schema lines) ≡ None
+    → length t.rows + length (row_change number t (put_lines t.schema lines)).opens ≤ limits.rows → resolved_change limits db author (Some (number, t)) (λ schema. put_lines schema lines) ≡ Ok (record { author = author; body = body.Change (row_change number t (put_lines t.schema lines)) })
+made_of_rows limits db author number t lines next e few = change-made limits db author number t (λ schema. put_lines schema lines) next (rows-fault t lines ∙ e) few

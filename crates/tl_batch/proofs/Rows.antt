@@ -7,7 +7,7 @@ use Rattle.std.proofs.lemmas.List.Folds.{flat_map-map}
 use Rattle.std.proofs.lemmas.Grind.{flat_map-append}
 use Rattle.tl_types.specs.declared.cells.Cell.{Cell}
 use Rattle.tl_types.specs.Plain as plain
-use Rattle.tl_types.specs.Resolving.{Held, Said, same_key, touches, remainders, put_row, after_line, ids_of, new_rows}
+use Rattle.tl_types.specs.Resolving.{WorkingRow, BatchLine, same_key, affects, remainders, put_row, after_line, ids_of, new_rows}
 use Rattle.tl_batch.specs.Pieces.{meets, rest_of, cut, cuts, periods_with, over, put_pieces}
 
 -- LISTS
@@ -68,21 +68,21 @@ cut_last valid lines i left all h e = sym (cut_none valid left) ∙ (ap (λ qs. 
 -- THE WORKING LIST BY ROWS
 
 -- what a line leaves of a row
-abbrev pub line_leaves : plain.Schema → Said → Held → List Held
-line_leaves schema said h = cond (touches schema said h) (remainders said h) (h ∷ [])
+abbrev pub line_leaves : plain.Schema → BatchLine → WorkingRow → List WorkingRow
+line_leaves schema said h = cond (affects schema said h) (remainders said h) (h ∷ [])
 
 -- what lines leave of a row
-abbrev pub rows_left : plain.Schema → List Said → Held → List Held
+abbrev pub rows_left : plain.Schema → List BatchLine → WorkingRow → List WorkingRow
 rows_left schema [] h = h ∷ []
 rows_left schema (said ∷ lines) h = flat_map (rows_left schema lines) (line_leaves schema said h)
 
 -- what is left of the rows that the lines put, each after the lines behind its own
-abbrev pub puts_left : plain.Schema → List Said → List Held
+abbrev pub puts_left : plain.Schema → List BatchLine → List WorkingRow
 puts_left schema [] = []
 puts_left schema (said ∷ lines) = flat_map (rows_left schema lines) (put_row said) ++ puts_left schema lines
 
 -- the working list at the end: what is left of the rows of the start, then what is left of the rows put
-pub worked_by_rows : (schema : plain.Schema) (lines : List Said) (held : List Held) → fold (after_line schema) held lines ≡ flat_map (rows_left schema lines) held ++ puts_left schema lines
+pub worked_by_rows : (schema : plain.Schema) (lines : List BatchLine) (held : List WorkingRow) → fold (after_line schema) held lines ≡ flat_map (rows_left schema lines) held ++ puts_left schema lines
 worked_by_rows schema [] held = sym (append-nil (flat_map (λ h. h ∷ []) held) ∙ flat_map-one held)
 worked_by_rows schema (said ∷ lines) held =
     worked_by_rows schema lines (after_line schema held said)
@@ -92,7 +92,7 @@ worked_by_rows schema (said ∷ lines) held =
 -- PIECES OF ROWS
 
 -- a row without id
-abbrev pub fresh : List Cell → Option plain.Period → Held
+abbrev pub fresh : List Cell → Option plain.Period → WorkingRow
 fresh cells p = record { id = None; row = record { cells = cells; period = p } }
 
 remainders-rest : (key : Option Cell) (puts : Option plain.Opened) (line : Option plain.Period) (id : Option ℕ) (cells : List Cell) (p : Option plain.Period)
@@ -108,7 +108,7 @@ remainders-rest key puts (Some q) id cells (Some p) = split (int_lt p.from q.fro
   split false false = refl
 
 -- what lines leave of pieces of one row
-rows_left-each : (schema : plain.Schema) (lines : List Said) (cells : List Cell) (parts : List (Option plain.Period)) → ((p : Option plain.Period) → rows_left schema lines (fresh cells p) ≡ map (fresh cells) (cuts schema.valid (periods_with (slice_get cells schema.key) lines) p))
+rows_left-each : (schema : plain.Schema) (lines : List BatchLine) (cells : List Cell) (parts : List (Option plain.Period)) → ((p : Option plain.Period) → rows_left schema lines (fresh cells p) ≡ map (fresh cells) (cuts schema.valid (periods_with (slice_get cells schema.key) lines) p))
     → flat_map (rows_left schema lines) (map (fresh cells) parts) ≡ map (fresh cells) (flat_map (cuts schema.valid (periods_with (slice_get cells schema.key) lines)) parts)
 rows_left-each schema lines cells parts each =
     flat_map-map (rows_left schema lines) (fresh cells) parts
@@ -116,7 +116,7 @@ rows_left-each schema lines cells parts each =
     ∙ map-flat_map (fresh cells) (cuts schema.valid (periods_with (slice_get cells schema.key) lines)) parts)
 
 -- a row without id leaves the pieces of its period
-pub rows_left-fresh : (schema : plain.Schema) (lines : List Said) (cells : List Cell) (p : Option plain.Period) → rows_left schema lines (fresh cells p) ≡ map (fresh cells) (cuts schema.valid (periods_with (slice_get cells schema.key) lines) p)
+pub rows_left-fresh : (schema : plain.Schema) (lines : List BatchLine) (cells : List Cell) (p : Option plain.Period) → rows_left schema lines (fresh cells p) ≡ map (fresh cells) (cuts schema.valid (periods_with (slice_get cells schema.key) lines) p)
 rows_left-fresh schema [] cells p = refl
 rows_left-fresh schema (said ∷ lines) cells p = by_key (same_key (slice_get cells schema.key) said.key) (rows_left-fresh schema lines cells) where
   key : Option Cell
@@ -138,7 +138,7 @@ rows_left-fresh schema (said ∷ lines) cells p = by_key (same_key (slice_get ce
   by_key false each = append-nil (rows_left schema lines (fresh cells p)) ∙ each p
 
 -- a row with an id stays where no line meets it, and else leaves the pieces of its period
-pub rows_left-old : (schema : plain.Schema) (lines : List Said) (n : ℕ) (cells : List Cell) (p : Option plain.Period)
+pub rows_left-old : (schema : plain.Schema) (lines : List BatchLine) (n : ℕ) (cells : List Cell) (p : Option plain.Period)
     → rows_left schema lines (record { id = Some n; row = record { cells = cells; period = p } })
     ≡ cond (list_any (λ line. meets schema.valid line p) (periods_with (slice_get cells schema.key) lines)) (map (fresh cells) (cuts schema.valid (periods_with (slice_get cells schema.key) lines) p)) (record { id = Some n; row = record { cells = cells; period = p } } ∷ [])
 rows_left-old schema [] n cells p = refl
@@ -149,7 +149,7 @@ rows_left-old schema (said ∷ lines) n cells p = by_key (same_key (slice_get ce
   later : List (Option plain.Period)
   later = periods_with key lines
 
-  old : Held
+  old : WorkingRow
   old = record { id = Some n; row = record { cells = cells; period = p } }
 
   any : List (Option plain.Period) → Bool
@@ -173,7 +173,7 @@ pub fresh-rows : (cells : List Cell) (ps : List (Option plain.Period)) → new_r
 fresh-rows cells [] = refl
 fresh-rows cells (p ∷ ps) = ap (λ rows. record { cells = cells; period = p } ∷ rows) (fresh-rows cells ps)
 
-pub puts_left-ids : (schema : plain.Schema) (lines : List Said) → ids_of (puts_left schema lines) ≡ []
+pub puts_left-ids : (schema : plain.Schema) (lines : List BatchLine) → ids_of (puts_left schema lines) ≡ []
 puts_left-ids schema [] = refl
 puts_left-ids schema (said ∷ lines) =
     filter_map-append (λ h. h.id) (flat_map (rows_left schema lines) (put_row said)) (puts_left schema lines)
@@ -182,7 +182,7 @@ puts_left-ids schema (said ∷ lines) =
       of_row None = refl
       of_row (Some row) = ap ids_of (append-nil (rows_left schema lines (fresh row.cells row.period)) ∙ rows_left-fresh schema lines row.cells row.period) ∙ fresh-ids row.cells (cuts schema.valid (periods_with (slice_get row.cells schema.key) lines) row.period)
 
-pub puts_left-rows : (schema : plain.Schema) (lines : List Said) → new_rows (puts_left schema lines) ≡ put_pieces schema lines
+pub puts_left-rows : (schema : plain.Schema) (lines : List BatchLine) → new_rows (puts_left schema lines) ≡ put_pieces schema lines
 puts_left-rows schema [] = refl
 puts_left-rows schema (said ∷ lines) =
     filter_map-append (λ h. cond (is_some h.id) None (Some h.row)) (flat_map (rows_left schema lines) (put_row said)) (puts_left schema lines)

@@ -16,7 +16,7 @@ use Rattle.std.proofs.lemmas.Map.Text.{is_eq-slice_cmp}
 use Rattle.tl_types.specs.declared.cells.Cell.{Cell}
 use Rattle.tl_types.specs.declared.cells.Cell.TheVariants as cell
 use Rattle.tl_types.specs.contracts.cells.CellOrd.TheImpl as cells
-use Rattle.tl_types.specs.History.{same_cell, holds}
+use Rattle.tl_types.specs.History.{same_cell, has_id}
 use Rattle.tl_types.specs.Facts.{AscendFrom}
 use Rattle.tl_batch.specs.declared.spots.Spot.{Spot}
 use Rattle.tl_batch.specs.contracts.spots.SpotOrd.TheImpl as spots
@@ -202,18 +202,18 @@ one_member b k true f l h r when same rest =
       table false true h = refl
       table false false h = refl
 
-pub members_between : (x : Cell) (low high n : ℕ) → n ≤ high → (keys : List Spot) → holds (map (λ (s : Spot). s.id) (filter (between x low high) keys)) n ≡ (nat_le low n && has_spot keys x n)
+pub members_between : (x : Cell) (low high n : ℕ) → n ≤ high → (keys : List Spot) → has_id (map (λ (s : Spot). s.id) (filter (between x low high) keys)) n ≡ (nat_le low n && has_spot keys x n)
 members_between x low high n h [] = sym (and_false (nat_le low n))
 members_between x low high n h (s ∷ keys) =
-    split (between x low high s) ∙ one_member (between x low high s) (same_cell x s.key) (nat_eq s.id n) (nat_eq n s.id) (nat_le low n) (has_spot keys x n) (holds (map (λ (s : Spot). s.id) (filter (between x low high) keys)) n) here (nat_eq-sym s.id n) (members_between x low high n h keys) where
+    split (between x low high s) ∙ one_member (between x low high s) (same_cell x s.key) (nat_eq s.id n) (nat_eq n s.id) (nat_le low n) (has_spot keys x n) (has_id (map (λ (s : Spot). s.id) (filter (between x low high) keys)) n) here (nat_eq-sym s.id n) (members_between x low high n h keys) where
       here : nat_eq s.id n ≡ true → between x low high s ≡ (same_cell x s.key && nat_le low n)
       here e =
           let same : s.id ≡ n = grind (arith, nat_tests) in
           let below : s.id ≤ high = omega arith in
           in_range x s.key low high s.id below ∙ ap (λ m. same_cell x s.key && nat_le low m) same
 
-      split : (b : Bool) → holds (map (λ (s : Spot). s.id) (cond b (s ∷ filter (between x low high) keys) (filter (between x low high) keys))) n
-          ≡ cond b (nat_eq s.id n || holds (map (λ (s : Spot). s.id) (filter (between x low high) keys)) n) (holds (map (λ (s : Spot). s.id) (filter (between x low high) keys)) n)
+      split : (b : Bool) → has_id (map (λ (s : Spot). s.id) (cond b (s ∷ filter (between x low high) keys) (filter (between x low high) keys))) n
+          ≡ cond b (nat_eq s.id n || has_id (map (λ (s : Spot). s.id) (filter (between x low high) keys)) n) (has_id (map (λ (s : Spot). s.id) (filter (between x low high) keys)) n)
       split true = refl
       split false = refl
 
@@ -227,11 +227,11 @@ ids_ascend one two key low high keys range ids e f sorted found made =
 
 pub ids_members : (one two key : Cell) (low high : ℕ) (keys range : List Spot) (held : Cell → ℕ → Bool) (ids : List ℕ) → one ≡ key → two ≡ key → has_spot keys ≡ held
     → range ≡ filter (range_contains spots.cmp-value.it (Included (at one low)) (Included (at two high))) keys → ids ≡ map (λ (s : Spot). s.id) range
-    → (n : ℕ) → n ≤ high → holds ids n ≡ (nat_le low n && held key n)
+    → (n : ℕ) → n ≤ high → has_id ids n ≡ (nat_le low n && held key n)
 ids_members one two key low high keys range held ids e f view found made n h =
     let numbers : range ≡ filter (between key low high) keys = found ∙ (ap (λ x. filter (range_contains spots.cmp-value.it (Included (at x low)) (Included (at two high))) keys) e ∙ ap (λ x. filter (range_contains spots.cmp-value.it (Included (at key low)) (Included (at x high))) keys) f) in
     let all : ids ≡ map (λ (s : Spot). s.id) (filter (between key low high) keys) = made ∙ ap (map (λ (s : Spot). s.id)) numbers in
-    ap (λ is. holds is n) all ∙ (members_between key low high n h keys ∙ ap (λ (g : Cell → ℕ → Bool). nat_le low n && g key n) view)
+    ap (λ is. has_id is n) all ∙ (members_between key low high n h keys ∙ ap (λ (g : Cell → ℕ → Bool). nat_le low n && g key n) view)
 
 -- a loop over a list that has come to its end
 pub all_taken : (ids : List ℕ) (left all : List Spot) → left ≡ [] → ids ++ map (λ (s : Spot). s.id) left ≡ map (λ (s : Spot). s.id) all → ids ≡ map (λ (s : Spot). s.id) all
@@ -338,21 +338,21 @@ between-high x low high s = by_order (cells.cmp-value.it x s.key) where
       let g : not (nat_lt high s.id) ≡ true = ap not (sym (less_not high s.id)) ∙ f in
       grind (arith, nat_tests)
 
-past_between : (x : Cell) (low high n : ℕ) → high < n → (keys : List Spot) → holds (map (λ (s : Spot). s.id) (filter (between x low high) keys)) n ≡ false
+past_between : (x : Cell) (low high n : ℕ) → high < n → (keys : List Spot) → has_id (map (λ (s : Spot). s.id) (filter (between x low high) keys)) n ≡ false
 past_between x low high n h [] = refl
 past_between x low high n h (s ∷ keys) = split (between x low high s) refl (past_between x low high n h keys) where
-  split : (b : Bool) → between x low high s ≡ b → holds (map (λ (s : Spot). s.id) (filter (between x low high) keys)) n ≡ false
-      → holds (map (λ (s : Spot). s.id) (cond b (s ∷ filter (between x low high) keys) (filter (between x low high) keys))) n ≡ false
+  split : (b : Bool) → between x low high s ≡ b → has_id (map (λ (s : Spot). s.id) (filter (between x low high) keys)) n ≡ false
+      → has_id (map (λ (s : Spot). s.id) (cond b (s ∷ filter (between x low high) keys) (filter (between x low high) keys))) n ≡ false
   split false e later = later
   split true e later =
       let most = between-high x low high s e in
       let apart : nat_eq s.id n ≡ false = grind (arith, nat_tests) in
-      ap (λ v. v || holds (map (λ (s : Spot). s.id) (filter (between x low high) keys)) n) apart ∙ later
+      ap (λ v. v || has_id (map (λ (s : Spot). s.id) (filter (between x low high) keys)) n) apart ∙ later
 
 pub ids_small : (one two key : Cell) (low high : ℕ) (keys range : List Spot) (ids : List ℕ) → one ≡ key → two ≡ key
     → range ≡ filter (range_contains spots.cmp-value.it (Included (at one low)) (Included (at two high))) keys → ids ≡ map (λ (s : Spot). s.id) range
-    → (n : ℕ) → high < n → holds ids n ≡ false
+    → (n : ℕ) → high < n → has_id ids n ≡ false
 ids_small one two key low high keys range ids e f found made n h =
     let numbers : range ≡ filter (between key low high) keys = found ∙ (ap (λ x. filter (range_contains spots.cmp-value.it (Included (at x low)) (Included (at two high))) keys) e ∙ ap (λ x. filter (range_contains spots.cmp-value.it (Included (at key low)) (Included (at x high))) keys) f) in
     let all : ids ≡ map (λ (s : Spot). s.id) (filter (between key low high) keys) = made ∙ ap (map (λ (s : Spot). s.id)) numbers in
-    ap (λ is. holds is n) all ∙ past_between key low high n h keys
+    ap (λ is. has_id is n) all ∙ past_between key low high n h keys

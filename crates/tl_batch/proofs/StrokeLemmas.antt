@@ -6,13 +6,13 @@ use Rattle.std.proofs.lemmas.Option.{slice_get_past, slice_get_read}
 use Rattle.tl_types.specs.declared.cells.Cell.{Cell}
 use Rattle.tl_types.specs.Plain as plain
 use Rattle.tl_types.specs.Facts.{AscendFrom}
-use Rattle.tl_types.specs.History.{holds, same_cell}
+use Rattle.tl_types.specs.History.{has_id, same_cell}
 use Rattle.tl_batch.specs.declared.spots.Spot.{Spot}
 use Rattle.tl_batch.specs.declared.strokes.Stroke.{Stroke}
 use Rattle.tl_batch.specs.Spots.{has_spot}
 use Rattle.tl_batch.specs.Pieces.{periods_with}
 use Rattle.tl_batch.specs.Strokes.{said_of, said_by, said_by_row, line_has, period_at}
-use Rattle.tl_types.specs.Resolving.{Said}
+use Rattle.tl_types.specs.Resolving.{BatchLine}
 use Rattle.std.proofs.lemmas.List.{take_more, map-append}
 use Rattle.tl_batch.proofs.ChangeLemmas.{ascend_same}
 
@@ -83,7 +83,7 @@ line_ascend x n (s ∷ strokes) = split (same_cell x s.key) (line_ascend x (n + 
   split false later = lower n (n + 1) (line_ids x (n + 1) strokes) (omega arith) later
 
 line_members : (x : Cell) (all : List Stroke) (n : ℕ) (strokes : List Stroke) (m : ℕ) → ((i : ℕ) → slice_get all (n + i) ≡ slice_get strokes i)
-    → holds (line_ids x n strokes) m ≡ (nat_le n m && line_has x (slice_get all m))
+    → has_id (line_ids x n strokes) m ≡ (nat_le n m && line_has x (slice_get all m))
 line_members x all n [] m stands = by_order (cases_lt m n) where
   by_order : (m < n) ⊎ (n ≤ m) → false ≡ (nat_le n m && line_has x (slice_get all m))
   by_order (inl h) = let e : nat_le n m ≡ false = grind (arith, nat_tests) in ap (λ b. b && line_has x (slice_get all m)) (sym e)
@@ -98,26 +98,26 @@ line_members x all n (s ∷ strokes) m stands = split (same_cell x s.key) refl (
   rest : List ℕ
   rest = line_ids x (n + 1) strokes
 
-  split : (b : Bool) → same_cell x s.key ≡ b → holds rest m ≡ (nat_le (n + 1) m && line_has x (slice_get all m)) → holds (cond b (n ∷ rest) rest) m ≡ (nat_le n m && line_has x (slice_get all m))
+  split : (b : Bool) → same_cell x s.key ≡ b → has_id rest m ≡ (nat_le (n + 1) m && line_has x (slice_get all m)) → has_id (cond b (n ∷ rest) rest) m ≡ (nat_le n m && line_has x (slice_get all m))
   split b e later = by_test (nat_eq n m) refl where
-    inside : (c : Bool) → holds (cond c (n ∷ rest) rest) m ≡ ((c && nat_eq n m) || holds rest m)
+    inside : (c : Bool) → has_id (cond c (n ∷ rest) rest) m ≡ ((c && nat_eq n m) || has_id rest m)
     inside true = refl
     inside false = refl
 
-    by_test : (t : Bool) → nat_eq n m ≡ t → holds (cond b (n ∷ rest) rest) m ≡ (nat_le n m && line_has x (slice_get all m))
+    by_test : (t : Bool) → nat_eq n m ≡ t → has_id (cond b (n ∷ rest) rest) m ≡ (nat_le n m && line_has x (slice_get all m))
     by_test true f =
         let same : n ≡ m = grind (arith, nat_tests) in
         let here : line_has x (slice_get all m) ≡ b = ap (λ k. line_has x (slice_get all k)) (sym same) ∙ (ap (line_has x) (first_at all n s strokes stands) ∙ e) in
         let low : nat_le n m ≡ true = grind (arith, nat_tests) in
         let past : nat_le (n + 1) m ≡ false = grind (arith, nat_tests) in
-        inside b ∙ (ap (λ v. (b && v) || holds rest m) f ∙ (ap (λ v. (b && true) || v) (later ∙ ap (λ v. v && line_has x (slice_get all m)) past) ∙ (table b ∙ (ap (λ v. v && b) (sym low) ∙ ap (λ v. nat_le n m && v) (sym here))))) where
+        inside b ∙ (ap (λ v. (b && v) || has_id rest m) f ∙ (ap (λ v. (b && true) || v) (later ∙ ap (λ v. v && line_has x (slice_get all m)) past) ∙ (table b ∙ (ap (λ v. v && b) (sym low) ∙ ap (λ v. nat_le n m && v) (sym here))))) where
           table : (b : Bool) → ((b && true) || false) ≡ (true && b)
           table true = refl
           table false = refl
     by_test false f =
         let next : nat_le (n + 1) m ≡ nat_le n m = grind (arith, nat_tests) in
-        inside b ∙ (ap (λ v. (b && v) || holds rest m) f ∙ (none b ∙ (later ∙ ap (λ v. v && line_has x (slice_get all m)) next))) where
-          none : (b : Bool) → ((b && false) || holds rest m) ≡ holds rest m
+        inside b ∙ (ap (λ v. (b && v) || has_id rest m) f ∙ (none b ∙ (later ∙ ap (λ v. v && line_has x (slice_get all m)) next))) where
+          none : (b : Bool) → ((b && false) || has_id rest m) ≡ has_id rest m
           none true = refl
           none false = refl
 
@@ -130,13 +130,13 @@ stands_drop (s ∷ all) (suc n) i = let e : suc n + i ≡ suc (n + i) = omega ar
 -- the periods of the lines of a key from a place on
 pub periods_are : (x : Cell) (strokes : List Stroke) (places : List Spot) (first : ℕ) (ids : List ℕ) (periods : List (Option plain.Period)) → length strokes < 4294967296
     → ((y : Cell) (n : ℕ) → has_spot places y n ≡ line_has y (slice_get strokes n))
-    → AscendFrom first ids → ((n : ℕ) → n < 4294967296 → holds ids n ≡ (nat_le first n && has_spot places x n)) → ((n : ℕ) → 4294967296 ≤ n → holds ids n ≡ false)
+    → AscendFrom first ids → ((n : ℕ) → n < 4294967296 → has_id ids n ≡ (nat_le first n && has_spot places x n)) → ((n : ℕ) → 4294967296 ≤ n → has_id ids n ≡ false)
     → periods ≡ map (λ id. period_at (slice_get strokes id)) ids → periods ≡ periods_with (Some x) (said_by (drop first strokes))
 periods_are x strokes places first ids periods few placed ascend members small made =
     made ∙ (ap (map (λ id. period_at (slice_get strokes id))) same ∙ line_periods x strokes first (drop first strokes) (stands_drop strokes first)) where
-      equal : (n : ℕ) → holds ids n ≡ holds (line_ids x first (drop first strokes)) n
+      equal : (n : ℕ) → has_id ids n ≡ has_id (line_ids x first (drop first strokes)) n
       equal n = by_order (cases_lt n 4294967296) ∙ sym (line_members x strokes first (drop first strokes) n (stands_drop strokes first)) where
-        by_order : (n < 4294967296) ⊎ (4294967296 ≤ n) → holds ids n ≡ (nat_le first n && line_has x (slice_get strokes n))
+        by_order : (n < 4294967296) ⊎ (4294967296 ≤ n) → has_id ids n ≡ (nat_le first n && line_has x (slice_get strokes n))
         by_order (inl h) = members n h ∙ ap (λ v. nat_le first n && v) (placed x n)
         by_order (inr h) = small n h ∙ (none (nat_le first n) ∙ ap (λ o. nat_le first n && line_has x o) (sym (slice_get_past strokes n (omega arith)))) where
           none : (b : Bool) → false ≡ (b && false)
@@ -158,7 +158,7 @@ stroke_more place i lines line given key copy period before after h at there cel
     ∙ (ap (λ ss. ss ++ said_of (record { key = copy; period = period }) ∷ []) e
     ∙ (ap (λ s. map (said_by_row place) (take i lines) ++ s ∷ []) (one ∙ ap (said_by_row place) at)
     ∙ (sym (map-append (said_by_row place) (take i lines) (get_or lines i line ∷ [])) ∙ ap (map (said_by_row place)) (sym (take_more lines i line h)))))) where
-      said_with : Option plain.Period → Option Cell → Said
+      said_with : Option plain.Period → Option Cell → BatchLine
       said_with p k = record { key = k; period = p; puts = None }
 
 -- a loop over ids that has come to its end

@@ -13,8 +13,8 @@ use Rattle.tl_types.specs.declared.batches.BatchFault.{BatchFault}
 use Rattle.tl_types.specs.declared.batches.BatchFault.TheVariants as fault
 use Rattle.tl_types.specs.Plain as plain
 use Rattle.tl_types.specs.Facts.{AscendFrom}
-use Rattle.tl_types.specs.History.{is_open, holds, same_cell}
-use Rattle.tl_types.specs.Resolving.{Said, same_key}
+use Rattle.tl_types.specs.History.{is_open, has_id, same_cell}
+use Rattle.tl_types.specs.Resolving.{BatchLine, same_key}
 use Rattle.tl_batch.specs.declared.spots.Spot.{Spot}
 use Rattle.tl_batch.specs.declared.strokes.Stroke.{Stroke}
 use Rattle.tl_batch.specs.Spots.{has_spot}
@@ -40,7 +40,7 @@ key_congr None x k e = absurd (cc)
 key_congr (Some y) x None e = refl
 key_congr (Some y) x (Some z) e = cell_congr y x z e
 
-pub periods-same : (key : Option Cell) (x : Cell) (lines : List Said) → same_key key (Some x) ≡ true → periods_with key lines ≡ periods_with (Some x) lines
+pub periods-same : (key : Option Cell) (x : Cell) (lines : List BatchLine) → same_key key (Some x) ≡ true → periods_with key lines ≡ periods_with (Some x) lines
 periods-same key x [] e = refl
 periods-same key x (said ∷ lines) e = ap (λ b. cond b (said.period ∷ periods_with key lines) (periods_with key lines)) (key_congr key x said.key e) ∙ ap (λ ps. cond (same_key (Some x) said.key) (said.period ∷ ps) ps) (periods-same key x lines e)
 
@@ -72,31 +72,31 @@ key_ascend place x n (r ∷ rows) = split (is_open r && same_key (slice_get r.ce
   split true later = (let h : n ≤ n = omega arith in h, later)
   split false later = lower n (n + 1) (key_ids place x (n + 1) rows) (omega arith) later
 
-key_past : (place : ℕ) (x : Cell) (n : ℕ) (rows : List plain.Row) (m : ℕ) → m < n → holds (key_ids place x n rows) m ≡ false
+key_past : (place : ℕ) (x : Cell) (n : ℕ) (rows : List plain.Row) (m : ℕ) → m < n → has_id (key_ids place x n rows) m ≡ false
 key_past place x n [] m h = refl
 key_past place x n (r ∷ rows) m h = split (is_open r && same_key (slice_get r.cells place) (Some x)) (key_past place x (n + 1) rows m (omega arith)) where
   apart : nat_eq n m ≡ false
   apart = grind (arith, nat_tests)
 
-  split : (b : Bool) → holds (key_ids place x (n + 1) rows) m ≡ false → holds (cond b (n ∷ key_ids place x (n + 1) rows) (key_ids place x (n + 1) rows)) m ≡ false
-  split true later = ap (λ v. v || holds (key_ids place x (n + 1) rows) m) apart ∙ later
+  split : (b : Bool) → has_id (key_ids place x (n + 1) rows) m ≡ false → has_id (cond b (n ∷ key_ids place x (n + 1) rows) (key_ids place x (n + 1) rows)) m ≡ false
+  split true later = ap (λ v. v || has_id (key_ids place x (n + 1) rows) m) apart ∙ later
   split false later = later
 
-pub key_holds : (place : ℕ) (x : Cell) (n : ℕ) (rows : List plain.Row) (i : ℕ) → holds (key_ids place x n rows) (n + i) ≡ is_open_with place x (slice_get rows i)
+pub key_holds : (place : ℕ) (x : Cell) (n : ℕ) (rows : List plain.Row) (i : ℕ) → has_id (key_ids place x n rows) (n + i) ≡ is_open_with place x (slice_get rows i)
 key_holds place x n [] i = refl
 key_holds place x n (r ∷ rows) zero =
     let here : nat_eq n (n + 0) ≡ true = grind (arith, nat_tests) in
     let next : n + 0 < n + 1 = omega arith in
     split here (key_past place x (n + 1) rows (n + 0) next) (is_open r && same_key (slice_get r.cells place) (Some x)) where
-      split : nat_eq n (n + 0) ≡ true → holds (key_ids place x (n + 1) rows) (n + 0) ≡ false → (b : Bool) → holds (cond b (n ∷ key_ids place x (n + 1) rows) (key_ids place x (n + 1) rows)) (n + 0) ≡ b
-      split here past true = ap (λ v. v || holds (key_ids place x (n + 1) rows) (n + 0)) here
+      split : nat_eq n (n + 0) ≡ true → has_id (key_ids place x (n + 1) rows) (n + 0) ≡ false → (b : Bool) → has_id (cond b (n ∷ key_ids place x (n + 1) rows) (key_ids place x (n + 1) rows)) (n + 0) ≡ b
+      split here past true = ap (λ v. v || has_id (key_ids place x (n + 1) rows) (n + 0)) here
       split here past false = past
 key_holds place x n (r ∷ rows) (suc i) =
     let number : n + 1 + i ≡ n + suc i = omega arith in
     let apart : nat_eq n (n + suc i) ≡ false = grind (arith, nat_tests) in
-    split apart (ap (holds (key_ids place x (n + 1) rows)) (sym number) ∙ key_holds place x (n + 1) rows i) (is_open r && same_key (slice_get r.cells place) (Some x)) where
-      split : nat_eq n (n + suc i) ≡ false → holds (key_ids place x (n + 1) rows) (n + suc i) ≡ is_open_with place x (slice_get rows i) → (b : Bool) → holds (cond b (n ∷ key_ids place x (n + 1) rows) (key_ids place x (n + 1) rows)) (n + suc i) ≡ is_open_with place x (slice_get rows i)
-      split apart later true = ap (λ v. v || holds (key_ids place x (n + 1) rows) (n + suc i)) apart ∙ later
+    split apart (ap (has_id (key_ids place x (n + 1) rows)) (sym number) ∙ key_holds place x (n + 1) rows i) (is_open r && same_key (slice_get r.cells place) (Some x)) where
+      split : nat_eq n (n + suc i) ≡ false → has_id (key_ids place x (n + 1) rows) (n + suc i) ≡ is_open_with place x (slice_get rows i) → (b : Bool) → has_id (cond b (n ∷ key_ids place x (n + 1) rows) (key_ids place x (n + 1) rows)) (n + suc i) ≡ is_open_with place x (slice_get rows i)
+      split apart later true = ap (λ v. v || has_id (key_ids place x (n + 1) rows) (n + suc i)) apart ∙ later
       split apart later false = later
 
 -- a current row has the key exactly where there is such an id
@@ -110,20 +110,20 @@ some_id place x n (r ∷ rows) = split (is_open r && same_key (slice_get r.cells
 
 pub some_row : (place : ℕ) (x : Cell) (rows : List plain.Row) (spots : List Spot) (ids given : List ℕ) (has : Bool) → has ≡ is_some_item given → given ≡ ids → length rows < 4294967296
     → ((y : Cell) (n : ℕ) → has_spot spots y n ≡ is_open_with place y (slice_get rows n))
-    → AscendFrom 0 ids → ((n : ℕ) → n < 4294967296 → holds ids n ≡ (nat_le 0 n && has_spot spots x n)) → ((n : ℕ) → 4294967296 ≤ n → holds ids n ≡ false)
+    → AscendFrom 0 ids → ((n : ℕ) → n < 4294967296 → has_id ids n ≡ (nat_le 0 n && has_spot spots x n)) → ((n : ℕ) → 4294967296 ≤ n → has_id ids n ≡ false)
     → has ≡ list_any (λ row. is_open_with place x (Some row)) rows
 some_row place x rows spots ids given has is same few stand ascend members small =
     is ∙ (ap is_some_item (same ∙ ascend_same 0 ids (key_ids place x 0 rows) ascend (key_ascend place x 0 rows) equal) ∙ some_id place x 0 rows) where
-      of_key : (n : ℕ) → (n < 4294967296) ⊎ (4294967296 ≤ n) → holds ids n ≡ is_open_with place x (slice_get rows n)
+      of_key : (n : ℕ) → (n < 4294967296) ⊎ (4294967296 ≤ n) → has_id ids n ≡ is_open_with place x (slice_get rows n)
       of_key n (inl l) = let low : nat_le 0 n ≡ true = grind (arith, nat_tests) in members n l ∙ (ap (λ v. v && has_spot spots x n) low ∙ stand x n)
       of_key n (inr l) = small n l ∙ ap (is_open_with place x) (sym (slice_get_past rows n (omega arith)))
 
-      equal : (n : ℕ) → holds ids n ≡ holds (key_ids place x 0 rows) n
-      equal n = of_key n (cases_lt n 4294967296) ∙ (sym (key_holds place x 0 rows n) ∙ (let q : 0 + n ≡ n = omega arith in ap (holds (key_ids place x 0 rows)) q))
+      equal : (n : ℕ) → has_id ids n ≡ has_id (key_ids place x 0 rows) n
+      equal n = of_key n (cases_lt n 4294967296) ∙ (sym (key_holds place x 0 rows n) ∙ (let q : 0 + n ≡ n = omega arith in ap (has_id (key_ids place x 0 rows)) q))
 
 -- A LINE OF A TABLE WITHOUT VALID TIME
 
-no_lines : (x : Cell) (earlier : List Said) → list_any (λ e. same_key e.key (Some x)) earlier ≡ false → periods_with (Some x) earlier ≡ []
+no_lines : (x : Cell) (earlier : List BatchLine) → list_any (λ e. same_key e.key (Some x)) earlier ≡ false → periods_with (Some x) earlier ≡ []
 no_lines x [] h = refl
 no_lines x (said ∷ earlier) h =
     let both = either_false (same_key said.key (Some x)) (list_any (λ e. same_key e.key (Some x)) earlier) h in
@@ -137,7 +137,7 @@ no_lines x (said ∷ earlier) h =
       key_sym (Some y) = same_cell-sym x y
 
 -- a line whose key no earlier line has touches the current rows of the key
-touched_keyed : (schema : plain.Schema) (rows : List plain.Row) (earlier : List Said) (s : Stroke) → schema.valid ≡ false → list_any (λ e. same_key e.key (Some s.key)) earlier ≡ false
+touched_keyed : (schema : plain.Schema) (rows : List plain.Row) (earlier : List BatchLine) (s : Stroke) → schema.valid ≡ false → list_any (λ e. same_key e.key (Some s.key)) earlier ≡ false
     → list_any (is_touched schema earlier (said_of s)) rows ≡ list_any (λ row. is_open_with schema.key s.key (Some row)) rows
 touched_keyed schema [] earlier s untimed first = refl
 touched_keyed schema (r ∷ rows) earlier s untimed first =
@@ -159,7 +159,7 @@ touched_keyed schema (r ∷ rows) earlier s untimed first =
 told_fault : (t a b c : Bool) (x y : BatchFault) → t ≡ false → cond (not t && a) (Some x) (cond (b && not c) (Some y) None) ≡ cond a (Some x) (cond (b && not c) (Some y) None)
 told_fault t a b c x y e = ap (λ v. cond (not v && a) (Some x) (cond (b && not c) (Some y) None)) e
 
-pub line_fault : (schema : plain.Schema) (removes among has : Bool) (rows : List plain.Row) (earlier : List Said) (s : Stroke) (rec : ℕ) (o : Option BatchFault) → schema.valid ≡ false
+pub line_fault : (schema : plain.Schema) (removes among has : Bool) (rows : List plain.Row) (earlier : List BatchLine) (s : Stroke) (rec : ℕ) (o : Option BatchFault) → schema.valid ≡ false
     → among ≡ list_any (λ e. same_key e.key (Some s.key)) earlier → has ≡ list_any (λ row. is_open_with schema.key s.key (Some row)) rows
     → o ≡ cond among (Some (fault.KeyTwice rec)) (cond (removes && not has) (Some (fault.NoRow rec)) None)
     → o ≡ fault_of schema removes rows earlier (said_of s) rec
@@ -202,7 +202,7 @@ fault_later schema removes rows strokes i s o all h at e g start =
     ∙ (ap (λ m. fault_from schema removes rows m (said_by (take i strokes) ++ said_of s ∷ []) (said_by (drop (i + 1) strokes))) number ∙ ap (λ ls. fault_from schema removes rows (i + 1 + 2) ls (said_by (drop (i + 1) strokes))) front))))
 
 -- a line that puts a row into a table with valid time has no fault
-pub never_fault : (schema : plain.Schema) (removes : Bool) (rows : List plain.Row) (rec : ℕ) (earlier lines : List Said) → schema.valid ≡ true → removes ≡ false → None ≡ fault_from schema removes rows rec earlier lines
+pub never_fault : (schema : plain.Schema) (removes : Bool) (rows : List plain.Row) (rec : ℕ) (earlier lines : List BatchLine) → schema.valid ≡ true → removes ≡ false → None ≡ fault_from schema removes rows rec earlier lines
 never_fault schema removes rows rec earlier [] valid puts = refl
 never_fault schema removes rows rec earlier (said ∷ lines) valid puts =
     never_fault schema removes rows (rec + 1) (earlier ++ said ∷ []) lines valid puts

@@ -6,7 +6,7 @@ use Rattle.std.specs.Map.{lookup}
 use Rattle.tl_types.specs.declared.cells.Cell.{Cell}
 use Rattle.tl_types.specs.Plain as plain
 use Rattle.tl_types.specs.History.{is_open, same_cell}
-use Rattle.tl_types.specs.Resolving.{Said, same_key}
+use Rattle.tl_types.specs.Resolving.{BatchLine, same_key}
 use Rattle.tl_batch.specs.Pieces.{part, periods_with, is_met}
 
 -- the moment is one of those from one on and before another
@@ -63,7 +63,7 @@ abbrev pub cover_at : Cell → List (Cell × List (ℤ × ℤ)) → List (ℤ ×
 cover_at x covers = stretches_or (lookup (same_cell x) covers)
 
 -- key by key, the covers have the moments of the lines and no others, and each period of a line has a moment
-pub record HoldLines (covers : List (Cell × List (ℤ × ℤ))) (lines : List Said) : Type 0 where
+pub record HoldLines (covers : List (Cell × List (ℤ × ℤ))) (lines : List BatchLine) : Type 0 where
   pub full : (x : Cell) → Full (periods_with (Some x) lines)
   pub same : (x : Cell) (t : ℤ) → is_covered t (cover_at x covers) ≡ list_any (is_in t) (periods_with (Some x) lines)
 
@@ -85,10 +85,10 @@ abbrev pub has_cell : List Cell → Cell → Bool
 has_cell keys x = list_any (same_cell x) keys
 
 -- a line has the key
-abbrev pub is_said : Option Cell → List Said → Bool
+abbrev pub is_said : Option Cell → List BatchLine → Bool
 is_said key lines = list_any (λ said. same_key key said.key) lines
 
 -- the row is there and current, its key is among those of the lines so far, and one of all lines meets it
-abbrev pub met_so_far : plain.Schema → List Said → List Said → Option plain.Row → Bool
+abbrev pub met_so_far : plain.Schema → List BatchLine → List BatchLine → Option plain.Row → Bool
 met_so_far schema lines front None = false
 met_so_far schema lines front (Some row) = is_open row && (is_said (slice_get row.cells schema.key) front && is_met schema lines row)

@@ -6,19 +6,19 @@ use Rattle.tl_types.specs.declared.batches.BatchFault.{BatchFault}
 use Rattle.tl_types.specs.declared.batches.BatchFault.TheVariants as fault
 use Rattle.tl_types.specs.Plain as plain
 use Rattle.tl_types.specs.History.{is_open}
-use Rattle.tl_types.specs.Resolving.{Said, same_key}
+use Rattle.tl_types.specs.Resolving.{BatchLine, same_key}
 use Rattle.tl_batch.specs.Covers.{Full, cover_at, is_covered, is_in, is_said}
 use Rattle.tl_batch.specs.Pieces.{meets, cuts, periods_with}
 
 -- the row is current, and the line meets a part that the earlier lines left of it
-abbrev pub is_touched : plain.Schema → List Said → Said → plain.Row → Bool
+abbrev pub is_touched : plain.Schema → List BatchLine → BatchLine → plain.Row → Bool
 is_touched schema earlier said row =
     is_open row && (same_key (slice_get row.cells schema.key) said.key
     && list_any (λ p. meets schema.valid said.period p) (cuts schema.valid (periods_with (slice_get row.cells schema.key) earlier) row.period))
 
 -- the first fault of lines from a record number on, behind the earlier ones: a key met twice in a table without
 -- valid time, then, where the lines remove, a line that touches no row
-abbrev pub fault_from : plain.Schema → Bool → List plain.Row → ℕ → List Said → List Said → Option BatchFault
+abbrev pub fault_from : plain.Schema → Bool → List plain.Row → ℕ → List BatchLine → List BatchLine → Option BatchFault
 fault_from schema removes rows rec earlier [] = None
 fault_from schema removes rows rec earlier (said ∷ lines) =
     if not schema.valid && list_any (λ e. same_key e.key said.key) earlier then Some (fault.KeyTwice rec)
@@ -26,7 +26,7 @@ fault_from schema removes rows rec earlier (said ∷ lines) =
     else fault_from schema removes rows (rec + 1) (earlier ++ said ∷ []) lines)
 
 -- the fault of one line with a record number, behind the earlier ones
-abbrev pub fault_of : plain.Schema → Bool → List plain.Row → List Said → Said → ℕ → Option BatchFault
+abbrev pub fault_of : plain.Schema → Bool → List plain.Row → List BatchLine → BatchLine → ℕ → Option BatchFault
 fault_of schema removes rows earlier said rec =
     if not schema.valid && list_any (λ e. same_key e.key said.key) earlier then Some (fault.KeyTwice rec)
     else (if removes && not (list_any (is_touched schema earlier said) rows) then Some (fault.NoRow rec) else None)
@@ -48,6 +48,6 @@ open_periods place x (row ∷ rows) = if is_open row && same_key (slice_get row.
 
 -- for the keys of the lines, the covers have the moments of the current rows and no others, and each such row has
 -- a moment
-pub record HoldRows (place : ℕ) (covers : List (Cell × List (ℤ × ℤ))) (lines : List Said) (rows : List plain.Row) : Type 0 where
+pub record HoldRows (place : ℕ) (covers : List (Cell × List (ℤ × ℤ))) (lines : List BatchLine) (rows : List plain.Row) : Type 0 where
   pub full : (x : Cell) → is_said (Some x) lines ≡ true → Full (open_periods place x rows)
   pub same : (x : Cell) (t : ℤ) → is_covered t (cover_at x covers) ≡ (is_said (Some x) lines && list_any (is_in t) (open_periods place x rows))

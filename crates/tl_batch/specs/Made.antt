@@ -10,12 +10,12 @@ use Rattle.tl_types.specs.declared.batches.BatchFault.TheVariants as fault
 use Rattle.tl_types.specs.declared.limits.Limits.{Limits}
 use Rattle.tl_types.specs.Plain as plain
 use Rattle.tl_types.specs.History.{matches}
-use Rattle.tl_types.specs.Resolving.{Said, find_table}
+use Rattle.tl_types.specs.Resolving.{BatchLine, find_table}
 use Rattle.tl_batch.specs.Pieces.{met_ids, old_pieces, put_pieces}
 use Rattle.tl_batch.specs.Faults.{fault_from}
 
 -- the change that lines make in the table with a number, by its rows
-abbrev pub change_by : ℕ → plain.Schema → List plain.Row → List Said → plain.Change
+abbrev pub change_by : ℕ → plain.Schema → List plain.Row → List BatchLine → plain.Change
 change_by number schema rows lines = record { table = number; closes = met_ids schema lines 0 rows; opens = old_pieces schema lines rows ++ put_pieces schema lines }
 
 -- the change of a table with so many rows, where no line has a fault and it leaves no more rows than the limit
@@ -24,7 +24,7 @@ unless_fault limit count change (Some f) = Err f
 unless_fault limit count change None = if nat_lt limit (count + length change.opens) then Err fault.RowsFull else Ok change
 
 -- the change that lines make in the table with a number, by its rows, or the first fault
-abbrev pub made_by : ℕ → ℕ → Bool → plain.Schema → List plain.Row → List Said → Result plain.Change BatchFault
+abbrev pub made_by : ℕ → ℕ → Bool → plain.Schema → List plain.Row → List BatchLine → Result plain.Change BatchFault
 made_by limit number removes schema rows lines = unless_fault limit (length rows) (change_by number schema rows lines) (fault_from schema removes rows 2 [] lines)
 
 -- the author's commit of the change

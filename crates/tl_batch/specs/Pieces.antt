@@ -5,7 +5,7 @@ use Rattle.std.specs.List.{flat_map, list_any}
 use Rattle.tl_types.specs.declared.cells.Cell.{Cell}
 use Rattle.tl_types.specs.Plain as plain
 use Rattle.tl_types.specs.History.{is_open}
-use Rattle.tl_types.specs.Resolving.{Said, overlap, same_key}
+use Rattle.tl_types.specs.Resolving.{BatchLine, overlap, same_key}
 
 -- a line meets a row of its key: always without valid time, and else where they have a part in common
 abbrev pub meets : Bool → Option plain.Period → Option plain.Period → Bool
@@ -31,16 +31,16 @@ cuts valid [] whole = whole ∷ []
 cuts valid (line ∷ lines) whole = flat_map (cuts valid lines) (cut valid line whole)
 
 -- the periods of the lines that have the key
-abbrev pub periods_with : Option Cell → List Said → List (Option plain.Period)
+abbrev pub periods_with : Option Cell → List BatchLine → List (Option plain.Period)
 periods_with key [] = []
 periods_with key (said ∷ lines) = if same_key key said.key then said.period ∷ periods_with key lines else periods_with key lines
 
 -- a line meets the row
-abbrev pub is_met : plain.Schema → List Said → plain.Row → Bool
+abbrev pub is_met : plain.Schema → List BatchLine → plain.Row → Bool
 is_met schema lines row = list_any (λ line. meets schema.valid line row.period) (periods_with (slice_get row.cells schema.key) lines)
 
 -- the ids of the current rows that a line meets, where the first row has this id
-abbrev pub met_ids : plain.Schema → List Said → ℕ → List plain.Row → List ℕ
+abbrev pub met_ids : plain.Schema → List BatchLine → ℕ → List plain.Row → List ℕ
 met_ids schema lines id [] = []
 met_ids schema lines id (row ∷ rows) =
     if is_open row && is_met schema lines row then id ∷ met_ids schema lines (id + 1) rows else met_ids schema lines (id + 1) rows
@@ -50,17 +50,17 @@ abbrev pub over : List Cell → List (Option plain.Period) → List plain.Opened
 over cells periods = map (λ p. record { cells = cells; period = p }) periods
 
 -- what the lines leave of a row, as rows to be opened
-abbrev pub row_pieces : plain.Schema → List Said → List Cell → Option plain.Period → List plain.Opened
+abbrev pub row_pieces : plain.Schema → List BatchLine → List Cell → Option plain.Period → List plain.Opened
 row_pieces schema lines cells period = over cells (cuts schema.valid (periods_with (slice_get cells schema.key) lines) period)
 
 -- what is left of the current rows that a line meets
-abbrev pub old_pieces : plain.Schema → List Said → List plain.Row → List plain.Opened
+abbrev pub old_pieces : plain.Schema → List BatchLine → List plain.Row → List plain.Opened
 old_pieces schema lines [] = []
 old_pieces schema lines (row ∷ rows) =
     if is_open row && is_met schema lines row then row_pieces schema lines row.cells row.period ++ old_pieces schema lines rows else old_pieces schema lines rows
 
 -- what is left of the rows that the lines put, each after the lines behind its own
-abbrev pub put_pieces : plain.Schema → List Said → List plain.Opened
+abbrev pub put_pieces : plain.Schema → List BatchLine → List plain.Opened
 put_pieces schema [] = []
 put_pieces schema (said ∷ lines) = of_row said.puts ++ put_pieces schema lines where
   of_row : Option plain.Opened → List plain.Opened
@@ -73,12 +73,12 @@ met_at valid line None = false
 met_at valid line (Some row) = meets valid line row.period
 
 -- the row is there and current, and a line meets it
-abbrev pub open_met : plain.Schema → List Said → Option plain.Row → Bool
+abbrev pub open_met : plain.Schema → List BatchLine → Option plain.Row → Bool
 open_met schema lines None = false
 open_met schema lines (Some row) = is_open row && is_met schema lines row
 
 -- what the lines leave of the row, where it is there
-abbrev pub pieces_at : plain.Schema → List Said → Option plain.Row → List plain.Opened
+abbrev pub pieces_at : plain.Schema → List BatchLine → Option plain.Row → List plain.Opened
 pieces_at schema lines None = []
 pieces_at schema lines (Some row) = row_pieces schema lines row.cells row.period
 

@@ -3,7 +3,7 @@ ghost use Rattle.std.specs.Prelude.{◌≡◌, ◌+◌, ◌++◌, ◌<◌, ◌^�
 ghost use Rattle.tl_types.specs.declared.cells.Cell.{Cell};
 ghost use Rattle.tl_types.specs.Facts.{AscendFrom};
 ghost use Rattle.tl_types.specs.History.{database_of, rows_of};
-ghost use Rattle.tl_types.specs.Resolving.{said_by_rows};
+ghost use Rattle.tl_types.specs.Resolving.{put_lines};
 ghost use Rattle.tl_batch.specs.Pieces.{met_ids, old_pieces, put_pieces};
 ghost use Rattle.tl_batch.specs.Spots.{has_spot};
 ghost use Rattle.tl_batch.specs.Standing.{IsTable, is_open_with};
@@ -76,8 +76,8 @@ pub(crate) fn put_by<L: Ledger>(
     requires same { said_by strokes.now ≡ map (said_by_row schema.now.key) lines.now }
     requires keyed { All (λ o. schema.now.key < length o.cells) lines.now }
     requires untimed { schema.now.valid ≡ false → All (λ o. o.period ≡ None) lines.now }
-    ensures closes { IfOk result (λ taken. taken.closes ≡ met_ids schema.now (said_by_rows schema.now lines.now) 0 (rows_of (database_of store.now) table)) }
-    ensures opens { IfOk result (λ taken. taken.opens.items ≡ old_pieces schema.now (said_by_rows schema.now lines.now) (rows_of (database_of store.now) table) ++ put_pieces schema.now (said_by_rows schema.now lines.now)) }
+    ensures closes { IfOk result (λ taken. taken.closes ≡ met_ids schema.now (put_lines schema.now lines.now) 0 (rows_of (database_of store.now) table)) }
+    ensures opens { IfOk result (λ taken. taken.opens.items ≡ old_pieces schema.now (put_lines schema.now lines.now) (rows_of (database_of store.now) table) ++ put_pieces schema.now (put_lines schema.now lines.now)) }
 {
     let places = places_of(alloc, strokes)?;
     let taken = taken_by(alloc, spots, store, table, schema, strokes, &places, steps)?;

@@ -4,7 +4,7 @@ ghost use Rattle.std.specs.List.{list_any};
 ghost use Rattle.tl_types.specs.declared.cells.Cell.{Cell};
 ghost use Rattle.tl_types.specs.Plain as plain;
 ghost use Rattle.tl_types.specs.History.{same_cell};
-ghost use Rattle.tl_types.specs.Resolving.{Said};
+ghost use Rattle.tl_types.specs.Resolving.{BatchLine};
 ghost use Rattle.tl_batch.specs.Covers.{Full, HoldLines, cover_at, is_covered, is_in, is_whole, same_period, stretches_or};
 ghost use Rattle.tl_batch.specs.Pieces.{cuts, meets, periods_with};
 ghost use Rattle.tl_batch.specs.Strokes.{said_by};
@@ -129,7 +129,7 @@ impl Covers {
     ) -> Result<Vec<Option<Period>>, NoMemory>
         ensures full { IfOk result (λ _. Full (whole.now ∷ [])) }
         ensures periods { IfOk result (λ left. (periods : List (Option plain.Period)) → Full periods → ((t : ℤ) → is_covered t (cover_at key.now self.now) ≡ list_any (is_in t) periods) → left.items ≡ cuts true periods whole.now) }
-        ensures lines { IfOk result (λ left. (lines : List Said) → HoldLines self.now lines → left.items ≡ cuts true (periods_with (Some key.now) lines) whole.now) }
+        ensures lines { IfOk result (λ left. (lines : List BatchLine) → HoldLines self.now lines → left.items ≡ cuts true (periods_with (Some key.now) lines) whole.now) }
     {
         let Some(period) = whole else {
             let mut left = Vec::new(alloc);
@@ -147,7 +147,7 @@ impl Covers {
         key: &Cell,
         whole: &Option<Period>,
     ) -> Result<bool, NoMemory>
-        ensures lines { IfOk result (λ met. (lines : List Said) → HoldLines self.now lines → met ≡ list_any (λ line. meets true line whole.now) (periods_with (Some key.now) lines)) }
+        ensures lines { IfOk result (λ met. (lines : List BatchLine) → HoldLines self.now lines → met ≡ list_any (λ line. meets true line whole.now) (periods_with (Some key.now) lines)) }
         ensures periods { IfOk result (λ met. (periods : List (Option plain.Period)) → Full periods → ((t : ℤ) → is_covered t (cover_at key.now self.now) ≡ list_any (is_in t) periods) → met ≡ list_any (λ line. meets true line whole.now) periods) }
     {
         let left = self.left(alloc, key, whole)?;
@@ -219,7 +219,7 @@ pub(crate) fn meets_left(
     key: &Cell,
     line: &Option<Period>,
 ) -> Result<bool, NoMemory>
-    ensures { IfOk result (λ met. (lines : List Said) (wholes : List (Option plain.Period)) → HoldLines earlier.now lines → Full wholes → ((t : ℤ) → is_covered t (cover_at key.now rows.now) ≡ list_any (is_in t) wholes) → met ≡ list_any (λ p. list_any (λ q. meets true line.now q) (cuts true (periods_with (Some key.now) lines) p)) wholes) }
+    ensures { IfOk result (λ met. (lines : List BatchLine) (wholes : List (Option plain.Period)) → HoldLines earlier.now lines → Full wholes → ((t : ℤ) → is_covered t (cover_at key.now rows.now) ≡ list_any (is_in t) wholes) → met ≡ list_any (λ p. list_any (λ q. meets true line.now q) (cuts true (periods_with (Some key.now) lines) p)) wholes) }
 {
     let parts = earlier.left(alloc, key, line)?;
     let met = meets_part(alloc, rows, key, &parts)?;

@@ -1,7 +1,7 @@
 //! Sets of ids.
 ghost use Rattle.std.specs.Prelude.{◌≡◌, ◌||◌, ◌==◌, ℕ, [], OnOk, IfOk, length, ◌<◌, ◌^◌};
 ghost use Rattle.tl_types.specs.Facts.{AscendFrom};
-ghost use Rattle.tl_types.specs.History.{holds};
+ghost use Rattle.tl_types.specs.History.{has_id};
 
 use std::alloc::Global;
 use std::collections::BTreeSet;
@@ -34,7 +34,7 @@ impl IdSet {
 
     /// Adds an id. The error is want of memory.
     pub(crate) fn add(&mut self, id: u32) -> Result<(), NoMemory>
-        ensures { OnOk result ((n : ℕ) → holds self.new n ≡ ((n == id) || holds self.old n)) }
+        ensures { OnOk result ((n : ℕ) → has_id self.new n ≡ ((n == id) || has_id self.old n)) }
     {
         self.ids.insert(id)?;
         Ok(())

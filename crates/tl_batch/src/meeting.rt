@@ -2,7 +2,7 @@
 ghost use Rattle.std.specs.Prelude.{◌≡◌, ◌<◌, ◌^◌, ◌&&◌, ◌||◌, ℕ, List, true, false, None, Some, All, OnOk, IfOk, length, slice_get, option_map};
 ghost use Rattle.tl_types.specs.declared.cells.Cell.{Cell};
 ghost use Rattle.tl_types.specs.Plain as plain;
-ghost use Rattle.tl_types.specs.History.{database_of, rows_of, holds};
+ghost use Rattle.tl_types.specs.History.{database_of, rows_of, has_id};
 ghost use Rattle.tl_store.specs.Reading.{row_of};
 ghost use Rattle.tl_batch.specs.Covers.{HoldLines};
 ghost use Rattle.tl_batch.specs.Pieces.{met_by, open_met, periods_with};
@@ -42,7 +42,7 @@ pub(crate) fn row_period<L: Ledger>(
 
 // Adds all of the rows.
 fn add_all(met: &mut IdSet, rows: &[u32]) -> Result<(), NoMemory>
-    ensures { OnOk result ((n : ℕ) → holds met.new n ≡ (holds rows.now n || holds met.old n)) }
+    ensures { OnOk result ((n : ℕ) → has_id met.new n ≡ (has_id rows.now n || has_id met.old n)) }
 {
     for row in rows {
         met.add(*row)?;
@@ -52,7 +52,7 @@ fn add_all(met: &mut IdSet, rows: &[u32]) -> Result<(), NoMemory>
 
 // The current rows that a line meets in a table without valid time: all rows of the lines' keys.
 fn met_by_each(alloc: Global, spots: &Spots, strokes: &[Stroke]) -> Result<IdSet, NoMemory>
-    ensures { IfOk result (λ met. (schema : plain.Schema) (rows : List plain.Row) → schema.valid ≡ false → length rows < 2 ^ 32 → ((x : Cell) (n : ℕ) → has_spot spots.now x n ≡ is_open_with schema.key x (slice_get rows n)) → (n : ℕ) → holds met n ≡ open_met schema (said_by strokes.now) (slice_get rows n)) }
+    ensures { IfOk result (λ met. (schema : plain.Schema) (rows : List plain.Row) → schema.valid ≡ false → length rows < 2 ^ 32 → ((x : Cell) (n : ℕ) → has_spot spots.now x n ≡ is_open_with schema.key x (slice_get rows n)) → (n : ℕ) → has_id met n ≡ open_met schema (said_by strokes.now) (slice_get rows n)) }
 {
     let mut met = IdSet::new(alloc);
     for stroke in strokes {
@@ -78,7 +78,7 @@ fn add_covered<L: Ledger>(
     requires known { IsTable (database_of store.now) table schema.now }
     requires held { HoldLines covers.now (said_by strokes.now) }
     requires rows { All (λ row. row < length (rows_of (database_of store.now) table)) rows.now }
-    ensures { OnOk result ((n : ℕ) → holds met.new n ≡ ((holds rows.now n && met_by true (periods_with (Some key.now) (said_by strokes.now)) (slice_get (rows_of (database_of store.now) table) n)) || holds met.old n)) }
+    ensures { OnOk result ((n : ℕ) → has_id met.new n ≡ ((has_id rows.now n && met_by true (periods_with (Some key.now) (said_by strokes.now)) (slice_get (rows_of (database_of store.now) table) n)) || has_id met.old n)) }
 {
     for row in rows {
         let whole = row_period(store, table, schema, *row, steps);
@@ -106,7 +106,7 @@ fn met_by_keys<L: Ledger>(
     requires held { HoldLines covers.now (said_by strokes.now) }
     requires few { length (rows_of (database_of store.now) table) < 2 ^ 32 }
     requires stand { (x : Cell) (n : ℕ) → has_spot spots.now x n ≡ is_open_with schema.now.key x (slice_get (rows_of (database_of store.now) table) n) }
-    ensures { IfOk result (λ met. (n : ℕ) → holds met n ≡ open_met schema.now (said_by strokes.now) (slice_get (rows_of (database_of store.now) table) n)) }
+    ensures { IfOk result (λ met. (n : ℕ) → has_id met n ≡ open_met schema.now (said_by strokes.now) (slice_get (rows_of (database_of store.now) table) n)) }
 {
     let mut met = IdSet::new(alloc);
     let mut seen = Seen::new(alloc);
@@ -146,7 +146,7 @@ pub(crate) fn met_rows<L: Ledger>(
     requires held { HoldLines covers.now (said_by strokes.now) }
     requires few { length (rows_of (database_of store.now) table) < 2 ^ 32 }
     requires stand { (x : Cell) (n : ℕ) → has_spot spots.now x n ≡ is_open_with schema.now.key x (slice_get (rows_of (database_of store.now) table) n) }
-    ensures { IfOk result (λ met. (n : ℕ) → holds met n ≡ open_met schema.now (said_by strokes.now) (slice_get (rows_of (database_of store.now) table) n)) }
+    ensures { IfOk result (λ met. (n : ℕ) → has_id met n ≡ open_met schema.now (said_by strokes.now) (slice_get (rows_of (database_of store.now) table) n)) }
 {
     if schema.valid() {
         let met = met_by_keys(alloc, spots, store, table, schema, strokes, covers, steps)?;

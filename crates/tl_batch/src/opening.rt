@@ -9,7 +9,7 @@ ghost use Rattle.tl_batch.specs.Pieces.{cuts, periods_with, over, pieces_at, row
 ghost use Rattle.tl_batch.specs.Spots.{has_spot};
 ghost use Rattle.tl_batch.specs.Standing.{IsTable};
 ghost use Rattle.tl_batch.specs.Strokes.{said_by, said_by_row, line_has};
-ghost use Rattle.tl_types.specs.Resolving.{Said, said_by_rows};
+ghost use Rattle.tl_types.specs.Resolving.{BatchLine, put_lines};
 
 use crate::covers::Covers;
 use crate::meeting::row_period;
@@ -189,7 +189,7 @@ fn push_puts(
     requires keyed { All (λ o. schema.now.key < length o.cells) lines.now }
     requires valid { schema.now.valid ≡ false }
     requires untimed { All (λ o. o.period ≡ None) lines.now }
-    ensures { OnOk result (opens.new.items ≡ opens.old.items ++ put_pieces schema.now (said_by_rows schema.now lines.now)) }
+    ensures { OnOk result (opens.new.items ≡ opens.old.items ++ put_pieces schema.now (put_lines schema.now lines.now)) }
 {
     for (i, line) in lines.iter().enumerate() {
         push_put(alloc, opens, schema, strokes, places, line, i as u32 + 1)?;
@@ -208,8 +208,8 @@ fn push_behind(
 ) -> Result<(), NoMemory>
     requires valid { schema.now.valid ≡ true }
     requires keyed { schema.now.key < length line.now.cells }
-    ensures back { OnOk result ((lines : List Said) → HoldLines covers.old lines → reverse back.new.items ≡ row_pieces schema.now lines line.now.cells line.now.period ++ reverse back.old.items) }
-    ensures held { OnOk result ((lines : List Said) → HoldLines covers.old lines → HoldLines covers.new (record { key = slice_get line.now.cells schema.now.key; period = line.now.period; puts = Some line.now } ∷ lines)) }
+    ensures back { OnOk result ((lines : List BatchLine) → HoldLines covers.old lines → reverse back.new.items ≡ row_pieces schema.now lines line.now.cells line.now.period ++ reverse back.old.items) }
+    ensures held { OnOk result ((lines : List BatchLine) → HoldLines covers.old lines → HoldLines covers.new (record { key = slice_get line.now.cells schema.now.key; period = line.now.period; puts = Some line.now } ∷ lines)) }
 {
     let cells = line.cells();
     let key = &cells[schema.key() as usize];
@@ -226,7 +226,7 @@ fn push_behind(
 fn pieces_behind(alloc: Global, schema: &Schema, lines: &[Opened]) -> Result<Vec<Opened>, NoMemory>
     requires valid { schema.now.valid ≡ true }
     requires keyed { All (λ o. schema.now.key < length o.cells) lines.now }
-    ensures { IfOk result (λ back. reverse back.items ≡ put_pieces schema.now (said_by_rows schema.now lines.now)) }
+    ensures { IfOk result (λ back. reverse back.items ≡ put_pieces schema.now (put_lines schema.now lines.now)) }
 {
     let mut covers = Covers::new(alloc);
     let mut back = Vec::new(alloc);
@@ -254,7 +254,7 @@ pub(crate) fn put_pieces(
     requires same { said_by strokes.now ≡ map (said_by_row schema.now.key) lines.now }
     requires keyed { All (λ o. schema.now.key < length o.cells) lines.now }
     requires untimed { schema.now.valid ≡ false → All (λ o. o.period ≡ None) lines.now }
-    ensures { OnOk result (opens.new.items ≡ opens.old.items ++ put_pieces schema.now (said_by_rows schema.now lines.now)) }
+    ensures { OnOk result (opens.new.items ≡ opens.old.items ++ put_pieces schema.now (put_lines schema.now lines.now)) }
 {
     if schema.valid() {
         let mut pieces = pieces_behind(alloc, schema, lines)?;

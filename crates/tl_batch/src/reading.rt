@@ -1,7 +1,7 @@
 //! Cells of a store's rows, as values of their own.
 ghost use Rattle.std.specs.Prelude.{◌≡◌, ◌+◌, ◌<◌, ◌&&◌, IfOk, Some, length, All, slice_get, ℕ};
 ghost use Rattle.tl_types.specs.declared.cells.Cell.{Cell};
-ghost use Rattle.tl_types.specs.History.{database_of, rows_of, holds};
+ghost use Rattle.tl_types.specs.History.{database_of, rows_of, has_id};
 ghost use Rattle.tl_store.specs.Reading.{columns_of, cell_of, cell_shown, IsShort};
 ghost use Rattle.tl_batch.specs.Spots.{has_spot};
 ghost use Rattle.tl_batch.specs.Standing.{has_key};
@@ -42,7 +42,7 @@ fn closing_from<L: Ledger>(
     requires some { 0 < blank.parts }
     requires rows { All (λ id. id < length (rows_of (database_of store.now) change.now.table)) change.now.closes }
     requires column { place < length (columns_of (database_of store.now) change.now.table) }
-    ensures { IfOk result (λ spots. (x : Cell) (n : ℕ) → has_spot spots.items x n ≡ (holds change.now.closes n && has_key place x (slice_get (rows_of (database_of store.now) change.now.table) n))) }
+    ensures { IfOk result (λ spots. (x : Cell) (n : ℕ) → has_spot spots.items x n ≡ (has_id change.now.closes n && has_key place x (slice_get (rows_of (database_of store.now) change.now.table) n))) }
 {
     let mut steps = Steps::<L>::new(blank);
     let mut spots = Vec::new(alloc);
@@ -63,7 +63,7 @@ pub(crate) fn closing_spots(
 ) -> Result<Vec<Spot>, NoMemory>
     requires rows { All (λ id. id < length (rows_of (database_of store.now) change.now.table)) change.now.closes }
     requires column { place < length (columns_of (database_of store.now) change.now.table) }
-    ensures { IfOk result (λ spots. (x : Cell) (n : ℕ) → has_spot spots.items x n ≡ (holds change.now.closes n && has_key place x (slice_get (rows_of (database_of store.now) change.now.table) n))) }
+    ensures { IfOk result (λ spots. (x : Cell) (n : ℕ) → has_spot spots.items x n ≡ (has_id change.now.closes n && has_key place x (slice_get (rows_of (database_of store.now) change.now.table) n))) }
 {
     closing_from::<Brand>(alloc, store, change, place, Blank::new(1))
 }

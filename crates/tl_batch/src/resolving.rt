@@ -6,7 +6,7 @@ ghost use Rattle.tl_types.specs.declared.batches.Batch.TheVariants as batch;
 ghost use Rattle.tl_types.specs.declared.batches.BatchFault.TheVariants as fault;
 ghost use Rattle.tl_types.specs.Facts.{AscendFrom};
 ghost use Rattle.tl_types.specs.History.{database_of, fits, has_name, matches, rows_of};
-ghost use Rattle.tl_types.specs.Resolving.{find_table, resolved, said_by_keys, said_by_rows};
+ghost use Rattle.tl_types.specs.Resolving.{find_table, resolved, removal_lines, put_lines};
 ghost use Rattle.tl_batch.specs.Made.{unless_fault, made_by, committed, rows_fit_found};
 ghost use Rattle.tl_batch.specs.Spots.{has_spot};
 ghost use Rattle.tl_batch.specs.Standing.{IsTable, StandFor, is_open_with};
@@ -108,7 +108,7 @@ fn put_change<L: Ledger>(
     requires stand { (x : Cell) (n : ℕ) → has_spot spots.now x n ≡ is_open_with schema.now.key x (slice_get (rows_of (database_of store.now) table) n) }
     requires few { length lines.now + 1 < 2 ^ 32 }
     requires matching { IsTrue (list_all (matches schema.now) lines.now) }
-    ensures { IfOk result (λ made. made ≡ made_by limit table false schema.now (rows_of (database_of store.now) table) (said_by_rows schema.now lines.now)) }
+    ensures { IfOk result (λ made. made ≡ made_by limit table false schema.now (rows_of (database_of store.now) table) (put_lines schema.now lines.now)) }
 {
     let rows = store.rows(table);
     let mut steps = Steps::<L>::new(blank);
@@ -143,7 +143,7 @@ fn remove_change<L: Ledger>(
     requires known { IsTable (database_of store.now) table schema.now }
     requires stand { (x : Cell) (n : ℕ) → has_spot spots.now x n ≡ is_open_with schema.now.key x (slice_get (rows_of (database_of store.now) table) n) }
     requires few { length lines.now + 1 < 2 ^ 32 }
-    ensures { IfOk result (λ made. made ≡ made_by limit table true schema.now (rows_of (database_of store.now) table) (said_by_keys lines.now)) }
+    ensures { IfOk result (λ made. made ≡ made_by limit table true schema.now (rows_of (database_of store.now) table) (removal_lines lines.now)) }
 {
     let rows = store.rows(table);
     let mut steps = Steps::<L>::new(blank);
@@ -175,7 +175,7 @@ fn rows_change(
     requires there { table < length (database_of store.now).tables }
     requires few { length lines.now + 1 < 2 ^ 32 }
     requires matching { IfSome (slice_get (database_of store.now).tables table) (λ t. IsTrue (list_all (matches t.schema) lines.now)) }
-    ensures { IfOk result (λ made. Some made ≡ option_map (λ t. made_by limit table false t.schema t.rows (said_by_rows t.schema lines.now)) (slice_get (database_of store.now).tables table)) }
+    ensures { IfOk result (λ made. Some made ≡ option_map (λ t. made_by limit table false t.schema t.rows (put_lines t.schema lines.now)) (slice_get (database_of store.now).tables table)) }
 {
     let schema = store.schema(table);
     let spots = &tables[table as usize];
@@ -204,7 +204,7 @@ fn keys_change(
     requires stands { StandFor tables.now (database_of store.now) }
     requires there { table < length (database_of store.now).tables }
     requires few { length lines.now + 1 < 2 ^ 32 }
-    ensures { IfOk result (λ made. Some made ≡ option_map (λ t. made_by limit table true t.schema t.rows (said_by_keys lines.now)) (slice_get (database_of store.now).tables table)) }
+    ensures { IfOk result (λ made. Some made ≡ option_map (λ t. made_by limit table true t.schema t.rows (removal_lines lines.now)) (slice_get (database_of store.now).tables table)) }
 {
     let schema = store.schema(table);
     let spots = &tables[table as usize];

@@ -2,7 +2,7 @@
 ghost use Rattle.std.specs.Prelude.{◌≡◌, ◌||◌, ◌&&◌, not, ℕ, [], false, IfOk, OnOk, OnErr, nat_le, nat_lt, ◌==◌, ◌<◌, ◌≤◌, ◌+◌, ◌^◌, length, All};
 ghost use Rattle.tl_types.specs.declared.cells.Cell.{Cell};
 ghost use Rattle.tl_types.specs.Facts.{AscendFrom};
-ghost use Rattle.tl_types.specs.History.{holds, same_cell};
+ghost use Rattle.tl_types.specs.History.{has_id, same_cell};
 ghost use Rattle.tl_batch.specs.Spots.{has_spot};
 ghost use Rattle.tl_batch.specs.Standing.{opens_with};
 
@@ -69,8 +69,8 @@ impl Spots {
     /// The numbers of a key, from one on, ascending. The error is want of memory.
     pub(crate) fn ids(&self, alloc: Global, key: &Cell, first: u32) -> Result<Vec<u32>, NoMemory>
         ensures ascending { IfOk result (λ ids. AscendFrom first ids.items) }
-        ensures members { IfOk result (λ ids. (n : ℕ) → n < 2 ^ 32 → holds ids.items n ≡ (nat_le first n && has_spot self.now key.now n)) }
-        ensures small { IfOk result (λ ids. (n : ℕ) → 2 ^ 32 ≤ n → holds ids.items n ≡ false) }
+        ensures members { IfOk result (λ ids. (n : ℕ) → n < 2 ^ 32 → has_id ids.items n ≡ (nat_le first n && has_spot self.now key.now n)) }
+        ensures small { IfOk result (λ ids. (n : ℕ) → 2 ^ 32 ≤ n → has_id ids.items n ≡ false) }
     {
         let low = Spot {
             key: key.clone()?,

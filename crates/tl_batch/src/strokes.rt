@@ -1,7 +1,7 @@
 //! The keys and periods of the lines of a batch, and which lines have a key.
 ghost use Rattle.std.specs.Prelude.{◌≡◌, ◌+◌, ◌<◌, ◌≤◌, ◌^◌, Some, ℕ, All, IfOk, length, map, slice_get, drop};
 ghost use Rattle.tl_types.specs.declared.cells.Cell.{Cell};
-ghost use Rattle.tl_types.specs.Resolving.{said_by_keys};
+ghost use Rattle.tl_types.specs.Resolving.{removal_lines};
 ghost use Rattle.tl_batch.specs.Pieces.{periods_with};
 ghost use Rattle.tl_batch.specs.Spots.{has_spot};
 ghost use Rattle.tl_batch.specs.Strokes.{said_by, said_by_row, line_has, period_at};
@@ -37,7 +37,7 @@ pub(crate) fn strokes_of_rows(
 
 /// The keys and periods of the lines of a removal. The error is want of memory.
 pub(crate) fn strokes_of_keys(alloc: Global, lines: &[KeyLine]) -> Result<Vec<Stroke>, NoMemory>
-    ensures { IfOk result (λ strokes. said_by strokes.items ≡ said_by_keys lines.now) }
+    ensures { IfOk result (λ strokes. said_by strokes.items ≡ removal_lines lines.now) }
 {
     let mut strokes = Vec::new(alloc);
     for line in lines {

@@ -4,7 +4,7 @@ use mathlib.Core.Path.{fun_ext}
 use Rattle.std.proofs.lemmas.List.Elements.{filter_agree}
 use Rattle.std.specs.List.{enumerate_from, filter, flat_map}
 use Rattle.tl_types.specs.declared.cells.Cell.{Cell}
-use Rattle.tl_types.specs.History.{is_visible, rows_of, is_within, numbered}
+use Rattle.tl_types.specs.History.{is_visible, rows_of, is_within, with_ids}
 use Rattle.tl_types.specs.Plain as plain
 use Rattle.tl_query.specs.declared.forms.AggKind.{AggKind}
 use Rattle.tl_query.specs.declared.plans.Span.{Span}
@@ -45,7 +45,7 @@ passing_is db table pred (span.System from to) (pos version) =
 passing_is db table pred (span.System from to) (negsuc n) = sym (filter_none (there pred (span.System from to) (negsuc n)) (rows_of db table) (λ row. refl))
 passing_is db table pred (span.Valid version from to) moment =
     let rows = rows_of db table in
-    let seen = filter_twice (λ (r : ℕ × plain.Row). is_visible version r.1) (λ (r : ℕ × plain.Row). is_within moment r.1.period) (numbered rows) in
+    let seen = filter_twice (λ (r : ℕ × plain.Row). is_visible version r.1) (λ (r : ℕ × plain.Row). is_within moment r.1.period) (with_ids rows) in
     let bare = rows_bare (λ row. is_visible version row && is_within moment row.period) 0 rows in
     let both = filter_twice (λ (row : plain.Row). is_visible version row && is_within moment row.period) (passes pred) rows in
     let same = filter_agree (λ (row : plain.Row). is_visible version row && is_within moment row.period && passes pred row) (there pred (span.Valid version from to) moment) (λ row. ap (λ b. b && passes pred row) (valid_within version moment row)) rows in

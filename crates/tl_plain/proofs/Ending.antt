@@ -3,34 +3,34 @@ use Rattle.std.proofs.Common.{◌≡◌, ℕ, zero, suc, ◌+◌, ◌<◌, ◌�
 use Rattle.std.proofs.lemmas.Bool.Decides.{nat_tests}
 use Rattle.std.proofs.lemmas.List.Sums.{AllPass-from_list_all}
 use Rattle.std.specs.List.{enumerate_from, list_all}
-use Rattle.tl_types.specs.History.{begun, ended, holds, is_open_at}
+use Rattle.tl_types.specs.History.{new_row, row_after, has_id, is_open_at}
 use Rattle.tl_types.specs.Plain as plain
 
 -- the rows from an id on, ended where their ids are among these
 abbrev pub ends : ℕ → List ℕ → ℕ → List plain.Row → List plain.Row
-ends version ids n rows = map (ended version ids) (enumerate_from n rows)
+ends version ids n rows = map (row_after version ids) (enumerate_from n rows)
 
-pub holds-push : (ids : List ℕ) (id x : ℕ) → holds (ids ++ id ∷ []) x ≡ (holds ids x || nat_eq id x)
+pub holds-push : (ids : List ℕ) (id x : ℕ) → has_id (ids ++ id ∷ []) x ≡ (has_id ids x || nat_eq id x)
 holds-push [] id x = elim (nat_eq id x) as (λ b. (b || false) ≡ (false || b)) [ true ↦ refl | false ↦ refl ]
-holds-push (y ∷ ids) id x = elim (nat_eq y x) as (λ b. (b || holds (ids ++ id ∷ []) x) ≡ ((b || holds ids x) || nat_eq id x)) [ true ↦ refl | false ↦ holds-push ids id x ]
+holds-push (y ∷ ids) id x = elim (nat_eq y x) as (λ b. (b || has_id (ids ++ id ∷ []) x) ≡ ((b || has_id ids x) || nat_eq id x)) [ true ↦ refl | false ↦ holds-push ids id x ]
 
-pub ended_other : (version : ℕ) (ids : List ℕ) (id n : ℕ) (row : plain.Row) → nat_eq id n ≡ false → ended version (ids ++ id ∷ []) (n, row) ≡ ended version ids (n, row)
+pub ended_other : (version : ℕ) (ids : List ℕ) (id n : ℕ) (row : plain.Row) → nat_eq id n ≡ false → row_after version (ids ++ id ∷ []) (n, row) ≡ row_after version ids (n, row)
 ended_other version ids id n row e =
-    let P : Bool → Type 0 = λ b. cond (holds (ids ++ id ∷ []) n) (record row { to = version }) row ≡ cond b (record row { to = version }) row in
+    let P : Bool → Type 0 = λ b. cond (has_id (ids ++ id ∷ []) n) (record row { to = version }) row ≡ cond b (record row { to = version }) row in
     let or_false : (b : Bool) → (b || false) ≡ b = λ b. elim b as (λ v. (v || false) ≡ v) [ true ↦ refl | false ↦ refl ] in
-    subst P (holds-push ids id n ∙ ap (λ b. holds ids n || b) e ∙ or_false (holds ids n)) refl
+    subst P (holds-push ids id n ∙ ap (λ b. has_id ids n || b) e ∙ or_false (has_id ids n)) refl
 
-pub ended_same : (version : ℕ) (ids : List ℕ) (id n : ℕ) (row : plain.Row) → id ≡ n → ended version (ids ++ id ∷ []) (n, row) ≡ record row { to = version }
+pub ended_same : (version : ℕ) (ids : List ℕ) (id n : ℕ) (row : plain.Row) → id ≡ n → row_after version (ids ++ id ∷ []) (n, row) ≡ record row { to = version }
 ended_same version ids id n row e =
     let P : Bool → Type 0 = λ b. cond b (record row { to = version }) row ≡ record row { to = version } in
     let same : nat_eq id n ≡ true = grind (arith, nat_tests) in
     let or_true : (b : Bool) → (b || true) ≡ true = λ b. elim b as (λ v. (v || true) ≡ true) [ true ↦ refl | false ↦ refl ] in
-    subst P (sym (holds-push ids id n ∙ ap (λ b. holds ids n || b) same ∙ or_true (holds ids n))) refl
+    subst P (sym (holds-push ids id n ∙ ap (λ b. has_id ids n || b) same ∙ or_true (has_id ids n))) refl
 
-pub ended_twice : (version : ℕ) (ids : List ℕ) (n : ℕ) (row r : plain.Row) → r ≡ ended version ids (n, row) → record r { to = version } ≡ record row { to = version }
+pub ended_twice : (version : ℕ) (ids : List ℕ) (n : ℕ) (row r : plain.Row) → r ≡ row_after version ids (n, row) → record r { to = version } ≡ record row { to = version }
 ended_twice version ids n row r e =
     let P : plain.Row → Type 0 = λ x. record x { to = version } ≡ record row { to = version } in
-    subst P (sym e) (elim (holds ids n) as (λ b. record (cond b (record row { to = version }) row) { to = version } ≡ record row { to = version }) [ true ↦ refl | false ↦ refl ])
+    subst P (sym e) (elim (has_id ids n) as (λ b. record (cond b (record row { to = version }) row) { to = version } ≡ record row { to = version }) [ true ↦ refl | false ↦ refl ])
 
 pub ends_none : (version n : ℕ) (rows : List plain.Row) → ends version [] n rows ≡ rows
 ends_none version n [] = refl
@@ -64,7 +64,7 @@ ends-append version ids n (x ∷ xs) ys =
     let tail = ends-append version ids (n + 1) xs ys in
     cc
 
-pub holds_past : (ids : List ℕ) (n x : ℕ) → All (λ id. id < n) ids → n ≤ x → holds ids x ≡ false
+pub holds_past : (ids : List ℕ) (n x : ℕ) → All (λ id. id < n) ids → n ≤ x → has_id ids x ≡ false
 holds_past [] n x small h = refl
 holds_past (id ∷ ids) n x small h =
     let below : id < n = small 0 id (omega arith) in
@@ -95,7 +95,7 @@ pub open_ids_within : (rows : List plain.Row) (ids : List ℕ) → list_all (is_
 open_ids_within rows ids h = λ k d l. open_within rows (get_or ids k d) (AllPass-from_list_all (is_open_at rows) ids h k d l)
 
 -- closed rows and new rows stand in one list before the closed ones end
-pub change_is : (version : ℕ) (ids closes : List ℕ) (rows grown new opened : List plain.Row) (opens given : List plain.Opened) → new ≡ map (ended version ids) (enumerate_from 0 grown) → grown ≡ rows ++ opened → opened ≡ map (begun version) given → given ≡ opens → ids ≡ closes → All (λ id. id < length rows) closes → new ≡ map (ended version closes) (enumerate_from 0 rows) ++ map (begun version) opens
+pub change_is : (version : ℕ) (ids closes : List ℕ) (rows grown new opened : List plain.Row) (opens given : List plain.Opened) → new ≡ map (row_after version ids) (enumerate_from 0 grown) → grown ≡ rows ++ opened → opened ≡ map (new_row version) given → given ≡ opens → ids ≡ closes → All (λ id. id < length rows) closes → new ≡ map (row_after version closes) (enumerate_from 0 rows) ++ map (new_row version) opens
 change_is version ids closes rows grown new opened opens given a d e f g small =
-    let front = ends_front version closes rows (map (begun version) opens) small in
+    let front = ends_front version closes rows (map (new_row version) opens) small in
     cc

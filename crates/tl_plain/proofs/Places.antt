@@ -1,7 +1,7 @@
 -- A table at its place among the others.
 use Rattle.std.proofs.Common.{◌≡◌, ℕ, zero, suc, ◌+◌, ◌<◌, ◌≤◌, ◌^◌, Bool, true, false, cond, leb, List, [], ◌∷◌, ◌++◌, length, map, length-append, get_or, set, All, ◌&&◌, Some, option_map, refl, sym, ap, arith, slice_get}
 use Rattle.std.specs.List.{position_from, list_all}
-use Rattle.tl_types.specs.History.{at_place, matches, is_open_at, is_open, has_name, fits_table, ended, begun, numbered}
+use Rattle.tl_types.specs.History.{at_place, matches, is_open_at, is_open, has_name, fits_table, row_after, new_row, with_ids}
 use Rattle.tl_types.specs.Limits.{standard_limits}
 use Rattle.std.proofs.lemmas.List.{length-map}
 use Rattle.std.proofs.lemmas.List.FromFn.{length-enumerate_from}
@@ -50,13 +50,13 @@ and_right false b h = absurd cc
 pub closes_within : (limits : Limits) (change : plain.Change) (table : plain.Table) (rows : List plain.Row) → fits_table limits change (Some table) ≡ true → rows ≡ table.rows → All (λ id. id < length rows) change.closes
 closes_within limits change table rows h e = rw e (open_ids_within table.rows change.closes (and_left _ _ (and_left _ _ h)))
 
-pub few_after : (version : ℕ) (change : plain.Change) (table : plain.Table) (rows : List plain.Row) → fits_table standard_limits change (Some table) ≡ true → rows ≡ map (ended version change.closes) (numbered table.rows) ++ map (begun version) change.opens → length rows < 2 ^ 32
+pub few_after : (version : ℕ) (change : plain.Change) (table : plain.Table) (rows : List plain.Row) → fits_table standard_limits change (Some table) ≡ true → rows ≡ map (row_after version change.closes) (with_ids table.rows) ++ map (new_row version) change.opens → length rows < 2 ^ 32
 few_after version change table rows h e =
     let few : length table.rows + length change.opens ≤ 16777216 = leb-true (length table.rows + length change.opens) 16777216 (and_right (list_all (is_open_at table.rows) change.closes && list_all (matches table.schema) change.opens) (leb (length table.rows + length change.opens) 16777216) h) in
-    let ended_rows = length-map (numbered table.rows) (ended version change.closes) in
+    let ended_rows = length-map (with_ids table.rows) (row_after version change.closes) in
     let same = length-enumerate_from 0 table.rows in
-    let begun_rows = length-map change.opens (begun version) in
-    let whole = length-append (map (ended version change.closes) (numbered table.rows)) (map (begun version) change.opens) in
+    let begun_rows = length-map change.opens (new_row version) in
+    let whole = length-append (map (row_after version change.closes) (with_ids table.rows)) (map (new_row version) change.opens) in
     rw e (omega arith)
 
 pub table_within : (limits : Limits) (change : plain.Change) (tables : List plain.Table) (i : ℕ) → fits_table limits change (slice_get tables i) ≡ true → i < length tables

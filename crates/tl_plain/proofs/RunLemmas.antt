@@ -5,8 +5,8 @@ use Rattle.std.proofs.lemmas.Int.{ints}
 use Rattle.tl_types.specs.declared.answers.Field.{Field}
 use Rattle.tl_types.specs.declared.answers.Field.TheVariants as field
 use Rattle.tl_types.specs.declared.runs.Run.{Run}
-use Rattle.tl_query.specs.Fields.{same_field}
-use Rattle.tl_query.specs.Runs.{add_stretch, stretch_of, runs_over, count_of, runs_of}
+use Rattle.tl_types.specs.Runs.{same_field}
+use Rattle.tl_types.specs.Runs.{add_stretch, stretch_of, runs_over, count_of, runs_of}
 use Rattle.tl_plain.specs.Stretching.{ends_with_value}
 
 pub same_field-refl : (x : Field) → same_field x x ≡ true

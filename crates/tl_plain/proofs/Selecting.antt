@@ -3,7 +3,7 @@ use Rattle.std.proofs.Common.{◌≡◌, ℕ, ℤ, ◌+◌, ◌<◌, Bool, true,
 use Rattle.std.proofs.lemmas.List.{take_more, map-append, append-nil}
 use Rattle.std.proofs.lemmas.List.Elements.{filter-append, filter_agree}
 use Rattle.std.specs.List.{enumerate_from, filter}
-use Rattle.tl_types.specs.History.{is_visible, rows_of, is_within, numbered}
+use Rattle.tl_types.specs.History.{is_visible, rows_of, is_within, with_ids}
 use Rattle.tl_types.specs.Plain as plain
 use Rattle.tl_query.specs.declared.plans.TypedItem.{TypedItem}
 use Rattle.tl_query.specs.declared.plans.TypedPred.{TypedPred}
@@ -50,13 +50,13 @@ and_true false = refl
 pub selected_plain : (db : plain.Database) (table : ℕ) (items : List TypedItem) (pred : TypedPred) (valid_at : Option ℤ) (version : ℕ) → map (row_fields items) (filter (is_selected pred valid_at version) (rows_of db table)) ≡ selected db table items pred valid_at version
 selected_plain db table items pred None version =
     let rows = rows_of db table in
-    let both = filter_twice (λ (r : ℕ × plain.Row). is_visible version r.1) (λ (r : ℕ × plain.Row). passes pred r.1) (numbered rows) in
+    let both = filter_twice (λ (r : ℕ × plain.Row). is_visible version r.1) (λ (r : ℕ × plain.Row). passes pred r.1) (with_ids rows) in
     let bare = without_ids (row_fields items) (λ row. is_visible version row && passes pred row) 0 rows in
     let same = filter_agree (is_selected pred None version) (λ (row : plain.Row). is_visible version row && passes pred row) (λ row. ap (λ b. b && passes pred row) (and_true (is_visible version row))) rows in
     ap (map (row_fields items)) same ∙ sym bare ∙ sym (ap (map (λ (r : ℕ × plain.Row). row_fields items r.1)) both)
 selected_plain db table items pred (Some moment) version =
     let rows = rows_of db table in
-    let seen = filter_twice (λ (r : ℕ × plain.Row). is_visible version r.1) (λ (r : ℕ × plain.Row). is_within moment r.1.period) (numbered rows) in
-    let both = filter_twice (λ (r : ℕ × plain.Row). is_visible version r.1 && is_within moment r.1.period) (λ (r : ℕ × plain.Row). passes pred r.1) (numbered rows) in
+    let seen = filter_twice (λ (r : ℕ × plain.Row). is_visible version r.1) (λ (r : ℕ × plain.Row). is_within moment r.1.period) (with_ids rows) in
+    let both = filter_twice (λ (r : ℕ × plain.Row). is_visible version r.1 && is_within moment r.1.period) (λ (r : ℕ × plain.Row). passes pred r.1) (with_ids rows) in
     let bare = without_ids (row_fields items) (is_selected pred (Some moment) version) 0 rows in
     sym bare ∙ sym (ap (λ rs. map (λ (r : ℕ × plain.Row). row_fields items r.1) (filter (λ (r : ℕ × plain.Row). passes pred r.1) rs)) seen ∙ ap (map (λ (r : ℕ × plain.Row). row_fields items r.1)) both)

@@ -19,7 +19,7 @@ use Rattle.tl_query.specs.declared.plans.Typed.{Typed}
 use Rattle.tl_query.specs.declared.plans.Typed.TheVariants as typed
 use Rattle.tl_query.specs.declared.plans.TypedItem.TheVariants as item
 use Rattle.tl_query.specs.declared.plans.TypedPred.{TypedPred}
-use Rattle.tl_query.specs.Runs.{runs_over, runs_of, add_stretch, stretch_of}
+use Rattle.tl_types.specs.Runs.{runs_over, runs_of, add_stretch, stretch_of}
 use Rattle.tl_query.specs.Aggregates.{aggregate_of, passing_at, aggregate_runs}
 use Rattle.tl_query.specs.Joins.{joined_pairs}
 use Rattle.tl_query.specs.TypedFor.{is_typed_for}

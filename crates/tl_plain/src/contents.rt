@@ -1,6 +1,6 @@
 //! One table.
 ghost use Rattle.std.specs.Prelude.{◌≡◌, ◌<◌, ◌^◌, IsTrue, OnOk, OnErr, Some, length};
-ghost use Rattle.tl_types.specs.History.{fits_table, changed, new_table, has_name};
+ghost use Rattle.tl_types.specs.History.{fits_table, table_after, new_table, has_name};
 ghost use Rattle.tl_types.specs.Limits.{standard_limits};
 ghost use Rattle.tl_types.specs.Plain as plain;
 
@@ -77,7 +77,7 @@ impl Table {
     /// Applies the change of a version. The error is want of memory, and leaves the table as it was.
     pub fn change(&mut self, alloc: Global, version: u32, change: &Change) -> Result<(), NoMemory>
         requires { IsTrue (fits_table standard_limits change.now (Some self.old)) }
-        ensures ok { OnOk result (self.new ≡ changed version change.now self.old) }
+        ensures ok { OnOk result (self.new ≡ table_after version change.now self.old) }
         ensures err { OnErr result (self.new ≡ self.old) }
     {
         rows::change_all(alloc, version, change, &mut self.rows)?;

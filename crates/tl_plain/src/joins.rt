@@ -1,7 +1,7 @@
 //! Answers to questions for the pairs of rows that hold at one time.
 ghost use Rattle.std.specs.Prelude.{◌≡◌, ◌++◌, ◌≤◌, ◌<◌, ◌^◌, length, map, insert, IfOk, OnOk};
 ghost use Rattle.std.specs.List.{filter_map};
-ghost use Rattle.tl_types.specs.History.{numbered, cell_at};
+ghost use Rattle.tl_types.specs.History.{with_ids, cell_at};
 ghost use Rattle.tl_query.specs.Fields.{cell_field};
 ghost use Rattle.tl_types.specs.Resolving.{same_key};
 ghost use Rattle.tl_query.specs.Ordered.{pair_before, inserted};
@@ -139,7 +139,7 @@ fn insert_pair(pairs: &mut Vec<Pair>, pair: Pair) -> Result<(), NoMemory>
 /// Puts the pairs of one left row in their places. The error is want of memory.
 fn add_pairs(pairs: &mut Vec<Pair>, sides: &Sides, left_id: u32, left: &Row) -> Result<(), NoMemory>
     requires { length sides.now.rights.now < 2 ^ 32 }
-    ensures { OnOk result (pairs.new.items ≡ with_pairs pairs.old.items (filter_map (pair_on sides.now (left_id, left.now)) (numbered sides.now.rights.now))) }
+    ensures { OnOk result (pairs.new.items ≡ with_pairs pairs.old.items (filter_map (pair_on sides.now (left_id, left.now)) (with_ids sides.now.rights.now))) }
 {
     for (right_id, right) in sides.rights.iter().enumerate() {
         if let Some(pair) = pair_of(sides, left_id, left, right_id as u32, right) {

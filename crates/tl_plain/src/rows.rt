@@ -1,6 +1,6 @@
 //! Rows.
 ghost use Rattle.std.specs.Prelude.{◌≡◌, ◌<◌, ◌++◌, IfOk, OnOk, OnErr, length, map, All};
-ghost use Rattle.tl_types.specs.History.{begun, ended, numbered, is_open, is_visible};
+ghost use Rattle.tl_types.specs.History.{new_row, row_after, with_ids, is_open, is_visible};
 ghost use Rattle.tl_types.specs.Plain as plain;
 
 use std::alloc::Global;
@@ -79,7 +79,7 @@ impl Row {
 
 /// The row that begins at a version as a commit opens it. The error is want of memory.
 fn begin(alloc: Global, version: u32, opened: &Opened) -> Result<Row, NoMemory>
-    ensures { IfOk result (λ r. r ≡ begun version opened.now) }
+    ensures { IfOk result (λ r. r ≡ new_row version opened.now) }
 {
     Ok(Row {
         cells: Seq::from_vec(opened.cells().to_vec(alloc)?),
@@ -91,7 +91,7 @@ fn begin(alloc: Global, version: u32, opened: &Opened) -> Result<Row, NoMemory>
 
 /// The rows that begin at a version, in order. The error is want of memory.
 fn begin_all(alloc: Global, version: u32, opens: &[Opened]) -> Result<Vec<Row>, NoMemory>
-    ensures { IfOk result (λ rows. rows.items ≡ map (begun version) opens.now) }
+    ensures { IfOk result (λ rows. rows.items ≡ map (new_row version) opens.now) }
 {
     let mut rows = Vec::with_capacity(alloc, opens.len())?;
     for opened in opens {
@@ -103,7 +103,7 @@ fn begin_all(alloc: Global, version: u32, opens: &[Opened]) -> Result<Vec<Row>, 
 /// Ends the rows with these ids at a version.
 fn end_all(rows: &mut Vec<Row>, version: u32, ids: &[u32])
     requires { All (λ id. id < length rows.old.items) ids.now }
-    ensures { rows.new.items ≡ map (ended version ids.now) (numbered rows.old.items) }
+    ensures { rows.new.items ≡ map (row_after version ids.now) (with_ids rows.old.items) }
 {
     for id in ids {
         rows[*id as usize].end(version);
@@ -119,7 +119,7 @@ pub(crate) fn change_all(
     rows: &mut Vec<Row>,
 ) -> Result<(), NoMemory>
     requires { All (λ id. id < length rows.old.items) change.now.closes }
-    ensures ok { OnOk result (rows.new.items ≡ map (ended version change.now.closes) (numbered rows.old.items) ++ map (begun version) change.now.opens) }
+    ensures ok { OnOk result (rows.new.items ≡ map (row_after version change.now.closes) (with_ids rows.old.items) ++ map (new_row version) change.now.opens) }
     ensures err { OnErr result (rows.new.items ≡ rows.old.items) }
 {
     let mut opened = begin_all(alloc, version, change.opens())?;

@@ -1,7 +1,7 @@
 //! The maximal runs of an aggregate over time.
 ghost use Rattle.std.specs.Prelude.{◌≡◌, ◌<◌, ◌^◌, length, IfOk, OnOk};
-ghost use Rattle.tl_query.specs.Fields.{same_field};
-ghost use Rattle.tl_query.specs.Runs.{add_stretch};
+ghost use Rattle.tl_types.specs.Runs.{same_field};
+ghost use Rattle.tl_types.specs.Runs.{add_stretch};
 ghost use Rattle.tl_query.specs.Aggregates.{span_start, span_end, runs_in};
 ghost use Rattle.tl_plain.specs.Chosen.{chosen};
 ghost use Rattle.tl_plain.specs.Stretching.{ends_with_value};

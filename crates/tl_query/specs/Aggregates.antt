@@ -16,7 +16,7 @@ use Rattle.tl_query.specs.declared.plans.Span.{Span}
 use Rattle.tl_query.specs.declared.plans.Span.TheVariants as span
 use Rattle.tl_query.specs.declared.plans.TypedPred.{TypedPred}
 use Rattle.tl_query.specs.Passing.{passes, passes_test}
-use Rattle.tl_query.specs.Runs.{runs_of}
+use Rattle.tl_types.specs.Runs.{runs_of}
 use Rattle.tl_query.specs.Ordered.{values_of}
 
 -- OF A LIST OF ROWS

@@ -11,15 +11,6 @@ use Rattle.tl_types.specs.Plain as plain
 use Rattle.tl_query.specs.declared.plans.TypedItem.{TypedItem}
 use Rattle.tl_query.specs.declared.plans.TypedItem.TheVariants as item
 
--- two fields are the same: a sum over a count is not reduced, and no field is nothing
-abbrev pub same_field : Field → Field → Bool
-same_field (field.Number i) (field.Number j) = int_eq i j
-same_field (field.Text t) (field.Text u) = same_bytes t u
-same_field (field.Ratio s c) (field.Ratio r d) = int_eq s r && (c == d)
-same_field field.Empty field.Empty = true
-same_field field.Forever field.Forever = true
-same_field x y = false
-
 -- a cell as a field
 abbrev pub cell_field : Cell → Field
 cell_field (cell.Int i) = field.Number i

@@ -3,7 +3,7 @@ use Rattle.std.specs.Prelude.{ℕ, ℤ, pos, Bool, ◌&&◌, int_lt, List, Optio
 use Rattle.std.specs.List.{filter_map, flat_map}
 use Rattle.std.specs.Int.{int_min, int_max}
 use Rattle.tl_types.specs.declared.runs.Pair.{Pair}
-use Rattle.tl_types.specs.History.{numbered, is_visible, rows_of, cell_at}
+use Rattle.tl_types.specs.History.{with_ids, is_visible, rows_of, cell_at}
 use Rattle.tl_types.specs.Resolving.{same_key}
 use Rattle.tl_types.specs.Plain as plain
 use Rattle.tl_query.specs.declared.plans.Span.{Span}
@@ -43,7 +43,7 @@ pair_of left_pred right_pred left_on right_on span left right =
 -- the pairs of all rows of two lists, left row by left row
 abbrev pub pairs_of : TypedPred → TypedPred → ℕ → ℕ → Span → List plain.Row → List plain.Row → List Pair
 pairs_of left_pred right_pred left_on right_on span lefts rights =
-    flat_map (λ l. filter_map (pair_of left_pred right_pred left_on right_on span l) (numbered rights)) (numbered lefts)
+    flat_map (λ l. filter_map (pair_of left_pred right_pred left_on right_on span l) (with_ids rights)) (with_ids lefts)
 
 -- the pairs of a join, in the order of their first moments, left rows and right rows
 unfoldable pub joined_pairs : plain.Database → ℕ → TypedPred → ℕ → TypedPred → ℕ → ℕ → Span → List Pair

@@ -10,7 +10,6 @@ pub mod Ordered
 pub mod Passing
 pub mod Printing
 pub mod Reading
-pub mod Runs
 pub mod Scanning
 pub mod Texts
 pub mod TypedFor

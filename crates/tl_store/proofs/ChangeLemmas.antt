@@ -9,7 +9,7 @@ use Rattle.std.proofs.lemmas.Option.{slice_get_past}
 use Rattle.std.proofs.lemmas.Bool.Decides.{nat_tests}
 use borrow.Author.Tests.{leb-true}
 use Rattle.tl_shared.specs.Chunks.{set_each}
-use Rattle.tl_types.specs.History.{open_end, is_open_at, holds, ended, begun, match_columns, matches, fits_table, changed}
+use Rattle.tl_types.specs.History.{open_end, is_open_at, has_id, row_after, new_row, match_columns, matches, fits_table, table_after}
 use Rattle.tl_types.specs.Limits.{standard_limits}
 use Rattle.tl_types.specs.Plain as plain
 use Rattle.tl_store.specs.declared.columns.ColumnData.{ColumnData}
@@ -23,21 +23,21 @@ pub length-ends : (v : ℕ) (ids ts : List ℕ) → length (set_each v ts ids) �
 length-ends v [] ts = refl
 length-ends v (id ∷ ids) ts = length-ends v ids (set ts id v) ∙ length-set ts id v
 
-pub end_at : (v : ℕ) (ids ts : List ℕ) (k d : ℕ) → k < length ts → get_or (set_each v ts ids) k d ≡ cond (holds ids k) v (get_or ts k d)
+pub end_at : (v : ℕ) (ids ts : List ℕ) (k d : ℕ) → k < length ts → get_or (set_each v ts ids) k d ≡ cond (has_id ids k) v (get_or ts k d)
 end_at v [] ts k d h = refl
 end_at v (id ∷ ids) ts k d h = by_test (nat_eq id k) refl (end_at v ids (set ts id v) k d (omega (arith, length-set ts id v))) where
-  by_test : (b : Bool) → nat_eq id k ≡ b → get_or (set_each v (set ts id v) ids) k d ≡ cond (holds ids k) v (get_or (set ts id v) k d) → get_or (set_each v (set ts id v) ids) k d ≡ cond (nat_eq id k || holds ids k) v (get_or ts k d)
+  by_test : (b : Bool) → nat_eq id k ≡ b → get_or (set_each v (set ts id v) ids) k d ≡ cond (has_id ids k) v (get_or (set ts id v) k d) → get_or (set_each v (set ts id v) ids) k d ≡ cond (nat_eq id k || has_id ids k) v (get_or ts k d)
   by_test true e later =
       let same : k ≡ id = grind (arith, nat_tests) in
       let read : get_or (set ts id v) k d ≡ v = rw same (get_or-set_same ts id v d (omega arith)) in
       let twice : (b : Bool) → cond b v v ≡ v = λ b. elim b as (λ c. cond c v v ≡ v) [ true ↦ refl | false ↦ refl ] in
-      rw e (later ∙ ap (λ t. cond (holds ids k) v t) read ∙ twice (holds ids k))
+      rw e (later ∙ ap (λ t. cond (has_id ids k) v t) read ∙ twice (has_id ids k))
   by_test false e later =
       let apart : k ≢ id = λ s. absurd (let f : nat_eq id k ≡ true = grind (arith, nat_tests) in cc) in
-      rw e (later ∙ ap (λ t. cond (holds ids k) v t) (get_or-set_other ts id k v d apart))
+      rw e (later ∙ ap (λ t. cond (has_id ids k) v t) (get_or-set_other ts id k v d apart))
 
-ended_row : (v : ℕ) (ids : List ℕ) (k : ℕ) (cs : List ColumnData) (ps : List plain.Period) (f t : ℕ) → row_in cs ps k f (cond (holds ids k) v t) ≡ ended v ids (k, row_in cs ps k f t)
-ended_row v ids k cs ps f t = elim (holds ids k) as (λ b. row_in cs ps k f (cond b v t) ≡ (if b then record (row_in cs ps k f t) { to = v } else row_in cs ps k f t)) [ true ↦ refl | false ↦ refl ]
+ended_row : (v : ℕ) (ids : List ℕ) (k : ℕ) (cs : List ColumnData) (ps : List plain.Period) (f t : ℕ) → row_in cs ps k f (cond (has_id ids k) v t) ≡ row_after v ids (k, row_in cs ps k f t)
+ended_row v ids k cs ps f t = elim (has_id ids k) as (λ b. row_in cs ps k f (cond b v t) ≡ (if b then record (row_in cs ps k f t) { to = v } else row_in cs ps k f t)) [ true ↦ refl | false ↦ refl ]
 
 -- PERIODS OF OPENED ROWS
 
@@ -129,7 +129,7 @@ module _ (schema : plain.Schema) (cs : List ColumnData) (ps : List plain.Period)
   more_ts = set_each v ts closes ++ replicate (length opens) open_end
 
   abbrev front : List plain.Row
-  front = map (ended v closes) (enumerate_from 0 (rows_in cs ps 0 fs ts))
+  front = map (row_after v closes) (enumerate_from 0 (rows_in cs ps 0 fs ts))
 
   long_fs : length more_fs ≡ length fs + length opens
   long_fs = length-append fs (replicate (length opens) v) ∙ ap (λ n. length fs + n) (length-replicate (length opens) v)
@@ -138,52 +138,52 @@ module _ (schema : plain.Schema) (cs : List ColumnData) (ps : List plain.Period)
   even_after = omega (arith, table.even, long_fs, length-append (set_each v ts closes) (replicate (length opens) open_end), length-ends v closes ts, length-replicate (length opens) open_end)
 
   long_front : length front ≡ length fs
-  long_front = length-map (enumerate_from 0 (rows_in cs ps 0 fs ts)) (ended v closes) ∙ length-enumerate_from 0 (rows_in cs ps 0 fs ts) ∙ length-rows_in cs ps 0 fs ts table.even
+  long_front = length-map (enumerate_from 0 (rows_in cs ps 0 fs ts)) (row_after v closes) ∙ length-enumerate_from 0 (rows_in cs ps 0 fs ts) ∙ length-rows_in cs ps 0 fs ts table.even
 
-  kept_row : (k : ℕ) (d : plain.Row) → k < length fs → get_or (rows_in more_cs more_ps 0 more_fs more_ts) k d ≡ get_or (front ++ map (begun v) opens) k d
+  kept_row : (k : ℕ) (d : plain.Row) → k < length fs → get_or (rows_in more_cs more_ps 0 more_fs more_ts) k d ≡ get_or (front ++ map (new_row v) opens) k d
   kept_row k d h =
       let cells = cells_kept (length fs) schema.columns cs opens 0 k table.cells h in
       let period = periods_kept schema ps opens (length fs) k table.valid fit h in
       let from : get_or more_fs k 0 ≡ get_or fs k 0 = get_left fs (replicate (length opens) v) k 0 h in
-      let to : get_or more_ts k 0 ≡ cond (holds closes k) v (get_or ts k 0) =
+      let to : get_or more_ts k 0 ≡ cond (has_id closes k) v (get_or ts k 0) =
       get_left (set_each v ts closes) (replicate (length opens) open_end) k 0 (omega (arith, table.even, length-ends v closes ts)) ∙ end_at v closes ts k 0 (omega (arith, table.even)) in
-      let made : row_in more_cs more_ps k (get_or more_fs k 0) (get_or more_ts k 0) ≡ row_in cs ps k (get_or fs k 0) (cond (holds closes k) v (get_or ts k 0)) = rw (cells, period, from, to) refl in
+      let made : row_in more_cs more_ps k (get_or more_fs k 0) (get_or more_ts k 0) ≡ row_in cs ps k (get_or fs k 0) (cond (has_id closes k) v (get_or ts k 0)) = rw (cells, period, from, to) refl in
       let old : get_or (rows_in cs ps 0 fs ts) k d ≡ row_in cs ps k (get_or fs k 0) (get_or ts k 0) = rows_in_at cs ps 0 fs ts k k d 0 0 table.even h (omega arith) in
       let there : k < length (rows_in cs ps 0 fs ts) = omega (arith, length-rows_in cs ps 0 fs ts table.even) in
       let numbered_there : k < length (enumerate_from 0 (rows_in cs ps 0 fs ts)) = omega (arith, length-enumerate_from 0 (rows_in cs ps 0 fs ts)) in
-      let mapped : get_or front k d ≡ ended v closes (k, get_or (rows_in cs ps 0 fs ts) k d) =
-      get_or-map (ended v closes) (enumerate_from 0 (rows_in cs ps 0 fs ts)) k (k, d) d numbered_there
-      ∙ ap (ended v closes) (get_or-enumerate_from 0 (rows_in cs ps 0 fs ts) k (k, d) there)
-      ∙ ap (λ n. ended v closes (n, get_or (rows_in cs ps 0 fs ts) k d)) (omega arith) in
+      let mapped : get_or front k d ≡ row_after v closes (k, get_or (rows_in cs ps 0 fs ts) k d) =
+      get_or-map (row_after v closes) (enumerate_from 0 (rows_in cs ps 0 fs ts)) k (k, d) d numbered_there
+      ∙ ap (row_after v closes) (get_or-enumerate_from 0 (rows_in cs ps 0 fs ts) k (k, d) there)
+      ∙ ap (λ n. row_after v closes (n, get_or (rows_in cs ps 0 fs ts) k d)) (omega arith) in
       rows_in_at more_cs more_ps 0 more_fs more_ts k k d 0 0 even_after (omega (arith, long_fs)) (omega arith)
       ∙ made
       ∙ ended_row v closes k cs ps (get_or fs k 0) (get_or ts k 0)
-      ∙ ap (λ r. ended v closes (k, r)) (sym old)
+      ∙ ap (λ r. row_after v closes (k, r)) (sym old)
       ∙ sym mapped
-      ∙ sym (get_left front (map (begun v) opens) k d (omega (arith, long_front)))
+      ∙ sym (get_left front (map (new_row v) opens) k d (omega (arith, long_front)))
 
-  new_row : (k j : ℕ) (d : plain.Row) (o : plain.Opened) → length fs + j ≡ k → j < length opens → get_or (rows_in more_cs more_ps 0 more_fs more_ts) k d ≡ get_or (front ++ map (begun v) opens) k d
+  new_row : (k j : ℕ) (d : plain.Row) (o : plain.Opened) → length fs + j ≡ k → j < length opens → get_or (rows_in more_cs more_ps 0 more_fs more_ts) k d ≡ get_or (front ++ map (new_row v) opens) k d
   new_row k j d o s h =
       let x = get_or opens j o in
       let cells : map (cell_in k) more_cs ≡ x.cells = cells_new (length fs) schema.columns cs opens 0 k j o x.cells table.cells s h refl (and_left (match_columns schema.columns x.cells) (beq schema.valid (is_some x.period)) (match_at schema opens j o fit h)) in
       let period = periods_new schema ps opens (length fs) k j o table.valid fit s h in
       let from : get_or more_fs k 0 ≡ v = get_right fs (replicate (length opens) v) (length fs) k j 0 refl s ∙ get_or-replicate (length opens) j v 0 h in
       let to : get_or more_ts k 0 ≡ open_end = get_right (set_each v ts closes) (replicate (length opens) open_end) (length fs) k j 0 (length-ends v closes ts ∙ table.even) s ∙ get_or-replicate (length opens) j open_end 0 h in
-      let made : row_in more_cs more_ps k (get_or more_fs k 0) (get_or more_ts k 0) ≡ begun v x = rw (cells, period, from, to) refl in
+      let made : row_in more_cs more_ps k (get_or more_fs k 0) (get_or more_ts k 0) ≡ new_row v x = rw (cells, period, from, to) refl in
       rows_in_at more_cs more_ps 0 more_fs more_ts k k d 0 0 even_after (omega (arith, long_fs)) (omega arith)
       ∙ made
-      ∙ sym (get_or-map (begun v) opens j o d h)
-      ∙ sym (get_right front (map (begun v) opens) (length fs) k j d long_front s)
+      ∙ sym (get_or-map (new_row v) opens j o d h)
+      ∙ sym (get_right front (map (new_row v) opens) (length fs) k j d long_front s)
 
-  pub rows_after : rows_in more_cs more_ps 0 more_fs more_ts ≡ front ++ map (begun v) opens
-  rows_after = ext_get_or none (rows_in more_cs more_ps 0 more_fs more_ts) (front ++ map (begun v) opens) many (λ k h. each k (omega (arith, length-rows_in more_cs more_ps 0 more_fs more_ts even_after, long_fs)) (ltb k (length fs)) refl) where
+  pub rows_after : rows_in more_cs more_ps 0 more_fs more_ts ≡ front ++ map (new_row v) opens
+  rows_after = ext_get_or none (rows_in more_cs more_ps 0 more_fs more_ts) (front ++ map (new_row v) opens) many (λ k h. each k (omega (arith, length-rows_in more_cs more_ps 0 more_fs more_ts even_after, long_fs)) (ltb k (length fs)) refl) where
     none : plain.Row
     none = row_in cs ps 0 0 0
 
-    many : length (rows_in more_cs more_ps 0 more_fs more_ts) ≡ length (front ++ map (begun v) opens)
-    many = omega (arith, length-rows_in more_cs more_ps 0 more_fs more_ts even_after, long_fs, length-append front (map (begun v) opens), long_front, length-map opens (begun v))
+    many : length (rows_in more_cs more_ps 0 more_fs more_ts) ≡ length (front ++ map (new_row v) opens)
+    many = omega (arith, length-rows_in more_cs more_ps 0 more_fs more_ts even_after, long_fs, length-append front (map (new_row v) opens), long_front, length-map opens (new_row v))
 
-    each : (k : ℕ) → k < length fs + length opens → (b : Bool) → ltb k (length fs) ≡ b → get_or (rows_in more_cs more_ps 0 more_fs more_ts) k none ≡ get_or (front ++ map (begun v) opens) k none
+    each : (k : ℕ) → k < length fs + length opens → (b : Bool) → ltb k (length fs) ≡ b → get_or (rows_in more_cs more_ps 0 more_fs more_ts) k none ≡ get_or (front ++ map (new_row v) opens) k none
     each k h true e = let low : k < length fs = grind (arith, nat_tests) in kept_row k none low
     each k h false e = let high : length fs ≤ k = grind (arith, nat_tests) in new_row k (k - length fs) none (record { cells = []; period = None }) (omega arith) (omega arith)
 
@@ -231,8 +231,8 @@ module _ (schema : plain.Schema) (cs : List ColumnData) (ps : List plain.Period)
 
     pub kept_made : mk_kept schema2 (rows_in cs2 ps2 0 fs2 ts2) closed2 ≡ kept_after v change kept
     kept_made =
-        let rows : rows_in cs2 ps2 0 fs2 ts2 ≡ (changed v change (table_of kept)).rows =
+        let rows : rows_in cs2 ps2 0 fs2 ts2 ≡ (table_after v change (table_of kept)).rows =
         rw (cs_made, ps_made, fs_made, ts_made) (rows_after schema cs ps fs ts table v change.closes change.opens all_match_schema)
-        ∙ ap (λ rs. map (ended v change.closes) (enumerate_from 0 rs) ++ map (begun v) change.opens) rows_are in
+        ∙ ap (λ rs. map (row_after v change.closes) (enumerate_from 0 rs) ++ map (new_row v) change.opens) rows_are in
         let ids : closed2 ≡ kept.closed ++ change.closes = closed_made ∙ ap (λ (k : Kept). k.closed ++ change.closes) is in
         rw (schema_same, schema_is, rows, ids) refl

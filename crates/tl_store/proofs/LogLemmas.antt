@@ -12,7 +12,7 @@ use Rattle.tl_types.specs.declared.commits.Body.{Body}
 use Rattle.tl_types.specs.declared.commits.Body.TheVariants as body
 use Rattle.tl_types.specs.Facts.{IsChange}
 use Rattle.tl_types.specs.Resolving.{find_from, find_table}
-use Rattle.tl_types.specs.History.{database_of, database_at, nothing, after_commit, after_body, at_place, changed, ended, begun, fits, fits_body, fits_table, has_name}
+use Rattle.tl_types.specs.History.{database_of, database_at, nothing, after_commit, after_body, at_place, table_after, row_after, new_row, fits, fits_body, fits_table, has_name}
 use Rattle.tl_types.specs.Limits.{standard_limits}
 use Rattle.tl_types.specs.declared.limits.Limits.{Limits}
 use Rattle.tl_types.specs.Plain as plain
@@ -194,15 +194,15 @@ table_read change [] i d h = absurd cc
 table_read change (t ∷ ts) zero d h = h
 table_read change (t ∷ ts) (suc i) d h = table_read change ts i d h
 
-opened_back : (v : ℕ) (opens : List plain.Opened) → map opened_of (map (begun v) opens) ≡ opens
+opened_back : (v : ℕ) (opens : List plain.Opened) → map opened_of (map (new_row v) opens) ≡ opens
 opened_back v [] = refl
 opened_back v (o ∷ os) = ap (λ t. o ∷ t) (opened_back v os)
 
-opened_kept : (v : ℕ) (ids : List ℕ) (n : ℕ) (rows : List plain.Row) → map opened_of (map (ended v ids) (enumerate_from n rows)) ≡ map opened_of rows
+opened_kept : (v : ℕ) (ids : List ℕ) (n : ℕ) (rows : List plain.Row) → map opened_of (map (row_after v ids) (enumerate_from n rows)) ≡ map opened_of rows
 opened_kept v ids n [] = refl
 opened_kept v ids n (row ∷ rows) =
     let later = opened_kept v ids (n + 1) rows in
-    let head : opened_of (ended v ids (n, row)) ≡ opened_of row = by_test (list_any (λ x. nat_eq x n) ids) in
+    let head : opened_of (row_after v ids (n, row)) ≡ opened_of row = by_test (list_any (λ x. nat_eq x n) ids) in
     cc where
       by_test : (b : Bool) → opened_of (cond b (record row { to = v }) row) ≡ opened_of row
       by_test true = refl
@@ -219,13 +219,13 @@ grows_changed v change kept = record {
   closed = refl;
   opens = change.opens;
   rows =
-      map_append opened_of (map (ended v change.closes) (enumerate_from 0 kept.rows)) (map (begun v) change.opens)
-      ∙ ap (λ t. t ++ map opened_of (map (begun v) change.opens)) (opened_kept v change.closes 0 kept.rows)
+      map_append opened_of (map (row_after v change.closes) (enumerate_from 0 kept.rows)) (map (new_row v) change.opens)
+      ∙ ap (λ t. t ++ map opened_of (map (new_row v) change.opens)) (opened_kept v change.closes 0 kept.rows)
       ∙ ap (λ t. map opened_of kept.rows ++ t) (opened_back v change.opens);
 }
 
-long_ended : (v : ℕ) (change : plain.Change) (kept : Kept) → length (map (ended v change.closes) (enumerate_from 0 kept.rows)) ≡ length kept.rows
-long_ended v change kept = length-map (enumerate_from 0 kept.rows) (ended v change.closes) ∙ length-enumerate_from 0 kept.rows
+long_ended : (v : ℕ) (change : plain.Change) (kept : Kept) → length (map (row_after v change.closes) (enumerate_from 0 kept.rows)) ≡ length kept.rows
+long_ended v change kept = length-map (enumerate_from 0 kept.rows) (row_after v change.closes) ∙ length-enumerate_from 0 kept.rows
 
 changed_ids : (v : ℕ) (change : plain.Change) (kept : Kept) → part (length kept.closed) (length change.closes) (kept_after v change kept).closed ≡ change.closes
 changed_ids v change kept = part_back kept.closed change.closes (length kept.closed) (length change.closes) refl refl
@@ -233,13 +233,13 @@ changed_ids v change kept = part_back kept.closed change.closes (length kept.clo
 changed_body : (table v : ℕ) (change : plain.Change) (kept : Kept) → table ≡ change.table → body_of table (deed_of kept change) (kept_after v change kept) ≡ body.Change change
 changed_body table v change kept same =
     let rows : map opened_of (part (length kept.rows) (length change.opens) (kept_after v change kept).rows) ≡ change.opens =
-    ap (map opened_of) (part_back (map (ended v change.closes) (enumerate_from 0 kept.rows)) (map (begun v) change.opens) (length kept.rows) (length change.opens) (long_ended v change kept) (length-map change.opens (begun v))) ∙ opened_back v change.opens in
+    ap (map opened_of) (part_back (map (row_after v change.closes) (enumerate_from 0 kept.rows)) (map (new_row v) change.opens) (length kept.rows) (length change.opens) (long_ended v change kept) (length-map change.opens (new_row v))) ∙ opened_back v change.opens in
     rw (same, changed_ids v change kept, rows) refl
 
 changed_deed : (v : ℕ) (change : plain.Change) (kept : Kept) → IsChange change → IsDeed (deed_of kept change) (kept_after v change kept)
 changed_deed v change kept is = (
   omega (arith, length-append kept.closed change.closes),
-  omega (arith, length-append (map (ended v change.closes) (enumerate_from 0 kept.rows)) (map (begun v) change.opens), long_ended v change kept, length-map change.opens (begun v)),
+  omega (arith, length-append (map (row_after v change.closes) (enumerate_from 0 kept.rows)) (map (new_row v) change.opens), long_ended v change kept, length-map change.opens (new_row v)),
   is.few_closes,
   is.few_opens,
   rw (changed_ids v change kept) is.ascending,
@@ -297,8 +297,8 @@ module _ (tables : List Kept) (log : List LogEntry) (history : IsHistory tables 
     after_next =
         let there : change.table < length (map table_of tables) = omega (arith, number_there, length-map tables table_of) in
         let same : get_or (map table_of tables) change.table (table_of kept) ≡ table_of kept = get_or-map table_of tables change.table kept (table_of kept) number_there ∙ ap table_of (sym kept_is) in
-        at_place-set (map table_of tables) change.table (changed (length log + 1) change) (table_of kept) there
-        ∙ ap (λ t. set (map table_of tables) change.table (changed (length log + 1) change t)) same
+        at_place-set (map table_of tables) change.table (table_after (length log + 1) change) (table_of kept) there
+        ∙ ap (λ t. set (map table_of tables) change.table (table_after (length log + 1) change t)) same
         ∙ sym (map-set table_of tables change.table next)
 
     few_next : length with_next ≤ 64

@@ -1,6 +1,6 @@
 -- What a store keeps of a table.
 use Rattle.std.specs.Prelude.{ℕ, List, [], ◌++◌, false}
-use Rattle.tl_types.specs.History.{changed}
+use Rattle.tl_types.specs.History.{table_after}
 use Rattle.tl_types.specs.Plain as plain
 
 -- a table's schema and rows, and the ids of closed rows in the order in which commits closed them
@@ -19,7 +19,7 @@ kept_new schema = record { schema = schema; rows = []; closed = [] }
 
 -- what is kept after a change of a version
 abbrev pub kept_after : ℕ → plain.Change → Kept → Kept
-kept_after version change kept = record { schema = kept.schema; rows = (changed version change (table_of kept)).rows; closed = kept.closed ++ change.closes }
+kept_after version change kept = record { schema = kept.schema; rows = (table_after version change (table_of kept)).rows; closed = kept.closed ++ change.closes }
 
 -- what is kept of no table
 abbrev pub kept_none : Kept

@@ -1,0 +1,3 @@
+pub mod FoundTables
+pub mod Lists
+mod Examples

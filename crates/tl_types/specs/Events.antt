@@ -3,11 +3,11 @@ use Rattle.std.specs.Prelude.{ℕ, zero, suc, Bool, true, false, ◌==◌, List,
 use Rattle.std.specs.List.{filter}
 use Rattle.tl_types.specs.declared.events.Event.{Event}
 use Rattle.tl_types.specs.Plain as plain
-use Rattle.tl_types.specs.History.{numbered, is_visible}
+use Rattle.tl_types.specs.History.{with_ids, is_visible}
 
 -- the ids of the rows that pass a test, ascending
 abbrev pub ids_where : (plain.Row → Bool) → List plain.Row → List ℕ
-ids_where test rows = map (λ r. r.0) (filter (λ r. test r.1) (numbered rows))
+ids_where test rows = map (λ r. r.0) (filter (λ r. test r.1) (with_ids rows))
 
 -- the row ends
 abbrev pub invalidation : ℕ → Event

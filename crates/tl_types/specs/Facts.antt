@@ -16,7 +16,9 @@ names_of columns = map (λ c. c.name) columns
 
 -- the names are names, the columns' names differ, there are 1 to 16 columns, and the key is one of them
 abbrev pub is_schema : plain.Schema → Bool
-is_schema s = is_name s.name && list_all (λ c. is_name c.name) s.columns && are_distinct (names_of s.columns) && nat_le (length s.columns) 16 && nat_lt s.key (length s.columns)
+is_schema s =
+    is_name s.name && list_all (λ c. is_name c.name) s.columns && are_distinct (names_of s.columns)
+    && nat_le (length s.columns) 16 && nat_lt s.key (length s.columns)
 
 -- the schema, where it is one
 abbrev pub schema_of : plain.Schema → Option plain.Schema

@@ -24,30 +24,31 @@ abbrev pub is_open : plain.Row → Bool
 is_open row = row.to == open_end
 
 -- the rows, each with its id
-abbrev pub numbered : List plain.Row → List (ℕ × plain.Row)
-numbered rows = enumerate_from 0 rows
+abbrev pub with_ids : List plain.Row → List (ℕ × plain.Row)
+with_ids rows = enumerate_from 0 rows
 
--- the list holds the number
-abbrev pub holds : List ℕ → ℕ → Bool
-holds ids id = list_any (λ x. x == id) ids
+-- the list has the id
+abbrev pub has_id : List ℕ → ℕ → Bool
+has_id ids id = list_any (λ x. x == id) ids
 
 -- APPLYING A COMMIT
 
--- a row, ended at the version if its id is closed
-abbrev pub ended : ℕ → List ℕ → (ℕ × plain.Row) → plain.Row
-ended version closes entry = if holds closes entry.0 then record entry.1 { to = version } else entry.1
+-- a row after the version: it ends there if its id is closed
+abbrev pub row_after : ℕ → List ℕ → (ℕ × plain.Row) → plain.Row
+row_after version closes entry = if has_id closes entry.0 then record entry.1 { to = version } else entry.1
 
--- a row that begins at the version
-abbrev pub begun : ℕ → plain.Opened → plain.Row
-begun version opened = record { cells = opened.cells; period = opened.period; from = version; to = open_end }
+-- the row that the version opens
+abbrev pub new_row : ℕ → plain.Opened → plain.Row
+new_row version opened = record { cells = opened.cells; period = opened.period; from = version; to = open_end }
 
 -- a table without rows
 abbrev pub new_table : plain.Schema → plain.Table
 new_table schema = record { schema = schema; floor = 0; rows = [] }
 
 -- the table after the version's change: the closed rows end, the opened rows stand behind the others
-abbrev pub changed : ℕ → plain.Change → plain.Table → plain.Table
-changed version change table = record table { rows = map (ended version change.closes) (numbered table.rows) ++ map (begun version) change.opens }
+abbrev pub table_after : ℕ → plain.Change → plain.Table → plain.Table
+table_after version change table =
+    record table { rows = map (row_after version change.closes) (with_ids table.rows) ++ map (new_row version) change.opens }
 
 -- the list with what stands at a place replaced by its image
 abbrev pub at_place : {X : Type 0} → ℕ → (X → X) → List X → List X
@@ -58,7 +59,7 @@ at_place (suc i) f (x ∷ xs) = x ∷ at_place i f xs
 -- the tables after the version's commit
 abbrev pub after_body : ℕ → Body → List plain.Table → List plain.Table
 after_body version (body.Create schema) tables = tables ++ new_table schema ∷ []
-after_body version (body.Change change) tables = at_place change.table (changed version change) tables
+after_body version (body.Change change) tables = at_place change.table (table_after version change) tables
 
 -- the database after one commit more, whose version is the next
 abbrev pub after_commit : plain.Database → Commit → plain.Database
@@ -116,7 +117,8 @@ fits_table limits change (Some table) =
 
 -- a new table has a new name, and there is room for it; a change fits its table
 abbrev pub fits_body : Limits → List plain.Table → Body → Bool
-fits_body limits tables (body.Create schema) = not (list_any (has_name schema.name) tables) && nat_lt (length tables) limits.tables
+fits_body limits tables (body.Create schema) =
+    not (list_any (has_name schema.name) tables) && nat_lt (length tables) limits.tables
 fits_body limits tables (body.Change change) = fits_table limits change (slice_get tables change.table)
 
 -- the commit fits the database: there is room for a version, and what it does fits the tables
@@ -138,7 +140,7 @@ rows_of db table = rows_of_table (slice_get db.tables table) where
 
 -- the rows of a table that stand at the version, in order of id, each with its id
 abbrev pub visible_rows : plain.Database → ℕ → ℕ → List (ℕ × plain.Row)
-visible_rows db table version = filter (λ r. is_visible version r.1) (numbered (rows_of db table))
+visible_rows db table version = filter (λ r. is_visible version r.1) (with_ids (rows_of db table))
 
 -- the moment is within the period
 abbrev pub is_within : ℤ → Option plain.Period → Bool

@@ -6,3 +6,4 @@ pub mod History
 pub mod Resolving
 pub mod Entries
 pub mod Events
+pub mod Runs

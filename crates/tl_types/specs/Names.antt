@@ -1,7 +1,9 @@
--- Names of tables and columns.
-use Rattle.std.specs.Prelude.{ℕ, Bool, false, ◌&&◌, ◌||◌, not, nat_le, ◌==◌, List, [], ◌∷◌, length, codes}
-use Rattle.std.specs.List.{list_all, list_any}
+-- Keywords, and names of tables and columns.
+use Rattle.std.specs.Prelude.{ℕ, Bool, false, ◌&&◌, ◌||◌, not, nat_le, ◌==◌, List, [], ◌∷◌, length, codes, find, Option, is_some}
+use Rattle.std.specs.List.{list_all}
 use Rattle.std.specs.Cmp.Lexicographic.{pointwise}
+use Rattle.tl_types.specs.declared.keywords.Keyword.{Keyword}
+use Rattle.tl_types.specs.declared.keywords.Keyword.TheVariants as keyword
 
 -- two byte strings are the same
 abbrev pub same_bytes : List ℕ → List ℕ → Bool
@@ -19,29 +21,52 @@ begins_word b = (nat_le 97 b && nat_le b 122) || (nat_le 65 b && nat_le b 90) ||
 abbrev pub continues_word : ℕ → Bool
 continues_word b = begins_word b || is_digit b
 
--- the words that name a statement or an aggregate
-unfoldable pub statement_words : List (List ℕ)
-statement_words = codes "CREATE" ∷ codes "PUT" ∷ codes "REMOVE" ∷ codes "SELECT" ∷ codes "COUNT" ∷ codes "SUM" ∷ codes "AVG" ∷ codes "MIN" ∷ codes "MAX" ∷ codes "JOIN" ∷ []
+-- how a keyword is spelled
+unfoldable pub spelling_of : Keyword → List ℕ
+spelling_of keyword.Create = codes "CREATE"
+spelling_of keyword.Table = codes "TABLE"
+spelling_of keyword.Key = codes "KEY"
+spelling_of keyword.Valid = codes "VALID"
+spelling_of keyword.Int = codes "INT"
+spelling_of keyword.Text = codes "TEXT"
+spelling_of keyword.Put = codes "PUT"
+spelling_of keyword.Remove = codes "REMOVE"
+spelling_of keyword.Select = codes "SELECT"
+spelling_of keyword.From = codes "FROM"
+spelling_of keyword.Where = codes "WHERE"
+spelling_of keyword.And = codes "AND"
+spelling_of keyword.Or = codes "OR"
+spelling_of keyword.As = codes "AS"
+spelling_of keyword.Of = codes "OF"
+spelling_of keyword.At = codes "AT"
+spelling_of keyword.Count = codes "COUNT"
+spelling_of keyword.Sum = codes "SUM"
+spelling_of keyword.Avg = codes "AVG"
+spelling_of keyword.Min = codes "MIN"
+spelling_of keyword.Max = codes "MAX"
+spelling_of keyword.By = codes "BY"
+spelling_of keyword.Over = codes "OVER"
+spelling_of keyword.System = codes "SYSTEM"
+spelling_of keyword.All = codes "ALL"
+spelling_of keyword.To = codes "TO"
+spelling_of keyword.Join = codes "JOIN"
+spelling_of keyword.With = codes "WITH"
+spelling_of keyword.On = codes "ON"
+spelling_of keyword.Forever = codes "FOREVER"
+spelling_of keyword.ValidFrom = codes "valid_from"
+spelling_of keyword.ValidTo = codes "valid_to"
 
--- the words that describe a table
-unfoldable pub table_words : List (List ℕ)
-table_words = codes "TABLE" ∷ codes "KEY" ∷ codes "VALID" ∷ codes "INT" ∷ codes "TEXT" ∷ codes "valid_from" ∷ codes "valid_to" ∷ []
+-- all keywords of the language
+unfoldable pub keywords : List Keyword
+keywords = keyword.Create ∷ keyword.Table ∷ keyword.Key ∷ keyword.Valid ∷ keyword.Int ∷ keyword.Text ∷ keyword.Put ∷ keyword.Remove ∷ keyword.Select ∷ keyword.From ∷ keyword.Where ∷ keyword.And ∷ keyword.Or ∷ keyword.As ∷ keyword.Of ∷ keyword.At ∷ keyword.Count ∷ keyword.Sum ∷ keyword.Avg ∷ keyword.Min ∷ keyword.Max ∷ keyword.By ∷ keyword.Over ∷ keyword.System ∷ keyword.All ∷ keyword.To ∷ keyword.Join ∷ keyword.With ∷ keyword.On ∷ keyword.Forever ∷ keyword.ValidFrom ∷ keyword.ValidTo ∷ []
 
--- the words between the parts of a query
-unfoldable pub clause_words : List (List ℕ)
-clause_words = codes "FROM" ∷ codes "WHERE" ∷ codes "AND" ∷ codes "OR" ∷ codes "AS" ∷ codes "OF" ∷ codes "AT" ∷ codes "BY" ∷ []
-
--- the words of ranges and joins
-unfoldable pub range_words : List (List ℕ)
-range_words = codes "OVER" ∷ codes "SYSTEM" ∷ codes "ALL" ∷ codes "TO" ∷ codes "WITH" ∷ codes "ON" ∷ codes "FOREVER" ∷ []
-
--- one of these words
-abbrev pub is_one_of : List (List ℕ) → List ℕ → Bool
-is_one_of words word = list_any (λ k. same_bytes k word) words
+-- the keyword that a word is, where it is one
+abbrev pub keyword_of : List ℕ → Option Keyword
+keyword_of word = find (λ k. same_bytes (spelling_of k) word) keywords
 
 -- one of the keywords of the language
 abbrev pub is_keyword : List ℕ → Bool
-is_keyword word = is_one_of statement_words word || is_one_of table_words word || is_one_of clause_words word || is_one_of range_words word
+is_keyword word = is_some (keyword_of word)
 
 -- a word: a letter or `_`, then letters, digits and `_`
 abbrev pub is_word : List ℕ → Bool

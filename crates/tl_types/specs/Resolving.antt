@@ -11,15 +11,15 @@ use Rattle.tl_types.specs.declared.batches.BatchFault.{BatchFault}
 use Rattle.tl_types.specs.declared.batches.BatchFault.TheVariants as fault
 use Rattle.tl_types.specs.declared.limits.Limits.{Limits}
 use Rattle.tl_types.specs.Plain as plain
-use Rattle.tl_types.specs.History.{is_open, numbered, holds, has_name, same_cell}
+use Rattle.tl_types.specs.History.{is_open, with_ids, has_id, has_name, same_cell}
 
 -- a row of the working list: the id that it has in the table, or none where the batch opens it
-pub record Held : Type 0 where
+pub record WorkingRow : Type 0 where
   pub id : Option ℕ
   pub row : plain.Opened
 
--- what a line of a batch says: its key, its period, and the row that it puts, if it puts one
-pub record Said : Type 0 where
+-- a line of a batch: its key, its period, and the row that it puts, if it puts one
+pub record BatchLine : Type 0 where
   pub key : Option Cell
   pub period : Option plain.Period
   pub puts : Option plain.Opened
@@ -30,78 +30,88 @@ same_key None y = false
 same_key (Some x) None = false
 same_key (Some x) (Some y) = same_cell x y
 
--- two periods have a part in common
+-- two periods overlap: there is a moment in both
 abbrev pub overlap : Option plain.Period → Option plain.Period → Bool
 overlap None q = false
 overlap (Some p) None = false
 overlap (Some p) (Some q) = int_lt p.from q.to && int_lt q.from p.to
 
--- the line touches the row: the row has the line's key, and in a table with valid time a part of its period
-abbrev pub touches : plain.Schema → Said → Held → Bool
-touches schema said held = same_key (slice_get held.row.cells schema.key) said.key && (not schema.valid || overlap held.row.period said.period)
+-- the line affects the row: the row has the line's key, and in a table with valid time their periods overlap
+abbrev pub affects : plain.Schema → BatchLine → WorkingRow → Bool
+affects schema line working =
+    same_key (slice_get working.row.cells schema.key) line.key
+    && (not schema.valid || overlap working.row.period line.period)
 
 -- the old cells over a part of the old period, where that part is not empty
-abbrev pub remainder : List Cell → ℤ → ℤ → List Held
-remainder cells from to = if int_lt from to then record { id = None; row = record { cells = cells; period = Some (record { from = from; to = to }) } } ∷ [] else []
+abbrev pub remainder : List Cell → ℤ → ℤ → List WorkingRow
+remainder cells from to =
+    if int_lt from to then record { id = None; row = record { cells = cells; period = Some (record { from = from; to = to }) } } ∷ []
+    else []
 
--- what a touched row leaves: the part before the line's period and the part after it
-abbrev pub remainders : Said → Held → List Held
-remainders said held = left_of said.period held.row.period where
-  left_of : Option plain.Period → Option plain.Period → List Held
+-- what is left of an affected row: the part before the line's period and the part after it
+abbrev pub remainders : BatchLine → WorkingRow → List WorkingRow
+remainders line working = left_of line.period working.row.period where
+  left_of : Option plain.Period → Option plain.Period → List WorkingRow
   left_of None q = []
   left_of (Some p) None = []
-  left_of (Some p) (Some q) = remainder held.row.cells q.from p.from ++ remainder held.row.cells p.to q.to
+  left_of (Some p) (Some q) = remainder working.row.cells q.from p.from ++ remainder working.row.cells p.to q.to
 
 -- the row that a line puts, at the end of the list
-abbrev pub put_row : Said → List Held
-put_row said = put said.puts where
-  put : Option plain.Opened → List Held
+abbrev pub put_row : BatchLine → List WorkingRow
+put_row line = put line.puts where
+  put : Option plain.Opened → List WorkingRow
   put None = []
   put (Some row) = record { id = None; row = row } ∷ []
 
--- the working list after a line: each touched row is replaced in its place by its remainders, and the row
+-- the working list after a line: each affected row is replaced in its place by its remainders, and the row
 -- that the line puts comes last
-abbrev pub after_line : plain.Schema → List Held → Said → List Held
-after_line schema held said = flat_map (λ h. if touches schema said h then remainders said h else h ∷ []) held ++ put_row said
+abbrev pub after_line : plain.Schema → List WorkingRow → BatchLine → List WorkingRow
+after_line schema list line = flat_map (λ w. if affects schema line w then remainders line w else w ∷ []) list ++ put_row line
 
 -- the working list at the start: the open rows of the table, in order of id
-abbrev pub open_rows : plain.Table → List Held
-open_rows table = map (λ r. record { id = Some r.0; row = record { cells = r.1.cells; period = r.1.period } }) (filter (λ r. is_open r.1) (numbered table.rows))
+abbrev pub open_rows : plain.Table → List WorkingRow
+open_rows table =
+    map (λ r. record { id = Some r.0; row = record { cells = r.1.cells; period = r.1.period } })
+    (filter (λ r. is_open r.1) (with_ids table.rows))
 
 -- the working list at the end
-abbrev pub worked : plain.Table → List Said → List Held
-worked table lines = fold (after_line table.schema) (open_rows table) lines
+abbrev pub working_list : plain.Table → List BatchLine → List WorkingRow
+working_list table lines = fold (after_line table.schema) (open_rows table) lines
 
 -- the ids that rows of the list have in the table
-abbrev pub ids_of : List Held → List ℕ
-ids_of held = filter_map (λ h. h.id) held
+abbrev pub ids_of : List WorkingRow → List ℕ
+ids_of list = filter_map (λ w. w.id) list
 
 -- the rows of the list that have no id yet
-abbrev pub new_rows : List Held → List plain.Opened
-new_rows held = filter_map (λ h. if is_some h.id then None else Some h.row) held
+abbrev pub new_rows : List WorkingRow → List plain.Opened
+new_rows list = filter_map (λ w. if is_some w.id then None else Some w.row) list
 
 -- the change that the lines make: it closes the old ids that are no longer in the working list, and opens the
 -- rows of the list that have no id yet
-abbrev pub change_of : ℕ → plain.Table → List Said → plain.Change
-change_of number table lines =
-    record { table = number; closes = filter (λ id. not (holds (ids_of (worked table lines)) id)) (ids_of (open_rows table)); opens = new_rows (worked table lines) }
+abbrev pub change_of : ℕ → plain.Table → List BatchLine → plain.Change
+change_of number table lines = record {
+  table = number;
+  closes = filter (λ id. not (has_id (ids_of (working_list table lines)) id)) (ids_of (open_rows table));
+  opens = new_rows (working_list table lines);
+}
 
 -- the lines of a batch of rows
-abbrev pub said_by_rows : plain.Schema → List plain.Opened → List Said
-said_by_rows schema lines = map (λ o. record { key = slice_get o.cells schema.key; period = o.period; puts = Some o }) lines
+abbrev pub put_lines : plain.Schema → List plain.Opened → List BatchLine
+put_lines schema lines =
+    map (λ o. record { key = slice_get o.cells schema.key; period = o.period; puts = Some o }) lines
 
 -- the lines of a removal
-abbrev pub said_by_keys : List KeyLine → List Said
-said_by_keys lines = map (λ k. record { key = Some k.key; period = k.period; puts = None }) lines
+abbrev pub removal_lines : List KeyLine → List BatchLine
+removal_lines lines = map (λ k. record { key = Some k.key; period = k.period; puts = None }) lines
 
--- the first fault of the lines from a record number on, over the working list so far and the keys met so far:
--- a key met twice in a table without valid time, then a removal that touches no row
-abbrev pub line_fault : plain.Schema → ℕ → List Said → List Held → List Said → Option BatchFault
-line_fault schema rec earlier held [] = None
-line_fault schema rec earlier held (said ∷ lines) =
-    if not schema.valid && list_any (λ e. same_key e.key said.key) earlier then Some (fault.KeyTwice rec)
-    else (if not (is_some said.puts) && not (list_any (touches schema said) held) then Some (fault.NoRow rec)
-    else line_fault schema (rec + 1) (said ∷ earlier) (after_line schema held said) lines)
+-- the first fault of the lines from a record number on, over the earlier lines and the working list so far:
+-- a key that stands twice in a table without valid time, then a removal that affects no row
+abbrev pub line_fault : plain.Schema → ℕ → List BatchLine → List WorkingRow → List BatchLine → Option BatchFault
+line_fault schema rec earlier list [] = None
+line_fault schema rec earlier list (line ∷ lines) =
+    if not schema.valid && list_any (λ e. same_key e.key line.key) earlier then Some (fault.KeyTwice rec)
+    else (if not (is_some line.puts) && not (list_any (affects schema line) list) then Some (fault.NoRow rec)
+    else line_fault schema (rec + 1) (line ∷ earlier) (after_line schema list line) lines)
 
 -- the number and the table of a name, counted from a number
 abbrev pub find_from : ℕ → List ℕ → List plain.Table → Option (ℕ × plain.Table)
@@ -113,7 +123,8 @@ abbrev pub find_table : List ℕ → List plain.Table → Option (ℕ × plain.T
 find_table name tables = find_from 0 name tables
 
 -- the commit of a change, or its fault: no version is left, then the first fault of a line, then too many rows
-abbrev pub resolved_change : Limits → plain.Database → ℕ → Option (ℕ × plain.Table) → (plain.Schema → List Said) → Result Commit BatchFault
+abbrev pub resolved_change : Limits → plain.Database → ℕ → Option (ℕ × plain.Table)
+    → (plain.Schema → List BatchLine) → Result Commit BatchFault
 resolved_change limits db author None lines = Err fault.UnknownTable
 resolved_change limits db author (Some (number, table)) lines =
     if nat_le limits.versions db.version then Err fault.VersionsFull
@@ -121,7 +132,8 @@ resolved_change limits db author (Some (number, table)) lines =
       after_lines : Option BatchFault → Result Commit BatchFault
       after_lines (Some e) = Err e
       after_lines None =
-          if nat_lt limits.rows (length table.rows + length (change_of number table (lines table.schema)).opens) then Err fault.RowsFull
+          if nat_lt limits.rows (length table.rows + length (change_of number table (lines table.schema)).opens)
+          then Err fault.RowsFull
           else Ok (record { author = author; body = body.Change (change_of number table (lines table.schema)) })
 
 -- the commit that a batch of this author becomes, or its first fault
@@ -131,5 +143,7 @@ resolved limits db author (batch.Create schema) =
     else (if nat_le limits.tables (length db.tables) then Err fault.TablesFull
     else (if nat_le limits.versions db.version then Err fault.VersionsFull
     else Ok (record { author = author; body = body.Create schema })))
-resolved limits db author (batch.Put name lines) = resolved_change limits db author (find_table name db.tables) (λ schema. said_by_rows schema lines)
-resolved limits db author (batch.Remove name lines) = resolved_change limits db author (find_table name db.tables) (λ schema. said_by_keys lines)
+resolved limits db author (batch.Put name lines) =
+    resolved_change limits db author (find_table name db.tables) (λ schema. put_lines schema lines)
+resolved limits db author (batch.Remove name lines) =
+    resolved_change limits db author (find_table name db.tables) (λ schema. removal_lines lines)

@@ -51,8 +51,8 @@ pub enum BatchFault {
         /// The record number.
         rec: u32,
     },
-    /// A removal finds no open row of its key, or, where the table has valid time, none whose valid period meets
-    /// the line's, after the lines before it.
+    /// A removal finds no open row of its key, or, where the table has valid time, none whose valid period
+    /// overlaps the line's, after the lines before it.
     NoRow {
         /// The record number.
         rec: u32,
@@ -61,6 +61,6 @@ pub enum BatchFault {
     RowsFull,
     /// There are as many commits as the limits allow.
     VersionsFull,
-    /// Want of memory.
+    /// Out of memory.
     NoMemory,
 }

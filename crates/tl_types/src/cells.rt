@@ -5,7 +5,7 @@ use crate::texts::Text;
 use std::alloc::AllocError;
 
 /// One value of a row.
-#[derive(Debug, Drop, PartialEq, Eq, PartialOrd, Ord)]
+#[derive(Debug, Drop, PartialEq, Eq, PartialOrd, Ord, Hash)]
 pub enum Cell {
     /// A signed whole number of 64 bits.
     Int(i64),

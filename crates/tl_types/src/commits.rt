@@ -27,7 +27,11 @@ impl Model for Change {
 
     ghost view = { λ c. record { table = c.table; closes = c.closes; opens = c.opens } };
 
-    ghost invariant = { λ c. IsChange (record { table = c.table; closes = c.closes; opens = c.opens }) };
+    ghost invariant = { λ c. IsChange (record {
+      table = c.table;
+      closes = c.closes;
+      opens = c.opens;
+    }) };
 
     ghost inverse = { λ c. record { table = c.table; closes = c.closes; opens = c.opens } };
 }

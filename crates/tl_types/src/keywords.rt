@@ -1,65 +1,180 @@
-//! Which words are names.
-ghost use Rattle.std.specs.Prelude.{◌≡◌, ◌≤◌, length};
-ghost use Rattle.std.specs.List.{list_all, list_any};
-ghost use Rattle.tl_types.specs.Names.{same_bytes, begins_word, continues_word, is_one_of, statement_words, table_words, clause_words, range_words, is_word, is_keyword, is_name};
+//! The keywords of the language, and which words are names.
+ghost use Rattle.std.specs.Prelude.{◌≡◌, ◌≤◌, length, is_some};
+ghost use Rattle.std.specs.List.{list_all};
+ghost use Rattle.tl_types.specs.Names.{
+  begins_word,
+  continues_word,
+  is_word,
+  is_keyword,
+  is_name,
+  keyword_of,
+  keywords,
+  spelling_of,
+};
 
-const STATEMENT_WORDS: [&str; 10] = [
-    "CREATE", "PUT", "REMOVE", "SELECT", "COUNT", "SUM", "AVG", "MIN", "MAX", "JOIN",
+/// A keyword of the language, which is no name. `spelling` says how it is written.
+#[derive(Clone, Copy, Debug, PartialEq, Eq)]
+pub enum Keyword {
+    /// `CREATE`.
+    Create,
+    /// `TABLE`.
+    Table,
+    /// `KEY`.
+    Key,
+    /// `VALID`.
+    Valid,
+    /// `INT`.
+    Int,
+    /// `TEXT`.
+    Text,
+    /// `PUT`.
+    Put,
+    /// `REMOVE`.
+    Remove,
+    /// `SELECT`.
+    Select,
+    /// `FROM`.
+    From,
+    /// `WHERE`.
+    Where,
+    /// `AND`.
+    And,
+    /// `OR`.
+    Or,
+    /// `AS`.
+    As,
+    /// `OF`.
+    Of,
+    /// `AT`.
+    At,
+    /// `COUNT`.
+    Count,
+    /// `SUM`.
+    Sum,
+    /// `AVG`.
+    Avg,
+    /// `MIN`.
+    Min,
+    /// `MAX`.
+    Max,
+    /// `BY`.
+    By,
+    /// `OVER`.
+    Over,
+    /// `SYSTEM`.
+    System,
+    /// `ALL`.
+    All,
+    /// `TO`.
+    To,
+    /// `JOIN`.
+    Join,
+    /// `WITH`.
+    With,
+    /// `ON`.
+    On,
+    /// `FOREVER`.
+    Forever,
+    /// `valid_from`.
+    ValidFrom,
+    /// `valid_to`.
+    ValidTo,
+}
+
+const KEYWORDS: [Keyword; 32] = [
+    Keyword::Create,
+    Keyword::Table,
+    Keyword::Key,
+    Keyword::Valid,
+    Keyword::Int,
+    Keyword::Text,
+    Keyword::Put,
+    Keyword::Remove,
+    Keyword::Select,
+    Keyword::From,
+    Keyword::Where,
+    Keyword::And,
+    Keyword::Or,
+    Keyword::As,
+    Keyword::Of,
+    Keyword::At,
+    Keyword::Count,
+    Keyword::Sum,
+    Keyword::Avg,
+    Keyword::Min,
+    Keyword::Max,
+    Keyword::By,
+    Keyword::Over,
+    Keyword::System,
+    Keyword::All,
+    Keyword::To,
+    Keyword::Join,
+    Keyword::With,
+    Keyword::On,
+    Keyword::Forever,
+    Keyword::ValidFrom,
+    Keyword::ValidTo,
 ];
 
-const TABLE_WORDS: [&str; 7] = [
-    "TABLE",
-    "KEY",
-    "VALID",
-    "INT",
-    "TEXT",
-    "valid_from",
-    "valid_to",
-];
+impl Keyword {
+    /// How the keyword is spelled.
+    #[tactic(auto, unfolding(crate::specs::Names::spelling_of))]
+    pub fn spelling(self) -> &'static str
+        ensures { result.now ≡ spelling_of self }
+    {
+        match self {
+            Keyword::Create => "CREATE",
+            Keyword::Table => "TABLE",
+            Keyword::Key => "KEY",
+            Keyword::Valid => "VALID",
+            Keyword::Int => "INT",
+            Keyword::Text => "TEXT",
+            Keyword::Put => "PUT",
+            Keyword::Remove => "REMOVE",
+            Keyword::Select => "SELECT",
+            Keyword::From => "FROM",
+            Keyword::Where => "WHERE",
+            Keyword::And => "AND",
+            Keyword::Or => "OR",
+            Keyword::As => "AS",
+            Keyword::Of => "OF",
+            Keyword::At => "AT",
+            Keyword::Count => "COUNT",
+            Keyword::Sum => "SUM",
+            Keyword::Avg => "AVG",
+            Keyword::Min => "MIN",
+            Keyword::Max => "MAX",
+            Keyword::By => "BY",
+            Keyword::Over => "OVER",
+            Keyword::System => "SYSTEM",
+            Keyword::All => "ALL",
+            Keyword::To => "TO",
+            Keyword::Join => "JOIN",
+            Keyword::With => "WITH",
+            Keyword::On => "ON",
+            Keyword::Forever => "FOREVER",
+            Keyword::ValidFrom => "valid_from",
+            Keyword::ValidTo => "valid_to",
+        }
+    }
 
-const CLAUSE_WORDS: [&str; 8] = ["FROM", "WHERE", "AND", "OR", "AS", "OF", "AT", "BY"];
-
-const RANGE_WORDS: [&str; 7] = ["OVER", "SYSTEM", "ALL", "TO", "WITH", "ON", "FOREVER"];
-
-fn is_one_of(words: &[&str], word: &str) -> bool
-    ensures { result ≡ list_any (λ k. same_bytes k.now word.now) words.now }
-{
-    words.iter().any(|keyword| *keyword == word)
-}
-
-#[tactic(auto, unfolding(crate::specs::Names::statement_words))]
-fn names_statement(word: &str) -> bool
-    ensures { result ≡ is_one_of statement_words word.now }
-{
-    is_one_of(&STATEMENT_WORDS, word)
-}
-
-#[tactic(auto, unfolding(crate::specs::Names::table_words))]
-fn describes_table(word: &str) -> bool
-    ensures { result ≡ is_one_of table_words word.now }
-{
-    is_one_of(&TABLE_WORDS, word)
-}
-
-#[tactic(auto, unfolding(crate::specs::Names::clause_words))]
-fn joins_clauses(word: &str) -> bool
-    ensures { result ≡ is_one_of clause_words word.now }
-{
-    is_one_of(&CLAUSE_WORDS, word)
-}
-
-#[tactic(auto, unfolding(crate::specs::Names::range_words))]
-fn describes_range(word: &str) -> bool
-    ensures { result ≡ is_one_of range_words word.now }
-{
-    is_one_of(&RANGE_WORDS, word)
+    /// The keyword that a word is, or `None` where the word is no keyword.
+    #[tactic(auto, unfolding(crate::specs::Names::keywords))]
+    pub fn of(word: &str) -> Option<Keyword>
+        ensures { result ≡ keyword_of word.now }
+    {
+        KEYWORDS
+            .iter()
+            .copied()
+            .find(|keyword| keyword.spelling() == word)
+    }
 }
 
 /// Whether a word is one of the keywords of the language.
 pub fn is_keyword(word: &str) -> bool
     ensures { result ≡ is_keyword word.now }
 {
-    names_statement(word) || describes_table(word) || joins_clauses(word) || describes_range(word)
+    Keyword::of(word).is_some()
 }
 
 /// Whether a byte begins a word: an ASCII letter or `_`.

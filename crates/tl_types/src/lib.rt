@@ -1,6 +1,6 @@
-// The words that every crate of the engine shares: texts, cells and periods, schemas and commits, batches
-// and answers, and the limits they keep. Their definitions in specs/ say what a history of commits means:
-// its tables, the rows visible at a version, and the commit that a batch becomes.
+//! The types that every crate of the engine shares: texts, cells and periods, schemas and commits, batches
+//! and answers, and the limits they keep. Their definitions in specs/ say what a history of commits means:
+//! its tables, the rows visible at a version, the events of a table, and the commit that a batch becomes.
 #![tactic(auto)]
 
 mod answers;
@@ -28,7 +28,7 @@ pub use bytes::Bytes;
 pub use cells::{Cell, Cmp, ColumnKind};
 pub use commits::{Body, Change, Commit, Entry, has_break};
 pub use events::Event;
-pub use keywords::{begins_word, continues_word, is_keyword, is_name};
+pub use keywords::{Keyword, begins_word, continues_word, is_keyword, is_name};
 pub use limits::Limits;
 pub use lines::Line;
 pub use matching::all_match;
@@ -41,7 +41,7 @@ pub use sequences::Seq;
 pub use steps::Steps;
 pub use texts::Text;
 
-/// Want of memory, where it is the whole error of a call.
+/// Out of memory, where that is the whole error of a call.
 pub type NoMemory = std::alloc::AllocError;
 
 #[cfg(test)]

@@ -21,7 +21,7 @@ impl Model for Line {
 }
 
 impl Line {
-    /// A copy of a text. The error is want of memory.
+    /// A copy of a text. The error is `NoMemory`.
     pub fn new(alloc: Global, text: &str) -> Result<Line, NoMemory>
         ensures { IfOk result (λ t. t ≡ text.now) }
     {

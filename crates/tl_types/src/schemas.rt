@@ -50,11 +50,26 @@ impl Model for Schema {
 
     ghost use Rattle.tl_types.specs.Facts.{is_schema};
 
-    ghost view = { λ s. record { name = s.name; columns = s.columns; key = s.key; valid = s.valid } };
+    ghost view = { λ s. record {
+      name = s.name;
+      columns = s.columns;
+      key = s.key;
+      valid = s.valid;
+    } };
 
-    ghost invariant = { λ s. IsTrue (is_schema (record { name = s.name; columns = s.columns; key = s.key; valid = s.valid })) };
+    ghost invariant = { λ s. IsTrue (is_schema (record {
+      name = s.name;
+      columns = s.columns;
+      key = s.key;
+      valid = s.valid;
+    })) };
 
-    ghost inverse = { λ s. record { name = s.name; columns = s.columns; key = s.key; valid = s.valid } };
+    ghost inverse = { λ s. record {
+      name = s.name;
+      columns = s.columns;
+      key = s.key;
+      valid = s.valid;
+    } };
 }
 
 impl Schema {
@@ -62,7 +77,12 @@ impl Schema {
     /// whose rows have a valid period where `valid` is set. `None` exactly where a name is no name, two columns
     /// have one name, there are not 1 to 16 columns, or the key is none of them.
     pub fn new(name: Text, columns: Seq<Column>, key: u8, valid: bool) -> Option<Schema>
-        ensures { result ≡ schema_of (record { name = name; columns = columns; key = key; valid = valid }) }
+        ensures { result ≡ schema_of (record {
+          name = name;
+          columns = columns;
+          key = key;
+          valid = valid;
+        }) }
     {
         if is_shape(&name, columns.as_slice(), key) {
             Some(Schema {
@@ -126,7 +146,12 @@ impl Clone for Schema {
 }
 
 fn is_shape(name: &Text, columns: &[Column], key: u8) -> bool
-    ensures { result ≡ is_schema (record { name = name.now; columns = columns.now; key = key; valid = true }) }
+    ensures { result ≡ is_schema (record {
+      name = name.now;
+      columns = columns.now;
+      key = key;
+      valid = true;
+    }) }
 {
     keywords::is_name(name.as_str())
         && all_named(columns)

@@ -47,7 +47,7 @@ impl<T> Seq<T> {
         items
     }
 
-    /// Appends an item. The error is want of memory, and leaves the list as it was.
+    /// Appends an item. The error is `NoMemory`, and leaves the list as it was.
     pub fn push(&mut self, item: T) -> Result<(), NoMemory>
     where
         T: Drop,

@@ -1,67 +1,18 @@
-//! Names and schemas by tables, and each call that takes memory on its happy path.
-use crate::{Bytes, Cell, Column, ColumnKind, Line, Opened, Period, Schema, Seq, Text, is_name};
+//! Each call that takes memory on its happy path, and schemas that are and are not.
+use crate::{
+    Body, Bytes, Cell, Column, ColumnKind, Commit, Entry, Line, Opened, Period, Schema, Seq, Text,
+    has_break,
+};
 use std::alloc::Global;
 use std::test::Fail;
 
-#[test]
-fn words_that_are_names(rt: HostRuntime) {
-    let cases = [
-        ("emp", true),
-        ("_a9", true),
-        ("select", true),
-        ("9a", false),
-        ("a-b", false),
-        ("SELECT", false),
-        ("valid_to", false),
-        ("", false),
-        ("\u{e9}", false),
-        (
-            "aaaaaaaaaaaaaaaaaaaaaaaaaaaaaaaaaaaaaaaaaaaaaaaaaaaaaaaaaaaaaaaa",
-            true,
-        ),
-        (
-            "aaaaaaaaaaaaaaaaaaaaaaaaaaaaaaaaaaaaaaaaaaaaaaaaaaaaaaaaaaaaaaaaa",
-            false,
-        ),
-    ];
-    for (word, expected) in cases {
-        assert_eq!(rt; is_name(word), expected, "{word}");
-    }
-}
-
-// A text of at most 64 bytes.
-fn text(alloc: Global, name: &str) -> Result<Text, Fail> {
-    if name.len() > 64 {
-        return Err("long".into());
-    }
-    Ok(Text::new(alloc, name)?)
-}
-
-fn schema(alloc: Global, names: &[&str], key: u8) -> Result<Option<Schema>, Fail> {
+fn schema(alloc: Global, key: u8) -> Result<Option<Schema>, Fail> {
     let mut columns = Seq::new(alloc);
-    for name in names {
-        columns.push(Column {
-            name: text(alloc, *name)?,
-            kind: ColumnKind::IntKind,
-        })?;
-    }
-    Ok(Schema::new(text(alloc, "emp")?, columns, key, false))
-}
-
-#[test]
-fn schemas(rt: HostRuntime) -> Result<(), Fail> {
-    let cases: [(&[&str], u8, bool); 5] = [
-        (&["id", "pay"], 1, true),
-        (&["id", "id"], 0, false),
-        (&["id"], 1, false),
-        (&["id", "KEY"], 0, false),
-        (&[], 0, false),
-    ];
-    for (names, key, expected) in cases {
-        let made = schema(rt.alloc(), names, key)?;
-        assert_eq!(rt; made.is_some(), expected, "{names:?}");
-    }
-    Ok(())
+    columns.push(Column {
+        name: Text::new(alloc, "id")?,
+        kind: ColumnKind::IntKind,
+    })?;
+    Ok(Schema::new(Text::new(alloc, "emp")?, columns, key, false))
 }
 
 #[test]
@@ -79,5 +30,22 @@ fn copies_are_equal(rt: HostRuntime) -> Result<(), Fail> {
     assert!(rt; opened.clone()? == opened);
     let bytes = Bytes::from_vec(vec![in alloc; 1, 2]?);
     assert_eq!(rt; bytes.as_slice(), [1, 2].as_slice());
+    Ok(())
+}
+
+#[test]
+fn commits_are_copied(rt: HostRuntime) -> Result<(), Fail> {
+    let alloc = rt.alloc();
+    assert!(rt; schema(alloc, 1)?.is_none());
+    let schema = schema(alloc, 0)?.ok_or("schema")?;
+    let commit = Commit {
+        author: 7,
+        body: Body::Create(schema),
+    };
+    let entry = Entry::Break {
+        commit: commit.clone()?,
+    };
+    assert!(rt; has_break(&[entry.clone()?]));
+    assert!(rt; !has_break(&[Entry::Commit(commit)]));
     Ok(())
 }

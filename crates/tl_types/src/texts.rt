@@ -3,11 +3,15 @@ ghost use Rattle.std.specs.Prelude.{◌≡◌, ◌≤◌, ◌<◌, ◌^◌, leng
 ghost use Rattle.std.specs.Ordering.{nat_cmp};
 ghost use Rattle.std.specs.Cmp.Lexicographic.{pointwise, slice_cmp, nat_list_eq_equiv, nat_list_cmp_total, texts_ties, texts_po};
 ghost use Rattle.std.specs.Cmp.{partial_equiv_from_equiv};
+ghost use Rattle.std.specs.Cmp.Rules.{hashing};
+ghost use Rattle.std.specs.Hash as fed;
+ghost use Rattle.std.proofs.Common.{rules};
 
 use crate::NoMemory;
 use std::alloc::{AllocError, Global};
 use std::cmp::Ordering;
 use std::fmt;
+use std::hash::{Hash, Hasher};
 use std::marker::Model;
 
 /// A text of at most 65,535 bytes of UTF-8. A contract sees it as its bytes.
@@ -28,7 +32,7 @@ impl Model for Text {
 }
 
 impl Text {
-    /// A copy of a text of at most 65,535 bytes. The error is want of memory.
+    /// A copy of a text of at most 65,535 bytes. The error is `NoMemory`.
     pub fn new(alloc: Global, text: &str) -> Result<Text, NoMemory>
         requires { length text.now ≤ 65535 }
         ensures { IfOk result (λ t. t ≡ text.now) }
@@ -101,6 +105,16 @@ impl Ord for Text {
 
     fn cmp(&self, other: &Text) -> Ordering {
         self.as_str().cmp(other.as_str())
+    }
+}
+
+impl Hash for Text {
+    ghost hash_input = { λ t. fed.str t };
+
+    ghost respects_eq = { Prim.search (hashing, rules) };
+
+    fn hash<H: Hasher>(&self, state: &mut H) {
+        self.as_str().hash(state);
     }
 }
 

@@ -1,6 +1,6 @@
 use Rattle.std.proofs.Common.{true, [], ap, ◌∙◌, arith, rules}
 use Rattle.tl_types.specs.History.{database_of, rows_of}
-use Rattle.tl_types.specs.Resolving.{said_by_keys}
+use Rattle.tl_types.specs.Resolving.{removal_lines}
 use Rattle.tl_batch.specs.Faults.{fault_from}
 use Rattle.tl_batch.specs.Pieces.{met_ids, old_pieces}
 use Rattle.tl_batch.specs.Strokes.{said_by}
@@ -23,5 +23,5 @@ returns g c =
     let closes = c.in_ok-taken.ensures.closes ∙ ap (λ ls. met_ids c.args.schema.now ls 0 (rows_of (database_of c.args.store.now) c.args.table)) lines in
     let opens = c.in_ok-taken.ensures.opens ∙ ap (λ ls. old_pieces c.args.schema.now ls (rows_of (database_of c.args.store.now) c.args.table)) lines in
     let first = c.in_ok-found.ensures ∙ ap (fault_from c.args.schema.now true (rows_of (database_of c.args.store.now) c.args.table) 2 []) (ap said_by c.deref.ensures.value ∙ c.in_ok-strokes.ensures) in
-    made-change c.args.limit c.args.table true c.args.schema.now (rows_of (database_of c.args.store.now) c.args.table) (said_by_keys c.args.lines.now) c.in_ok-found.found c.rows-rows.result c.in_ok-taken.taken.closes c.in_ok-taken.taken.opens.items c.in_ok-made.made
+    made-change c.args.limit c.args.table true c.args.schema.now (rows_of (database_of c.args.store.now) c.args.table) (removal_lines c.args.lines.now) c.in_ok-found.found c.rows-rows.result c.in_ok-taken.taken.closes c.in_ok-taken.taken.opens.items c.in_ok-made.made
     first (search rules) c.rows-rows.ensures.number closes (keys-open c.args.schema.now (rows_of (database_of c.args.store.now) c.args.table) c.args.lines.now c.in_ok-taken.taken.opens.items opens) c.in_ok-made.ensures

@@ -1,5 +1,5 @@
 use Rattle.std.proofs.Common.{◌-ℤ◌}
-use Rattle.tl_query.specs.Runs.{count_of}
+use Rattle.tl_types.specs.Runs.{count_of}
 use Rattle.tl_query.specs.Aggregates.{aggregate_of, span_start}
 use Rattle.tl_plain.specs.Grouping.{counted}
 use Rattle.tl_plain.proofs.RunLemmas.{IsMade}

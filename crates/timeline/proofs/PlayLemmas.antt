@@ -18,7 +18,7 @@ use Rattle.tl_batch.specs.Made.{batch_matches, rows_fit_found}
 use Rattle.tl_csv.specs.declared.faults.CsvFault.{CsvFault}
 use Rattle.tl_csv.specs.declared.needs.BatchKind.{BatchKind}
 use Rattle.tl_csv.specs.Block.{batch_of, IsBatchFor}
-use Rattle.tl_query.specs.declared.forms.Name.{Name}
+use Rattle.tl_query.specs.declared.ast.Name.{Name}
 use Rattle.tl_query.specs.Checking.{table_named}
 use Rattle.timeline.specs.declared.replies.Refusal.TheVariants as refusal
 use Rattle.timeline.specs.Replies.{reply_bytes}

@@ -4,16 +4,16 @@ use Rattle.std.specs.List.{AllByRecursion, list_all}
 use Rattle.std.specs.Option.{ForSome}
 use Rattle.std.specs.Int.{IsNonNegative}
 use Rattle.tl_types.specs.Names.{is_name}
-use Rattle.tl_query.specs.declared.forms.ColumnForm.{ColumnForm}
-use Rattle.tl_query.specs.declared.forms.Name.{Name}
-use Rattle.tl_query.specs.declared.forms.AggKind.{AggKind}
-use Rattle.tl_query.specs.declared.forms.AggKind.TheVariants as kind
-use Rattle.tl_query.specs.declared.forms.Over.{Over}
-use Rattle.tl_query.specs.declared.forms.Over.TheVariants as over
-use Rattle.tl_query.specs.declared.forms.Stamp.{Stamp}
-use Rattle.tl_query.specs.declared.forms.Query.TheVariants as query
-use Rattle.tl_query.specs.declared.forms.Statement.{Statement}
-use Rattle.tl_query.specs.declared.forms.Statement.TheVariants as statement
+use Rattle.tl_query.specs.declared.ast.ColumnForm.{ColumnForm}
+use Rattle.tl_query.specs.declared.ast.Name.{Name}
+use Rattle.tl_query.specs.declared.ast.AggKind.{AggKind}
+use Rattle.tl_query.specs.declared.ast.AggKind.TheVariants as kind
+use Rattle.tl_query.specs.declared.ast.Over.{Over}
+use Rattle.tl_query.specs.declared.ast.Over.TheVariants as over
+use Rattle.tl_query.specs.declared.ast.Stamp.{Stamp}
+use Rattle.tl_query.specs.declared.ast.Query.TheVariants as query
+use Rattle.tl_query.specs.declared.ast.Statement.{Statement}
+use Rattle.tl_query.specs.declared.ast.Statement.TheVariants as statement
 use Rattle.tl_query.specs.declared.faults.TextFault.{TextFault}
 use Rattle.tl_query.specs.Grammar.{IsAggregate, IsNamed, IsVersion, HasNames}
 use Rattle.tl_query.specs.Grammar as grammar

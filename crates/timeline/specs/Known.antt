@@ -1,7 +1,7 @@
 -- What running a statement asks of it, which each that a text spells has.
 use Rattle.std.specs.Prelude.{ℕ}
-use Rattle.tl_query.specs.declared.forms.Statement.{Statement}
-use Rattle.tl_query.specs.declared.forms.Statement.TheVariants as statement
+use Rattle.tl_query.specs.declared.ast.Statement.{Statement}
+use Rattle.tl_query.specs.declared.ast.Statement.TheVariants as statement
 use Rattle.tl_query.specs.Checking.{IsWellNamed}
 use Rattle.tl_query.specs.CheckingQueries.{IsQuestion}
 

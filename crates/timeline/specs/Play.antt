@@ -15,9 +15,9 @@ use Rattle.tl_csv.specs.declared.needs.BatchKind.TheVariants.{PutKind, RemoveKin
 use Rattle.tl_csv.specs.Block.{batch_of}
 use Rattle.tl_query.specs.declared.faults.TextFault.{TextFault}
 use Rattle.tl_query.specs.declared.check_faults.CheckFault.{CheckFault}
-use Rattle.tl_query.specs.declared.forms.Statement.{Statement}
-use Rattle.tl_query.specs.declared.forms.Statement.TheVariants as statement
-use Rattle.tl_query.specs.declared.plans.Typed.{Typed}
+use Rattle.tl_query.specs.declared.ast.Statement.{Statement}
+use Rattle.tl_query.specs.declared.ast.Statement.TheVariants as statement
+use Rattle.tl_query.specs.declared.typed_queries.Typed.{Typed}
 use Rattle.tl_query.specs.Answers.{answer_of}
 use Rattle.tl_query.specs.Checking.{checked_create}
 use Rattle.tl_query.specs.CheckingQueries.{checked}

@@ -1,19 +1,18 @@
 -- A new table without a fault has a schema.
-use Rattle.std.proofs.Common.{◌≡◌, ℕ, ◌+◌, ◌<◌, ◌≤◌, Bool, true, false, not, ◌&&◌, ◌||◌, cond, List, [], ◌∷◌, ◌++◌, length, map, Option, Some, None, refl, ap, arith, sym, ◌∙◌, append_assoc, length-append, nat_le, nat_lt, is_some}
+use Rattle.std.proofs.Common.{◌≡◌, ℕ, ◌+◌, ◌<◌, ◌≤◌, Bool, true, false, not, ◌&&◌, ◌||◌, List, [], ◌∷◌, ◌++◌, length, map, Option, Some, None, refl, ap, arith, sym, ◌∙◌, append_assoc, length-append, nat_le, nat_lt, is_some}
 use Rattle.std.proofs.lemmas.List.{length-map}
 use Rattle.std.proofs.Math.Seq.{take-append_seam}
 use Rattle.std.proofs.lemmas.List.Folds.{list_any-append, list_all-map}
 use Rattle.std.proofs.lemmas.List.Quantifiers.{position-Some}
 use Rattle.std.proofs.lemmas.Bool.{or_parts}
 use Rattle.std.proofs.lemmas.Grind.{common_steps}
-use Rattle.std.specs.List.{enumerate_from, list_any, list_all, fold, position}
+use Rattle.std.specs.List.{enumerate_from, list_any, list_all, position}
 use Rattle.std.specs.Cmp.Lexicographic.{nat_list_eq_equiv}
 use Rattle.tl_types.specs.declared.schemas.Column.{Column}
 use Rattle.tl_types.specs.Names.{same_bytes, is_name}
 use Rattle.tl_types.specs.Facts.{are_distinct, names_of, is_schema}
-use Rattle.tl_query.specs.declared.forms.ColumnForm.{ColumnForm}
-use Rattle.tl_query.specs.declared.forms.CreateForm.{CreateForm}
-use Rattle.tl_query.specs.declared.check_faults.CheckFault.{CheckFault}
+use Rattle.tl_query.specs.declared.ast.ColumnForm.{ColumnForm}
+use Rattle.tl_query.specs.declared.ast.CreateForm.{CreateForm}
 use Rattle.tl_check.proofs.FirstLemmas.{AllNone, all_none, earlier_none, fault_if_none}
 use Rattle.tl_query.specs.Checking.{twice_at, twice_fault, columns_of, key_of, create_fault, or_zero, IsWellNamed}
 

@@ -1,9 +1,8 @@
 -- The range of a question without faults has no fault.
 use Rattle.std.proofs.Common.{◌≡◌, ℕ, ◌||◌, ◌∷◌, [], ◌++◌, None}
-use Rattle.tl_query.specs.declared.forms.SelectForm.{SelectForm}
-use Rattle.tl_query.specs.declared.forms.AggForm.{AggForm}
-use Rattle.tl_query.specs.declared.forms.JoinForm.{JoinForm}
-use Rattle.tl_query.specs.Checking.{first_of, version_fault}
+use Rattle.tl_query.specs.declared.ast.AggForm.{AggForm}
+use Rattle.tl_query.specs.declared.ast.JoinForm.{JoinForm}
+use Rattle.tl_query.specs.Checking.{first_of}
 use Rattle.tl_query.specs.CheckingQueries.{Known, agg_faults, by_faults, is_timeless, join_faults, measure_faults, on_faults, over_faults, pred_faults, table_fault, where_known}
 use Rattle.tl_check.proofs.FirstLemmas.{last_none}
 

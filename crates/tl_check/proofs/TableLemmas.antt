@@ -1,11 +1,11 @@
 -- Tables found by name.
-use Rattle.std.proofs.Common.{◌≡◌, ℕ, zero, suc, ◌+◌, ◌-◌, ◌<◌, ◌≤◌, Bool, true, false, List, [], ◌∷◌, length, Option, Some, None, refl, ap, arith, sym, slice_get}
+use Rattle.std.proofs.Common.{◌≡◌, ℕ, suc, ◌+◌, ◌-◌, ◌<◌, ◌≤◌, Bool, true, false, List, [], ◌∷◌, length, Option, Some, None, refl, ap, arith, slice_get}
 use Rattle.std.proofs.lemmas.Option.{slice_get_within}
 use Rattle.std.specs.Option.{option_map}
 use Rattle.tl_types.specs.Plain as plain
 use Rattle.tl_types.specs.History.{has_name}
 use Rattle.tl_types.specs.Resolving.{find_from, find_table}
-use Rattle.tl_query.specs.declared.forms.Name.{Name}
+use Rattle.tl_query.specs.declared.ast.Name.{Name}
 use Rattle.tl_query.specs.Checking.{table_named}
 
 abbrev number_of : Option (ℕ × plain.Table) → ℕ

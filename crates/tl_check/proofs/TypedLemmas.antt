@@ -1,5 +1,5 @@
 -- A question without faults is well typed.
-use Rattle.std.proofs.Common.{◌≡◌, ℕ, zero, suc, ◌+◌, ◌-◌, ◌<◌, ◌≤◌, Bool, true, false, not, ◌&&◌, ◌||◌, List, [], ◌∷◌, ◌++◌, length, map, get_or, Option, Some, None, Result, Ok, Err, is_some, refl, ap, arith, sym, ◌∙◌, subst, nat_le, nat_lt, nat_abs, int_lt, slice_get, IfOk, IfErr, ◌⊎◌, inl, inr}
+use Rattle.std.proofs.Common.{◌≡◌, ℕ, ◌+◌, ◌-◌, ◌<◌, Bool, true, false, not, ◌&&◌, ◌||◌, List, [], ◌∷◌, ◌++◌, length, map, get_or, Option, Some, None, Result, Ok, Err, is_some, refl, ap, arith, sym, ◌∙◌, subst, nat_le, nat_lt, nat_abs, int_lt, slice_get, IfOk, IfErr, ◌⊎◌, inl, inr}
 use Rattle.std.proofs.lemmas.List.Quantifiers.{position-Some}
 use Rattle.std.proofs.lemmas.List.Folds.{list_all-append}
 use Rattle.std.proofs.lemmas.Option.{slice_get-get_or}
@@ -8,36 +8,33 @@ use Rattle.std.proofs.lemmas.Grind.{common_steps}
 use Rattle.std.specs.List.{enumerate_from, flat_map, list_all, position}
 use Rattle.std.specs.Option.{option_and_then, option_map}
 use Rattle.tl_types.specs.declared.schemas.Column.{Column}
-use Rattle.tl_types.specs.declared.cells.Cmp.{Cmp}
 use Rattle.tl_types.specs.declared.cells.ColumnKind.{ColumnKind}
 use Rattle.tl_types.specs.declared.cells.ColumnKind.TheVariants.{IntKind, TextKind}
-use Rattle.tl_types.specs.History.{is_of_kind}
 use Rattle.tl_types.specs.Plain as plain
-use Rattle.tl_types.specs.Resolving.{find_from, find_table}
-use Rattle.tl_query.specs.declared.forms.Name.{Name}
-use Rattle.tl_query.specs.declared.forms.Stamp.{Stamp}
-use Rattle.tl_query.specs.declared.forms.Test.{Test}
-use Rattle.tl_query.specs.declared.forms.Pred.{Pred}
-use Rattle.tl_query.specs.declared.forms.Item.{Item}
-use Rattle.tl_query.specs.declared.forms.Item.TheVariants as item
-use Rattle.tl_query.specs.declared.forms.SelectForm.{SelectForm}
-use Rattle.tl_query.specs.declared.forms.AggKind.{AggKind}
-use Rattle.tl_query.specs.declared.forms.AggKind.TheVariants as agg
-use Rattle.tl_query.specs.declared.forms.AggForm.{AggForm}
-use Rattle.tl_query.specs.declared.forms.JoinForm.{JoinForm}
-use Rattle.tl_query.specs.declared.forms.ValidPoint.{ValidPoint}
-use Rattle.tl_query.specs.declared.forms.Over.{Over}
-use Rattle.tl_query.specs.declared.forms.Over.TheVariants as over
-use Rattle.tl_query.specs.declared.forms.Query.{Query}
-use Rattle.tl_query.specs.declared.forms.Query.TheVariants as query
-use Rattle.tl_query.specs.declared.plans.Typed.{Typed}
-use Rattle.tl_query.specs.declared.plans.TypedItem.{TypedItem}
-use Rattle.tl_query.specs.declared.plans.TypedItem.TheVariants as typed_item
+use Rattle.tl_types.specs.Resolving.{find_table}
+use Rattle.tl_query.specs.declared.ast.Name.{Name}
+use Rattle.tl_query.specs.declared.ast.Stamp.{Stamp}
+use Rattle.tl_query.specs.declared.ast.Test.{Test}
+use Rattle.tl_query.specs.declared.ast.Pred.{Pred}
+use Rattle.tl_query.specs.declared.ast.Item.{Item}
+use Rattle.tl_query.specs.declared.ast.Item.TheVariants as item
+use Rattle.tl_query.specs.declared.ast.SelectForm.{SelectForm}
+use Rattle.tl_query.specs.declared.ast.AggKind.{AggKind}
+use Rattle.tl_query.specs.declared.ast.AggKind.TheVariants as agg
+use Rattle.tl_query.specs.declared.ast.AggForm.{AggForm}
+use Rattle.tl_query.specs.declared.ast.JoinForm.{JoinForm}
+use Rattle.tl_query.specs.declared.ast.ValidPoint.{ValidPoint}
+use Rattle.tl_query.specs.declared.ast.Over.{Over}
+use Rattle.tl_query.specs.declared.ast.Over.TheVariants as over
+use Rattle.tl_query.specs.declared.ast.Query.{Query}
+use Rattle.tl_query.specs.declared.ast.Query.TheVariants as query
+use Rattle.tl_query.specs.declared.typed_queries.Typed.{Typed}
+use Rattle.tl_query.specs.declared.typed_queries.TypedItem.TheVariants as typed_item
 use Rattle.tl_query.specs.declared.check_faults.CheckFault.{CheckFault}
 use Rattle.tl_query.specs.declared.check_faults.CheckFault.TheVariants as fault
-use Rattle.tl_query.specs.Checking.{all_items, column_of, fault_if, first_of, item_fault, or_zero, period_items, table_named, typed_item_of, typed_items_of, version_fault, version_of, IsUnlessMemory}
-use Rattle.tl_query.specs.CheckingQueries.{Known, agg_by_numbers, agg_faults, by_faults, checked, column_fault, column_place, constant_fault, end_fault, fault_or, faults_of, is_timeless, join_by_numbers, join_faults, kind_of, kinds_fault, known_kind, measure_faults, moments_fault, number_fault, on_faults, order_fault, over_faults, point_fault, pred_faults, select_by_numbers, select_faults, span_of, table_fault, takes_column, test_faults, tests_faults, typed_pred_of, typed_test_of, versions_fault, where_known, IsFaultless, IsFirst, IsQuestion}
-use Rattle.tl_query.specs.TypedFor.{has_column, holds_cell, is_int_column, is_int_kind, is_ordered, is_typed_agg, is_typed_aggregate, is_typed_for, is_typed_group, is_typed_item, is_typed_join, is_typed_pred, is_typed_select, is_typed_span, is_typed_test, kind_at, same_kinds, schema_at, IsTypedFor}
+use Rattle.tl_query.specs.Checking.{all_items, column_of, first_of, item_fault, or_zero, period_items, table_named, typed_item_of, typed_items_of, version_fault, version_of, IsUnlessMemory}
+use Rattle.tl_query.specs.CheckingQueries.{Known, agg_by_numbers, agg_faults, by_faults, checked, column_fault, column_place, constant_fault, fault_or, faults_of, join_by_numbers, join_faults, kind_of, kinds_fault, measure_faults, number_fault, on_faults, order_fault, over_faults, point_fault, pred_faults, select_by_numbers, select_faults, span_of, table_fault, takes_column, test_faults, tests_faults, typed_pred_of, typed_test_of, IsFaultless, IsFirst, IsQuestion}
+use Rattle.tl_query.specs.TypedFor.{has_column, holds_cell, is_int_kind, is_ordered, is_typed_agg, is_typed_aggregate, is_typed_for, is_typed_group, is_typed_item, is_typed_join, is_typed_pred, is_typed_select, is_typed_span, is_typed_test, kind_at, same_kinds, schema_at, IsTypedFor}
 use Rattle.tl_check.proofs.FirstLemmas.{AllNone, all_none, fault_if_none, first_is, none_is, none_of_parts}
 use Rattle.tl_check.proofs.TableLemmas.{found_from}
 

@@ -1,25 +1,24 @@
 -- Checks of questions over small tables, computed.
-use Rattle.std.proofs.Common.{◌≡◌, ℕ, ℤ, Bool, true, false, pos, List, [], ◌∷◌, Option, Some, None, Result, Ok, Err, refl, codes}
+use Rattle.std.proofs.Common.{◌≡◌, ℕ, true, false, pos, List, [], ◌∷◌, Option, Some, None, Ok, Err, refl, codes}
 use Rattle.tl_types.specs.declared.cells.Cell.{Cell}
 use Rattle.tl_types.specs.declared.cells.Cell.TheVariants as cell
 use Rattle.tl_types.specs.declared.cells.ColumnKind.TheVariants.{IntKind, TextKind}
 use Rattle.tl_types.specs.declared.cells.Cmp.{Cmp}
 use Rattle.tl_types.specs.declared.cells.Cmp.TheVariants as cmp
 use Rattle.tl_types.specs.Plain as plain
-use Rattle.tl_query.specs.declared.forms.Name.{Name}
-use Rattle.tl_query.specs.declared.forms.Stamp.{Stamp}
-use Rattle.tl_query.specs.declared.forms.Test.{Test}
-use Rattle.tl_query.specs.declared.forms.Pred.{Pred}
-use Rattle.tl_query.specs.declared.forms.Item.TheVariants as item
-use Rattle.tl_query.specs.declared.forms.AggKind.TheVariants as agg
-use Rattle.tl_query.specs.declared.forms.Over.{Over}
-use Rattle.tl_query.specs.declared.forms.Over.TheVariants as over
-use Rattle.tl_query.specs.declared.forms.Query.{Query}
-use Rattle.tl_query.specs.declared.forms.Query.TheVariants as query
-use Rattle.tl_query.specs.declared.plans.Span.TheVariants as span
-use Rattle.tl_query.specs.declared.plans.TypedPred.{TypedPred}
-use Rattle.tl_query.specs.declared.plans.Typed.TheVariants as typed
-use Rattle.tl_query.specs.declared.plans.TypedItem.TheVariants as typed_item
+use Rattle.tl_query.specs.declared.ast.Name.{Name}
+use Rattle.tl_query.specs.declared.ast.Stamp.{Stamp}
+use Rattle.tl_query.specs.declared.ast.Pred.{Pred}
+use Rattle.tl_query.specs.declared.ast.Item.TheVariants as item
+use Rattle.tl_query.specs.declared.ast.AggKind.TheVariants as agg
+use Rattle.tl_query.specs.declared.ast.Over.{Over}
+use Rattle.tl_query.specs.declared.ast.Over.TheVariants as over
+use Rattle.tl_query.specs.declared.ast.Query.{Query}
+use Rattle.tl_query.specs.declared.ast.Query.TheVariants as query
+use Rattle.tl_query.specs.declared.typed_queries.Span.TheVariants as span
+use Rattle.tl_query.specs.declared.typed_queries.TypedPred.{TypedPred}
+use Rattle.tl_query.specs.declared.typed_queries.Typed.TheVariants as typed
+use Rattle.tl_query.specs.declared.typed_queries.TypedItem.TheVariants as typed_item
 use Rattle.tl_query.specs.declared.check_faults.CheckFault.TheVariants as fault
 use Rattle.tl_query.specs.Checking.{checked_create}
 use Rattle.tl_query.specs.CheckingQueries.{checked}

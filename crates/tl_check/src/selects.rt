@@ -4,7 +4,7 @@ ghost use Rattle.std.specs.List.{enumerate_from};
 ghost use Rattle.std.specs.Option.{ForSome};
 ghost use Rattle.tl_query.specs.Checking.{all_items, first_of, item_fault, typed_item_of, typed_items_of, IsUnlessMemory};
 ghost use Rattle.tl_query.specs.CheckingQueries.{select_checked, select_faults, where_known, IsVersionNumber};
-ghost use Rattle.tl_query.specs.declared.plans.TypedItem.TheVariants as typed_item;
+ghost use Rattle.tl_query.specs.declared.typed_queries.TypedItem.TheVariants as typed_item;
 ghost use Rattle.tl_check.specs.Known.{known};
 
 use crate::columns::{column_fault, column_place, is_timeless, table_fault};

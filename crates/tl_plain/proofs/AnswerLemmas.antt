@@ -6,11 +6,11 @@ use Rattle.std.specs.List.{enumerate_from, filter, flat_map}
 use Rattle.tl_types.specs.declared.cells.Cell.{Cell}
 use Rattle.tl_types.specs.History.{is_visible, rows_of, is_within, with_ids}
 use Rattle.tl_types.specs.Plain as plain
-use Rattle.tl_query.specs.declared.forms.AggKind.{AggKind}
-use Rattle.tl_query.specs.declared.plans.Span.{Span}
-use Rattle.tl_query.specs.declared.plans.Span.TheVariants as span
-use Rattle.tl_query.specs.declared.plans.TypedPred.{TypedPred}
-use Rattle.tl_query.specs.declared.plans.TypedTest.{TypedTest}
+use Rattle.tl_query.specs.declared.ast.AggKind.{AggKind}
+use Rattle.tl_query.specs.declared.typed_queries.Span.{Span}
+use Rattle.tl_query.specs.declared.typed_queries.Span.TheVariants as span
+use Rattle.tl_query.specs.declared.typed_queries.TypedPred.{TypedPred}
+use Rattle.tl_query.specs.declared.typed_queries.TypedTest.{TypedTest}
 use Rattle.tl_query.specs.Passing.{passes, passes_all}
 use Rattle.tl_query.specs.Ordered.{values_of, in_order, pair_before}
 use Rattle.tl_query.specs.Aggregates.{passing_at, has_value, group_at, runs_in, group_runs, aggregate_runs}

@@ -5,8 +5,8 @@ use Rattle.std.proofs.lemmas.List.Elements.{filter-append, filter_agree}
 use Rattle.std.specs.List.{enumerate_from, filter}
 use Rattle.tl_types.specs.History.{is_visible, rows_of, is_within, with_ids}
 use Rattle.tl_types.specs.Plain as plain
-use Rattle.tl_query.specs.declared.plans.TypedItem.{TypedItem}
-use Rattle.tl_query.specs.declared.plans.TypedPred.{TypedPred}
+use Rattle.tl_query.specs.declared.typed_queries.TypedItem.{TypedItem}
+use Rattle.tl_query.specs.declared.typed_queries.TypedPred.{TypedPred}
 use Rattle.tl_query.specs.Passing.{passes}
 use Rattle.tl_query.specs.Fields.{row_fields}
 use Rattle.tl_query.specs.Answers.{selected}

@@ -8,9 +8,9 @@ use Rattle.tl_types.specs.declared.answers.Field.TheVariants as field
 use Rattle.tl_types.specs.Plain as plain
 use Rattle.tl_types.specs.History.{database_of, database_at, visible_rows, fits, open_end}
 use Rattle.tl_types.specs.Limits.{standard_limits}
-use Rattle.tl_query.specs.declared.plans.Typed.{Typed}
-use Rattle.tl_query.specs.declared.plans.Typed.TheVariants as typed
-use Rattle.tl_query.specs.declared.plans.TypedItem.TheVariants as item
+use Rattle.tl_query.specs.declared.typed_queries.Typed.{Typed}
+use Rattle.tl_query.specs.declared.typed_queries.Typed.TheVariants as typed
+use Rattle.tl_query.specs.declared.typed_queries.TypedItem.TheVariants as item
 use Rattle.tl_query.specs.Answers.{answer_of}
 
 abbrev schema : plain.Schema

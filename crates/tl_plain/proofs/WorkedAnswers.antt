@@ -12,13 +12,13 @@ use Rattle.tl_types.specs.declared.answers.Field.{Field}
 use Rattle.tl_types.specs.declared.answers.Field.TheVariants as field
 use Rattle.tl_types.specs.Plain as plain
 use Rattle.tl_types.specs.History.{database_of}
-use Rattle.tl_query.specs.declared.forms.AggKind.{AggKind}
-use Rattle.tl_query.specs.declared.forms.AggKind.TheVariants as kind
-use Rattle.tl_query.specs.declared.plans.Span.TheVariants as span
-use Rattle.tl_query.specs.declared.plans.Typed.{Typed}
-use Rattle.tl_query.specs.declared.plans.Typed.TheVariants as typed
-use Rattle.tl_query.specs.declared.plans.TypedItem.TheVariants as item
-use Rattle.tl_query.specs.declared.plans.TypedPred.{TypedPred}
+use Rattle.tl_query.specs.declared.ast.AggKind.{AggKind}
+use Rattle.tl_query.specs.declared.ast.AggKind.TheVariants as kind
+use Rattle.tl_query.specs.declared.typed_queries.Span.TheVariants as span
+use Rattle.tl_query.specs.declared.typed_queries.Typed.{Typed}
+use Rattle.tl_query.specs.declared.typed_queries.Typed.TheVariants as typed
+use Rattle.tl_query.specs.declared.typed_queries.TypedItem.TheVariants as item
+use Rattle.tl_query.specs.declared.typed_queries.TypedPred.{TypedPred}
 use Rattle.tl_types.specs.Runs.{runs_over, runs_of, add_stretch, stretch_of}
 use Rattle.tl_query.specs.Aggregates.{aggregate_of, passing_at, aggregate_runs}
 use Rattle.tl_query.specs.Joins.{joined_pairs}

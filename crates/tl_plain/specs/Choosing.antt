@@ -2,9 +2,9 @@
 use Rattle.std.specs.Prelude.{◌≡◌, ◌⊎◌, ◌<ℤ◌, ◌≤ℤ◌, ℕ, ℤ, Bool, true, ◌&&◌, List, Option, Some, None}
 use Rattle.tl_types.specs.History.{is_visible, is_within}
 use Rattle.tl_types.specs.Plain as plain
-use Rattle.tl_query.specs.declared.plans.Span.{Span}
-use Rattle.tl_query.specs.declared.plans.TypedPred.{TypedPred}
-use Rattle.tl_query.specs.declared.plans.TypedTest.{TypedTest}
+use Rattle.tl_query.specs.declared.typed_queries.Span.{Span}
+use Rattle.tl_query.specs.declared.typed_queries.TypedPred.{TypedPred}
+use Rattle.tl_query.specs.declared.typed_queries.TypedTest.{TypedTest}
 use Rattle.tl_query.specs.Passing.{passes, passes_all}
 use Rattle.tl_query.specs.Joins.{times_of}
 

@@ -2,8 +2,8 @@
 use Rattle.std.specs.Prelude.{ℤ, List}
 use Rattle.tl_types.specs.declared.answers.Field.{Field}
 use Rattle.tl_types.specs.declared.answers.Field.TheVariants as field
-use Rattle.tl_query.specs.declared.forms.AggKind.{AggKind}
-use Rattle.tl_query.specs.declared.forms.AggKind.TheVariants as kind
+use Rattle.tl_query.specs.declared.ast.AggKind.{AggKind}
+use Rattle.tl_query.specs.declared.ast.AggKind.TheVariants as kind
 use Rattle.tl_query.specs.Aggregates.{sum_field, average_field, least_field, greatest_field}
 
 -- the aggregate of numbers; a count is over rows, and not over numbers

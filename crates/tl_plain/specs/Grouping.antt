@@ -5,10 +5,10 @@ use Rattle.tl_types.specs.declared.cells.Cell.{Cell}
 use Rattle.tl_types.specs.declared.cells.Cmp.TheVariants as cmp
 use Rattle.tl_types.specs.declared.runs.Run.{Run}
 use Rattle.tl_types.specs.Plain as plain
-use Rattle.tl_query.specs.declared.forms.AggKind.{AggKind}
-use Rattle.tl_query.specs.declared.plans.Span.{Span}
-use Rattle.tl_query.specs.declared.plans.TypedPred.{TypedPred}
-use Rattle.tl_query.specs.declared.plans.TypedTest.{TypedTest}
+use Rattle.tl_query.specs.declared.ast.AggKind.{AggKind}
+use Rattle.tl_query.specs.declared.typed_queries.Span.{Span}
+use Rattle.tl_query.specs.declared.typed_queries.TypedPred.{TypedPred}
+use Rattle.tl_query.specs.declared.typed_queries.TypedTest.{TypedTest}
 use Rattle.tl_query.specs.Ordered.{values_of, with_value}
 use Rattle.tl_query.specs.Aggregates.{runs_in, group_runs}
 use Rattle.tl_plain.specs.Choosing.{is_counted}

@@ -1,5 +1,5 @@
 -- How one byte of a text constant goes on, and that words are ASCII.
-use Rattle.std.proofs.Common.{◌≡◌, ℕ, ◌+◌, ◌<◌, ◌≤◌, Bool, true, false, not, cond, ◌==◌, ◌&&◌, nat_le, sym, List, [], ◌∷◌, length, drop, take, get_or, Option, Some, None, refl, ◌∙◌, ap, add-one, arith, inl, inr, lit<, length-take}
+use Rattle.std.proofs.Common.{◌≡◌, ℕ, ◌+◌, ◌<◌, ◌≤◌, Bool, true, false, not, cond, ◌==◌, List, [], ◌∷◌, length, drop, take, get_or, Option, Some, None, refl, ◌∙◌, ap, add-one, arith, inl, inr, lit<, length-take}
 use Rattle.std.proofs.Math.Seq.{drop-cons}
 use Rattle.std.specs.List.{prefix_len}
 use Rattle.std.proofs.lemmas.List.Sums.{prefix_len_passes}
@@ -7,10 +7,7 @@ use Rattle.std.proofs.lemmas.List.{get_or-take, get_or_past, drop_all}
 use Rattle.std.proofs.lemmas.Bool.{eq-eqb, cases_lt}
 use Rattle.std.proofs.lemmas.Bool.Decides.{nat_tests}
 use Rattle.tl_types.specs.Names.{continues_word}
-use Rattle.std.specs.Str.{IsUtf8, is_utf8}
-use Rattle.std.proofs.lemmas.Str.{IsUtf8-from_is_utf8, is_utf8-from_IsUtf8}
-use Rattle.tl_query.specs.declared.tokens.Token.TheVariants.{Quoted, Stray}
-use Rattle.tl_query.specs.Scanning.{closing, one_more, text_token}
+use Rattle.tl_query.specs.Scanning.{closing, one_more}
 
 -- so many more, where there is a number
 abbrev pub further : ℕ → Option ℕ → Option ℕ
@@ -40,7 +37,7 @@ closing_done i b bytes e = ap (λ t. further i (cond t (one_more (closing false 
 is_39 : (b : ℕ) → b ≡ 39 → (b == 39) ≡ true
 is_39 b e = eq-eqb b 39 e
 
-not_39 : (b : ℕ) → (b ≡ 39 → ⊥) → (b == 39) ≡ false
+pub not_39 : (b : ℕ) → (b ≡ 39 → ⊥) → (b == 39) ≡ false
 not_39 b h = grind (arith, nat_tests)
 
 front_is : (bs : List ℕ) (i : ℕ) → i < length bs → drop i bs ≡ get_or bs i 0 ∷ drop (i + 1) bs
@@ -71,7 +68,7 @@ closing_open i true q = absurd (cc)
 closing_open i false q = refl
 
 -- bytes of words are ASCII
-word_byte : (b : ℕ) → continues_word b ≡ true → b < 128
+pub word_byte : (b : ℕ) → continues_word b ≡ true → b < 128
 word_byte b h = grind (arith, nat_tests)
 
 pub word_ascii : (bytes : List ℕ) (i : ℕ) → get_or (take (prefix_len continues_word bytes) bytes) i 0 < 128
@@ -80,22 +77,3 @@ word_ascii bytes i = elim (cases_lt i (prefix_len continues_word bytes)) as (λ 
   | inr h ↦ let n : length (take (prefix_len continues_word bytes) bytes) ≤ i = omega (arith, length-take (prefix_len continues_word bytes) bytes) in
       rw (get_or_past (take (prefix_len continues_word bytes) bytes) i 0 n) (lit< tt)
 ]
-
--- bytes that spell no characters are no text
-pub token_stray : (bytes : List ℕ) → (IsUtf8 bytes → ⊥) → Stray ≡ text_token bytes
-unfolding text_token
-token_stray bytes h = elim (is_utf8 bytes) as (λ u. is_utf8 bytes ≡ u → Stray ≡ cond (u && nat_le (length bytes) 65535) (Quoted bytes) Stray) [ true ↦ λ e. absurd (h (IsUtf8-from_is_utf8 bytes e)) | false ↦ λ e. refl ] refl
-
--- a text that isn't too long
-pub token_quoted : (bytes : List ℕ) → IsUtf8 bytes → length bytes ≤ 65535 → Quoted bytes ≡ text_token bytes
-unfolding text_token
-token_quoted bytes h few =
-    let short : nat_le (length bytes) 65535 ≡ true = grind (arith, nat_tests) in
-    sym (ap (λ u. cond (u && nat_le (length bytes) 65535) (Quoted bytes) Stray) (is_utf8-from_IsUtf8 bytes h) ∙ ap (λ t. cond t (Quoted bytes) Stray) short)
-
--- a text that is too long
-pub token_long : (bytes : List ℕ) → IsUtf8 bytes → 65535 < length bytes → Stray ≡ text_token bytes
-unfolding text_token
-token_long bytes h many =
-    let long : nat_le (length bytes) 65535 ≡ false = grind (arith, nat_tests) in
-    sym (ap (λ u. cond (u && nat_le (length bytes) 65535) (Quoted bytes) Stray) (is_utf8-from_IsUtf8 bytes h) ∙ ap (λ t. cond t (Quoted bytes) Stray) long)

@@ -3,12 +3,11 @@
 -- many tokens, so that the law of a list can go by their number.
 use Rattle.std.proofs.Common.{◌≡◌, ℕ, ◌≤◌, suc, Bool, true, false, cond, List, [], ◌∷◌, ◌++◌, length, Option, Some, None, Result, Ok, Err, refl, sym, ◌∙◌, ap, subst, append_assoc, append-nil, arith}
 use Rattle.std.specs.Option.{option_map}
-use Rattle.tl_query.specs.declared.marks.Mark.{Mark}
-use Rattle.tl_query.specs.declared.marks.Mark.TheVariants as marks
-use Rattle.tl_query.specs.declared.tokens.Token.{Token}
+use Rattle.tl_query.specs.declared.terminals.Terminal.{Terminal}
+use Rattle.tl_query.specs.declared.terminals.Terminal.TheVariants as terminals
 use Rattle.tl_query.specs.declared.tokens.Token.TheVariants.{Fixed}
 use Rattle.tl_query.specs.declared.tokens.Placed.{Placed}
-use Rattle.tl_query.specs.declared.forms.Statement.{Statement}
+use Rattle.tl_query.specs.declared.ast.Statement.{Statement}
 use Rattle.tl_query.specs.Grammar.{Part, said, IsPart, Fits, IsStatement, IsSpelling, IsViable, statement_parts, end_parts}
 use Rattle.tl_query.specs.Reading.{◌>>=◌, place_of, is_fixed, after, expect, take_at, peek_at, last_of, ended, where_some}
 use Rattle.tl_query.proofs.Places.{is_fixed_true}
@@ -121,25 +120,25 @@ pub pass_end : (c : List Placed) (f g : Reader) → f [] ≡ g [] → At c g [] 
 pass_end c f g e h = at_by c f [] (g []) e (pass_end_by c f g (g []) h)
 
 -- a token for each mark
-token_for : Mark → Placed
+token_for : Terminal → Placed
 token_for m = record { token = Fixed m; at = 0 }
 
-is_token_for : (m : Mark) → IsPart (said m) (token_for m)
+is_token_for : (m : Terminal) → IsPart (said m) (token_for m)
 unfolding token_for
 is_token_for m = refl
 
 -- a mark that has to come
-mark_at : (n : ℕ) (parts : List Part) (m : Mark) (g : Reader) (c : List Placed) → Fits parts c → (p : Placed) (ts : List Placed) (b : Bool) → length (p ∷ ts) ≤ n → is_fixed m p.token ≡ b → Good n (parts ++ (said m ∷ [])) g → At c (λ ts. expect m ts >>= g) (p ∷ ts)
+mark_at : (n : ℕ) (parts : List Part) (m : Terminal) (g : Reader) (c : List Placed) → Fits parts c → (p : Placed) (ts : List Placed) (b : Bool) → length (p ∷ ts) ≤ n → is_fixed m p.token ≡ b → Good n (parts ++ (said m ∷ [])) g → At c (λ ts. expect m ts >>= g) (p ∷ ts)
 unfolding expect after
 mark_at n parts m g c fits p ts true few e h = step_at c (λ ts. expect m ts >>= g) g p ts (λ y. ap (λ b. where_some (cond b (Some y) None) (Err (Some p.at)) (λ rest. Ok rest) >>= g) e) (h (c ++ (p ∷ [])) (fits_one parts (said m) c p fits (is_fixed_true m p.token e)) ts (omega arith))
 mark_at n parts m g c fits p ts false few e h = fail_at c (λ ts. expect m ts >>= g) p ts (λ y. ap (λ b. where_some (cond b (Some y) None) (Err (Some p.at)) (λ rest. Ok rest) >>= g) e) (viable_before n parts (said m) (token_for m) g (is_token_for m) h c fits)
 
-expect_at : (n : ℕ) (parts : List Part) (m : Mark) (g : Reader) → Good n (parts ++ (said m ∷ [])) g → (c : List Placed) → Fits parts c → (ts : List Placed) → length ts ≤ n → At c (λ ts. expect m ts >>= g) ts
+expect_at : (n : ℕ) (parts : List Part) (m : Terminal) (g : Reader) → Good n (parts ++ (said m ∷ [])) g → (c : List Placed) → Fits parts c → (ts : List Placed) → length ts ≤ n → At c (λ ts. expect m ts >>= g) ts
 unfolding expect after
 expect_at n parts m g h c fits [] few = end_at c (λ ts. expect m ts >>= g) refl (viable_before n parts (said m) (token_for m) g (is_token_for m) h c fits)
 expect_at n parts m g h c fits (p ∷ ts) few = mark_at n parts m g c fits p ts (is_fixed m p.token) few refl h
 
-pub expect_good : (n : ℕ) (parts : List Part) (m : Mark) (g : Reader) → Good n (parts ++ (said m ∷ [])) g → Good n parts (λ ts. expect m ts >>= g)
+pub expect_good : (n : ℕ) (parts : List Part) (m : Terminal) (g : Reader) → Good n (parts ++ (said m ∷ [])) g → Good n parts (λ ts. expect m ts >>= g)
 expect_good n parts m g h = expect_at n parts m g h
 
 -- what a token is: how it is taken, its part, and one that there is
@@ -178,20 +177,20 @@ pub peek_token_good : {A : Type 0} (take : Placed → Option A) (part : A → Pa
 peek_token_good take part of n parts f g h by hh hg = peek_token_at take part of n parts f g h by hh hg
 
 -- a mark that may come, and what follows it, of which one token less is left
-marked_at : (k n : ℕ) (parts : List Part) (m : Mark) (f g h : Reader) → ((y : List Placed) → f y ≡ where_some (after m y) (g y) h) → n ≤ suc k → Good k (parts ++ (said m ∷ [])) h → Good n parts g → (c : List Placed) → Fits parts c → (p : Placed) (ts : List Placed) → length (p ∷ ts) ≤ n → (b : Bool) → is_fixed m p.token ≡ b → At c f (p ∷ ts)
+marked_at : (k n : ℕ) (parts : List Part) (m : Terminal) (f g h : Reader) → ((y : List Placed) → f y ≡ where_some (after m y) (g y) h) → n ≤ suc k → Good k (parts ++ (said m ∷ [])) h → Good n parts g → (c : List Placed) → Fits parts c → (p : Placed) (ts : List Placed) → length (p ∷ ts) ≤ n → (b : Bool) → is_fixed m p.token ≡ b → At c f (p ∷ ts)
 unfolding after
 marked_at k n parts m f g h by less hh hg c fits p ts few true e = step_at c f h p ts (λ y. by (p ∷ y) ∙ ap (λ b. where_some (cond b (Some y) None) (g (p ∷ y)) h) e) (hh (c ++ (p ∷ [])) (fits_one parts (said m) c p fits (is_fixed_true m p.token e)) ts (omega arith))
 marked_at k n parts m f g h by less hh hg c fits p ts few false e = pass_at c f g p ts (λ y. by (p ∷ y) ∙ ap (λ b. where_some (cond b (Some y) None) (g (p ∷ y)) h) e) (hg c fits (p ∷ ts) few)
 
-peek_mark_at : (k n : ℕ) (parts : List Part) (m : Mark) (f g h : Reader) → ((y : List Placed) → f y ≡ where_some (after m y) (g y) h) → n ≤ suc k → Good k (parts ++ (said m ∷ [])) h → Good n parts g → (c : List Placed) → Fits parts c → (ts : List Placed) → length ts ≤ n → At c f ts
+peek_mark_at : (k n : ℕ) (parts : List Part) (m : Terminal) (f g h : Reader) → ((y : List Placed) → f y ≡ where_some (after m y) (g y) h) → n ≤ suc k → Good k (parts ++ (said m ∷ [])) h → Good n parts g → (c : List Placed) → Fits parts c → (ts : List Placed) → length ts ≤ n → At c f ts
 unfolding after
 peek_mark_at k n parts m f g h by less hh hg c fits [] few = pass_end c f g (by []) (hg c fits [] few)
 peek_mark_at k n parts m f g h by less hh hg c fits (p ∷ ts) few = marked_at k n parts m f g h by less hh hg c fits p ts few (is_fixed m p.token) refl
 
-pub peek_less_good : (k n : ℕ) (parts : List Part) (m : Mark) (f g h : Reader) → ((y : List Placed) → f y ≡ where_some (after m y) (g y) h) → n ≤ suc k → Good k (parts ++ (said m ∷ [])) h → Good n parts g → Good n parts f
+pub peek_less_good : (k n : ℕ) (parts : List Part) (m : Terminal) (f g h : Reader) → ((y : List Placed) → f y ≡ where_some (after m y) (g y) h) → n ≤ suc k → Good k (parts ++ (said m ∷ [])) h → Good n parts g → Good n parts f
 peek_less_good k n parts m f g h by less hh hg = peek_mark_at k n parts m f g h by less hh hg
 
-pub peek_good : (n : ℕ) (parts : List Part) (m : Mark) (f g h : Reader) → ((y : List Placed) → f y ≡ where_some (after m y) (g y) h) → Good n (parts ++ (said m ∷ [])) h → Good n parts g → Good n parts f
+pub peek_good : (n : ℕ) (parts : List Part) (m : Terminal) (f g h : Reader) → ((y : List Placed) → f y ≡ where_some (after m y) (g y) h) → Good n (parts ++ (said m ∷ [])) h → Good n parts g → Good n parts f
 peek_good n parts m f g h by hh hg = peek_less_good n n parts m f g h by (omega arith) hh hg
 
 -- no token may be left
@@ -204,6 +203,6 @@ last_at n parts s h c fits (p ∷ ts) few = fail_at c (λ ts. last_of s ts) p ts
 pub end_good : (n : ℕ) (parts : List Part) (s : Statement) → IsStatement s → parts ≡ statement_parts s → Good n parts (λ ts. ended s ts)
 unfolding ended
 end_good n parts s is e =
-    peek_good n parts marks.Semicolon (λ ts. ended s ts) (λ ts. last_of s ts) (λ ts. last_of s ts) (λ y. refl)
-    (last_at n (parts ++ (said marks.Semicolon ∷ [])) s (λ c fits. (is, (true, subst (λ x. Fits (x ++ end_parts true) c) e fits))))
+    peek_good n parts terminals.Semicolon (λ ts. ended s ts) (λ ts. last_of s ts) (λ ts. last_of s ts) (λ y. refl)
+    (last_at n (parts ++ (said terminals.Semicolon ∷ [])) s (λ c fits. (is, (true, subst (λ x. Fits (x ++ end_parts true) c) e fits))))
     (last_at n parts s (λ c fits. (is, (false, subst (λ x. Fits x c) (e ∙ sym (append-nil (statement_parts s))) fits))))

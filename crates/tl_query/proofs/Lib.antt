@@ -13,4 +13,5 @@ pub mod Naming
 pub mod Writing
 pub mod Unplaced
 pub mod Words
+pub mod Utf8
 pub mod Spelled

@@ -1,9 +1,9 @@
 -- The laws of lists whose items are parted by a mark.
-use Rattle.std.proofs.Common.{◌≡◌, ℕ, ◌≤◌, zero, suc, Bool, true, false, cond, List, [], ◌∷◌, ◌++◌, length, Option, Some, None, Result, Ok, Err, IfOk, refl, sym, ◌∙◌, ap, subst, append_assoc, append-nil, arith}
+use Rattle.std.proofs.Common.{◌≡◌, ℕ, ◌≤◌, zero, suc, Bool, true, false, cond, List, [], ◌∷◌, ◌++◌, length, Option, Some, None, Result, Ok, Err, IfOk, refl, ◌∙◌, ap, subst, append_assoc, append-nil, arith}
 use Rattle.std.specs.List.{AllByRecursion}
-use Rattle.tl_query.specs.declared.marks.Mark.{Mark}
+use Rattle.tl_query.specs.declared.terminals.Terminal.{Terminal}
 use Rattle.tl_query.specs.declared.tokens.Placed.{Placed}
-use Rattle.tl_query.specs.declared.forms.Statement.{Statement}
+use Rattle.tl_query.specs.declared.ast.Statement.{Statement}
 use Rattle.tl_query.specs.Grammar.{Part, said, Fits, behind_each, parted}
 use Rattle.tl_query.specs.Reading.{◌>>=◌, is_fixed, after, take_at, where_some, in_front, up_to, further, several}
 use Rattle.tl_query.proofs.Laws.{At, Good, good_by, good_at, pass_end, peek_good, peek_less_good}
@@ -48,7 +48,7 @@ after_by : (b : Bool) (ts rest : List Placed) → cond b (Some ts) None ≡ Some
 after_by true ts rest e = cc
 after_by false ts rest e = absurd (cc)
 
-pub after_shorter : (m : Mark) (ts rest : List Placed) → after m ts ≡ Some rest → length ts ≡ suc (length rest)
+pub after_shorter : (m : Terminal) (ts rest : List Placed) → after m ts ≡ Some rest → length ts ≡ suc (length rest)
 unfolding after
 after_shorter m [] rest e = absurd (cc)
 after_shorter m (p ∷ ts) rest e = ap (λ (y : List Placed). suc (length y)) (after_by (is_fixed m p.token) ts rest e)
@@ -57,7 +57,7 @@ same_then : {A B : Type 0} (r : Result (A × List Placed) (Option ℕ)) (n : ℕ
 same_then (Ok x) n f g h k = k x h
 same_then (Err e) n f g h k = refl
 
-same_choice : {A : Type 0} (m : Mark) (ts : List Placed) (one : Reads A) → Shrinks one → (n : ℕ) (f g : Reads (List A)) → length ts ≤ suc n → ((y : List Placed) → length y ≤ n → f y ≡ g y) → (o : Option (List Placed)) → after m ts ≡ o
+same_choice : {A : Type 0} (m : Terminal) (ts : List Placed) (one : Reads A) → Shrinks one → (n : ℕ) (f g : Reads (List A)) → length ts ≤ suc n → ((y : List Placed) → length y ≤ n → f y ≡ g y) → (o : Option (List Placed)) → after m ts ≡ o
     → where_some o (Ok ([], ts)) (λ rest. one rest >>= λ x. in_front x.0 (f x.1)) ≡ where_some o (Ok ([], ts)) (λ rest. one rest >>= λ x. in_front x.0 (g x.1))
 same_choice m ts one shr n f g few same None e = refl
 same_choice m ts one shr n f g few same (Some rest) e =
@@ -65,7 +65,7 @@ same_choice m ts one shr n f g few same (Some rest) e =
     same_then (one rest) (length rest) (λ x. in_front x.0 (f x.1)) (λ x. in_front x.0 (g x.1)) (shr rest) (λ x short. ap (in_front x.0) (same x.1 (omega arith)))
 
 -- there is room for as many things as tokens
-enough : {A : Type 0} (m : Mark) (one : Reads A) → Shrinks one → (a b : ℕ) (ts : List Placed) → length ts ≤ a → length ts ≤ b → up_to m one a ts ≡ up_to m one b ts
+enough : {A : Type 0} (m : Terminal) (one : Reads A) → Shrinks one → (a b : ℕ) (ts : List Placed) → length ts ≤ a → length ts ≤ b → up_to m one a ts ≡ up_to m one b ts
 unfolding up_to after
 enough m one shr zero zero ts h k = refl
 enough m one shr zero (suc b) [] h k = refl
@@ -76,7 +76,7 @@ enough m one shr (suc a) (suc b) [] h k = refl
 enough m one shr (suc a) (suc b) (p ∷ ts) h k = same_choice m (p ∷ ts) one shr (length ts) (up_to m one a) (up_to m one b) (omega arith) (λ y short. enough m one shr a b y (omega arith) (omega arith)) (after m (p ∷ ts)) refl
 
 -- how things behind marks are read
-pub further_is : {A : Type 0} (m : Mark) (one : Reads A) → Shrinks one → (ts : List Placed) → further m one ts ≡ where_some (after m ts) (Ok ([], ts)) (λ rest. one rest >>= λ x. in_front x.0 (further m one x.1))
+pub further_is : {A : Type 0} (m : Terminal) (one : Reads A) → Shrinks one → (ts : List Placed) → further m one ts ≡ where_some (after m ts) (Ok ([], ts)) (λ rest. one rest >>= λ x. in_front x.0 (further m one x.1))
 unfolding up_to after
 further_is m one shr [] = refl
 further_is m one shr (p ∷ ts) = same_choice m (p ∷ ts) one shr (length ts) (up_to m one (length ts)) (further m one) (omega arith) (λ y short. enough m one shr (length ts) (length y) y short (omega arith)) (after m (p ∷ ts)) refl
@@ -92,7 +92,7 @@ none_good_at parts f g e h c fits (p ∷ ts) few = absurd (omega arith)
 none_good : (parts : List Part) (f g : List Placed → Result Statement (Option ℕ)) → f [] ≡ g [] → Good 0 parts g → Good 0 parts f
 none_good parts f g e h = none_good_at parts f g e h
 
-further_good : {A : Type 0} (Q : A → Type 0) (m : Mark) (one : Reads A) (parts : A → List Part) → Law Q one parts → Shrinks one → (n : ℕ) (front : List Part) (g : List A × List Placed → Result Statement (Option ℕ)) → ((xs : List A) → AllByRecursion Q xs → Good n (front ++ behind_each m parts xs) (λ ts. g (xs, ts))) → Good n front (λ ts. further m one ts >>= g)
+further_good : {A : Type 0} (Q : A → Type 0) (m : Terminal) (one : Reads A) (parts : A → List Part) → Law Q one parts → Shrinks one → (n : ℕ) (front : List Part) (g : List A × List Placed → Result Statement (Option ℕ)) → ((xs : List A) → AllByRecursion Q xs → Good n (front ++ behind_each m parts xs) (λ ts. g (xs, ts))) → Good n front (λ ts. further m one ts >>= g)
 unfolding up_to
 further_good Q m one parts law shr zero front g h = none_good front (λ ts. further m one ts >>= g) (λ ts. g ([], ts)) refl (good_at 0 (front ++ []) front (λ ts. g ([], ts)) (append-nil front) (h [] tt))
 further_good Q m one parts law shr (suc n) front g h =
@@ -104,7 +104,7 @@ further_good Q m one parts law shr (suc n) front g h =
     (good_at (suc n) (front ++ []) front (λ ts. g ([], ts)) (append-nil front) (h [] tt))
 
 -- one or more things, parted by a mark
-pub several_good : {A : Type 0} (Q : A → Type 0) (m : Mark) (one : Reads A) (parts : A → List Part) → Law Q one parts → Shrinks one → Law (λ xs. (1 ≤ length xs) × AllByRecursion Q xs) (several m one) (parted m parts)
+pub several_good : {A : Type 0} (Q : A → Type 0) (m : Terminal) (one : Reads A) (parts : A → List Part) → Law Q one parts → Shrinks one → Law (λ xs. (1 ≤ length xs) × AllByRecursion Q xs) (several m one) (parted m parts)
 unfolding several
 several_good Q m one parts law shr n front g h =
     good_by n front (λ ts. several m one ts >>= g) (λ ts. one ts >>= λ x. further m one x.1 >>= λ y. g (x.0 ∷ y.0, y.1)) (λ ts. front_and (one ts) (further m one) g)
@@ -113,7 +113,7 @@ several_good Q m one parts law shr n front g h =
     good_at n (front ++ parted m parts (x ∷ xs)) ((front ++ parts x) ++ behind_each m parts xs) (λ ts. g (x ∷ xs, ts)) (simp append_assoc) (h (x ∷ xs) (omega arith, (q, qs))))))
 
 -- up to so many things, each behind a mark
-pub up_to_good : {A : Type 0} (Q : A → Type 0) (m : Mark) (one : Reads A) (parts : A → List Part) → Law Q one parts → (room n : ℕ) (front : List Part) (g : List A × List Placed → Result Statement (Option ℕ)) → ((xs : List A) → length xs ≤ room → Good n (front ++ behind_each m parts xs) (λ ts. g (xs, ts))) → Good n front (λ ts. up_to m one room ts >>= g)
+pub up_to_good : {A : Type 0} (Q : A → Type 0) (m : Terminal) (one : Reads A) (parts : A → List Part) → Law Q one parts → (room n : ℕ) (front : List Part) (g : List A × List Placed → Result Statement (Option ℕ)) → ((xs : List A) → length xs ≤ room → Good n (front ++ behind_each m parts xs) (λ ts. g (xs, ts))) → Good n front (λ ts. up_to m one room ts >>= g)
 unfolding up_to
 up_to_good Q m one parts law zero n front g h = good_at n (front ++ []) front (λ ts. g ([], ts)) (append-nil front) (h [] (omega arith))
 up_to_good Q m one parts law (suc room) n front g h =
@@ -125,7 +125,7 @@ up_to_good Q m one parts law (suc room) n front g h =
     (good_at n (front ++ []) front (λ ts. g ([], ts)) (append-nil front) (h [] (omega arith)))
 
 -- a first thing, and up to so many behind marks
-pub first_good : {A : Type 0} (Q : A → Type 0) (m : Mark) (one : Reads A) (parts : A → List Part) → Law Q one parts → (room n : ℕ) (front : List Part) (g : List A × List Placed → Result Statement (Option ℕ)) → ((xs : List A) → 1 ≤ length xs → length xs ≤ suc room → Good n (front ++ parted m parts xs) (λ ts. g (xs, ts))) → Good n front (λ ts. (one ts >>= λ x. in_front x.0 (up_to m one room x.1)) >>= g)
+pub first_good : {A : Type 0} (Q : A → Type 0) (m : Terminal) (one : Reads A) (parts : A → List Part) → Law Q one parts → (room n : ℕ) (front : List Part) (g : List A × List Placed → Result Statement (Option ℕ)) → ((xs : List A) → 1 ≤ length xs → length xs ≤ suc room → Good n (front ++ parted m parts xs) (λ ts. g (xs, ts))) → Good n front (λ ts. (one ts >>= λ x. in_front x.0 (up_to m one room x.1)) >>= g)
 first_good Q m one parts law room n front g h =
     good_by n front (λ ts. (one ts >>= λ x. in_front x.0 (up_to m one room x.1)) >>= g) (λ ts. one ts >>= λ x. up_to m one room x.1 >>= λ y. g (x.0 ∷ y.0, y.1)) (λ ts. front_and (one ts) (up_to m one room) g)
     (law n front (λ x. up_to m one room x.1 >>= λ y. g (x.0 ∷ y.0, y.1)) (λ x q.
@@ -146,19 +146,19 @@ unfolding take_at
 take_shrinks take [] = tt
 take_shrinks take (p ∷ ts) = taken_shrinks (take p) p.at ts (suc (length ts)) (omega arith)
 
-choice_shrinks : {A : Type 0} (m : Mark) (ts : List Placed) (one : Reads A) → Shrinks one → (more : Reads (List A)) → Shrinks more → (o : Option (List Placed)) → after m ts ≡ o → IfOk (where_some o (Ok ([], ts)) (λ rest. one rest >>= λ x. in_front x.0 (more x.1))) (λ x. length x.1 ≤ length ts)
+choice_shrinks : {A : Type 0} (m : Terminal) (ts : List Placed) (one : Reads A) → Shrinks one → (more : Reads (List A)) → Shrinks more → (o : Option (List Placed)) → after m ts ≡ o → IfOk (where_some o (Ok ([], ts)) (λ rest. one rest >>= λ x. in_front x.0 (more x.1))) (λ x. length x.1 ≤ length ts)
 choice_shrinks m ts one shr more mshr None e = omega arith
 choice_shrinks m ts one shr more mshr (Some rest) e =
     let l : length ts ≡ suc (length rest) = after_shorter m ts rest e in
     ok_then (λ x. length x.1 ≤ length rest) (λ x. length x.1 ≤ length ts) (one rest) (λ x. in_front x.0 (more x.1)) (shr rest) (λ x short.
     ok_then (λ y. length y.1 ≤ length x.1) (λ y. length y.1 ≤ length ts) (more x.1) (λ y. Ok (x.0 ∷ y.0, y.1)) (mshr x.1) (λ y shorter. omega arith))
 
-up_to_shrinks : {A : Type 0} (m : Mark) (one : Reads A) → Shrinks one → (room : ℕ) → Shrinks (up_to m one room)
+up_to_shrinks : {A : Type 0} (m : Terminal) (one : Reads A) → Shrinks one → (room : ℕ) → Shrinks (up_to m one room)
 unfolding up_to
 up_to_shrinks m one shr zero ts = omega arith
 up_to_shrinks m one shr (suc room) ts = choice_shrinks m ts one shr (up_to m one room) (up_to_shrinks m one shr room) (after m ts) refl
 
-pub several_shrinks : {A : Type 0} (m : Mark) (one : Reads A) → Shrinks one → Shrinks (several m one)
+pub several_shrinks : {A : Type 0} (m : Terminal) (one : Reads A) → Shrinks one → Shrinks (several m one)
 unfolding several
 several_shrinks m one shr ts =
     ok_then (λ x. length x.1 ≤ length ts) (λ x. length x.1 ≤ length ts) (one ts) (λ x. in_front x.0 (further m one x.1)) (shr ts) (λ x short.

@@ -1,33 +1,29 @@
 -- What is read is right: names are names, versions aren't negative, and numbers and texts fit.
-use Rattle.std.proofs.Common.{◌≡◌, ℕ, ℤ, pos, negsuc, neg_ℤ, ◌+◌, ◌-◌, ◌^◌, ◌<◌, ◌≤◌, ◌==◌, zero, suc, Bool, true, false, cond, ◌&&◌, nat_lt, nat_le, List, [], ◌∷◌, ◌++◌, length, take, Option, Some, None, Result, Ok, Err, IfOk, IfSome, refl, sym, ap, subst, arith, lit<}
+use Rattle.std.proofs.Common.{◌≡◌, ℕ, ℤ, pos, neg_ℤ, ◌+◌, ◌-◌, ◌^◌, ◌<◌, ◌≤◌, ◌==◌, zero, suc, Bool, true, false, cond, ◌&&◌, nat_lt, nat_le, List, [], ◌∷◌, ◌++◌, length, take, Option, Some, None, Result, Ok, Err, IfOk, IfSome, refl, sym, ap, subst, arith, lit<}
 use Rattle.std.specs.List.{AllByRecursion, prefix_len}
-use Rattle.std.specs.Str.{is_utf8}
 use Rattle.std.proofs.lemmas.Bool.Decides.{nat_tests}
 use Rattle.tl_types.specs.Names.{is_name, is_digit, begins_word, continues_word}
-use Rattle.tl_types.specs.Plain as plain
 use Rattle.tl_types.specs.declared.cells.Cell.{Cell}
-use Rattle.tl_types.specs.declared.cells.Cell.TheVariants as cells
-use Rattle.tl_query.specs.declared.marks.Mark.{Mark}
-use Rattle.tl_query.specs.declared.marks.Mark.TheVariants as marks
+use Rattle.tl_query.specs.declared.terminals.Terminal.{Terminal}
+use Rattle.tl_query.specs.declared.terminals.Terminal.TheVariants as terminals
 use Rattle.tl_query.specs.declared.tokens.Token.{Token}
 use Rattle.tl_query.specs.declared.tokens.Token.TheVariants.{Fixed, Word, Number, Negative, Quoted, Stray}
 use Rattle.tl_query.specs.declared.tokens.Placed.{Placed}
 use Rattle.tl_query.specs.declared.scanning.Piece.{Piece}
 use Rattle.tl_query.specs.declared.faults.TextFault.{TextFault}
 use Rattle.tl_query.specs.declared.faults.TextFault.TheVariants.{OpenText}
-use Rattle.tl_query.specs.declared.forms.Name.{Name}
-use Rattle.tl_query.specs.declared.forms.Stamp.{Stamp}
-use Rattle.tl_query.specs.declared.forms.ColumnForm.{ColumnForm}
-use Rattle.tl_query.specs.declared.forms.Over.{Over}
-use Rattle.tl_query.specs.declared.forms.Over.TheVariants as overs
-use Rattle.tl_query.specs.declared.forms.Test.{Test}
-use Rattle.tl_query.specs.declared.forms.ValidPoint.{ValidPoint}
-use Rattle.tl_query.specs.declared.forms.Item.{Item}
-use Rattle.tl_query.specs.declared.forms.Item.TheVariants as items
-use Rattle.tl_query.specs.declared.forms.Query.TheVariants as queries
-use Rattle.tl_query.specs.declared.forms.Statement.{Statement}
-use Rattle.tl_query.specs.declared.forms.Statement.TheVariants as statements
-use Rattle.tl_query.specs.Grammar.{Part, said, said_at, named, version, moment, bound, constant, IsPart, Fits, IsSpelling, name_by, version_by, moment_by, bound_by, constant_by, behind_each, parted, column_parts, valid_parts, item_part, item_parts, IsAsked, asked_parts, test_parts, conj_parts, any_parts, where_parts, valid_at_parts, as_of_parts, column_name_parts, by_parts, over_parts, statement_parts, end_parts, IsNamed, IsVersion, IsNamedItem, IsNamedTest, HasNamedTests, HasVersions, HasNames, IsI64, IsCell, IsReadPart, IsParsed}
+use Rattle.tl_query.specs.declared.ast.Name.{Name}
+use Rattle.tl_query.specs.declared.ast.Stamp.{Stamp}
+use Rattle.tl_query.specs.declared.ast.Over.{Over}
+use Rattle.tl_query.specs.declared.ast.Over.TheVariants as overs
+use Rattle.tl_query.specs.declared.ast.Test.{Test}
+use Rattle.tl_query.specs.declared.ast.ValidPoint.{ValidPoint}
+use Rattle.tl_query.specs.declared.ast.Item.{Item}
+use Rattle.tl_query.specs.declared.ast.Item.TheVariants as items
+use Rattle.tl_query.specs.declared.ast.Query.TheVariants as queries
+use Rattle.tl_query.specs.declared.ast.Statement.{Statement}
+use Rattle.tl_query.specs.declared.ast.Statement.TheVariants as statements
+use Rattle.tl_query.specs.Grammar.{Part, said, said_at, named, version, moment, bound, constant, IsPart, Fits, IsSpelling, name_by, version_by, moment_by, bound_by, constant_by, behind_each, parted, column_parts, valid_parts, item_parts, IsAsked, asked_parts, test_parts, conj_parts, any_parts, where_parts, valid_at_parts, as_of_parts, column_name_parts, by_parts, over_parts, statement_parts, end_parts, IsNamed, IsVersion, IsNamedItem, IsNamedTest, HasVersions, HasNames, IsI64, IsCell, IsReadPart, IsParsed}
 use Rattle.tl_query.specs.Scanning.{Tokens, scan, with_piece, is_blank, number_of, keyword_of, other_token, word_token, word_piece, piece_at, number_piece, negative_piece, single, text_token, quoted_piece, less_piece, greater_piece, symbol_piece, closing, placed}
 use Rattle.tl_query.specs.Texts.{tokens_of, Spells, text_read, Answers}
 use Rattle.tl_query.proofs.Takers.{some_one}
@@ -41,7 +37,7 @@ IsSound (Fixed m) = Unit {0}
 IsSound (Word w) = is_name w ≡ true
 IsSound (Number v) = (n : ℕ) × (v ≡ pos n) × (n < 2 ^ 63)
 IsSound (Negative v) = IsI64 v
-IsSound (Quoted t) = (is_utf8 t ≡ true) × (length t ≤ 65535)
+IsSound (Quoted t) = length t ≤ 65535
 IsSound Stray = Unit {0}
 
 -- a token that is right, at an offset in a text
@@ -67,13 +63,12 @@ word_sound : (word : List ℕ) → IsSound (word_token word)
 unfolding word_token
 word_sound word = elim (keyword_of word) as (λ o. IsSound (elim o [ Some mark ↦ Fixed mark | None ↦ other_token word ])) [ Some mark ↦ tt | None ↦ other_sound word ]
 
-both_true : (a b : Bool) → (a && b) ≡ true → (a ≡ true) × (b ≡ true)
-both_true true b e = (refl, e)
-both_true false b e = absurd (cc)
+few_bytes : (n : ℕ) → nat_le n 65535 ≡ true → n ≤ 65535
+few_bytes n h = grind (arith, nat_tests)
 
 text_sound : (text : List ℕ) → IsSound (text_token text)
 unfolding text_token
-text_sound text = sound_if (is_utf8 text && nat_le (length text) 65535) (Quoted text) Stray (λ e. let k = both_true (is_utf8 text) (nat_le (length text) 65535) e in let short : nat_le (length text) 65535 ≡ true = k.1 in (k.0, grind (arith, nat_tests))) tt
+text_sound text = sound_if (nat_le (length text) 65535) (Quoted text) Stray (λ e. few_bytes (length text) e) tt
 
 quoted_fine : (at : ℕ) (bytes : List ℕ) → Fine (quoted_piece at bytes)
 unfolding quoted_piece
@@ -157,7 +152,7 @@ moment_read _ v e h = absurd (cc)
 bound_read : (at : ℕ) (t : Token) (s : Stamp) → bound_by at t ≡ Some s → at < 2 ^ 32 → IsSound t → IsI64 s.value × (s.at < 2 ^ 32)
 bound_read at (Number n) s e l h = subst (λ s. IsI64 s.value × (s.at < 2 ^ 32)) (some_one e) (pos_fits n h, l)
 bound_read at (Negative n) s e l h = subst (λ s. IsI64 s.value × (s.at < 2 ^ 32)) (some_one e) (h, l)
-bound_read at (Fixed marks.Forever) s e l h = subst (λ s. IsI64 s.value × (s.at < 2 ^ 32)) (some_one e) (lit< tt, l)
+bound_read at (Fixed terminals.Forever) s e l h = subst (λ s. IsI64 s.value × (s.at < 2 ^ 32)) (some_one e) (lit< tt, l)
 bound_read at _ s e l h = absurd (cc)
 
 constant_read : (t : Token) (c : Cell) → constant_by t ≡ Some c → IsSound t → IsCell c
@@ -190,11 +185,11 @@ split : (xs ys : List Part) → Read (xs ++ ys) → Read xs × Read ys
 split [] ys h = (tt, h)
 split (x ∷ xs) ys h = let k = split xs ys h.1 in ((h.0, k.0), k.1)
 
-each_read : {A : Type 0} (P : A → Type 0) (m : Mark) (parts : A → List Part) → ((x : A) → Read (parts x) → P x) → (xs : List A) → Read (behind_each m parts xs) → AllByRecursion P xs
+each_read : {A : Type 0} (P : A → Type 0) (m : Terminal) (parts : A → List Part) → ((x : A) → Read (parts x) → P x) → (xs : List A) → Read (behind_each m parts xs) → AllByRecursion P xs
 each_read P m parts from [] h = tt
 each_read P m parts from (x ∷ xs) h = let k = split (parts x) (behind_each m parts xs) h.1 in (from x k.0, each_read P m parts from xs k.1)
 
-parted_read : {A : Type 0} (P : A → Type 0) (m : Mark) (parts : A → List Part) → ((x : A) → Read (parts x) → P x) → (xs : List A) → Read (parted m parts xs) → AllByRecursion P xs
+parted_read : {A : Type 0} (P : A → Type 0) (m : Terminal) (parts : A → List Part) → ((x : A) → Read (parts x) → P x) → (xs : List A) → Read (parted m parts xs) → AllByRecursion P xs
 parted_read P m parts from [] h = tt
 parted_read P m parts from (x ∷ xs) h = let k = split (parts x) (behind_each m parts xs) h in (from x k.0, each_read P m parts from xs k.1)
 
@@ -206,14 +201,14 @@ item_read (items.ValidTo at) h = h.0
 asked_read : (all : Bool) (xs : List Item) → IsAsked all xs → Read (asked_parts all xs) → AllByRecursion IsNamedItem xs
 asked_read true [] is h = tt
 asked_read true (x ∷ xs) is h = absurd (cc)
-asked_read false xs is h = parted_read IsNamedItem marks.Comma item_parts item_read xs h
+asked_read false xs is h = parted_read IsNamedItem terminals.Comma item_parts item_read xs h
 
 test_read : (t : Test) → Read (test_parts t) → IsNamedTest t
 test_read t h = record { column = h.0; cmp_within = h.1.0; value_within = h.1.1.0.1 }
 
 any_read : (any : List (List Test)) → Read (any_parts any) → AllByRecursion (λ tests. AllByRecursion IsNamedTest tests) any
 any_read [] h = tt
-any_read (tests ∷ any) h = parted_read (λ tests. AllByRecursion IsNamedTest tests) marks.Or conj_parts (λ tests k. parted_read IsNamedTest marks.And test_parts test_read tests k) (tests ∷ any) h.1
+any_read (tests ∷ any) h = parted_read (λ tests. AllByRecursion IsNamedTest tests) terminals.Or conj_parts (λ tests k. parted_read IsNamedTest terminals.And test_parts test_read tests k) (tests ∷ any) h.1
 
 valid_at_read : (o : Option ValidPoint) → Read (valid_at_parts o) → IfSome o (λ v. v.pos < 2 ^ 32)
 valid_at_read None h = tt
@@ -239,23 +234,23 @@ over_read (overs.Valid at from to as_of) h = (h.1.0, h.1.1.0.1, h.1.1.1.1.0.1, a
 pub names_of : (s : Statement) → IsParsed s → HasNames s
 names_of (statements.Create f) h =
     let all = h.parts in
-    let columns = split (parted marks.Comma column_parts f.columns) (said marks.Close ∷ said marks.Key ∷ named f.key ∷ valid_parts f.valid) all.1.1.1.1 in
-    (all.1.1.0, parted_read (λ c. IsNamed c.name) marks.Comma column_parts (λ c k. k.0) f.columns columns.0, columns.1.1.1.0)
+    let columns = split (parted terminals.Comma column_parts f.columns) (said terminals.Close ∷ said terminals.Key ∷ named f.key ∷ valid_parts f.valid) all.1.1.1.1 in
+    (all.1.1.0, parted_read (λ c. IsNamed c.name) terminals.Comma column_parts (λ c k. k.0) f.columns columns.0, columns.1.1.1.0)
 names_of (statements.Put n) h = h.parts.1.0
 names_of (statements.Remove n) h = h.parts.1.0
 names_of (statements.Ask (queries.Select f)) h =
-    let asked = split (asked_parts f.all f.items) (said marks.From ∷ named f.table ∷ (where_parts f.pred ++ (valid_at_parts f.valid_at ++ as_of_parts f.as_of))) h.parts.1 in
+    let asked = split (asked_parts f.all f.items) (said terminals.From ∷ named f.table ∷ (where_parts f.pred ++ (valid_at_parts f.valid_at ++ as_of_parts f.as_of))) h.parts.1 in
     let tested = split (where_parts f.pred) (valid_at_parts f.valid_at ++ as_of_parts f.as_of) asked.1.1.1 in
     let timed = split (valid_at_parts f.valid_at) (as_of_parts f.as_of) tested.1 in
     (asked_read f.all f.items h.whole.asked asked.0, asked.1.1.0, as_of_read f.as_of timed.1, any_read f.pred.any tested.0, valid_at_read f.valid_at timed.0)
 names_of (statements.Ask (queries.Agg f)) h =
-    let column = split (column_name_parts f.column) (said marks.From ∷ named f.table ∷ (where_parts f.pred ++ (by_parts f.by ++ over_parts f.over))) h.parts.1 in
+    let column = split (column_name_parts f.column) (said terminals.From ∷ named f.table ∷ (where_parts f.pred ++ (by_parts f.by ++ over_parts f.over))) h.parts.1 in
     let tested = split (where_parts f.pred) (by_parts f.by ++ over_parts f.over) column.1.1.1 in
     let grouped = split (by_parts f.by) (over_parts f.over) tested.1 in
     (column_name_read f.column column.0, column.1.1.0, any_read f.pred.any tested.0, by_read f.by grouped.0, over_read f.over grouped.1)
 names_of (statements.Ask (queries.Join f)) h =
-    let left = split (where_parts f.left_pred) (said marks.With ∷ named f.right ∷ (where_parts f.right_pred ++ (said marks.On ∷ named f.left_on ∷ said marks.Equal ∷ named f.right_on ∷ over_parts f.over))) h.parts.1.1 in
-    let right = split (where_parts f.right_pred) (said marks.On ∷ named f.left_on ∷ said marks.Equal ∷ named f.right_on ∷ over_parts f.over) left.1.1.1 in
+    let left = split (where_parts f.left_pred) (said terminals.With ∷ named f.right ∷ (where_parts f.right_pred ++ (said terminals.On ∷ named f.left_on ∷ said terminals.Equal ∷ named f.right_on ∷ over_parts f.over))) h.parts.1.1 in
+    let right = split (where_parts f.right_pred) (said terminals.On ∷ named f.left_on ∷ said terminals.Equal ∷ named f.right_on ∷ over_parts f.over) left.1.1.1 in
     (h.parts.1.0, any_read f.left_pred.any left.0, left.1.1.0, any_read f.right_pred.any right.0, right.1.1.0, right.1.1.1.1.0, over_read f.over right.1.1.1.1.1)
 
 parsed_by : (ts : List Placed) (s : Statement) → AllByRecursion IsRight ts → IsSpelling ts s → IsParsed s

@@ -1,17 +1,17 @@
 -- Marks are told apart by their places, and a token is what it was taken for.
-use Rattle.std.proofs.Common.{◌≡◌, ℕ, true, false, Bool, List, [], ◌∷◌, get_or, refl, sym, ◌∙◌, ap, Option, Some, None, ◌==◌}
+use Rattle.std.proofs.Common.{◌≡◌, true, List, [], ◌∷◌, get_or, refl, sym, ◌∙◌, ap}
 use Rattle.std.proofs.lemmas.Bool.Decides.{Decides-eqb}
-use Rattle.tl_query.specs.declared.marks.Mark.{Mark}
-use Rattle.tl_query.specs.declared.marks.Mark.TheVariants.{Create, Table, Key, Valid, Int, Text, Put, Remove, Select, From, Where, And, Or, As, Of, At, Count, Sum, Avg, Min, Max, By, Over, System, All, To, Join, With, On, Forever, ValidFrom, ValidTo, Open, Close, Comma, Semicolon, Star, Equal, Unequal, Less, AtMost, Greater, AtLeast}
+use Rattle.tl_query.specs.declared.terminals.Terminal.{Terminal}
+use Rattle.tl_query.specs.declared.terminals.Terminal.TheVariants.{Create, Table, Key, Valid, Int, Text, Put, Remove, Select, From, Where, And, Or, As, Of, At, Count, Sum, Avg, Min, Max, By, Over, System, All, To, Join, With, On, Forever, ValidFrom, ValidTo, Open, Close, Comma, Semicolon, Star, Equal, Unequal, Less, AtMost, Greater, AtLeast}
 use Rattle.tl_query.specs.declared.tokens.Token.{Token}
 use Rattle.tl_query.specs.declared.tokens.Token.TheVariants.{Fixed, Word, Number, Negative, Quoted, Stray}
-use Rattle.tl_query.specs.Marks.{place, same_mark}
+use Rattle.tl_query.specs.Terminals.{place, same_terminal}
 use Rattle.tl_query.specs.Reading.{is_fixed}
 
-every : List Mark
+every : List Terminal
 every = Create ∷ Table ∷ Key ∷ Valid ∷ Int ∷ Text ∷ Put ∷ Remove ∷ Select ∷ From ∷ Where ∷ And ∷ Or ∷ As ∷ Of ∷ At ∷ Count ∷ Sum ∷ Avg ∷ Min ∷ Max ∷ By ∷ Over ∷ System ∷ All ∷ To ∷ Join ∷ With ∷ On ∷ Forever ∷ ValidFrom ∷ ValidTo ∷ Open ∷ Close ∷ Comma ∷ Semicolon ∷ Star ∷ Equal ∷ Unequal ∷ Less ∷ AtMost ∷ Greater ∷ AtLeast ∷ []
 
-there : (m : Mark) → get_or every (place m) Create ≡ m
+there : (m : Terminal) → get_or every (place m) Create ≡ m
 unfolding every
 there Create = refl
 there Table = refl
@@ -57,10 +57,10 @@ there AtMost = refl
 there Greater = refl
 there AtLeast = refl
 
-pub same_mark_true : (a b : Mark) → same_mark a b ≡ true → a ≡ b
+pub same_mark_true : (a b : Terminal) → same_terminal a b ≡ true → a ≡ b
 same_mark_true a b e = sym (there a) ∙ ap (λ n. get_or every n Create) ((Decides-eqb (place a) (place b)).0 e) ∙ there b
 
-pub is_fixed_true : (m : Mark) (t : Token) → is_fixed m t ≡ true → t ≡ Fixed m
+pub is_fixed_true : (m : Terminal) (t : Token) → is_fixed m t ≡ true → t ≡ Fixed m
 is_fixed_true m (Fixed k) e = ap Fixed (same_mark_true k m e)
 is_fixed_true m (Word w) e = absurd (cc)
 is_fixed_true m (Number n) e = absurd (cc)

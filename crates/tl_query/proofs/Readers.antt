@@ -1,12 +1,12 @@
 -- How one turn of a loop over things that are parted by a mark goes on.
-use Rattle.std.proofs.Common.{◌≡◌, ℕ, zero, suc, List, [], ◌∷◌, ◌++◌, length, Option, Some, None, Result, Ok, Err, refl, sym, ◌∙◌, ap, append_assoc}
-use Rattle.tl_query.specs.declared.marks.Mark.{Mark}
-use Rattle.tl_query.specs.declared.marks.Mark.TheVariants as marks
+use Rattle.std.proofs.Common.{◌≡◌, ℕ, zero, suc, List, [], ◌∷◌, ◌++◌, Option, Some, None, Result, Ok, Err, refl, sym, ◌∙◌, ap, append_assoc}
+use Rattle.tl_query.specs.declared.terminals.Terminal.{Terminal}
+use Rattle.tl_query.specs.declared.terminals.Terminal.TheVariants as terminals
 use Rattle.tl_query.specs.declared.tokens.Placed.{Placed}
-use Rattle.tl_query.specs.declared.forms.Statement.{Statement}
-use Rattle.tl_query.specs.declared.taking.Stop.{Stop}
-use Rattle.tl_query.specs.declared.taking.Stop.TheVariants as stops
-use Rattle.tl_query.specs.Reading.{◌>>=◌, Fails, IsStopAt, after, up_to, further, several, in_front, before, where_some, put_at, remove_at, select_at, join_at, agg_at}
+use Rattle.tl_query.specs.declared.ast.Statement.{Statement}
+use Rattle.tl_query.specs.declared.token_parsers.Stop.{Stop}
+use Rattle.tl_query.specs.declared.token_parsers.Stop.TheVariants as stops
+use Rattle.tl_query.specs.Reading.{◌>>=◌, Fails, IsStopAt, after, up_to, further, several, in_front, before, where_some, put_at, remove_at, parse_select, join_at, agg_at}
 use Rattle.tl_query.proofs.Lists.{Reads, Shrinks, further_is}
 
 -- where one reader stops, so does one that begins with it
@@ -33,46 +33,46 @@ one_before x (Err e) = refl
 abbrev next : {A : Type 0} → Reads A → Reads (List A) → Reads (List A)
 next one more rest = one rest >>= λ x. in_front x.0 (more x.1)
 
-turn_by : {A : Type 0} (m : Mark) (one : Reads A) (more : Reads (List A)) (front : List A) (ts rest behind : List Placed) (x : A) → after m ts ≡ Some rest → one rest ≡ Ok (x, behind) → before front (where_some (after m ts) (Ok ([], ts)) (next one more)) ≡ before (front ++ (x ∷ [])) (more behind)
+turn_by : {A : Type 0} (m : Terminal) (one : Reads A) (more : Reads (List A)) (front : List A) (ts rest behind : List Placed) (x : A) → after m ts ≡ Some rest → one rest ≡ Ok (x, behind) → before front (where_some (after m ts) (Ok ([], ts)) (next one more)) ≡ before (front ++ (x ∷ [])) (more behind)
 turn_by m one more front ts rest behind x e f = ap (λ o. before front (where_some o (Ok ([], ts)) (next one more))) e ∙ ap (λ r. before front (r >>= λ x. in_front x.0 (more x.1))) f ∙ before_again front x (more behind)
 
-fails_turn : {A : Type 0} (m : Mark) (one : Reads A) (more : Reads (List A)) (front : List A) (ts rest : List Placed) (o : Option ℕ) → after m ts ≡ Some rest → one rest ≡ Err o → before front (where_some (after m ts) (Ok ([], ts)) (next one more)) ≡ Err o
+fails_turn : {A : Type 0} (m : Terminal) (one : Reads A) (more : Reads (List A)) (front : List A) (ts rest : List Placed) (o : Option ℕ) → after m ts ≡ Some rest → one rest ≡ Err o → before front (where_some (after m ts) (Ok ([], ts)) (next one more)) ≡ Err o
 fails_turn m one more front ts rest o e f = ap (λ o. before front (where_some o (Ok ([], ts)) (next one more))) e ∙ ap (λ r. before front (r >>= λ x. in_front x.0 (more x.1))) f
 
-ends_turn : {A : Type 0} (m : Mark) (one : Reads A) (more : Reads (List A)) (front : List A) (ts : List Placed) → after m ts ≡ None → before front (where_some (after m ts) (Ok ([], ts)) (next one more)) ≡ Ok (front ++ [], ts)
+ends_turn : {A : Type 0} (m : Terminal) (one : Reads A) (more : Reads (List A)) (front : List A) (ts : List Placed) → after m ts ≡ None → before front (where_some (after m ts) (Ok ([], ts)) (next one more)) ≡ Ok (front ++ [], ts)
 ends_turn m one more front ts e = ap (λ o. before front (where_some o (Ok ([], ts)) (next one more))) e
 
-room_turn_at : {A : Type 0} (m : Mark) (one : Reads A) (front : List A) (room : ℕ) (ts rest behind : List Placed) (x : A) → after m ts ≡ Some rest → one rest ≡ Ok (x, behind) → before front (up_to m one (suc room) ts) ≡ before (front ++ (x ∷ [])) (up_to m one room behind)
+room_turn_at : {A : Type 0} (m : Terminal) (one : Reads A) (front : List A) (room : ℕ) (ts rest behind : List Placed) (x : A) → after m ts ≡ Some rest → one rest ≡ Ok (x, behind) → before front (up_to m one (suc room) ts) ≡ before (front ++ (x ∷ [])) (up_to m one room behind)
 unfolding up_to
 room_turn_at m one front room ts rest behind x e f = turn_by m one (up_to m one room) front ts rest behind x e f
 
-pub room_turn : {A : Type 0} (m : Mark) (one : Reads A) (front : List A) (room left : ℕ) (ts rest behind : List Placed) (x : A) → room ≡ suc left → after m ts ≡ Some rest → one rest ≡ Ok (x, behind) → before front (up_to m one room ts) ≡ before (front ++ (x ∷ [])) (up_to m one left behind)
+pub room_turn : {A : Type 0} (m : Terminal) (one : Reads A) (front : List A) (room left : ℕ) (ts rest behind : List Placed) (x : A) → room ≡ suc left → after m ts ≡ Some rest → one rest ≡ Ok (x, behind) → before front (up_to m one room ts) ≡ before (front ++ (x ∷ [])) (up_to m one left behind)
 room_turn m one front room left ts rest behind x r e f = ap (λ n. before front (up_to m one n ts)) r ∙ room_turn_at m one front left ts rest behind x e f
 
-room_fails_at : {A : Type 0} (m : Mark) (one : Reads A) (front : List A) (room : ℕ) (ts rest : List Placed) (o : Option ℕ) → after m ts ≡ Some rest → one rest ≡ Err o → before front (up_to m one (suc room) ts) ≡ Err o
+room_fails_at : {A : Type 0} (m : Terminal) (one : Reads A) (front : List A) (room : ℕ) (ts rest : List Placed) (o : Option ℕ) → after m ts ≡ Some rest → one rest ≡ Err o → before front (up_to m one (suc room) ts) ≡ Err o
 unfolding up_to
 room_fails_at m one front room ts rest o e f = fails_turn m one (up_to m one room) front ts rest o e f
 
-pub room_fails : {A : Type 0} (m : Mark) (one : Reads A) (front : List A) (room left : ℕ) (ts rest : List Placed) (o : Option ℕ) → room ≡ suc left → after m ts ≡ Some rest → one rest ≡ Err o → before front (up_to m one room ts) ≡ Err o
+pub room_fails : {A : Type 0} (m : Terminal) (one : Reads A) (front : List A) (room left : ℕ) (ts rest : List Placed) (o : Option ℕ) → room ≡ suc left → after m ts ≡ Some rest → one rest ≡ Err o → before front (up_to m one room ts) ≡ Err o
 room_fails m one front room left ts rest o r e f = ap (λ n. before front (up_to m one n ts)) r ∙ room_fails_at m one front left ts rest o e f
 
-pub room_ends : {A : Type 0} (m : Mark) (one : Reads A) (front : List A) (room : ℕ) (ts : List Placed) → after m ts ≡ None → before front (up_to m one room ts) ≡ Ok (front ++ [], ts)
+pub room_ends : {A : Type 0} (m : Terminal) (one : Reads A) (front : List A) (room : ℕ) (ts : List Placed) → after m ts ≡ None → before front (up_to m one room ts) ≡ Ok (front ++ [], ts)
 unfolding up_to
 room_ends m one front zero ts e = refl
 room_ends m one front (suc room) ts e = ends_turn m one (up_to m one room) front ts e
 
 -- no room is left
-pub room_full : {A : Type 0} (m : Mark) (one : Reads A) (front : List A) (room : ℕ) (ts : List Placed) → room ≡ 0 → before front (up_to m one room ts) ≡ Ok (front ++ [], ts)
+pub room_full : {A : Type 0} (m : Terminal) (one : Reads A) (front : List A) (room : ℕ) (ts : List Placed) → room ≡ 0 → before front (up_to m one room ts) ≡ Ok (front ++ [], ts)
 unfolding up_to
 room_full m one front room ts e = ap (λ n. before front (up_to m one n ts)) e
 
-pub further_turn : {A : Type 0} (m : Mark) (one : Reads A) → Shrinks one → (front : List A) (ts rest behind : List Placed) (x : A) → after m ts ≡ Some rest → one rest ≡ Ok (x, behind) → before front (further m one ts) ≡ before (front ++ (x ∷ [])) (further m one behind)
+pub further_turn : {A : Type 0} (m : Terminal) (one : Reads A) → Shrinks one → (front : List A) (ts rest behind : List Placed) (x : A) → after m ts ≡ Some rest → one rest ≡ Ok (x, behind) → before front (further m one ts) ≡ before (front ++ (x ∷ [])) (further m one behind)
 further_turn m one shr front ts rest behind x e f = ap (before front) (further_is m one shr ts) ∙ turn_by m one (further m one) front ts rest behind x e f
 
-pub further_fails : {A : Type 0} (m : Mark) (one : Reads A) → Shrinks one → (front : List A) (ts rest : List Placed) (o : Option ℕ) → after m ts ≡ Some rest → one rest ≡ Err o → before front (further m one ts) ≡ Err o
+pub further_fails : {A : Type 0} (m : Terminal) (one : Reads A) → Shrinks one → (front : List A) (ts rest : List Placed) (o : Option ℕ) → after m ts ≡ Some rest → one rest ≡ Err o → before front (further m one ts) ≡ Err o
 further_fails m one shr front ts rest o e f = ap (before front) (further_is m one shr ts) ∙ fails_turn m one (further m one) front ts rest o e f
 
-pub further_ends : {A : Type 0} (m : Mark) (one : Reads A) → Shrinks one → (front : List A) (ts : List Placed) → after m ts ≡ None → before front (further m one ts) ≡ Ok (front ++ [], ts)
+pub further_ends : {A : Type 0} (m : Terminal) (one : Reads A) → Shrinks one → (front : List A) (ts : List Placed) → after m ts ≡ None → before front (further m one ts) ≡ Ok (front ++ [], ts)
 further_ends m one shr front ts e = ap (before front) (further_is m one shr ts) ∙ ends_turn m one (further m one) front ts e
 
 -- the first thing
@@ -82,23 +82,23 @@ first_of one more ts behind x e = ap (λ r. r >>= λ x. in_front x.0 (more x.1))
 pub first_fails : {A : Type 0} (one : Reads A) (more : Reads (List A)) (ts : List Placed) (o : Option ℕ) → one ts ≡ Err o → next one more ts ≡ Err o
 first_fails one more ts o e = ap (λ r. r >>= λ x. in_front x.0 (more x.1)) e
 
-pub several_first : {A : Type 0} (m : Mark) (one : Reads A) (ts behind : List Placed) (x : A) → one ts ≡ Ok (x, behind) → several m one ts ≡ before (x ∷ []) (further m one behind)
+pub several_first : {A : Type 0} (m : Terminal) (one : Reads A) (ts behind : List Placed) (x : A) → one ts ≡ Ok (x, behind) → several m one ts ≡ before (x ∷ []) (further m one behind)
 unfolding several
 several_first m one ts behind x e = first_of one (further m one) ts behind x e
 
-pub several_fails : {A : Type 0} (m : Mark) (one : Reads A) (ts : List Placed) (o : Option ℕ) → one ts ≡ Err o → several m one ts ≡ Err o
+pub several_fails : {A : Type 0} (m : Terminal) (one : Reads A) (ts : List Placed) (o : Option ℕ) → one ts ≡ Err o → several m one ts ≡ Err o
 unfolding several
 several_fails m one ts o e = first_fails one (further m one) ts o e
 
 -- the statements that are left where no CREATE comes, no PUT, no REMOVE, and no SELECT
 abbrev pub agg_or_join : List Placed → Result Statement (Option ℕ)
-agg_or_join ts = where_some (after marks.Join ts) (agg_at ts) join_at
+agg_or_join ts = where_some (after terminals.Join ts) (agg_at ts) join_at
 
 abbrev pub select_or_less : List Placed → Result Statement (Option ℕ)
-select_or_less ts = where_some (after marks.Select ts) (agg_or_join ts) select_at
+select_or_less ts = where_some (after terminals.Select ts) (agg_or_join ts) parse_select
 
 abbrev pub remove_or_less : List Placed → Result Statement (Option ℕ)
-remove_or_less ts = where_some (after marks.Remove ts) (select_or_less ts) remove_at
+remove_or_less ts = where_some (after terminals.Remove ts) (select_or_less ts) remove_at
 
 abbrev pub put_or_less : List Placed → Result Statement (Option ℕ)
-put_or_less ts = where_some (after marks.Put ts) (remove_or_less ts) put_at
+put_or_less ts = where_some (after terminals.Put ts) (remove_or_less ts) put_at

@@ -1,5 +1,5 @@
 -- What is written of a statement spells it, but for its offsets.
-use Rattle.std.proofs.Common.{◌≡◌, ℕ, ℤ, pos, negsuc, zero, suc, ◌+◌, ◌^◌, ◌<◌, ◌≤◌, Bool, true, false, cond, ◌&&◌, ◌||◌, List, [], ◌∷◌, ◌++◌, length, drop, map, Option, Some, None, Result, Ok, Err, refl, sym, ◌∙◌, ap, subst, append_assoc, append-nil, arith}
+use Rattle.std.proofs.Common.{◌≡◌, ℕ, ℤ, pos, negsuc, ◌+◌, ◌≤◌, Bool, true, false, cond, ◌&&◌, ◌||◌, List, [], ◌∷◌, ◌++◌, length, drop, map, Option, Some, None, Result, Ok, Err, refl, sym, ◌∙◌, ap, subst, append_assoc, append-nil, arith}
 use Rattle.std.specs.List.{AllByRecursion}
 use Rattle.std.specs.Option.{option_map}
 use Rattle.std.specs.Ordering.{int_eq}
@@ -9,35 +9,34 @@ use Rattle.std.proofs.lemmas.Bool.Decides.{Decides-int_eq}
 use Rattle.tl_types.specs.Plain as plain
 use Rattle.tl_types.specs.declared.cells.Cell.{Cell}
 use Rattle.tl_types.specs.declared.cells.Cell.TheVariants as cells
-use Rattle.tl_query.specs.declared.marks.Mark.{Mark}
-use Rattle.tl_query.specs.declared.marks.Mark.TheVariants as marks
+use Rattle.tl_query.specs.declared.terminals.Terminal.{Terminal}
+use Rattle.tl_query.specs.declared.terminals.Terminal.TheVariants as terminals
 use Rattle.tl_query.specs.declared.tokens.Token.{Token}
-use Rattle.tl_query.specs.declared.tokens.Token.TheVariants.{Fixed, Word, Number, Negative, Quoted, Stray}
+use Rattle.tl_query.specs.declared.tokens.Token.TheVariants.{Fixed, Word, Quoted, Stray}
 use Rattle.tl_query.specs.declared.tokens.Placed.{Placed}
 use Rattle.tl_query.specs.declared.scanning.Piece.{Piece}
-use Rattle.tl_query.specs.declared.forms.Name.{Name}
-use Rattle.tl_query.specs.declared.forms.Stamp.{Stamp}
-use Rattle.tl_query.specs.declared.forms.ColumnForm.{ColumnForm}
-use Rattle.tl_query.specs.declared.forms.AggKind.{AggKind}
-use Rattle.tl_query.specs.declared.forms.AggKind.TheVariants as aggs
-use Rattle.tl_query.specs.declared.forms.Over.{Over}
-use Rattle.tl_query.specs.declared.forms.Over.TheVariants as overs
-use Rattle.tl_query.specs.declared.forms.Test.{Test}
-use Rattle.tl_query.specs.declared.forms.ValidPoint.{ValidPoint}
-use Rattle.tl_query.specs.declared.forms.Item.{Item}
-use Rattle.tl_query.specs.declared.forms.Item.TheVariants as items
-use Rattle.tl_query.specs.declared.forms.Query.TheVariants as queries
-use Rattle.tl_query.specs.declared.forms.Statement.{Statement}
-use Rattle.tl_query.specs.declared.forms.Statement.TheVariants as statements
-use Rattle.tl_query.specs.Marks.{same_mark, spelling}
+use Rattle.tl_query.specs.declared.ast.Name.{Name}
+use Rattle.tl_query.specs.declared.ast.Stamp.{Stamp}
+use Rattle.tl_query.specs.declared.ast.AggKind.{AggKind}
+use Rattle.tl_query.specs.declared.ast.AggKind.TheVariants as aggs
+use Rattle.tl_query.specs.declared.ast.Over.{Over}
+use Rattle.tl_query.specs.declared.ast.Over.TheVariants as overs
+use Rattle.tl_query.specs.declared.ast.Test.{Test}
+use Rattle.tl_query.specs.declared.ast.ValidPoint.{ValidPoint}
+use Rattle.tl_query.specs.declared.ast.Item.{Item}
+use Rattle.tl_query.specs.declared.ast.Item.TheVariants as items
+use Rattle.tl_query.specs.declared.ast.Query.TheVariants as queries
+use Rattle.tl_query.specs.declared.ast.Statement.{Statement}
+use Rattle.tl_query.specs.declared.ast.Statement.TheVariants as statements
+use Rattle.tl_query.specs.Terminals.{same_terminal, spelling}
 use Rattle.tl_query.specs.Scanning.{Tokens, tokens_before, placed, scan}
-use Rattle.tl_query.specs.Grammar.{Part, said, said_at, named, version, moment, bound, constant, IsPart, Fits, IsStatement, IsSpelling, IsAsked, IsAggregate, agg_mark, name_by, version_by, moment_by, bound_by, constant_by, behind_each, parted, column_parts, valid_parts, item_parts, asked_parts, test_parts, conj_parts, any_parts, where_parts, valid_at_parts, as_of_parts, column_name_parts, by_parts, over_parts, statement_parts, end_parts, IsNamed, IsVersion, IsI64, IsCell, IsReadPart, IsParsed}
-use Rattle.tl_query.specs.Printing.{fixed, plain_word, bound_word, word_of, Written, gap, put, write, nothing, text_of, unplaced_name, unplaced_stamp, unplaced_column, unplaced_item, unplaced_test, unplaced_pred, unplaced_point, unplaced_over, unplaced}
+use Rattle.tl_query.specs.Grammar.{Part, said, said_at, named, version, moment, bound, constant, IsPart, Fits, IsStatement, IsSpelling, IsAsked, IsAggregate, agg_terminal, name_by, version_by, moment_by, bound_by, constant_by, behind_each, parted, column_parts, valid_parts, item_parts, asked_parts, test_parts, conj_parts, any_parts, where_parts, valid_at_parts, as_of_parts, column_name_parts, by_parts, over_parts, statement_parts, IsI64, IsCell, IsReadPart, IsParsed}
+use Rattle.tl_query.specs.Printing.{fixed, plain_word, word_of, Written, gap, put, write, nothing, text_of, unplaced_name, unplaced_stamp, unplaced_column, unplaced_item, unplaced_test, unplaced_point, unplaced_over, unplaced}
 use Rattle.tl_query.specs.Reading.{statement_at}
-use Rattle.tl_query.specs.Texts.{tokens_of, Spells, SpellsAgain}
+use Rattle.tl_query.specs.Texts.{tokens_of, SpellsAgain}
 use Rattle.tl_query.proofs.Places.{same_mark_true}
 use Rattle.tl_query.proofs.Turns.{blank_turn, piece_turn, read_within}
-use Rattle.tl_query.proofs.Words.{ends, IsSoft, Begins, cond_true, cond_false, number_token, natural_begins, below_begins, text_begins, name_begins, is_spelled, open_begins, mark_begins}
+use Rattle.tl_query.proofs.Words.{IsSoft, Begins, cond_false, number_token, natural_begins, below_begins, text_begins, name_begins, is_spelled, open_begins, mark_begins}
 use Rattle.tl_query.proofs.Again.{statement_again}
 use Rattle.tl_query.proofs.Deciding.{at_whole}
 use Rattle.tl_query.proofs.Unplaced.{unplaced_token, zeros, changed, statement_agrees}
@@ -49,7 +48,7 @@ cell_token (cells.Int n) = number_token n
 cell_token (cells.Text t) = Quoted t
 
 abbrev bound_token : ℤ → Token
-bound_token v = cond (int_eq v plain.forever) (Fixed marks.Forever) (number_token v)
+bound_token v = cond (int_eq v plain.forever) (Fixed terminals.Forever) (number_token v)
 
 -- the token that is written of a part
 abbrev token_of : Part → Token
@@ -71,18 +70,18 @@ number_any : (v : ℤ) (z : List ℕ) → IsI64 v → IsSoft z → Begins (signe
 number_any (pos n) z h s = natural_begins n z h s
 number_any (negsuc n) z h s = below_begins n z h s
 
-mark_any : (m : Mark) (z : List ℕ) → (same_mark m marks.Open ≡ false → IsSoft z) → Begins (spelling m) z (Fixed m) (is_spelled m)
-mark_any m z s = elim (same_mark m marks.Open) as (λ u. same_mark m marks.Open ≡ u → Begins (spelling m) z (Fixed m) (is_spelled m)) [
-  | true ↦ λ e. subst (λ m. Begins (spelling m) z (Fixed m) (is_spelled m)) (sym (same_mark_true m marks.Open e)) (open_begins z)
+mark_any : (m : Terminal) (z : List ℕ) → (same_terminal m terminals.Open ≡ false → IsSoft z) → Begins (spelling m) z (Fixed m) (is_spelled m)
+mark_any m z s = elim (same_terminal m terminals.Open) as (λ u. same_terminal m terminals.Open ≡ u → Begins (spelling m) z (Fixed m) (is_spelled m)) [
+  | true ↦ λ e. subst (λ m. Begins (spelling m) z (Fixed m) (is_spelled m)) (sym (same_mark_true m terminals.Open e)) (open_begins z)
   | false ↦ λ e. mark_begins m z (s e)
 ] refl
 
 constant_any : (c : Cell) (z : List ℕ) → IsCell c → IsSoft z → Begins (word_of (constant c 0)).text z (cell_token c) true
 constant_any (cells.Int n) z h s = number_any n z h s
-constant_any (cells.Text t) z h s = text_begins t z h.0 h.1 s
+constant_any (cells.Text t) z h s = text_begins t z h s
 
-bound_any : (v : ℤ) (z : List ℕ) (u : Bool) → IsI64 v → ((cond u (fixed marks.Forever) (plain_word (signed_decimal v))).opens ≡ false → IsSoft z) → Begins (cond u (fixed marks.Forever) (plain_word (signed_decimal v))).text z (cond u (Fixed marks.Forever) (number_token v)) true
-bound_any v z true h s = mark_begins marks.Forever z (s refl)
+bound_any : (v : ℤ) (z : List ℕ) (u : Bool) → IsI64 v → ((cond u (fixed terminals.Forever) (plain_word (signed_decimal v))).opens ≡ false → IsSoft z) → Begins (cond u (fixed terminals.Forever) (plain_word (signed_decimal v))).text z (cond u (Fixed terminals.Forever) (number_token v)) true
+bound_any v z true h s = mark_begins terminals.Forever z (s refl)
 bound_any v z false h s = number_any v z h (s refl)
 
 begins_of : (q : Part) → IsReadPart q → (z : List ℕ) → ((word_of q).opens ≡ false → IsSoft z) → Begins (word_of q).text z (token_of q) (joins_of q)
@@ -108,21 +107,21 @@ written (q ∷ parts) w =
     written parts (put w (word_of q)) ∙ append_assoc w.bytes (gap (w.tight || (word_of q).closes) ++ (word_of q).text) (rest_of (word_of q).opens parts)
     ∙ ap (λ y. w.bytes ++ y) (append_assoc (gap (w.tight || (word_of q).closes)) (word_of q).text (rest_of (word_of q).opens parts))
 
-soft_mark : (m : Mark) (z : List ℕ) → IsSoft (gap (false || (fixed m).closes) ++ (spelling m ++ z))
+soft_terminal : (m : Terminal) (z : List ℕ) → IsSoft (gap (false || (fixed m).closes) ++ (spelling m ++ z))
 unfolding spelling
-soft_mark marks.Close z = refl
-soft_mark marks.Comma z = refl
-soft_mark _ z = refl
+soft_terminal terminals.Close z = refl
+soft_terminal terminals.Comma z = refl
+soft_terminal _ z = refl
 
-soft_bound : (v : ℤ) (u : Bool) (z : List ℕ) → IsSoft (gap (false || (cond u (fixed marks.Forever) (plain_word (signed_decimal v))).closes) ++ z)
+soft_bound : (v : ℤ) (u : Bool) (z : List ℕ) → IsSoft (gap (false || (cond u (fixed terminals.Forever) (plain_word (signed_decimal v))).closes) ++ z)
 soft_bound v true z = refl
 soft_bound v false z = refl
 
 soft_rest : (parts : List Part) → IsSoft (rest_of false parts)
 unfolding rest_of
 soft_rest [] = tt
-soft_rest (said m ∷ parts) = soft_mark m (rest_of (same_mark m marks.Open) parts)
-soft_rest (said_at m at ∷ parts) = soft_mark m (rest_of (same_mark m marks.Open) parts)
+soft_rest (said m ∷ parts) = soft_terminal m (rest_of (same_terminal m terminals.Open) parts)
+soft_rest (said_at m at ∷ parts) = soft_terminal m (rest_of (same_terminal m terminals.Open) parts)
 soft_rest (named n ∷ parts) = refl
 soft_rest (version s ∷ parts) = refl
 soft_rest (moment v ∷ parts) = refl
@@ -141,18 +140,18 @@ record IsScan (parts : List Part) (read : Tokens) : Type 0 where
   like : Like parts read.tokens
 
 -- `)` and `,` are no words
-closes_mark : (m : Mark) → (fixed m).closes ≡ true → is_spelled m ≡ false
-closes_mark marks.Close e = refl
-closes_mark marks.Comma e = refl
-closes_mark _ e = absurd (cc)
+closes_terminal : (m : Terminal) → (fixed m).closes ≡ true → is_spelled m ≡ false
+closes_terminal terminals.Close e = refl
+closes_terminal terminals.Comma e = refl
+closes_terminal _ e = absurd (cc)
 
-closes_bound : (v : ℤ) (u : Bool) → (cond u (fixed marks.Forever) (plain_word (signed_decimal v))).closes ≡ false
+closes_bound : (v : ℤ) (u : Bool) → (cond u (fixed terminals.Forever) (plain_word (signed_decimal v))).closes ≡ false
 closes_bound v true = refl
 closes_bound v false = refl
 
 closes_no_join : (q : Part) → (word_of q).closes ≡ true → joins_of q ≡ false
-closes_no_join (said m) e = closes_mark m e
-closes_no_join (said_at m at) e = closes_mark m e
+closes_no_join (said m) e = closes_terminal m e
+closes_no_join (said_at m at) e = closes_terminal m e
 closes_no_join (named n) e = absurd (cc)
 closes_no_join (version s) e = absurd (cc)
 closes_no_join (moment v) e = absurd (cc)
@@ -160,17 +159,17 @@ closes_no_join (bound s) e = let f = closes_bound s.value (int_eq s.value plain.
 closes_no_join (constant c at) e = absurd (cc)
 
 -- neither is `(`
-opens_mark : (m : Mark) → (is_spelled m && same_mark m marks.Open) ≡ false
-opens_mark marks.Open = refl
-opens_mark _ = refl
+opens_terminal : (m : Terminal) → (is_spelled m && same_terminal m terminals.Open) ≡ false
+opens_terminal terminals.Open = refl
+opens_terminal _ = refl
 
-opens_bound : (v : ℤ) (u : Bool) → (cond u (fixed marks.Forever) (plain_word (signed_decimal v))).opens ≡ false
+opens_bound : (v : ℤ) (u : Bool) → (cond u (fixed terminals.Forever) (plain_word (signed_decimal v))).opens ≡ false
 opens_bound v true = refl
 opens_bound v false = refl
 
 joins_opens : (q : Part) → (joins_of q && (word_of q).opens) ≡ false
-joins_opens (said m) = opens_mark m
-joins_opens (said_at m at) = opens_mark m
+joins_opens (said m) = opens_terminal m
+joins_opens (said_at m at) = opens_terminal m
 joins_opens (named n) = refl
 joins_opens (version s) = refl
 joins_opens (moment v) = refl
@@ -231,11 +230,11 @@ number_bound : (v : ℤ) → bound_by 0 (number_token v) ≡ Some (record { valu
 number_bound (pos n) = refl
 number_bound (negsuc n) = refl
 
-forever_bound : (v : ℤ) → v ≡ plain.forever → bound_by 0 (Fixed marks.Forever) ≡ Some (record { value = v; at = 0 })
+forever_bound : (v : ℤ) → v ≡ plain.forever → bound_by 0 (Fixed terminals.Forever) ≡ Some (record { value = v; at = 0 })
 forever_bound v e = ap (λ v. Some (record { value = v; at = 0 })) (sym e)
 
 bound_is : (v : ℤ) → bound_by 0 (bound_token v) ≡ Some (record { value = v; at = 0 })
-bound_is v = elim (int_eq v plain.forever) as (λ u. int_eq v plain.forever ≡ u → bound_by 0 (cond u (Fixed marks.Forever) (number_token v)) ≡ Some (record { value = v; at = 0 })) [ true ↦ λ e. forever_bound v ((Decides-int_eq v plain.forever).0 e) | false ↦ λ e. number_bound v ] refl
+bound_is v = elim (int_eq v plain.forever) as (λ u. int_eq v plain.forever ≡ u → bound_by 0 (cond u (Fixed terminals.Forever) (number_token v)) ≡ Some (record { value = v; at = 0 })) [ true ↦ λ e. forever_bound v ((Decides-int_eq v plain.forever).0 e) | false ↦ λ e. number_bound v ] refl
 
 cell_is : (c : Cell) → constant_by (cell_token c) ≡ Some c
 cell_is (cells.Int (pos n)) = refl
@@ -261,11 +260,11 @@ like_fits (q ∷ parts) (p ∷ ts) h l = (part_fits q p h.0 l.0, like_fits parts
 after_each : (a b c d : List Part) → a ≡ map bare b → c ≡ map bare d → a ++ c ≡ map bare (b ++ d)
 after_each a b c d e f = ap (λ a. a ++ c) e ∙ ap (λ c. map bare b ++ c) f ∙ sym (map-append bare b d)
 
-each_bare : {A : Type 0} (m : Mark) (parts : A → List Part) (f : A → A) → ((x : A) → parts (f x) ≡ map bare (parts x)) → (xs : List A) → behind_each m parts (map f xs) ≡ map bare (behind_each m parts xs)
+each_bare : {A : Type 0} (m : Terminal) (parts : A → List Part) (f : A → A) → ((x : A) → parts (f x) ≡ map bare (parts x)) → (xs : List A) → behind_each m parts (map f xs) ≡ map bare (behind_each m parts xs)
 each_bare m parts f h [] = refl
 each_bare m parts f h (x ∷ xs) = ap (λ y. said m ∷ y) (after_each (parts (f x)) (parts x) (behind_each m parts (map f xs)) (behind_each m parts xs) (h x) (each_bare m parts f h xs))
 
-parted_bare : {A : Type 0} (m : Mark) (parts : A → List Part) (f : A → A) → ((x : A) → parts (f x) ≡ map bare (parts x)) → (xs : List A) → parted m parts (map f xs) ≡ map bare (parted m parts xs)
+parted_bare : {A : Type 0} (m : Terminal) (parts : A → List Part) (f : A → A) → ((x : A) → parts (f x) ≡ map bare (parts x)) → (xs : List A) → parted m parts (map f xs) ≡ map bare (parted m parts xs)
 parted_bare m parts f h [] = refl
 parted_bare m parts f h (x ∷ xs) = after_each (parts (f x)) (parts x) (behind_each m parts (map f xs)) (behind_each m parts xs) (h x) (each_bare m parts f h xs)
 
@@ -280,14 +279,14 @@ item_bare (items.ValidTo at) = refl
 
 asked_bare : (all : Bool) (xs : List Item) → asked_parts all (map unplaced_item xs) ≡ map bare (asked_parts all xs)
 asked_bare true xs = refl
-asked_bare false xs = parted_bare marks.Comma item_parts unplaced_item item_bare xs
+asked_bare false xs = parted_bare terminals.Comma item_parts unplaced_item item_bare xs
 
 conj_bare : (tests : List Test) → conj_parts (map unplaced_test tests) ≡ map bare (conj_parts tests)
-conj_bare tests = parted_bare marks.And test_parts unplaced_test (λ t. refl) tests
+conj_bare tests = parted_bare terminals.And test_parts unplaced_test (λ t. refl) tests
 
 any_bare : (any : List (List Test)) → any_parts (map (λ tests. map unplaced_test tests) any) ≡ map bare (any_parts any)
 any_bare [] = refl
-any_bare (tests ∷ any) = ap (λ y. said marks.Where ∷ y) (parted_bare marks.Or conj_parts (λ tests. map unplaced_test tests) conj_bare (tests ∷ any))
+any_bare (tests ∷ any) = ap (λ y. said terminals.Where ∷ y) (parted_bare terminals.Or conj_parts (λ tests. map unplaced_test tests) conj_bare (tests ∷ any))
 
 valid_at_bare : (o : Option ValidPoint) → valid_at_parts (option_map unplaced_point o) ≡ map bare (valid_at_parts o)
 valid_at_bare None = refl
@@ -308,31 +307,31 @@ by_bare (Some n) = refl
 over_bare : (o : Over) → over_parts (unplaced_over o) ≡ map bare (over_parts o)
 over_bare overs.SystemAll = refl
 over_bare (overs.System from to) = refl
-over_bare (overs.Valid at from to as_of) = ap (λ y. said marks.Over ∷ said_at marks.Valid 0 ∷ bound (unplaced_stamp from) ∷ said marks.To ∷ bound (unplaced_stamp to) ∷ y) (as_of_bare as_of)
+over_bare (overs.Valid at from to as_of) = ap (λ y. said terminals.Over ∷ said_at terminals.Valid 0 ∷ bound (unplaced_stamp from) ∷ said terminals.To ∷ bound (unplaced_stamp to) ∷ y) (as_of_bare as_of)
 
 statement_bare : (s : Statement) → statement_parts (unplaced s) ≡ map bare (statement_parts s)
 statement_bare (statements.Create f) =
-    ap (λ y. said marks.Create ∷ said marks.Table ∷ named (unplaced_name f.name) ∷ said marks.Open ∷ y)
-    (after_each _ (parted marks.Comma column_parts f.columns) _ (said marks.Close ∷ said marks.Key ∷ named f.key ∷ valid_parts f.valid) (parted_bare marks.Comma column_parts unplaced_column (λ c. refl) f.columns)
-    (ap (λ y. said marks.Close ∷ said marks.Key ∷ named (unplaced_name f.key) ∷ y) (valid_bare f.valid)))
+    ap (λ y. said terminals.Create ∷ said terminals.Table ∷ named (unplaced_name f.name) ∷ said terminals.Open ∷ y)
+    (after_each _ (parted terminals.Comma column_parts f.columns) _ (said terminals.Close ∷ said terminals.Key ∷ named f.key ∷ valid_parts f.valid) (parted_bare terminals.Comma column_parts unplaced_column (λ c. refl) f.columns)
+    (ap (λ y. said terminals.Close ∷ said terminals.Key ∷ named (unplaced_name f.key) ∷ y) (valid_bare f.valid)))
 statement_bare (statements.Put n) = refl
 statement_bare (statements.Remove n) = refl
 statement_bare (statements.Ask (queries.Select f)) =
-    ap (λ y. said marks.Select ∷ y)
-    (after_each _ (asked_parts f.all f.items) _ (said marks.From ∷ named f.table ∷ (where_parts f.pred ++ (valid_at_parts f.valid_at ++ as_of_parts f.as_of))) (asked_bare f.all f.items)
-    (ap (λ y. said marks.From ∷ named (unplaced_name f.table) ∷ y)
+    ap (λ y. said terminals.Select ∷ y)
+    (after_each _ (asked_parts f.all f.items) _ (said terminals.From ∷ named f.table ∷ (where_parts f.pred ++ (valid_at_parts f.valid_at ++ as_of_parts f.as_of))) (asked_bare f.all f.items)
+    (ap (λ y. said terminals.From ∷ named (unplaced_name f.table) ∷ y)
     (after_each _ (where_parts f.pred) _ (valid_at_parts f.valid_at ++ as_of_parts f.as_of) (any_bare f.pred.any) (after_each _ (valid_at_parts f.valid_at) _ (as_of_parts f.as_of) (valid_at_bare f.valid_at) (as_of_bare f.as_of)))))
 statement_bare (statements.Ask (queries.Agg f)) =
-    ap (λ y. said (agg_mark f.kind) ∷ y)
-    (after_each _ (column_name_parts f.column) _ (said marks.From ∷ named f.table ∷ (where_parts f.pred ++ (by_parts f.by ++ over_parts f.over))) (column_name_bare f.column)
-    (ap (λ y. said marks.From ∷ named (unplaced_name f.table) ∷ y)
+    ap (λ y. said (agg_terminal f.kind) ∷ y)
+    (after_each _ (column_name_parts f.column) _ (said terminals.From ∷ named f.table ∷ (where_parts f.pred ++ (by_parts f.by ++ over_parts f.over))) (column_name_bare f.column)
+    (ap (λ y. said terminals.From ∷ named (unplaced_name f.table) ∷ y)
     (after_each _ (where_parts f.pred) _ (by_parts f.by ++ over_parts f.over) (any_bare f.pred.any) (after_each _ (by_parts f.by) _ (over_parts f.over) (by_bare f.by) (over_bare f.over)))))
 statement_bare (statements.Ask (queries.Join f)) =
-    ap (λ y. said marks.Join ∷ named (unplaced_name f.left) ∷ y)
-    (after_each _ (where_parts f.left_pred) _ (said marks.With ∷ named f.right ∷ (where_parts f.right_pred ++ (said marks.On ∷ named f.left_on ∷ said marks.Equal ∷ named f.right_on ∷ over_parts f.over))) (any_bare f.left_pred.any)
-    (ap (λ y. said marks.With ∷ named (unplaced_name f.right) ∷ y)
-    (after_each _ (where_parts f.right_pred) _ (said marks.On ∷ named f.left_on ∷ said marks.Equal ∷ named f.right_on ∷ over_parts f.over) (any_bare f.right_pred.any)
-    (ap (λ y. said marks.On ∷ named (unplaced_name f.left_on) ∷ said marks.Equal ∷ named (unplaced_name f.right_on) ∷ y) (over_bare f.over)))))
+    ap (λ y. said terminals.Join ∷ named (unplaced_name f.left) ∷ y)
+    (after_each _ (where_parts f.left_pred) _ (said terminals.With ∷ named f.right ∷ (where_parts f.right_pred ++ (said terminals.On ∷ named f.left_on ∷ said terminals.Equal ∷ named f.right_on ∷ over_parts f.over))) (any_bare f.left_pred.any)
+    (ap (λ y. said terminals.With ∷ named (unplaced_name f.right) ∷ y)
+    (after_each _ (where_parts f.right_pred) _ (said terminals.On ∷ named f.left_on ∷ said terminals.Equal ∷ named f.right_on ∷ over_parts f.over) (any_bare f.right_pred.any)
+    (ap (λ y. said terminals.On ∷ named (unplaced_name f.left_on) ∷ said terminals.Equal ∷ named (unplaced_name f.right_on) ∷ y) (over_bare f.over)))))
 
 pred_unplaced : (any : List (List Test)) → AllByRecursion (λ tests. 1 ≤ length tests) any → AllByRecursion (λ tests. 1 ≤ length tests) (map (λ tests. map unplaced_test tests) any)
 pred_unplaced [] h = tt

@@ -1,5 +1,5 @@
 -- What is taken for a part is that part.
-use Rattle.std.proofs.Common.{◌≡◌, ℕ, ℤ, pos, List, [], ◌∷◌, Option, Some, None, refl, sym, ◌∙◌, ap, subst}
+use Rattle.std.proofs.Common.{◌≡◌, ℕ, ℤ, pos, [], ◌∷◌, Option, Some, None, refl, ◌∙◌, ap, subst}
 use Rattle.std.specs.Option.{option_map}
 use Rattle.tl_types.specs.declared.cells.Cell.{Cell}
 use Rattle.tl_types.specs.declared.cells.Cell.TheVariants as cells
@@ -7,18 +7,18 @@ use Rattle.tl_types.specs.declared.cells.Cmp.{Cmp}
 use Rattle.tl_types.specs.declared.cells.Cmp.TheVariants as cmps
 use Rattle.tl_types.specs.declared.cells.ColumnKind.{ColumnKind}
 use Rattle.tl_types.specs.declared.cells.ColumnKind.TheVariants as kinds
-use Rattle.tl_query.specs.declared.marks.Mark.{Mark}
-use Rattle.tl_query.specs.declared.marks.Mark.TheVariants as marks
+use Rattle.tl_query.specs.declared.terminals.Terminal.{Terminal}
+use Rattle.tl_query.specs.declared.terminals.Terminal.TheVariants as terminals
 use Rattle.tl_query.specs.declared.tokens.Token.{Token}
-use Rattle.tl_query.specs.declared.tokens.Token.TheVariants.{Fixed, Word, Number, Negative, Quoted, Stray}
+use Rattle.tl_query.specs.declared.tokens.Token.TheVariants.{Fixed, Word, Number}
 use Rattle.tl_query.specs.declared.tokens.Placed.{Placed}
-use Rattle.tl_query.specs.declared.forms.Name.{Name}
-use Rattle.tl_query.specs.declared.forms.Stamp.{Stamp}
-use Rattle.tl_query.specs.declared.forms.AggKind.{AggKind}
-use Rattle.tl_query.specs.declared.forms.AggKind.TheVariants as aggs
-use Rattle.tl_query.specs.declared.forms.Item.{Item}
-use Rattle.tl_query.specs.declared.forms.Item.TheVariants as items
-use Rattle.tl_query.specs.Grammar.{Part, said, said_at, named, version, moment, bound, constant, IsPart, constant_by, kind_mark, item_part, cmp_mark, agg_mark}
+use Rattle.tl_query.specs.declared.ast.Name.{Name}
+use Rattle.tl_query.specs.declared.ast.Stamp.{Stamp}
+use Rattle.tl_query.specs.declared.ast.AggKind.{AggKind}
+use Rattle.tl_query.specs.declared.ast.AggKind.TheVariants as aggs
+use Rattle.tl_query.specs.declared.ast.Item.{Item}
+use Rattle.tl_query.specs.declared.ast.Item.TheVariants as items
+use Rattle.tl_query.specs.Grammar.{said, said_at, named, version, moment, bound, constant, IsPart, constant_by, kind_terminal, item_part, cmp_terminal, agg_terminal}
 use Rattle.tl_query.specs.Reading.{name_of, version_of, moment_of, bound_of, constant_of, item_by, item_of, kind_by, kind_of, cmp_by, cmp_of, agg_by, agg_of, valid_by, valid_of}
 use Rattle.tl_query.proofs.Laws.{Takes}
 
@@ -56,55 +56,55 @@ constant_takes = record { is = λ p x e. paired p.at (constant_by p.token) x e; 
 
 item_is : (at : ℕ) (t : Token) (x : Item) → item_by at t ≡ Some x → IsPart (item_part x) (record { token = t; at = at })
 item_is at (Word w) x e = subst (λ x. IsPart (item_part x) (record { token = Word w; at = at })) (some_one e) refl
-item_is at (Fixed marks.ValidFrom) x e = subst (λ x. IsPart (item_part x) (record { token = Fixed marks.ValidFrom; at = at })) (some_one e) refl
-item_is at (Fixed marks.ValidTo) x e = subst (λ x. IsPart (item_part x) (record { token = Fixed marks.ValidTo; at = at })) (some_one e) refl
+item_is at (Fixed terminals.ValidFrom) x e = subst (λ x. IsPart (item_part x) (record { token = Fixed terminals.ValidFrom; at = at })) (some_one e) refl
+item_is at (Fixed terminals.ValidTo) x e = subst (λ x. IsPart (item_part x) (record { token = Fixed terminals.ValidTo; at = at })) (some_one e) refl
 item_is at _ x e = absurd (cc)
 
 pub item_takes : Takes Item item_of item_part
-item_takes = record { is = λ p x e. item_is p.at p.token x e; some = items.ValidFrom 0; token = record { token = Fixed marks.ValidFrom; at = 0 }; there = refl }
+item_takes = record { is = λ p x e. item_is p.at p.token x e; some = items.ValidFrom 0; token = record { token = Fixed terminals.ValidFrom; at = 0 }; there = refl }
 
-kind_is : (t : Token) (k : ColumnKind) → kind_by t ≡ Some k → t ≡ Fixed (kind_mark k)
-kind_is (Fixed marks.Int) k e = ap (λ k. Fixed (kind_mark k)) (some_one e)
-kind_is (Fixed marks.Text) k e = ap (λ k. Fixed (kind_mark k)) (some_one e)
+kind_is : (t : Token) (k : ColumnKind) → kind_by t ≡ Some k → t ≡ Fixed (kind_terminal k)
+kind_is (Fixed terminals.Int) k e = ap (λ k. Fixed (kind_terminal k)) (some_one e)
+kind_is (Fixed terminals.Text) k e = ap (λ k. Fixed (kind_terminal k)) (some_one e)
 kind_is _ k e = absurd (cc)
 
-pub kind_takes : Takes ColumnKind kind_of (λ k. said (kind_mark k))
-kind_takes = record { is = λ p k e. kind_is p.token k e; some = kinds.IntKind; token = record { token = Fixed marks.Int; at = 0 }; there = refl }
+pub kind_takes : Takes ColumnKind kind_of (λ k. said (kind_terminal k))
+kind_takes = record { is = λ p k e. kind_is p.token k e; some = kinds.IntKind; token = record { token = Fixed terminals.Int; at = 0 }; there = refl }
 
-cmp_is : (t : Token) (c : Cmp) → cmp_by t ≡ Some c → t ≡ Fixed (cmp_mark c)
-cmp_is (Fixed marks.Equal) c e = ap (λ c. Fixed (cmp_mark c)) (some_one e)
-cmp_is (Fixed marks.Unequal) c e = ap (λ c. Fixed (cmp_mark c)) (some_one e)
-cmp_is (Fixed marks.Less) c e = ap (λ c. Fixed (cmp_mark c)) (some_one e)
-cmp_is (Fixed marks.AtMost) c e = ap (λ c. Fixed (cmp_mark c)) (some_one e)
-cmp_is (Fixed marks.Greater) c e = ap (λ c. Fixed (cmp_mark c)) (some_one e)
-cmp_is (Fixed marks.AtLeast) c e = ap (λ c. Fixed (cmp_mark c)) (some_one e)
+cmp_is : (t : Token) (c : Cmp) → cmp_by t ≡ Some c → t ≡ Fixed (cmp_terminal c)
+cmp_is (Fixed terminals.Equal) c e = ap (λ c. Fixed (cmp_terminal c)) (some_one e)
+cmp_is (Fixed terminals.Unequal) c e = ap (λ c. Fixed (cmp_terminal c)) (some_one e)
+cmp_is (Fixed terminals.Less) c e = ap (λ c. Fixed (cmp_terminal c)) (some_one e)
+cmp_is (Fixed terminals.AtMost) c e = ap (λ c. Fixed (cmp_terminal c)) (some_one e)
+cmp_is (Fixed terminals.Greater) c e = ap (λ c. Fixed (cmp_terminal c)) (some_one e)
+cmp_is (Fixed terminals.AtLeast) c e = ap (λ c. Fixed (cmp_terminal c)) (some_one e)
 cmp_is _ c e = absurd (cc)
 
 -- a token and its offset
-put_at : (p : Placed) (m : Mark) (at : ℕ) → p.token ≡ Fixed m → p.at ≡ at → p ≡ record { token = Fixed m; at = at }
+put_at : (p : Placed) (m : Terminal) (at : ℕ) → p.token ≡ Fixed m → p.at ≡ at → p ≡ record { token = Fixed m; at = at }
 put_at p m at e h = ap (λ t. record { token = t; at = p.at }) e ∙ ap (λ n. record { token = Fixed m; at = n }) h
 
-pub cmp_takes : Takes (Cmp × ℕ) cmp_of (λ x. said_at (cmp_mark x.0) x.1)
-cmp_takes = record { is = λ p x e. let k = paired p.at (cmp_by p.token) x e in put_at p (cmp_mark x.0) x.1 (cmp_is p.token x.0 k.0) k.1; some = (cmps.Eq, 0); token = record { token = Fixed marks.Equal; at = 0 }; there = refl }
+pub cmp_takes : Takes (Cmp × ℕ) cmp_of (λ x. said_at (cmp_terminal x.0) x.1)
+cmp_takes = record { is = λ p x e. let k = paired p.at (cmp_by p.token) x e in put_at p (cmp_terminal x.0) x.1 (cmp_is p.token x.0 k.0) k.1; some = (cmps.Eq, 0); token = record { token = Fixed terminals.Equal; at = 0 }; there = refl }
 
-agg_is : (t : Token) (k : AggKind) → agg_by t ≡ Some k → t ≡ Fixed (agg_mark k)
-agg_is (Fixed marks.Count) k e = ap (λ k. Fixed (agg_mark k)) (some_one e)
-agg_is (Fixed marks.Sum) k e = ap (λ k. Fixed (agg_mark k)) (some_one e)
-agg_is (Fixed marks.Avg) k e = ap (λ k. Fixed (agg_mark k)) (some_one e)
-agg_is (Fixed marks.Min) k e = ap (λ k. Fixed (agg_mark k)) (some_one e)
-agg_is (Fixed marks.Max) k e = ap (λ k. Fixed (agg_mark k)) (some_one e)
+agg_is : (t : Token) (k : AggKind) → agg_by t ≡ Some k → t ≡ Fixed (agg_terminal k)
+agg_is (Fixed terminals.Count) k e = ap (λ k. Fixed (agg_terminal k)) (some_one e)
+agg_is (Fixed terminals.Sum) k e = ap (λ k. Fixed (agg_terminal k)) (some_one e)
+agg_is (Fixed terminals.Avg) k e = ap (λ k. Fixed (agg_terminal k)) (some_one e)
+agg_is (Fixed terminals.Min) k e = ap (λ k. Fixed (agg_terminal k)) (some_one e)
+agg_is (Fixed terminals.Max) k e = ap (λ k. Fixed (agg_terminal k)) (some_one e)
 agg_is _ k e = absurd (cc)
 
-pub agg_takes : Takes AggKind agg_of (λ k. said (agg_mark k))
-agg_takes = record { is = λ p k e. agg_is p.token k e; some = aggs.Count; token = record { token = Fixed marks.Count; at = 0 }; there = refl }
+pub agg_takes : Takes AggKind agg_of (λ k. said (agg_terminal k))
+agg_takes = record { is = λ p k e. agg_is p.token k e; some = aggs.Count; token = record { token = Fixed terminals.Count; at = 0 }; there = refl }
 
 placed : Token → ℕ → Placed
 placed t at = record { token = t; at = at }
 
-valid_is : (at : ℕ) (t : Token) (v : ℕ) → valid_by at t ≡ Some v → ◌≡◌ {A = Placed} (record { token = t; at = at }) (record { token = Fixed marks.Valid; at = v })
+valid_is : (at : ℕ) (t : Token) (v : ℕ) → valid_by at t ≡ Some v → ◌≡◌ {A = Placed} (record { token = t; at = at }) (record { token = Fixed terminals.Valid; at = v })
 unfolding placed
-valid_is at (Fixed marks.Valid) v e = ap (λ (n : ℕ). placed (Fixed marks.Valid) n) (some_one e)
+valid_is at (Fixed terminals.Valid) v e = ap (λ (n : ℕ). placed (Fixed terminals.Valid) n) (some_one e)
 valid_is at _ v e = absurd (cc)
 
-pub valid_takes : Takes ℕ valid_of (said_at marks.Valid)
-valid_takes = record { is = λ p v e. valid_is p.at p.token v e; some = 0; token = record { token = Fixed marks.Valid; at = 0 }; there = refl }
+pub valid_takes : Takes ℕ valid_of (said_at terminals.Valid)
+valid_takes = record { is = λ p v e. valid_is p.at p.token v e; some = 0; token = record { token = Fixed terminals.Valid; at = 0 }; there = refl }

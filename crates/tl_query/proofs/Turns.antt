@@ -50,7 +50,7 @@ within_if : (n : ℕ) (t : Bool) (x y : Result Piece TextFault) → (t ≡ true 
 within_if n true x y h k = h refl
 within_if n false x y h k = k
 
-begun : (b : ℕ) → begins_word b ≡ true → continues_word b ≡ true
+pub begun : (b : ℕ) → begins_word b ≡ true → continues_word b ≡ true
 begun b e = ap (λ t. t || is_digit b) e
 
 word_within : (b : ℕ) (bytes : List ℕ) → begins_word b ≡ true → Within (length (b ∷ bytes)) (Ok (word_piece (b ∷ bytes)))

@@ -1,27 +1,25 @@
 -- Reading tokens whose offsets are all 0 gives what reading them gives, but for its offsets.
-use Rattle.std.proofs.Common.{◌≡◌, ℕ, zero, suc, Bool, true, false, cond, List, [], ◌∷◌, ◌++◌, length, map, Option, Some, None, Result, Ok, Err, refl, sym, ◌∙◌, ap}
+use Rattle.std.proofs.Common.{◌≡◌, ℕ, zero, suc, Bool, true, false, cond, List, [], ◌∷◌, length, map, Option, Some, None, Result, Ok, Err, refl, ◌∙◌, ap}
 use Rattle.std.specs.Option.{option_map}
 use Rattle.tl_types.specs.declared.cells.Cell.{Cell}
 use Rattle.tl_types.specs.declared.cells.Cmp.{Cmp}
-use Rattle.tl_types.specs.declared.cells.ColumnKind.{ColumnKind}
-use Rattle.tl_query.specs.declared.marks.Mark.{Mark}
-use Rattle.tl_query.specs.declared.marks.Mark.TheVariants as marks
+use Rattle.tl_query.specs.declared.terminals.Terminal.{Terminal}
+use Rattle.tl_query.specs.declared.terminals.Terminal.TheVariants as terminals
 use Rattle.tl_query.specs.declared.tokens.Token.{Token}
-use Rattle.tl_query.specs.declared.tokens.Token.TheVariants.{Fixed, Word, Number, Negative, Quoted, Stray}
+use Rattle.tl_query.specs.declared.tokens.Token.TheVariants.{Fixed, Word, Number, Negative}
 use Rattle.tl_query.specs.declared.tokens.Placed.{Placed}
-use Rattle.tl_query.specs.declared.forms.Name.{Name}
-use Rattle.tl_query.specs.declared.forms.AggKind.{AggKind}
-use Rattle.tl_query.specs.declared.forms.AggKind.TheVariants as aggs
-use Rattle.tl_query.specs.declared.forms.Over.{Over}
-use Rattle.tl_query.specs.declared.forms.Over.TheVariants as overs
-use Rattle.tl_query.specs.declared.forms.Pred.{Pred}
-use Rattle.tl_query.specs.declared.forms.Item.{Item}
-use Rattle.tl_query.specs.declared.forms.Query.TheVariants as queries
-use Rattle.tl_query.specs.declared.forms.Statement.{Statement}
-use Rattle.tl_query.specs.declared.forms.Statement.TheVariants as statements
-use Rattle.tl_query.specs.Grammar.{name_by, version_by, moment_by, bound_by, constant_by}
+use Rattle.tl_query.specs.declared.ast.Name.{Name}
+use Rattle.tl_query.specs.declared.ast.AggKind.{AggKind}
+use Rattle.tl_query.specs.declared.ast.AggKind.TheVariants as aggs
+use Rattle.tl_query.specs.declared.ast.Over.TheVariants as overs
+use Rattle.tl_query.specs.declared.ast.Pred.{Pred}
+use Rattle.tl_query.specs.declared.ast.Item.{Item}
+use Rattle.tl_query.specs.declared.ast.Query.TheVariants as queries
+use Rattle.tl_query.specs.declared.ast.Statement.{Statement}
+use Rattle.tl_query.specs.declared.ast.Statement.TheVariants as statements
+use Rattle.tl_query.specs.Grammar.{name_by, version_by, bound_by, constant_by}
 use Rattle.tl_query.specs.Printing.{unplaced_name, unplaced_stamp, unplaced_column, unplaced_item, unplaced_test, unplaced_pred, unplaced_point, unplaced_over, unplaced}
-use Rattle.tl_query.specs.Reading.{◌>>=◌, place_of, is_fixed, after, expect, name_of, version_of, moment_of, bound_of, constant_of, item_by, item_of, kind_of, cmp_by, cmp_of, agg_of, valid_by, valid_of, take_at, peek_at, last_of, ended, where_some, in_front, up_to, further, several, column_at, columns_at, valid_at, create_at, put_at, remove_at, items_at, asked_at, test_at, conj_at, where_at, valid_point_at, as_of_at, select_at, versions_at, system_at, moments_at, over_at, column_name_at, by_at, agg_at, side_at, on_at, join_at, statement_at}
+use Rattle.tl_query.specs.Reading.{◌>>=◌, place_of, is_fixed, after, expect, name_of, version_of, moment_of, bound_of, constant_of, item_by, item_of, kind_of, cmp_by, cmp_of, agg_of, valid_by, valid_of, take_at, peek_at, last_of, ended, where_some, in_front, up_to, further, several, column_at, columns_at, valid_at, create_at, put_at, remove_at, items_at, asked_at, test_at, conj_at, where_at, valid_point_at, as_of_at, parse_select, versions_at, system_at, moments_at, over_at, column_name_at, by_at, agg_at, side_at, on_at, join_at, statement_at}
 use Rattle.tl_query.proofs.Lists.{Reads}
 use Rattle.tl_query.proofs.Readers.{agg_or_join, select_or_less, remove_or_less, put_or_less}
 
@@ -79,17 +77,17 @@ version_same at _ = refl
 bound_same : (at : ℕ) (t : Token) → bound_by 0 t ≡ option_map unplaced_stamp (bound_by at t)
 bound_same at (Number n) = refl
 bound_same at (Negative n) = refl
-bound_same at (Fixed marks.Forever) = refl
+bound_same at (Fixed terminals.Forever) = refl
 bound_same at _ = refl
 
 item_same : (at : ℕ) (t : Token) → item_by 0 t ≡ option_map unplaced_item (item_by at t)
 item_same at (Word w) = refl
-item_same at (Fixed marks.ValidFrom) = refl
-item_same at (Fixed marks.ValidTo) = refl
+item_same at (Fixed terminals.ValidFrom) = refl
+item_same at (Fixed terminals.ValidTo) = refl
 item_same at _ = refl
 
 valid_same : (at : ℕ) (t : Token) → valid_by 0 t ≡ option_map (λ _. 0) (valid_by at t)
-valid_same at (Fixed marks.Valid) = refl
+valid_same at (Fixed terminals.Valid) = refl
 valid_same at _ = refl
 
 option_same : {A : Type 0} (o : Option A) → o ≡ option_map same o
@@ -144,7 +142,7 @@ after_by : (b : Bool) (ts : List Placed) → cond b (Some (zeros ts)) None ≡ o
 after_by true ts = refl
 after_by false ts = refl
 
-after_agrees : (m : Mark) (ts : List Placed) → after m (zeros ts) ≡ option_map zeros (after m ts)
+after_agrees : (m : Terminal) (ts : List Placed) → after m (zeros ts) ≡ option_map zeros (after m ts)
 unfolding after
 after_agrees m [] = refl
 after_agrees m (p ∷ ts) = after_by (is_fixed m p.token) ts
@@ -153,7 +151,7 @@ place_same : (ts : List Placed) → place_of (zeros ts) ≡ option_map (λ _. 0)
 place_same [] = refl
 place_same (p ∷ ts) = refl
 
-expect_agrees : (m : Mark) (ts : List Placed) → expect m (zeros ts) ≡ changed zeros (expect m ts)
+expect_agrees : (m : Terminal) (ts : List Placed) → expect m (zeros ts) ≡ changed zeros (expect m ts)
 unfolding expect
 expect_agrees m ts = choice zeros zeros (after m ts) (after m (zeros ts)) (Err (place_of ts)) (Err (place_of (zeros ts))) (λ rest. Ok rest) (λ rest. Ok rest) (after_agrees m ts) (ap Err (place_same ts)) (λ rest. refl)
 
@@ -164,14 +162,14 @@ last_agrees s (p ∷ ts) = refl
 
 ended_agrees : (s : Statement) (ts : List Placed) → ended (unplaced s) (zeros ts) ≡ changed unplaced (ended s ts)
 unfolding ended
-ended_agrees s ts = choice zeros unplaced (after marks.Semicolon ts) (after marks.Semicolon (zeros ts)) (last_of s ts) (last_of (unplaced s) (zeros ts)) (last_of s) (last_of (unplaced s)) (after_agrees marks.Semicolon ts) (last_agrees s ts) (λ rest. last_agrees s rest)
+ended_agrees s ts = choice zeros unplaced (after terminals.Semicolon ts) (after terminals.Semicolon (zeros ts)) (last_of s ts) (last_of (unplaced s) (zeros ts)) (last_of s) (last_of (unplaced s)) (after_agrees terminals.Semicolon ts) (last_agrees s ts) (λ rest. last_agrees s rest)
 
 -- LISTS
 
 in_front_agrees : {A : Type 0} (f : A → A) (x : A) (r s : Result (List A × List Placed) (Option ℕ)) → s ≡ changed (both (map f)) r → in_front (f x) s ≡ changed (both (map f)) (in_front x r)
 in_front_agrees f x r s e = then (both (map f)) (both (map f)) r s (λ y. Ok (x ∷ y.0, y.1)) (λ y. Ok (f x ∷ y.0, y.1)) e (λ y. refl)
 
-up_to_agrees : {A : Type 0} (m : Mark) (one : Reads A) (f : A → A) → Agrees one f → (room : ℕ) → Agrees (up_to m one room) (map f)
+up_to_agrees : {A : Type 0} (m : Terminal) (one : Reads A) (f : A → A) → Agrees one f → (room : ℕ) → Agrees (up_to m one room) (map f)
 unfolding up_to
 up_to_agrees m one f h zero ts = refl
 up_to_agrees m one f h (suc room) ts =
@@ -183,7 +181,7 @@ zeros_length : (ts : List Placed) → length (zeros ts) ≡ length ts
 zeros_length [] = refl
 zeros_length (p ∷ ts) = ap suc (zeros_length ts)
 
-several_agrees : {A : Type 0} (m : Mark) (one : Reads A) (f : A → A) → Agrees one f → Agrees (several m one) (map f)
+several_agrees : {A : Type 0} (m : Terminal) (one : Reads A) (f : A → A) → Agrees one f → Agrees (several m one) (map f)
 unfolding several
 several_agrees m one f h ts =
     then (both f) (both (map f)) (one ts) (one (zeros ts)) (λ x. in_front x.0 (further m one x.1)) (λ x. in_front x.0 (further m one x.1)) (h ts) (λ x.
@@ -200,12 +198,12 @@ column_agrees ts =
 columns_agrees : Agrees columns_at (map unplaced_column)
 unfolding columns_at
 columns_agrees ts =
-    then (both unplaced_column) (both (map unplaced_column)) (column_at ts) _ (λ x. in_front x.0 (up_to marks.Comma column_at 15 x.1)) (λ x. in_front x.0 (up_to marks.Comma column_at 15 x.1)) (column_agrees ts) (λ x.
-    in_front_agrees unplaced_column x.0 (up_to marks.Comma column_at 15 x.1) (up_to marks.Comma column_at 15 (zeros x.1)) (up_to_agrees marks.Comma column_at unplaced_column column_agrees 15 x.1))
+    then (both unplaced_column) (both (map unplaced_column)) (column_at ts) _ (λ x. in_front x.0 (up_to terminals.Comma column_at 15 x.1)) (λ x. in_front x.0 (up_to terminals.Comma column_at 15 x.1)) (column_agrees ts) (λ x.
+    in_front_agrees unplaced_column x.0 (up_to terminals.Comma column_at 15 x.1) (up_to terminals.Comma column_at 15 (zeros x.1)) (up_to_agrees terminals.Comma column_at unplaced_column column_agrees 15 x.1))
 
 valid_agrees : Agrees valid_at same
 unfolding valid_at
-valid_agrees ts = choice zeros (both same) (after marks.Valid ts) (after marks.Valid (zeros ts)) (Ok (false, ts)) (Ok (false, zeros ts)) (λ rest. Ok (true, rest)) (λ rest. Ok (true, rest)) (after_agrees marks.Valid ts) refl (λ rest. refl)
+valid_agrees ts = choice zeros (both same) (after terminals.Valid ts) (after terminals.Valid (zeros ts)) (Ok (false, ts)) (Ok (false, zeros ts)) (λ rest. Ok (true, rest)) (λ rest. Ok (true, rest)) (after_agrees terminals.Valid ts) refl (λ rest. refl)
 
 -- whether it is all, and the items
 unplaced_asked : Bool × List Item → Bool × List Item
@@ -214,8 +212,8 @@ unplaced_asked x = (x.0, map unplaced_item x.1)
 asked_agrees : Agrees asked_at unplaced_asked
 unfolding asked_at unplaced_asked
 asked_agrees ts =
-    choice zeros (both unplaced_asked) (after marks.Star ts) (after marks.Star (zeros ts)) (items_at ts >>= λ x. Ok ((false, x.0), x.1)) (items_at (zeros ts) >>= λ x. Ok ((false, x.0), x.1)) (λ rest. Ok ((true, []), rest)) (λ rest. Ok ((true, []), rest)) (after_agrees marks.Star ts)
-    (then (both (map unplaced_item)) (both unplaced_asked) (items_at ts) (items_at (zeros ts)) (λ x. Ok ((false, x.0), x.1)) (λ x. Ok ((false, x.0), x.1)) (several_agrees marks.Comma (take_at item_of) unplaced_item item_agrees ts) (λ x. refl))
+    choice zeros (both unplaced_asked) (after terminals.Star ts) (after terminals.Star (zeros ts)) (items_at ts >>= λ x. Ok ((false, x.0), x.1)) (items_at (zeros ts) >>= λ x. Ok ((false, x.0), x.1)) (λ rest. Ok ((true, []), rest)) (λ rest. Ok ((true, []), rest)) (after_agrees terminals.Star ts)
+    (then (both (map unplaced_item)) (both unplaced_asked) (items_at ts) (items_at (zeros ts)) (λ x. Ok ((false, x.0), x.1)) (λ x. Ok ((false, x.0), x.1)) (several_agrees terminals.Comma (take_at item_of) unplaced_item item_agrees ts) (λ x. refl))
     (λ rest. refl)
 
 test_agrees : Agrees test_at unplaced_test
@@ -226,53 +224,53 @@ test_agrees ts =
     then (both (λ (x : Cell × ℕ). (x.0, 0))) (both unplaced_test) (take_at constant_of c.1) _ (λ v. Ok (record { column = x.0; cmp = c.0.0; cmp_at = c.0.1; value = v.0.0; value_at = v.0.1 }, v.1)) (λ v. Ok (record { column = unplaced_name x.0; cmp = c.0.0; cmp_at = 0; value = v.0.0; value_at = v.0.1 }, v.1)) (constant_agrees c.1) (λ v. refl)))
 
 conj_agrees : Agrees conj_at (map unplaced_test)
-conj_agrees = several_agrees marks.And test_at unplaced_test test_agrees
+conj_agrees = several_agrees terminals.And test_at unplaced_test test_agrees
 
 where_agrees : Agrees where_at unplaced_pred
 unfolding where_at
 where_agrees ts =
-    choice zeros (both unplaced_pred) (after marks.Where ts) (after marks.Where (zeros ts)) (Ok (record { any = [] }, ts)) (Ok (record { any = [] }, zeros ts)) (λ rest. several marks.Or conj_at rest >>= λ any. Ok (record { any = any.0 }, any.1)) (λ rest. several marks.Or conj_at rest >>= λ any. Ok (record { any = any.0 }, any.1)) (after_agrees marks.Where ts) refl (λ rest.
-    then (both (map (map unplaced_test))) (both unplaced_pred) (several marks.Or conj_at rest) _ (λ any. Ok (record { any = any.0 }, any.1)) (λ any. Ok (record { any = any.0 }, any.1)) (several_agrees marks.Or conj_at (map unplaced_test) conj_agrees rest) (λ any. refl))
+    choice zeros (both unplaced_pred) (after terminals.Where ts) (after terminals.Where (zeros ts)) (Ok (record { any = [] }, ts)) (Ok (record { any = [] }, zeros ts)) (λ rest. several terminals.Or conj_at rest >>= λ any. Ok (record { any = any.0 }, any.1)) (λ rest. several terminals.Or conj_at rest >>= λ any. Ok (record { any = any.0 }, any.1)) (after_agrees terminals.Where ts) refl (λ rest.
+    then (both (map (map unplaced_test))) (both unplaced_pred) (several terminals.Or conj_at rest) _ (λ any. Ok (record { any = any.0 }, any.1)) (λ any. Ok (record { any = any.0 }, any.1)) (several_agrees terminals.Or conj_at (map unplaced_test) conj_agrees rest) (λ any. refl))
 
 valid_point_agrees : Agrees valid_point_at (option_map unplaced_point)
 unfolding valid_point_at
 valid_point_agrees ts =
     choice (both (λ _. 0)) (both (option_map unplaced_point)) (peek_at valid_of ts) (peek_at valid_of (zeros ts)) (Ok (None, ts)) (Ok (None, zeros ts)) _ _ (valid_peek ts) refl (λ valid.
-    then zeros (both (option_map unplaced_point)) (expect marks.At valid.1) _ _ _ (expect_agrees marks.At valid.1) (λ rest.
+    then zeros (both (option_map unplaced_point)) (expect terminals.At valid.1) _ _ _ (expect_agrees terminals.At valid.1) (λ rest.
     then (both same) (both (option_map unplaced_point)) (take_at moment_of rest) _ (λ value. Ok (Some (record { pos = valid.0; value = value.0 }), value.1)) (λ value. Ok (Some (record { pos = 0; value = value.0 }), value.1)) (moment_agrees rest) (λ value. refl)))
 
 as_of_agrees : Agrees as_of_at (option_map unplaced_stamp)
 unfolding as_of_at
 as_of_agrees ts =
-    choice zeros (both (option_map unplaced_stamp)) (after marks.As ts) (after marks.As (zeros ts)) (Ok (None, ts)) (Ok (None, zeros ts)) _ _ (after_agrees marks.As ts) refl (λ rest.
-    then zeros (both (option_map unplaced_stamp)) (expect marks.Of rest) _ _ _ (expect_agrees marks.Of rest) (λ next.
+    choice zeros (both (option_map unplaced_stamp)) (after terminals.As ts) (after terminals.As (zeros ts)) (Ok (None, ts)) (Ok (None, zeros ts)) _ _ (after_agrees terminals.As ts) refl (λ rest.
+    then zeros (both (option_map unplaced_stamp)) (expect terminals.Of rest) _ _ _ (expect_agrees terminals.Of rest) (λ next.
     then (both unplaced_stamp) (both (option_map unplaced_stamp)) (take_at version_of next) _ (λ s. Ok (Some s.0, s.1)) (λ s. Ok (Some s.0, s.1)) (version_agrees next) (λ s. refl)))
 
 versions_agrees : Agrees versions_at unplaced_over
 unfolding versions_at
 versions_agrees ts =
     then (both unplaced_stamp) (both unplaced_over) (take_at version_of ts) _ _ _ (version_agrees ts) (λ from.
-    then zeros (both unplaced_over) (expect marks.To from.1) _ _ _ (expect_agrees marks.To from.1) (λ word.
+    then zeros (both unplaced_over) (expect terminals.To from.1) _ _ _ (expect_agrees terminals.To from.1) (λ word.
     then (both unplaced_stamp) (both unplaced_over) (take_at version_of word) _ (λ to. Ok (overs.System from.0 to.0, to.1)) (λ to. Ok (overs.System (unplaced_stamp from.0) to.0, to.1)) (version_agrees word) (λ to. refl)))
 
 system_agrees : Agrees system_at unplaced_over
 unfolding system_at
-system_agrees ts = choice zeros (both unplaced_over) (after marks.All ts) (after marks.All (zeros ts)) (versions_at ts) (versions_at (zeros ts)) (λ rest. Ok (overs.SystemAll, rest)) (λ rest. Ok (overs.SystemAll, rest)) (after_agrees marks.All ts) (versions_agrees ts) (λ rest. refl)
+system_agrees ts = choice zeros (both unplaced_over) (after terminals.All ts) (after terminals.All (zeros ts)) (versions_at ts) (versions_at (zeros ts)) (λ rest. Ok (overs.SystemAll, rest)) (λ rest. Ok (overs.SystemAll, rest)) (after_agrees terminals.All ts) (versions_agrees ts) (λ rest. refl)
 
 moments_agrees : Agrees moments_at unplaced_over
 unfolding moments_at
 moments_agrees ts =
     then (both (λ _. 0)) (both unplaced_over) (take_at valid_of ts) _ _ _ (valid_word_agrees ts) (λ valid.
     then (both unplaced_stamp) (both unplaced_over) (take_at bound_of valid.1) _ _ _ (bound_agrees valid.1) (λ from.
-    then zeros (both unplaced_over) (expect marks.To from.1) _ _ _ (expect_agrees marks.To from.1) (λ word.
+    then zeros (both unplaced_over) (expect terminals.To from.1) _ _ _ (expect_agrees terminals.To from.1) (λ word.
     then (both unplaced_stamp) (both unplaced_over) (take_at bound_of word) _ _ _ (bound_agrees word) (λ to.
     then (both (option_map unplaced_stamp)) (both unplaced_over) (as_of_at to.1) _ (λ as_of. Ok (overs.Valid valid.0 from.0 to.0 as_of.0, as_of.1)) (λ as_of. Ok (overs.Valid 0 (unplaced_stamp from.0) (unplaced_stamp to.0) as_of.0, as_of.1)) (as_of_agrees to.1) (λ as_of. refl)))))
 
 over_agrees : Agrees over_at unplaced_over
 unfolding over_at
 over_agrees ts =
-    then zeros (both unplaced_over) (expect marks.Over ts) _ _ _ (expect_agrees marks.Over ts) (λ rest.
-    choice zeros (both unplaced_over) (after marks.System rest) (after marks.System (zeros rest)) (moments_at rest) (moments_at (zeros rest)) system_at system_at (after_agrees marks.System rest) (moments_agrees rest) system_agrees)
+    then zeros (both unplaced_over) (expect terminals.Over ts) _ _ _ (expect_agrees terminals.Over ts) (λ rest.
+    choice zeros (both unplaced_over) (after terminals.System rest) (after terminals.System (zeros rest)) (moments_at rest) (moments_at (zeros rest)) system_at system_at (after_agrees terminals.System rest) (moments_agrees rest) system_agrees)
 
 some_name_agrees : Agrees (λ ts. take_at name_of ts >>= λ name. Ok (Some name.0, name.1)) (option_map unplaced_name)
 some_name_agrees ts = then (both unplaced_name) (both (option_map unplaced_name)) (take_at name_of ts) _ (λ name. Ok (Some name.0, name.1)) (λ name. Ok (Some name.0, name.1)) (name_agrees ts) (λ name. refl)
@@ -287,7 +285,7 @@ column_name_agrees aggs.Max ts = some_name_agrees ts
 
 by_agrees : Agrees by_at (option_map unplaced_name)
 unfolding by_at
-by_agrees ts = choice zeros (both (option_map unplaced_name)) (after marks.By ts) (after marks.By (zeros ts)) (Ok (None, ts)) (Ok (None, zeros ts)) _ _ (after_agrees marks.By ts) refl some_name_agrees
+by_agrees ts = choice zeros (both (option_map unplaced_name)) (after terminals.By ts) (after terminals.By (zeros ts)) (Ok (None, ts)) (Ok (None, zeros ts)) _ _ (after_agrees terminals.By ts) refl some_name_agrees
 
 unplaced_side : Name × Pred → Name × Pred
 unplaced_side x = (unplaced_name x.0, unplaced_pred x.1)
@@ -304,9 +302,9 @@ unplaced_pair x = (unplaced_name x.0, unplaced_name x.1)
 on_agrees : Agrees on_at unplaced_pair
 unfolding on_at unplaced_pair
 on_agrees ts =
-    then zeros (both unplaced_pair) (expect marks.On ts) _ _ _ (expect_agrees marks.On ts) (λ word.
+    then zeros (both unplaced_pair) (expect terminals.On ts) _ _ _ (expect_agrees terminals.On ts) (λ word.
     then (both unplaced_name) (both unplaced_pair) (take_at name_of word) _ _ _ (name_agrees word) (λ left.
-    then zeros (both unplaced_pair) (expect marks.Equal left.1) _ _ _ (expect_agrees marks.Equal left.1) (λ equal.
+    then zeros (both unplaced_pair) (expect terminals.Equal left.1) _ _ _ (expect_agrees terminals.Equal left.1) (λ equal.
     then (both unplaced_name) (both unplaced_pair) (take_at name_of equal) _ (λ right. Ok ((left.0, right.0), right.1)) (λ right. Ok ((unplaced_name left.0, right.0), right.1)) (name_agrees equal) (λ right. refl))))
 
 -- STATEMENTS
@@ -317,12 +315,12 @@ AgreesWhole f = (ts : List Placed) → f (zeros ts) ≡ changed unplaced (f ts)
 create_agrees : AgreesWhole create_at
 unfolding create_at
 create_agrees ts =
-    then zeros unplaced (expect marks.Table ts) _ _ _ (expect_agrees marks.Table ts) (λ table.
+    then zeros unplaced (expect terminals.Table ts) _ _ _ (expect_agrees terminals.Table ts) (λ table.
     then (both unplaced_name) unplaced (take_at name_of table) _ _ _ (name_agrees table) (λ name.
-    then zeros unplaced (expect marks.Open name.1) _ _ _ (expect_agrees marks.Open name.1) (λ first.
+    then zeros unplaced (expect terminals.Open name.1) _ _ _ (expect_agrees terminals.Open name.1) (λ first.
     then (both (map unplaced_column)) unplaced (columns_at first) _ _ _ (columns_agrees first) (λ columns.
-    then zeros unplaced (expect marks.Close columns.1) _ _ _ (expect_agrees marks.Close columns.1) (λ close.
-    then zeros unplaced (expect marks.Key close) _ _ _ (expect_agrees marks.Key close) (λ word.
+    then zeros unplaced (expect terminals.Close columns.1) _ _ _ (expect_agrees terminals.Close columns.1) (λ close.
+    then zeros unplaced (expect terminals.Key close) _ _ _ (expect_agrees terminals.Key close) (λ word.
     then (both unplaced_name) unplaced (take_at name_of word) _ _ _ (name_agrees word) (λ key.
     then (both same) unplaced (valid_at key.1) _ (λ valid. ended (statements.Create (record { name = name.0; columns = columns.0; key = key.0; valid = valid.0 })) valid.1) (λ valid. ended (statements.Create (record { name = unplaced_name name.0; columns = map unplaced_column columns.0; key = unplaced_name key.0; valid = valid.0 })) valid.1) (valid_agrees key.1) (λ valid.
     ended_agrees (statements.Create (record { name = name.0; columns = columns.0; key = key.0; valid = valid.0 })) valid.1))))))))
@@ -335,11 +333,11 @@ remove_agrees : AgreesWhole remove_at
 unfolding remove_at
 remove_agrees ts = then (both unplaced_name) unplaced (take_at name_of ts) _ (λ x. ended (statements.Remove x.0) x.1) (λ x. ended (statements.Remove x.0) x.1) (name_agrees ts) (λ x. ended_agrees (statements.Remove x.0) x.1)
 
-select_agrees : AgreesWhole select_at
-unfolding select_at unplaced_asked
+select_agrees : AgreesWhole parse_select
+unfolding parse_select unplaced_asked
 select_agrees ts =
     then (both unplaced_asked) unplaced (asked_at ts) _ _ _ (asked_agrees ts) (λ asked.
-    then zeros unplaced (expect marks.From asked.1) _ _ _ (expect_agrees marks.From asked.1) (λ from.
+    then zeros unplaced (expect terminals.From asked.1) _ _ _ (expect_agrees terminals.From asked.1) (λ from.
     then (both unplaced_name) unplaced (take_at name_of from) _ _ _ (name_agrees from) (λ table.
     then (both unplaced_pred) unplaced (where_at table.1) _ _ _ (where_agrees table.1) (λ p.
     then (both (option_map unplaced_point)) unplaced (valid_point_at p.1) _ _ _ (valid_point_agrees p.1) (λ valid.
@@ -353,7 +351,7 @@ unfolding agg_at
 agg_agrees_whole ts =
     then (both same) unplaced (take_at agg_of ts) _ _ _ (agg_agrees ts) (λ kind.
     then (both (option_map unplaced_name)) unplaced (column_name_at kind.0 kind.1) _ _ _ (column_name_agrees kind.0 kind.1) (λ column.
-    then zeros unplaced (expect marks.From column.1) _ _ _ (expect_agrees marks.From column.1) (λ from.
+    then zeros unplaced (expect terminals.From column.1) _ _ _ (expect_agrees terminals.From column.1) (λ from.
     then (both unplaced_name) unplaced (take_at name_of from) _ _ _ (name_agrees from) (λ table.
     then (both unplaced_pred) unplaced (where_at table.1) _ _ _ (where_agrees table.1) (λ p.
     then (both (option_map unplaced_name)) unplaced (by_at p.1) _ _ _ (by_agrees p.1) (λ by.
@@ -366,7 +364,7 @@ join_agrees : AgreesWhole join_at
 unfolding join_at unplaced_side unplaced_pair
 join_agrees ts =
     then (both unplaced_side) unplaced (side_at ts) _ _ _ (side_agrees ts) (λ left.
-    then zeros unplaced (expect marks.With left.1) _ _ _ (expect_agrees marks.With left.1) (λ word.
+    then zeros unplaced (expect terminals.With left.1) _ _ _ (expect_agrees terminals.With left.1) (λ word.
     then (both unplaced_side) unplaced (side_at word) _ _ _ (side_agrees word) (λ right.
     then (both unplaced_pair) unplaced (on_at right.1) _ _ _ (on_agrees right.1) (λ on.
     then (both unplaced_over) unplaced (over_at on.1) _
@@ -377,8 +375,8 @@ join_agrees ts =
 pub statement_agrees : (ts : List Placed) → statement_at (zeros ts) ≡ changed unplaced (statement_at ts)
 unfolding statement_at
 statement_agrees ts =
-    choice zeros unplaced (after marks.Create ts) _ (put_or_less ts) (put_or_less (zeros ts)) create_at create_at (after_agrees marks.Create ts)
-    (choice zeros unplaced (after marks.Put ts) _ (remove_or_less ts) (remove_or_less (zeros ts)) put_at put_at (after_agrees marks.Put ts)
-    (choice zeros unplaced (after marks.Remove ts) _ (select_or_less ts) (select_or_less (zeros ts)) remove_at remove_at (after_agrees marks.Remove ts)
-    (choice zeros unplaced (after marks.Select ts) _ (agg_or_join ts) (agg_or_join (zeros ts)) select_at select_at (after_agrees marks.Select ts)
-    (choice zeros unplaced (after marks.Join ts) _ (agg_at ts) (agg_at (zeros ts)) join_at join_at (after_agrees marks.Join ts) (agg_agrees_whole ts) join_agrees) select_agrees) remove_agrees) put_agrees) create_agrees
+    choice zeros unplaced (after terminals.Create ts) _ (put_or_less ts) (put_or_less (zeros ts)) create_at create_at (after_agrees terminals.Create ts)
+    (choice zeros unplaced (after terminals.Put ts) _ (remove_or_less ts) (remove_or_less (zeros ts)) put_at put_at (after_agrees terminals.Put ts)
+    (choice zeros unplaced (after terminals.Remove ts) _ (select_or_less ts) (select_or_less (zeros ts)) remove_at remove_at (after_agrees terminals.Remove ts)
+    (choice zeros unplaced (after terminals.Select ts) _ (agg_or_join ts) (agg_or_join (zeros ts)) parse_select parse_select (after_agrees terminals.Select ts)
+    (choice zeros unplaced (after terminals.Join ts) _ (agg_at ts) (agg_at (zeros ts)) join_at join_at (after_agrees terminals.Join ts) (agg_agrees_whole ts) join_agrees) select_agrees) remove_agrees) put_agrees) create_agrees

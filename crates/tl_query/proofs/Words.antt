@@ -1,27 +1,19 @@
 -- What is written of a part is read as its token, where what follows ends it.
-use Rattle.std.proofs.Common.{◌≡◌, ℕ, ℤ, pos, negsuc, neg_ℤ, zero, suc, ◌+◌, ◌-◌, ◌*◌, ◌/◌, ◌%◌, ◌^◌, ◌<◌, ◌≤◌, ◌==◌, nat_lt, nat_le, Bool, true, false, cond, ◌&&◌, ◌||◌, not, List, [], ◌∷◌, ◌++◌, length, take, map, codes, Option, Some, None, Result, Ok, Err, refl, sym, ◌∙◌, ap, subst, append_assoc, append-nil, arith, length-append}
-use Rattle.std.specs.List.{list_all, list_any, prefix_len, fold}
-use Rattle.std.specs.Bool.{Decides}
-use Rattle.std.specs.Str.{is_utf8}
+use Rattle.std.proofs.Common.{◌≡◌, ℕ, ℤ, pos, negsuc, neg_ℤ, suc, ◌+◌, ◌-◌, ◌*◌, ◌/◌, ◌%◌, ◌^◌, ◌<◌, ◌≤◌, ◌==◌, nat_lt, nat_le, Bool, true, false, cond, ◌&&◌, ◌||◌, not, List, [], ◌∷◌, ◌++◌, length, take, map, codes, Option, Some, None, Ok, Err, refl, sym, ◌∙◌, ap, subst, append_assoc, arith, length-append}
+use Rattle.std.specs.List.{list_all, prefix_len}
 use Rattle.std.specs.Fmt.{decimal, signed_decimal}
-use Rattle.std.specs.Ordering.{int_eq}
 use Rattle.std.specs.Cmp.Lexicographic.{bytes_decides}
 use Rattle.std.proofs.lemmas.Bool.Decides.{nat_tests, Decides-like, same_from_decides}
 use Rattle.std.proofs.lemmas.List.Sums.{fold_push}
 use Rattle.std.proofs.lemmas.Fmt.{decimal_by_steps}
 use Rattle.tl_types.specs.Names.{same_bytes, is_digit, begins_word, continues_word, is_word, is_name, is_keyword, is_one_of, statement_words, table_words, clause_words, range_words}
-use Rattle.tl_types.specs.Plain as plain
-use Rattle.tl_types.specs.declared.cells.Cell.{Cell}
-use Rattle.tl_types.specs.declared.cells.Cell.TheVariants as cells
-use Rattle.tl_query.specs.declared.marks.Mark.{Mark}
-use Rattle.tl_query.specs.declared.marks.Mark.TheVariants as marks
+use Rattle.tl_query.specs.declared.terminals.Terminal.{Terminal}
+use Rattle.tl_query.specs.declared.terminals.Terminal.TheVariants as terminals
 use Rattle.tl_query.specs.declared.tokens.Token.{Token}
 use Rattle.tl_query.specs.declared.tokens.Token.TheVariants.{Fixed, Word, Number, Negative, Quoted, Stray}
-use Rattle.tl_query.specs.declared.scanning.Piece.{Piece}
-use Rattle.tl_query.specs.declared.faults.TextFault.{TextFault}
 use Rattle.tl_query.specs.declared.faults.TextFault.TheVariants.{BadByte, OpenText, NumberTooLarge}
-use Rattle.tl_query.specs.Marks.{place, spelling}
-use Rattle.tl_query.specs.Scanning.{is_blank, number_of, statement_mark, table_mark, clause_mark, range_mark, or_else, keyword_of, other_token, word_token, word_piece, number_piece, negative_piece, one_more, closing, single, text_token, quoted_piece, symbol, less_piece, greater_piece, symbol_piece, piece_at}
+use Rattle.tl_query.specs.Terminals.{place, spelling}
+use Rattle.tl_query.specs.Scanning.{is_blank, number_of, statement_terminal, table_terminal, clause_terminal, range_terminal, or_else, keyword_of, other_token, word_token, word_piece, number_piece, negative_piece, one_more, closing, single, text_token, quoted_piece, symbol, less_piece, greater_piece, symbol_piece, piece_at}
 use Rattle.tl_query.specs.Printing.{doubled, quoted}
 
 -- BYTES THAT END A TOKEN
@@ -242,15 +234,15 @@ single_doubled (b ∷ t) = elim (b == 39) as (λ u. (b == 39) ≡ u → single f
   | false ↦ λ e. ap (λ u. b ∷ single u (doubled t)) e ∙ ap (λ y. b ∷ y) (single_doubled t)
 ] refl
 
-text_is : (t : List ℕ) → is_utf8 t ≡ true → length t ≤ 65535 → text_token t ≡ Quoted t
+text_is : (t : List ℕ) → length t ≤ 65535 → text_token t ≡ Quoted t
 unfolding text_token
-text_is t h few =
+text_is t few =
     let short : nat_le (length t) 65535 ≡ true = grind (arith, nat_tests) in
-    ap (λ u. cond (u && nat_le (length t) 65535) (Quoted t) Stray) h ∙ ap (λ u. cond u (Quoted t) Stray) short
+    cond_true (nat_le (length t) 65535) (Quoted t) Stray short
 
-pub text_begins : (t z : List ℕ) → is_utf8 t ≡ true → length t ≤ 65535 → IsSoft z → Begins (quoted t) z (Quoted t) true
+pub text_begins : (t z : List ℕ) → length t ≤ 65535 → IsSoft z → Begins (quoted t) z (Quoted t) true
 unfolding piece_at quoted_piece
-text_begins t z u few f =
+text_begins t z few f =
     let there : (doubled t ++ (39 ∷ [])) ++ z ≡ doubled t ++ (39 ∷ z) = append_assoc (doubled t) (39 ∷ []) z in
     let less : length (doubled t) + 1 - 1 ≡ length (doubled t) = omega arith in
     let more : length (doubled t) + 1 + 1 ≡ length (quoted t) = omega (arith, length-append (doubled t) (39 ∷ [])) in
@@ -263,7 +255,7 @@ text_begins t z u few f =
           ∙ ap (λ n. Ok (record { token = text_token (single false (take n (doubled t ++ (39 ∷ z)))); len = length (doubled t) + 1 + 1; joins = true })) less
           ∙ ap (λ y. Ok (record { token = text_token (single false y); len = length (doubled t) + 1 + 1; joins = true })) (front_taken (doubled t) (39 ∷ z))
           ∙ ap (λ y. Ok (record { token = text_token y; len = length (doubled t) + 1 + 1; joins = true })) (single_doubled t)
-          ∙ ap (λ k. Ok (record { token = k; len = length (doubled t) + 1 + 1; joins = true })) (text_is t u few)
+          ∙ ap (λ k. Ok (record { token = k; len = length (doubled t) + 1 + 1; joins = true })) (text_is t few)
           ∙ ap (λ n. Ok (record { token = Quoted t; len = n; joins = true })) more;
     }
 
@@ -273,41 +265,41 @@ same_either : (xs ys : List ℕ) → same_bytes xs ys ≡ same_bytes ys xs
 same_either xs ys = same_from_decides (same_bytes xs ys) (same_bytes ys xs) (bytes_decides xs ys) (Decides-like (same_bytes ys xs) sym sym (bytes_decides ys xs))
 
 -- the mark of the first word that it is
-chain : List (List ℕ × Mark) → List ℕ → Option Mark
+chain : List (List ℕ × Terminal) → List ℕ → Option Terminal
 chain [] word = None
 chain (k ∷ rest) word = cond (same_bytes word k.0) (Some k.1) (chain rest word)
 
-chain_none : (words : List (List ℕ × Mark)) (word : List ℕ) → is_one_of (map (λ k. k.0) words) word ≡ false → chain words word ≡ None
+chain_none : (words : List (List ℕ × Terminal)) (word : List ℕ) → is_one_of (map (λ k. k.0) words) word ≡ false → chain words word ≡ None
 unfolding chain
 chain_none [] word h = refl
 chain_none (k ∷ rest) word h = let e = neither (same_bytes k.0 word) (is_one_of (map (λ k. k.0) rest) word) h in cond_false (same_bytes word k.0) _ _ (same_either word k.0 ∙ e.0) ∙ chain_none rest word e.1
 
-statement_chain : List (List ℕ × Mark)
-statement_chain = (codes "CREATE", marks.Create) ∷ (codes "PUT", marks.Put) ∷ (codes "REMOVE", marks.Remove) ∷ (codes "SELECT", marks.Select) ∷ (codes "COUNT", marks.Count) ∷ (codes "SUM", marks.Sum) ∷ (codes "AVG", marks.Avg) ∷ (codes "MIN", marks.Min) ∷ (codes "MAX", marks.Max) ∷ (codes "JOIN", marks.Join) ∷ []
+statement_chain : List (List ℕ × Terminal)
+statement_chain = (codes "CREATE", terminals.Create) ∷ (codes "PUT", terminals.Put) ∷ (codes "REMOVE", terminals.Remove) ∷ (codes "SELECT", terminals.Select) ∷ (codes "COUNT", terminals.Count) ∷ (codes "SUM", terminals.Sum) ∷ (codes "AVG", terminals.Avg) ∷ (codes "MIN", terminals.Min) ∷ (codes "MAX", terminals.Max) ∷ (codes "JOIN", terminals.Join) ∷ []
 
-statement_none : (word : List ℕ) → is_one_of statement_words word ≡ false → statement_mark word ≡ None
-unfolding statement_words statement_mark statement_chain chain
+statement_none : (word : List ℕ) → is_one_of statement_words word ≡ false → statement_terminal word ≡ None
+unfolding statement_words statement_terminal statement_chain chain
 statement_none word h = chain_none statement_chain word h
 
-table_chain : List (List ℕ × Mark)
-table_chain = (codes "TABLE", marks.Table) ∷ (codes "KEY", marks.Key) ∷ (codes "VALID", marks.Valid) ∷ (codes "INT", marks.Int) ∷ (codes "TEXT", marks.Text) ∷ (codes "valid_from", marks.ValidFrom) ∷ (codes "valid_to", marks.ValidTo) ∷ []
+table_chain : List (List ℕ × Terminal)
+table_chain = (codes "TABLE", terminals.Table) ∷ (codes "KEY", terminals.Key) ∷ (codes "VALID", terminals.Valid) ∷ (codes "INT", terminals.Int) ∷ (codes "TEXT", terminals.Text) ∷ (codes "valid_from", terminals.ValidFrom) ∷ (codes "valid_to", terminals.ValidTo) ∷ []
 
-table_none : (word : List ℕ) → is_one_of table_words word ≡ false → table_mark word ≡ None
-unfolding table_words table_mark table_chain chain
+table_none : (word : List ℕ) → is_one_of table_words word ≡ false → table_terminal word ≡ None
+unfolding table_words table_terminal table_chain chain
 table_none word h = chain_none table_chain word h
 
-clause_chain : List (List ℕ × Mark)
-clause_chain = (codes "FROM", marks.From) ∷ (codes "WHERE", marks.Where) ∷ (codes "AND", marks.And) ∷ (codes "OR", marks.Or) ∷ (codes "AS", marks.As) ∷ (codes "OF", marks.Of) ∷ (codes "AT", marks.At) ∷ (codes "BY", marks.By) ∷ []
+clause_chain : List (List ℕ × Terminal)
+clause_chain = (codes "FROM", terminals.From) ∷ (codes "WHERE", terminals.Where) ∷ (codes "AND", terminals.And) ∷ (codes "OR", terminals.Or) ∷ (codes "AS", terminals.As) ∷ (codes "OF", terminals.Of) ∷ (codes "AT", terminals.At) ∷ (codes "BY", terminals.By) ∷ []
 
-clause_none : (word : List ℕ) → is_one_of clause_words word ≡ false → clause_mark word ≡ None
-unfolding clause_words clause_mark clause_chain chain
+clause_none : (word : List ℕ) → is_one_of clause_words word ≡ false → clause_terminal word ≡ None
+unfolding clause_words clause_terminal clause_chain chain
 clause_none word h = chain_none clause_chain word h
 
-range_chain : List (List ℕ × Mark)
-range_chain = (codes "OVER", marks.Over) ∷ (codes "SYSTEM", marks.System) ∷ (codes "ALL", marks.All) ∷ (codes "TO", marks.To) ∷ (codes "WITH", marks.With) ∷ (codes "ON", marks.On) ∷ (codes "FOREVER", marks.Forever) ∷ []
+range_chain : List (List ℕ × Terminal)
+range_chain = (codes "OVER", terminals.Over) ∷ (codes "SYSTEM", terminals.System) ∷ (codes "ALL", terminals.All) ∷ (codes "TO", terminals.To) ∷ (codes "WITH", terminals.With) ∷ (codes "ON", terminals.On) ∷ (codes "FOREVER", terminals.Forever) ∷ []
 
-range_none : (word : List ℕ) → is_one_of range_words word ≡ false → range_mark word ≡ None
-unfolding range_words range_mark range_chain chain
+range_none : (word : List ℕ) → is_one_of range_words word ≡ false → range_terminal word ≡ None
+unfolding range_words range_terminal range_chain chain
 range_none word h = chain_none range_chain word h
 
 -- a word that is no keyword
@@ -317,8 +309,8 @@ no_keyword word h =
     let r = neither (is_one_of statement_words word || is_one_of table_words word || is_one_of clause_words word) (is_one_of range_words word) h in
     let c = neither (is_one_of statement_words word || is_one_of table_words word) (is_one_of clause_words word) r.0 in
     let s = neither (is_one_of statement_words word) (is_one_of table_words word) c.0 in
-    ap (λ o. or_else o (or_else (table_mark word) (or_else (clause_mark word) (range_mark word)))) (statement_none word s.0)
-    ∙ ap (λ o. or_else o (or_else (clause_mark word) (range_mark word))) (table_none word s.1) ∙ ap (λ o. or_else o (range_mark word)) (clause_none word c.1) ∙ range_none word r.1
+    ap (λ o. or_else o (or_else (table_terminal word) (or_else (clause_terminal word) (range_terminal word)))) (statement_none word s.0)
+    ∙ ap (λ o. or_else o (or_else (clause_terminal word) (range_terminal word))) (table_none word s.1) ∙ ap (λ o. or_else o (range_terminal word)) (clause_none word c.1) ∙ range_none word r.1
 
 not_true : (b : Bool) → not b ≡ true → b ≡ false
 not_true true e = absurd (cc)
@@ -337,10 +329,10 @@ name_begins name z h s =
     subst (λ t. Begins name z t true) (name_token name h) (word_begins name z w.0 s)
 
 -- whether a mark is a word
-abbrev pub is_spelled : Mark → Bool
+abbrev pub is_spelled : Terminal → Bool
 is_spelled m = nat_lt (place m) 32
 
-keyword_begins : (m : Mark) (z : List ℕ) → is_word (spelling m) ≡ true → word_token (spelling m) ≡ Fixed m → IsSoft z → Begins (spelling m) z (Fixed m) true
+keyword_begins : (m : Terminal) (z : List ℕ) → is_word (spelling m) ≡ true → word_token (spelling m) ≡ Fixed m → IsSoft z → Begins (spelling m) z (Fixed m) true
 keyword_begins m z w e s = subst (λ t. Begins (spelling m) z t true) e (word_begins (spelling m) z w s)
 
 not_greater : (b : ℕ) → ends b ≡ true → ((b == 62) ≡ false) × ((b == 61) ≡ false)
@@ -351,61 +343,61 @@ not_greater b h = (one b h, other b h) where
   other : (b : ℕ) → ends b ≡ true → (b == 61) ≡ false
   other b h = grind (arith, nat_tests)
 
-less_end : (z : List ℕ) → IsSoft z → less_piece z ≡ symbol marks.Less 1
+less_end : (z : List ℕ) → IsSoft z → less_piece z ≡ symbol terminals.Less 1
 less_end [] h = refl
 less_end (b ∷ z) h = let k = not_greater b h in cond_false (b == 62) _ _ k.0 ∙ cond_false (b == 61) _ _ k.1
 
-greater_end : (z : List ℕ) → IsSoft z → greater_piece z ≡ symbol marks.Greater 1
+greater_end : (z : List ℕ) → IsSoft z → greater_piece z ≡ symbol terminals.Greater 1
 greater_end [] h = refl
 greater_end (b ∷ z) h = cond_false (b == 61) _ _ (not_greater b h).1
 
 -- `(` is read whatever follows it
-pub open_begins : (z : List ℕ) → Begins (spelling marks.Open) z (Fixed marks.Open) false
+pub open_begins : (z : List ℕ) → Begins (spelling terminals.Open) z (Fixed terminals.Open) false
 unfolding piece_at symbol_piece spelling
 open_begins z = record { first = 40; others = z; is = refl; visible = refl; piece = λ at. refl }
 
-pub mark_begins : (m : Mark) (z : List ℕ) → IsSoft z → Begins (spelling m) z (Fixed m) (is_spelled m)
-unfolding piece_at symbol_piece spelling word_token keyword_of statement_mark table_mark clause_mark range_mark
-mark_begins marks.Open z s = record { first = 40; others = z; is = refl; visible = refl; piece = λ at. refl }
-mark_begins marks.Close z s = record { first = 41; others = z; is = refl; visible = refl; piece = λ at. refl }
-mark_begins marks.Comma z s = record { first = 44; others = z; is = refl; visible = refl; piece = λ at. refl }
-mark_begins marks.Semicolon z s = record { first = 59; others = z; is = refl; visible = refl; piece = λ at. refl }
-mark_begins marks.Star z s = record { first = 42; others = z; is = refl; visible = refl; piece = λ at. refl }
-mark_begins marks.Equal z s = record { first = 61; others = z; is = refl; visible = refl; piece = λ at. refl }
-mark_begins marks.Unequal z s = record { first = 60; others = 62 ∷ z; is = refl; visible = refl; piece = λ at. refl }
-mark_begins marks.Less z s = record { first = 60; others = z; is = refl; visible = refl; piece = λ at. ap Ok (less_end z s) }
-mark_begins marks.AtMost z s = record { first = 60; others = 61 ∷ z; is = refl; visible = refl; piece = λ at. refl }
-mark_begins marks.Greater z s = record { first = 62; others = z; is = refl; visible = refl; piece = λ at. ap Ok (greater_end z s) }
-mark_begins marks.AtLeast z s = record { first = 62; others = 61 ∷ z; is = refl; visible = refl; piece = λ at. refl }
-mark_begins marks.Create z s = keyword_begins marks.Create z refl refl s
-mark_begins marks.Table z s = keyword_begins marks.Table z refl refl s
-mark_begins marks.Key z s = keyword_begins marks.Key z refl refl s
-mark_begins marks.Valid z s = keyword_begins marks.Valid z refl refl s
-mark_begins marks.Int z s = keyword_begins marks.Int z refl refl s
-mark_begins marks.Text z s = keyword_begins marks.Text z refl refl s
-mark_begins marks.Put z s = keyword_begins marks.Put z refl refl s
-mark_begins marks.Remove z s = keyword_begins marks.Remove z refl refl s
-mark_begins marks.Select z s = keyword_begins marks.Select z refl refl s
-mark_begins marks.From z s = keyword_begins marks.From z refl refl s
-mark_begins marks.Where z s = keyword_begins marks.Where z refl refl s
-mark_begins marks.And z s = keyword_begins marks.And z refl refl s
-mark_begins marks.Or z s = keyword_begins marks.Or z refl refl s
-mark_begins marks.As z s = keyword_begins marks.As z refl refl s
-mark_begins marks.Of z s = keyword_begins marks.Of z refl refl s
-mark_begins marks.At z s = keyword_begins marks.At z refl refl s
-mark_begins marks.Count z s = keyword_begins marks.Count z refl refl s
-mark_begins marks.Sum z s = keyword_begins marks.Sum z refl refl s
-mark_begins marks.Avg z s = keyword_begins marks.Avg z refl refl s
-mark_begins marks.Min z s = keyword_begins marks.Min z refl refl s
-mark_begins marks.Max z s = keyword_begins marks.Max z refl refl s
-mark_begins marks.By z s = keyword_begins marks.By z refl refl s
-mark_begins marks.Over z s = keyword_begins marks.Over z refl refl s
-mark_begins marks.System z s = keyword_begins marks.System z refl refl s
-mark_begins marks.All z s = keyword_begins marks.All z refl refl s
-mark_begins marks.To z s = keyword_begins marks.To z refl refl s
-mark_begins marks.Join z s = keyword_begins marks.Join z refl refl s
-mark_begins marks.With z s = keyword_begins marks.With z refl refl s
-mark_begins marks.On z s = keyword_begins marks.On z refl refl s
-mark_begins marks.Forever z s = keyword_begins marks.Forever z refl refl s
-mark_begins marks.ValidFrom z s = keyword_begins marks.ValidFrom z refl refl s
-mark_begins marks.ValidTo z s = keyword_begins marks.ValidTo z refl refl s
+pub mark_begins : (m : Terminal) (z : List ℕ) → IsSoft z → Begins (spelling m) z (Fixed m) (is_spelled m)
+unfolding piece_at symbol_piece spelling word_token keyword_of statement_terminal table_terminal clause_terminal range_terminal
+mark_begins terminals.Open z s = record { first = 40; others = z; is = refl; visible = refl; piece = λ at. refl }
+mark_begins terminals.Close z s = record { first = 41; others = z; is = refl; visible = refl; piece = λ at. refl }
+mark_begins terminals.Comma z s = record { first = 44; others = z; is = refl; visible = refl; piece = λ at. refl }
+mark_begins terminals.Semicolon z s = record { first = 59; others = z; is = refl; visible = refl; piece = λ at. refl }
+mark_begins terminals.Star z s = record { first = 42; others = z; is = refl; visible = refl; piece = λ at. refl }
+mark_begins terminals.Equal z s = record { first = 61; others = z; is = refl; visible = refl; piece = λ at. refl }
+mark_begins terminals.Unequal z s = record { first = 60; others = 62 ∷ z; is = refl; visible = refl; piece = λ at. refl }
+mark_begins terminals.Less z s = record { first = 60; others = z; is = refl; visible = refl; piece = λ at. ap Ok (less_end z s) }
+mark_begins terminals.AtMost z s = record { first = 60; others = 61 ∷ z; is = refl; visible = refl; piece = λ at. refl }
+mark_begins terminals.Greater z s = record { first = 62; others = z; is = refl; visible = refl; piece = λ at. ap Ok (greater_end z s) }
+mark_begins terminals.AtLeast z s = record { first = 62; others = 61 ∷ z; is = refl; visible = refl; piece = λ at. refl }
+mark_begins terminals.Create z s = keyword_begins terminals.Create z refl refl s
+mark_begins terminals.Table z s = keyword_begins terminals.Table z refl refl s
+mark_begins terminals.Key z s = keyword_begins terminals.Key z refl refl s
+mark_begins terminals.Valid z s = keyword_begins terminals.Valid z refl refl s
+mark_begins terminals.Int z s = keyword_begins terminals.Int z refl refl s
+mark_begins terminals.Text z s = keyword_begins terminals.Text z refl refl s
+mark_begins terminals.Put z s = keyword_begins terminals.Put z refl refl s
+mark_begins terminals.Remove z s = keyword_begins terminals.Remove z refl refl s
+mark_begins terminals.Select z s = keyword_begins terminals.Select z refl refl s
+mark_begins terminals.From z s = keyword_begins terminals.From z refl refl s
+mark_begins terminals.Where z s = keyword_begins terminals.Where z refl refl s
+mark_begins terminals.And z s = keyword_begins terminals.And z refl refl s
+mark_begins terminals.Or z s = keyword_begins terminals.Or z refl refl s
+mark_begins terminals.As z s = keyword_begins terminals.As z refl refl s
+mark_begins terminals.Of z s = keyword_begins terminals.Of z refl refl s
+mark_begins terminals.At z s = keyword_begins terminals.At z refl refl s
+mark_begins terminals.Count z s = keyword_begins terminals.Count z refl refl s
+mark_begins terminals.Sum z s = keyword_begins terminals.Sum z refl refl s
+mark_begins terminals.Avg z s = keyword_begins terminals.Avg z refl refl s
+mark_begins terminals.Min z s = keyword_begins terminals.Min z refl refl s
+mark_begins terminals.Max z s = keyword_begins terminals.Max z refl refl s
+mark_begins terminals.By z s = keyword_begins terminals.By z refl refl s
+mark_begins terminals.Over z s = keyword_begins terminals.Over z refl refl s
+mark_begins terminals.System z s = keyword_begins terminals.System z refl refl s
+mark_begins terminals.All z s = keyword_begins terminals.All z refl refl s
+mark_begins terminals.To z s = keyword_begins terminals.To z refl refl s
+mark_begins terminals.Join z s = keyword_begins terminals.Join z refl refl s
+mark_begins terminals.With z s = keyword_begins terminals.With z refl refl s
+mark_begins terminals.On z s = keyword_begins terminals.On z refl refl s
+mark_begins terminals.Forever z s = keyword_begins terminals.Forever z refl refl s
+mark_begins terminals.ValidFrom z s = keyword_begins terminals.ValidFrom z refl refl s
+mark_begins terminals.ValidTo z s = keyword_begins terminals.ValidTo z refl refl s

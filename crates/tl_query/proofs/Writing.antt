@@ -2,7 +2,7 @@
 use Rattle.std.proofs.Common.{◌≡◌, ℕ, ◌+◌, ◌<◌, ◌≤◌, arith, drop, List, [], ◌∷◌, ◌++◌, length, take, get_or, refl, sym, ◌∙◌, ap, append-nil}
 use Rattle.std.proofs.lemmas.List.{take_more}
 use Rattle.std.proofs.lemmas.List.Concat.{flat_map-append}
-use Rattle.tl_query.specs.declared.marks.Mark.{Mark}
+use Rattle.tl_query.specs.declared.terminals.Terminal.{Terminal}
 use Rattle.tl_query.specs.Grammar.{Part, said, behind_each, parted}
 use Rattle.tl_query.specs.Printing.{Written, fixed, word_of, put, write}
 
@@ -11,13 +11,13 @@ write_append [] ys w = refl
 write_append (x ∷ xs) ys w = write_append xs ys (put w (word_of x))
 
 -- one thing more
-pub write_more : {A : Type 0} (m : Mark) (parts : A → List Part) (xs : List A) (i : ℕ) (w : Written) (x : A) → i < length xs → x ≡ get_or xs i x → write (put (write w (behind_each m parts (take i xs))) (fixed m)) (parts x) ≡ write w (behind_each m parts (take (i + 1) xs))
+pub write_more : {A : Type 0} (m : Terminal) (parts : A → List Part) (xs : List A) (i : ℕ) (w : Written) (x : A) → i < length xs → x ≡ get_or xs i x → write (put (write w (behind_each m parts (take i xs))) (fixed m)) (parts x) ≡ write w (behind_each m parts (take (i + 1) xs))
 write_more m parts xs i w x h e =
     let one : behind_each m parts (take (i + 1) xs) ≡ behind_each m parts (take i xs) ++ (said m ∷ parts x) =
     ap (behind_each m parts) (take_more xs i x h) ∙ flat_map-append (λ x. said m ∷ parts x) (take i xs) (get_or xs i x ∷ []) ∙ ap (λ x. behind_each m parts (take i xs) ++ (said m ∷ parts x ++ [])) (sym e) ∙ ap (λ y. behind_each m parts (take i xs) ++ (said m ∷ y)) (append-nil (parts x)) in
     sym (ap (write w) one ∙ write_append (behind_each m parts (take i xs)) (said m ∷ parts x) w)
 
 -- the first thing, and those behind it
-pub write_first : {A : Type 0} (m : Mark) (parts : A → List Part) (xs : List A) (x : A) (rest : List A) (w : Written) → 1 ≤ length xs → x ≡ get_or xs 0 x → rest ≡ drop 1 xs → write (write w (parts x)) (behind_each m parts rest) ≡ write w (parted m parts xs)
+pub write_first : {A : Type 0} (m : Terminal) (parts : A → List Part) (xs : List A) (x : A) (rest : List A) (w : Written) → 1 ≤ length xs → x ≡ get_or xs 0 x → rest ≡ drop 1 xs → write (write w (parts x)) (behind_each m parts rest) ≡ write w (parted m parts xs)
 write_first m parts [] x rest w h e f = absurd (omega arith)
 write_first m parts (y ∷ ys) x rest w h e f = ap (λ rest. write (write w (parts x)) (behind_each m parts rest)) f ∙ ap (λ x. write (write w (parts x)) (behind_each m parts ys)) e ∙ sym (write_append (parts y) (behind_each m parts ys) w)

@@ -10,11 +10,11 @@ use Rattle.tl_types.specs.declared.answers.Field.TheVariants as field
 use Rattle.tl_types.specs.declared.runs.Run.{Run}
 use Rattle.tl_types.specs.History.{visible_rows, rows_of, rows_valid_at, cell_at}
 use Rattle.tl_types.specs.Plain as plain
-use Rattle.tl_query.specs.declared.forms.AggKind.{AggKind}
-use Rattle.tl_query.specs.declared.forms.AggKind.TheVariants as kind
-use Rattle.tl_query.specs.declared.plans.Span.{Span}
-use Rattle.tl_query.specs.declared.plans.Span.TheVariants as span
-use Rattle.tl_query.specs.declared.plans.TypedPred.{TypedPred}
+use Rattle.tl_query.specs.declared.ast.AggKind.{AggKind}
+use Rattle.tl_query.specs.declared.ast.AggKind.TheVariants as kind
+use Rattle.tl_query.specs.declared.typed_queries.Span.{Span}
+use Rattle.tl_query.specs.declared.typed_queries.Span.TheVariants as span
+use Rattle.tl_query.specs.declared.typed_queries.TypedPred.{TypedPred}
 use Rattle.tl_query.specs.Passing.{passes, passes_test}
 use Rattle.tl_types.specs.Runs.{runs_of}
 use Rattle.tl_query.specs.Ordered.{values_of}

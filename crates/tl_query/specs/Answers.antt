@@ -7,10 +7,10 @@ use Rattle.tl_types.specs.declared.runs.Run.{Run}
 use Rattle.tl_types.specs.declared.runs.Pair.{Pair}
 use Rattle.tl_types.specs.History.{visible_rows, rows_of, rows_valid_at}
 use Rattle.tl_types.specs.Plain as plain
-use Rattle.tl_query.specs.declared.plans.Typed.{Typed}
-use Rattle.tl_query.specs.declared.plans.Typed.TheVariants as typed
-use Rattle.tl_query.specs.declared.plans.TypedItem.{TypedItem}
-use Rattle.tl_query.specs.declared.plans.TypedPred.{TypedPred}
+use Rattle.tl_query.specs.declared.typed_queries.Typed.{Typed}
+use Rattle.tl_query.specs.declared.typed_queries.Typed.TheVariants as typed
+use Rattle.tl_query.specs.declared.typed_queries.TypedItem.{TypedItem}
+use Rattle.tl_query.specs.declared.typed_queries.TypedPred.{TypedPred}
 use Rattle.tl_query.specs.Passing.{passes}
 use Rattle.tl_query.specs.Fields.{cell_field, moment_field, row_fields}
 use Rattle.tl_query.specs.Aggregates.{aggregate_runs}

@@ -6,15 +6,15 @@ use Rattle.tl_types.specs.declared.schemas.Column.{Column}
 use Rattle.tl_types.specs.Names.{same_bytes, is_name}
 use Rattle.tl_types.specs.Plain as plain
 use Rattle.tl_types.specs.Resolving.{find_table}
-use Rattle.tl_query.specs.declared.forms.Name.{Name}
-use Rattle.tl_query.specs.declared.forms.Stamp.{Stamp}
-use Rattle.tl_query.specs.declared.forms.Item.{Item}
-use Rattle.tl_query.specs.declared.forms.Item.TheVariants as item
-use Rattle.tl_query.specs.declared.forms.SelectForm.{SelectForm}
-use Rattle.tl_query.specs.declared.forms.ColumnForm.{ColumnForm}
-use Rattle.tl_query.specs.declared.forms.CreateForm.{CreateForm}
-use Rattle.tl_query.specs.declared.plans.TypedItem.{TypedItem}
-use Rattle.tl_query.specs.declared.plans.TypedItem.TheVariants as typed_item
+use Rattle.tl_query.specs.declared.ast.Name.{Name}
+use Rattle.tl_query.specs.declared.ast.Stamp.{Stamp}
+use Rattle.tl_query.specs.declared.ast.Item.{Item}
+use Rattle.tl_query.specs.declared.ast.Item.TheVariants as item
+use Rattle.tl_query.specs.declared.ast.SelectForm.{SelectForm}
+use Rattle.tl_query.specs.declared.ast.ColumnForm.{ColumnForm}
+use Rattle.tl_query.specs.declared.ast.CreateForm.{CreateForm}
+use Rattle.tl_query.specs.declared.typed_queries.TypedItem.{TypedItem}
+use Rattle.tl_query.specs.declared.typed_queries.TypedItem.TheVariants as typed_item
 use Rattle.tl_query.specs.declared.check_faults.CheckFault.{CheckFault}
 use Rattle.tl_query.specs.declared.check_faults.CheckFault.TheVariants as fault
 

@@ -8,26 +8,26 @@ use Rattle.tl_types.specs.declared.cells.ColumnKind.{ColumnKind}
 use Rattle.tl_types.specs.declared.cells.ColumnKind.TheVariants as kind
 use Rattle.tl_types.specs.History.{is_of_kind}
 use Rattle.tl_types.specs.Plain as plain
-use Rattle.tl_query.specs.declared.forms.Name.{Name}
-use Rattle.tl_query.specs.declared.forms.Stamp.{Stamp}
-use Rattle.tl_query.specs.declared.forms.Test.{Test}
-use Rattle.tl_query.specs.declared.forms.Pred.{Pred}
-use Rattle.tl_query.specs.declared.forms.ValidPoint.{ValidPoint}
-use Rattle.tl_query.specs.declared.forms.SelectForm.{SelectForm}
-use Rattle.tl_query.specs.declared.forms.AggKind.{AggKind}
-use Rattle.tl_query.specs.declared.forms.AggKind.TheVariants as agg
-use Rattle.tl_query.specs.declared.forms.AggForm.{AggForm}
-use Rattle.tl_query.specs.declared.forms.JoinForm.{JoinForm}
-use Rattle.tl_query.specs.declared.forms.Over.{Over}
-use Rattle.tl_query.specs.declared.forms.Over.TheVariants as over
-use Rattle.tl_query.specs.declared.forms.Query.{Query}
-use Rattle.tl_query.specs.declared.forms.Query.TheVariants as query
-use Rattle.tl_query.specs.declared.plans.Span.{Span}
-use Rattle.tl_query.specs.declared.plans.Span.TheVariants as span
-use Rattle.tl_query.specs.declared.plans.TypedTest.{TypedTest}
-use Rattle.tl_query.specs.declared.plans.TypedPred.{TypedPred}
-use Rattle.tl_query.specs.declared.plans.Typed.{Typed}
-use Rattle.tl_query.specs.declared.plans.Typed.TheVariants as typed
+use Rattle.tl_query.specs.declared.ast.Name.{Name}
+use Rattle.tl_query.specs.declared.ast.Stamp.{Stamp}
+use Rattle.tl_query.specs.declared.ast.Test.{Test}
+use Rattle.tl_query.specs.declared.ast.Pred.{Pred}
+use Rattle.tl_query.specs.declared.ast.ValidPoint.{ValidPoint}
+use Rattle.tl_query.specs.declared.ast.SelectForm.{SelectForm}
+use Rattle.tl_query.specs.declared.ast.AggKind.{AggKind}
+use Rattle.tl_query.specs.declared.ast.AggKind.TheVariants as agg
+use Rattle.tl_query.specs.declared.ast.AggForm.{AggForm}
+use Rattle.tl_query.specs.declared.ast.JoinForm.{JoinForm}
+use Rattle.tl_query.specs.declared.ast.Over.{Over}
+use Rattle.tl_query.specs.declared.ast.Over.TheVariants as over
+use Rattle.tl_query.specs.declared.ast.Query.{Query}
+use Rattle.tl_query.specs.declared.ast.Query.TheVariants as query
+use Rattle.tl_query.specs.declared.typed_queries.Span.{Span}
+use Rattle.tl_query.specs.declared.typed_queries.Span.TheVariants as span
+use Rattle.tl_query.specs.declared.typed_queries.TypedTest.{TypedTest}
+use Rattle.tl_query.specs.declared.typed_queries.TypedPred.{TypedPred}
+use Rattle.tl_query.specs.declared.typed_queries.Typed.{Typed}
+use Rattle.tl_query.specs.declared.typed_queries.Typed.TheVariants as typed
 use Rattle.tl_query.specs.declared.check_faults.CheckFault.{CheckFault}
 use Rattle.tl_query.specs.declared.check_faults.CheckFault.TheVariants as fault
 use Rattle.tl_query.specs.Checking.{comes_before, fault_if, first_of, table_named, column_of, item_fault, version_fault, version_of, or_zero, typed_items_of}

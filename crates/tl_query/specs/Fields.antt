@@ -1,5 +1,5 @@
 -- The fields of an answer.
-use Rattle.std.specs.Prelude.{ℕ, ℤ, Bool, true, false, ◌&&◌, ◌==◌, List, map, Option, Some, None, if◌then◌else◌}
+use Rattle.std.specs.Prelude.{ℤ, Bool, true, false, ◌&&◌, ◌==◌, List, map, Option, Some, None, if◌then◌else◌}
 use Rattle.std.specs.Ordering.{int_eq}
 use Rattle.tl_types.specs.declared.cells.Cell.{Cell}
 use Rattle.tl_types.specs.declared.cells.Cell.TheVariants as cell
@@ -8,8 +8,8 @@ use Rattle.tl_types.specs.declared.answers.Field.TheVariants as field
 use Rattle.tl_types.specs.Names.{same_bytes}
 use Rattle.tl_types.specs.History.{cell_at}
 use Rattle.tl_types.specs.Plain as plain
-use Rattle.tl_query.specs.declared.plans.TypedItem.{TypedItem}
-use Rattle.tl_query.specs.declared.plans.TypedItem.TheVariants as item
+use Rattle.tl_query.specs.declared.typed_queries.TypedItem.{TypedItem}
+use Rattle.tl_query.specs.declared.typed_queries.TypedItem.TheVariants as item
 
 -- a cell as a field
 abbrev pub cell_field : Cell → Field

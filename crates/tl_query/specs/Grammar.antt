@@ -2,7 +2,6 @@
 -- token is the part in its place.
 use Rattle.std.specs.Prelude.{◌≡◌, ℕ, ◌≤◌, ◌<◌, ◌^◌, ℤ, pos, negsuc, IfSome, Bool, true, false, List, [], ◌∷◌, ◌++◌, length, flat_map, Option, Some, None}
 use Rattle.std.specs.List.{AllByRecursion}
-use Rattle.std.specs.Str.{is_utf8}
 use Rattle.tl_types.specs.Names.{is_name}
 use Rattle.tl_types.specs.Plain as plain
 use Rattle.tl_types.specs.declared.cells.Cell.{Cell}
@@ -11,30 +10,30 @@ use Rattle.tl_types.specs.declared.cells.Cmp.{Cmp}
 use Rattle.tl_types.specs.declared.cells.Cmp.TheVariants as cmps
 use Rattle.tl_types.specs.declared.cells.ColumnKind.{ColumnKind}
 use Rattle.tl_types.specs.declared.cells.ColumnKind.TheVariants as kinds
-use Rattle.tl_query.specs.declared.marks.Mark.{Mark}
-use Rattle.tl_query.specs.declared.marks.Mark.TheVariants as marks
+use Rattle.tl_query.specs.declared.terminals.Terminal.{Terminal}
+use Rattle.tl_query.specs.declared.terminals.Terminal.TheVariants as terminals
 use Rattle.tl_query.specs.declared.tokens.Token.{Token}
 use Rattle.tl_query.specs.declared.tokens.Token.TheVariants.{Fixed, Word, Number, Negative, Quoted}
 use Rattle.tl_query.specs.declared.tokens.Placed.{Placed}
-use Rattle.tl_query.specs.declared.forms.Name.{Name}
-use Rattle.tl_query.specs.declared.forms.Stamp.{Stamp}
-use Rattle.tl_query.specs.declared.forms.ColumnForm.{ColumnForm}
-use Rattle.tl_query.specs.declared.forms.CreateForm.{CreateForm}
-use Rattle.tl_query.specs.declared.forms.SelectForm.{SelectForm}
-use Rattle.tl_query.specs.declared.forms.AggForm.{AggForm}
-use Rattle.tl_query.specs.declared.forms.AggKind.{AggKind}
-use Rattle.tl_query.specs.declared.forms.AggKind.TheVariants as aggs
-use Rattle.tl_query.specs.declared.forms.JoinForm.{JoinForm}
-use Rattle.tl_query.specs.declared.forms.Over.{Over}
-use Rattle.tl_query.specs.declared.forms.Over.TheVariants as overs
-use Rattle.tl_query.specs.declared.forms.Pred.{Pred}
-use Rattle.tl_query.specs.declared.forms.Test.{Test}
-use Rattle.tl_query.specs.declared.forms.ValidPoint.{ValidPoint}
-use Rattle.tl_query.specs.declared.forms.Item.{Item}
-use Rattle.tl_query.specs.declared.forms.Item.TheVariants as items
-use Rattle.tl_query.specs.declared.forms.Query.TheVariants as queries
-use Rattle.tl_query.specs.declared.forms.Statement.{Statement}
-use Rattle.tl_query.specs.declared.forms.Statement.TheVariants as statements
+use Rattle.tl_query.specs.declared.ast.Name.{Name}
+use Rattle.tl_query.specs.declared.ast.Stamp.{Stamp}
+use Rattle.tl_query.specs.declared.ast.ColumnForm.{ColumnForm}
+use Rattle.tl_query.specs.declared.ast.CreateForm.{CreateForm}
+use Rattle.tl_query.specs.declared.ast.SelectForm.{SelectForm}
+use Rattle.tl_query.specs.declared.ast.AggForm.{AggForm}
+use Rattle.tl_query.specs.declared.ast.AggKind.{AggKind}
+use Rattle.tl_query.specs.declared.ast.AggKind.TheVariants as aggs
+use Rattle.tl_query.specs.declared.ast.JoinForm.{JoinForm}
+use Rattle.tl_query.specs.declared.ast.Over.{Over}
+use Rattle.tl_query.specs.declared.ast.Over.TheVariants as overs
+use Rattle.tl_query.specs.declared.ast.Pred.{Pred}
+use Rattle.tl_query.specs.declared.ast.Test.{Test}
+use Rattle.tl_query.specs.declared.ast.ValidPoint.{ValidPoint}
+use Rattle.tl_query.specs.declared.ast.Item.{Item}
+use Rattle.tl_query.specs.declared.ast.Item.TheVariants as items
+use Rattle.tl_query.specs.declared.ast.Query.TheVariants as queries
+use Rattle.tl_query.specs.declared.ast.Statement.{Statement}
+use Rattle.tl_query.specs.declared.ast.Statement.TheVariants as statements
 
 -- WHAT A TOKEN SAYS
 
@@ -58,7 +57,7 @@ moment_by _ = None
 abbrev pub bound_by : ℕ → Token → Option Stamp
 bound_by at (Number n) = Some (record { value = n; at = at })
 bound_by at (Negative n) = Some (record { value = n; at = at })
-bound_by at (Fixed marks.Forever) = Some (record { value = plain.forever; at = at })
+bound_by at (Fixed terminals.Forever) = Some (record { value = plain.forever; at = at })
 bound_by at _ = None
 
 -- a constant: a number or a text
@@ -72,8 +71,8 @@ constant_by _ = None
 
 -- a part of a statement, which one token says
 pub data Part : Type 0 where
-  said : Mark → Part
-  said_at : Mark → ℕ → Part
+  said : Terminal → Part
+  said_at : Terminal → ℕ → Part
   named : Name → Part
   version : Stamp → Part
   moment : ℤ → Part
@@ -101,37 +100,37 @@ Fits (q ∷ parts) (p ∷ ts) = IsPart q p × Fits parts ts
 -- PRODUCTIONS
 
 -- each thing behind a mark
-abbrev pub behind_each : {A : Type 0} → Mark → (A → List Part) → List A → List Part
+abbrev pub behind_each : {A : Type 0} → Terminal → (A → List Part) → List A → List Part
 behind_each m parts xs = flat_map (λ x. said m ∷ parts x) xs
 
 -- things, parted by a mark
-abbrev pub parted : {A : Type 0} → Mark → (A → List Part) → List A → List Part
+abbrev pub parted : {A : Type 0} → Terminal → (A → List Part) → List A → List Part
 parted m parts [] = []
 parted m parts (x ∷ xs) = parts x ++ behind_each m parts xs
 
 -- the word of a kind of cells
-abbrev pub kind_mark : ColumnKind → Mark
-kind_mark kinds.IntKind = marks.Int
-kind_mark kinds.TextKind = marks.Text
+abbrev pub kind_terminal : ColumnKind → Terminal
+kind_terminal kinds.IntKind = terminals.Int
+kind_terminal kinds.TextKind = terminals.Text
 
 -- a column: its name, then INT or TEXT
 abbrev pub column_parts : ColumnForm → List Part
-column_parts c = named c.name ∷ said (kind_mark c.kind) ∷ []
+column_parts c = named c.name ∷ said (kind_terminal c.kind) ∷ []
 
 -- VALID, or nothing
 abbrev pub valid_parts : Bool → List Part
-valid_parts true = said marks.Valid ∷ []
+valid_parts true = said terminals.Valid ∷ []
 valid_parts false = []
 
 -- CREATE TABLE name ( columns ) KEY name, and VALID where rows have a valid period
 abbrev pub create_parts : CreateForm → List Part
-create_parts f = said marks.Create ∷ said marks.Table ∷ named f.name ∷ said marks.Open ∷ (parted marks.Comma column_parts f.columns ++ (said marks.Close ∷ said marks.Key ∷ named f.key ∷ valid_parts f.valid))
+create_parts f = said terminals.Create ∷ said terminals.Table ∷ named f.name ∷ said terminals.Open ∷ (parted terminals.Comma column_parts f.columns ++ (said terminals.Close ∷ said terminals.Key ∷ named f.key ∷ valid_parts f.valid))
 
 -- an item: the name of a column, valid_from or valid_to
 abbrev pub item_part : Item → Part
 item_part (items.Column n) = named n
-item_part (items.ValidFrom at) = said_at marks.ValidFrom at
-item_part (items.ValidTo at) = said_at marks.ValidTo at
+item_part (items.ValidFrom at) = said_at terminals.ValidFrom at
+item_part (items.ValidTo at) = said_at terminals.ValidTo at
 
 -- an item, as the one part of a list
 abbrev pub item_parts : Item → List Part
@@ -139,30 +138,30 @@ item_parts x = item_part x ∷ []
 
 -- what is asked for: `*` for all, or items
 abbrev pub asked_parts : Bool → List Item → List Part
-asked_parts true xs = said marks.Star ∷ []
-asked_parts false xs = parted marks.Comma item_parts xs
+asked_parts true xs = said terminals.Star ∷ []
+asked_parts false xs = parted terminals.Comma item_parts xs
 
 -- the symbol of a comparison
-abbrev pub cmp_mark : Cmp → Mark
-cmp_mark cmps.Eq = marks.Equal
-cmp_mark cmps.Ne = marks.Unequal
-cmp_mark cmps.Lt = marks.Less
-cmp_mark cmps.Le = marks.AtMost
-cmp_mark cmps.Gt = marks.Greater
-cmp_mark cmps.Ge = marks.AtLeast
+abbrev pub cmp_terminal : Cmp → Terminal
+cmp_terminal cmps.Eq = terminals.Equal
+cmp_terminal cmps.Ne = terminals.Unequal
+cmp_terminal cmps.Lt = terminals.Less
+cmp_terminal cmps.Le = terminals.AtMost
+cmp_terminal cmps.Gt = terminals.Greater
+cmp_terminal cmps.Ge = terminals.AtLeast
 
 -- a test: a column, a comparison and a constant
 abbrev pub test_parts : Test → List Part
-test_parts t = named t.column ∷ said_at (cmp_mark t.cmp) t.cmp_at ∷ constant t.value t.value_at ∷ []
+test_parts t = named t.column ∷ said_at (cmp_terminal t.cmp) t.cmp_at ∷ constant t.value t.value_at ∷ []
 
 -- tests, parted by AND
 abbrev pub conj_parts : List Test → List Part
-conj_parts tests = parted marks.And test_parts tests
+conj_parts tests = parted terminals.And test_parts tests
 
 -- WHERE and tests, parted by OR, or nothing
 abbrev pub any_parts : List (List Test) → List Part
 any_parts [] = []
-any_parts (tests ∷ any) = said marks.Where ∷ parted marks.Or conj_parts (tests ∷ any)
+any_parts (tests ∷ any) = said terminals.Where ∷ parted terminals.Or conj_parts (tests ∷ any)
 
 -- which rows
 abbrev pub where_parts : Pred → List Part
@@ -171,24 +170,24 @@ where_parts p = any_parts p.any
 -- VALID AT number, or nothing
 abbrev pub valid_at_parts : Option ValidPoint → List Part
 valid_at_parts None = []
-valid_at_parts (Some v) = said_at marks.Valid v.pos ∷ said marks.At ∷ moment v.value ∷ []
+valid_at_parts (Some v) = said_at terminals.Valid v.pos ∷ said terminals.At ∷ moment v.value ∷ []
 
 -- AS OF version, or nothing
 abbrev pub as_of_parts : Option Stamp → List Part
 as_of_parts None = []
-as_of_parts (Some s) = said marks.As ∷ said marks.Of ∷ version s ∷ []
+as_of_parts (Some s) = said terminals.As ∷ said terminals.Of ∷ version s ∷ []
 
 -- SELECT, `*` or items, FROM name, and which rows, at which valid time, at which version
 abbrev pub select_parts : SelectForm → List Part
-select_parts f = said marks.Select ∷ (asked_parts f.all f.items ++ (said marks.From ∷ named f.table ∷ (where_parts f.pred ++ (valid_at_parts f.valid_at ++ as_of_parts f.as_of))))
+select_parts f = said terminals.Select ∷ (asked_parts f.all f.items ++ (said terminals.From ∷ named f.table ∷ (where_parts f.pred ++ (valid_at_parts f.valid_at ++ as_of_parts f.as_of))))
 
 -- the word of a kind of aggregates
-abbrev pub agg_mark : AggKind → Mark
-agg_mark aggs.Count = marks.Count
-agg_mark aggs.Sum = marks.Sum
-agg_mark aggs.Avg = marks.Avg
-agg_mark aggs.Min = marks.Min
-agg_mark aggs.Max = marks.Max
+abbrev pub agg_terminal : AggKind → Terminal
+agg_terminal aggs.Count = terminals.Count
+agg_terminal aggs.Sum = terminals.Sum
+agg_terminal aggs.Avg = terminals.Avg
+agg_terminal aggs.Min = terminals.Min
+agg_terminal aggs.Max = terminals.Max
 
 -- the column, where there is one
 abbrev pub column_name_parts : Option Name → List Part
@@ -198,34 +197,34 @@ column_name_parts (Some n) = named n ∷ []
 -- BY name, or nothing
 abbrev pub by_parts : Option Name → List Part
 by_parts None = []
-by_parts (Some n) = said marks.By ∷ named n ∷ []
+by_parts (Some n) = said terminals.By ∷ named n ∷ []
 
 -- OVER, and a range of versions or of valid time
 abbrev pub over_parts : Over → List Part
-over_parts overs.SystemAll = said marks.Over ∷ said marks.System ∷ said marks.All ∷ []
-over_parts (overs.System from to) = said marks.Over ∷ said marks.System ∷ version from ∷ said marks.To ∷ version to ∷ []
-over_parts (overs.Valid at from to as_of) = said marks.Over ∷ said_at marks.Valid at ∷ bound from ∷ said marks.To ∷ bound to ∷ as_of_parts as_of
+over_parts overs.SystemAll = said terminals.Over ∷ said terminals.System ∷ said terminals.All ∷ []
+over_parts (overs.System from to) = said terminals.Over ∷ said terminals.System ∷ version from ∷ said terminals.To ∷ version to ∷ []
+over_parts (overs.Valid at from to as_of) = said terminals.Over ∷ said_at terminals.Valid at ∷ bound from ∷ said terminals.To ∷ bound to ∷ as_of_parts as_of
 
 -- an aggregate, its column if it has one, FROM name, which rows, the column of the groups, and the range
 abbrev pub agg_parts : AggForm → List Part
-agg_parts f = said (agg_mark f.kind) ∷ (column_name_parts f.column ++ (said marks.From ∷ named f.table ∷ (where_parts f.pred ++ (by_parts f.by ++ over_parts f.over))))
+agg_parts f = said (agg_terminal f.kind) ∷ (column_name_parts f.column ++ (said terminals.From ∷ named f.table ∷ (where_parts f.pred ++ (by_parts f.by ++ over_parts f.over))))
 
 -- JOIN name, which of its rows, WITH name, which of its rows, ON name = name, and the range
 abbrev pub join_parts : JoinForm → List Part
-join_parts f = said marks.Join ∷ named f.left ∷ (where_parts f.left_pred ++ (said marks.With ∷ named f.right ∷ (where_parts f.right_pred ++ (said marks.On ∷ named f.left_on ∷ said marks.Equal ∷ named f.right_on ∷ over_parts f.over))))
+join_parts f = said terminals.Join ∷ named f.left ∷ (where_parts f.left_pred ++ (said terminals.With ∷ named f.right ∷ (where_parts f.right_pred ++ (said terminals.On ∷ named f.left_on ∷ said terminals.Equal ∷ named f.right_on ∷ over_parts f.over))))
 
 -- the parts of a statement
 abbrev pub statement_parts : Statement → List Part
 statement_parts (statements.Create f) = create_parts f
-statement_parts (statements.Put n) = said marks.Put ∷ named n ∷ []
-statement_parts (statements.Remove n) = said marks.Remove ∷ named n ∷ []
+statement_parts (statements.Put n) = said terminals.Put ∷ named n ∷ []
+statement_parts (statements.Remove n) = said terminals.Remove ∷ named n ∷ []
 statement_parts (statements.Ask (queries.Select f)) = select_parts f
 statement_parts (statements.Ask (queries.Agg f)) = agg_parts f
 statement_parts (statements.Ask (queries.Join f)) = join_parts f
 
 -- `;`, or nothing
 abbrev pub end_parts : Bool → List Part
-end_parts true = said marks.Semicolon ∷ []
+end_parts true = said terminals.Semicolon ∷ []
 end_parts false = []
 
 -- STATEMENTS
@@ -334,7 +333,7 @@ IsI64 (negsuc n) = n < 2 ^ 63
 -- a number of 64 bits, or a text of at most 65,535 bytes
 abbrev pub IsCell : Cell → Type 0
 IsCell (cells.Int n) = IsI64 n
-IsCell (cells.Text t) = (is_utf8 t ≡ true) × (length t ≤ 65535)
+IsCell (cells.Text t) = length t ≤ 65535
 
 -- what one token of a text can say
 abbrev pub IsReadPart : Part → Type 0

@@ -6,9 +6,9 @@ use Rattle.tl_types.specs.declared.runs.Pair.{Pair}
 use Rattle.tl_types.specs.History.{with_ids, is_visible, rows_of, cell_at}
 use Rattle.tl_types.specs.Resolving.{same_key}
 use Rattle.tl_types.specs.Plain as plain
-use Rattle.tl_query.specs.declared.plans.Span.{Span}
-use Rattle.tl_query.specs.declared.plans.Span.TheVariants as span
-use Rattle.tl_query.specs.declared.plans.TypedPred.{TypedPred}
+use Rattle.tl_query.specs.declared.typed_queries.Span.{Span}
+use Rattle.tl_query.specs.declared.typed_queries.Span.TheVariants as span
+use Rattle.tl_query.specs.declared.typed_queries.TypedPred.{TypedPred}
 use Rattle.tl_query.specs.Passing.{passes}
 use Rattle.tl_query.specs.Ordered.{in_order, pair_before}
 use Rattle.tl_query.specs.Aggregates.{span_start, span_end}

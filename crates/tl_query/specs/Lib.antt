@@ -5,7 +5,7 @@ pub mod CheckingQueries
 pub mod Fields
 pub mod Grammar
 pub mod Joins
-pub mod Marks
+pub mod Terminals
 pub mod Ordered
 pub mod Passing
 pub mod Printing

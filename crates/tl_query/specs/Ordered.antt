@@ -1,5 +1,5 @@
 -- Lists in order.
-use Rattle.std.specs.Prelude.{ℕ, ℤ, Bool, true, false, ◌&&◌, ◌||◌, nat_lt, ◌==◌, int_lt, List, [], ◌∷◌, if◌then◌else◌}
+use Rattle.std.specs.Prelude.{ℕ, Bool, true, false, ◌&&◌, ◌||◌, nat_lt, ◌==◌, int_lt, List, [], ◌∷◌, if◌then◌else◌}
 use Rattle.std.specs.List.{list_any, fold, filter_map}
 use Rattle.std.specs.Ordering.{int_eq, is_lt, nat_cmp}
 use Rattle.std.specs.Cmp.Lexicographic.{slice_cmp}

@@ -1,5 +1,5 @@
 -- Which rows pass a predicate.
-use Rattle.std.specs.Prelude.{ℕ, ℤ, Bool, false, ◌&&◌, ◌||◌, not, ◌==◌, int_le, int_lt, List, length, Option, Some, None}
+use Rattle.std.specs.Prelude.{ℕ, ℤ, Bool, false, ◌||◌, not, ◌==◌, int_le, int_lt, List, length, Option, Some, None}
 use Rattle.std.specs.List.{list_all, list_any}
 use Rattle.std.specs.Ordering.{int_eq}
 use Rattle.tl_types.specs.declared.cells.Cell.{Cell}
@@ -9,8 +9,8 @@ use Rattle.tl_types.specs.declared.cells.Cmp.TheVariants as cmp
 use Rattle.tl_types.specs.Names.{same_bytes}
 use Rattle.tl_types.specs.History.{cell_at}
 use Rattle.tl_types.specs.Plain as plain
-use Rattle.tl_query.specs.declared.plans.TypedTest.{TypedTest}
-use Rattle.tl_query.specs.declared.plans.TypedPred.{TypedPred}
+use Rattle.tl_query.specs.declared.typed_queries.TypedTest.{TypedTest}
+use Rattle.tl_query.specs.declared.typed_queries.TypedPred.{TypedPred}
 
 -- the first number stands so to the second
 abbrev pub compare_numbers : Cmp → ℤ → ℤ → Bool

@@ -1,32 +1,31 @@
 -- How a statement is written as a text, and a statement but for its offsets.
-use Rattle.std.specs.Prelude.{ℕ, ℤ, Bool, true, false, ◌||◌, ◌==◌, if◌then◌else◌, List, [], ◌∷◌, ◌++◌, map, Option, Some, None}
+use Rattle.std.specs.Prelude.{ℕ, ℤ, Bool, true, false, ◌||◌, ◌==◌, if◌then◌else◌, List, [], ◌∷◌, ◌++◌, map}
 use Rattle.std.specs.Option.{option_map}
 use Rattle.std.specs.Ordering.{int_eq}
 use Rattle.std.specs.Fmt.{signed_decimal}
 use Rattle.tl_types.specs.Plain as plain
 use Rattle.tl_types.specs.declared.cells.Cell.{Cell}
 use Rattle.tl_types.specs.declared.cells.Cell.TheVariants as cells
-use Rattle.tl_query.specs.declared.marks.Mark.{Mark}
-use Rattle.tl_query.specs.declared.marks.Mark.TheVariants as marks
-use Rattle.tl_query.specs.declared.forms.Name.{Name}
-use Rattle.tl_query.specs.declared.forms.Stamp.{Stamp}
-use Rattle.tl_query.specs.declared.forms.ColumnForm.{ColumnForm}
-use Rattle.tl_query.specs.declared.forms.CreateForm.{CreateForm}
-use Rattle.tl_query.specs.declared.forms.SelectForm.{SelectForm}
-use Rattle.tl_query.specs.declared.forms.AggForm.{AggForm}
-use Rattle.tl_query.specs.declared.forms.JoinForm.{JoinForm}
-use Rattle.tl_query.specs.declared.forms.Over.{Over}
-use Rattle.tl_query.specs.declared.forms.Over.TheVariants as overs
-use Rattle.tl_query.specs.declared.forms.Pred.{Pred}
-use Rattle.tl_query.specs.declared.forms.Test.{Test}
-use Rattle.tl_query.specs.declared.forms.ValidPoint.{ValidPoint}
-use Rattle.tl_query.specs.declared.forms.Item.{Item}
-use Rattle.tl_query.specs.declared.forms.Item.TheVariants as items
-use Rattle.tl_query.specs.declared.forms.Query.{Query}
-use Rattle.tl_query.specs.declared.forms.Query.TheVariants as queries
-use Rattle.tl_query.specs.declared.forms.Statement.{Statement}
-use Rattle.tl_query.specs.declared.forms.Statement.TheVariants as statements
-use Rattle.tl_query.specs.Marks.{same_mark, spelling}
+use Rattle.tl_query.specs.declared.terminals.Terminal.{Terminal}
+use Rattle.tl_query.specs.declared.terminals.Terminal.TheVariants as terminals
+use Rattle.tl_query.specs.declared.ast.Name.{Name}
+use Rattle.tl_query.specs.declared.ast.Stamp.{Stamp}
+use Rattle.tl_query.specs.declared.ast.ColumnForm.{ColumnForm}
+use Rattle.tl_query.specs.declared.ast.CreateForm.{CreateForm}
+use Rattle.tl_query.specs.declared.ast.SelectForm.{SelectForm}
+use Rattle.tl_query.specs.declared.ast.AggForm.{AggForm}
+use Rattle.tl_query.specs.declared.ast.JoinForm.{JoinForm}
+use Rattle.tl_query.specs.declared.ast.Over.{Over}
+use Rattle.tl_query.specs.declared.ast.Over.TheVariants as overs
+use Rattle.tl_query.specs.declared.ast.Pred.{Pred}
+use Rattle.tl_query.specs.declared.ast.Test.{Test}
+use Rattle.tl_query.specs.declared.ast.ValidPoint.{ValidPoint}
+use Rattle.tl_query.specs.declared.ast.Item.{Item}
+use Rattle.tl_query.specs.declared.ast.Item.TheVariants as items
+use Rattle.tl_query.specs.declared.ast.Query.TheVariants as queries
+use Rattle.tl_query.specs.declared.ast.Statement.{Statement}
+use Rattle.tl_query.specs.declared.ast.Statement.TheVariants as statements
+use Rattle.tl_query.specs.Terminals.{same_terminal, spelling}
 use Rattle.tl_query.specs.Grammar.{Part, said, said_at, named, version, moment, bound, constant, statement_parts}
 
 -- THE TEXT
@@ -53,8 +52,8 @@ pub record Word : Type 0 where
   pub closes : Bool
 
 -- a keyword or symbol
-abbrev pub fixed : Mark → Word
-fixed m = record { text = spelling m; opens = same_mark m marks.Open; closes = same_mark m marks.Close || same_mark m marks.Comma }
+abbrev pub fixed : Terminal → Word
+fixed m = record { text = spelling m; opens = same_terminal m terminals.Open; closes = same_terminal m terminals.Close || same_terminal m terminals.Comma }
 
 -- anything else
 abbrev pub plain_word : List ℕ → Word
@@ -62,7 +61,7 @@ plain_word text = record { text = text; opens = false; closes = false }
 
 -- a bound: the last valid time is written FOREVER
 abbrev pub bound_word : ℤ → Word
-bound_word v = if int_eq v plain.forever then fixed marks.Forever else plain_word (signed_decimal v)
+bound_word v = if int_eq v plain.forever then fixed terminals.Forever else plain_word (signed_decimal v)
 
 -- what is written of a part
 abbrev pub word_of : Part → Word

@@ -7,29 +7,29 @@ use Rattle.tl_types.specs.declared.cells.Cmp.{Cmp}
 use Rattle.tl_types.specs.declared.cells.Cmp.TheVariants as cmps
 use Rattle.tl_types.specs.declared.cells.ColumnKind.{ColumnKind}
 use Rattle.tl_types.specs.declared.cells.ColumnKind.TheVariants as kinds
-use Rattle.tl_query.specs.declared.marks.Mark.{Mark}
-use Rattle.tl_query.specs.declared.marks.Mark.TheVariants as marks
+use Rattle.tl_query.specs.declared.terminals.Terminal.{Terminal}
+use Rattle.tl_query.specs.declared.terminals.Terminal.TheVariants as terminals
 use Rattle.tl_query.specs.declared.tokens.Token.{Token}
-use Rattle.tl_query.specs.declared.tokens.Token.TheVariants.{Fixed, Word, Number, Negative, Quoted}
+use Rattle.tl_query.specs.declared.tokens.Token.TheVariants.{Fixed, Word}
 use Rattle.tl_query.specs.declared.tokens.Placed.{Placed}
-use Rattle.tl_query.specs.declared.forms.Name.{Name}
-use Rattle.tl_query.specs.declared.forms.Stamp.{Stamp}
-use Rattle.tl_query.specs.declared.forms.ColumnForm.{ColumnForm}
-use Rattle.tl_query.specs.declared.forms.AggKind.{AggKind}
-use Rattle.tl_query.specs.declared.forms.AggKind.TheVariants as aggs
-use Rattle.tl_query.specs.declared.forms.Over.{Over}
-use Rattle.tl_query.specs.declared.forms.Over.TheVariants as overs
-use Rattle.tl_query.specs.declared.forms.Pred.{Pred}
-use Rattle.tl_query.specs.declared.forms.Test.{Test}
-use Rattle.tl_query.specs.declared.forms.ValidPoint.{ValidPoint}
-use Rattle.tl_query.specs.declared.forms.Item.{Item}
-use Rattle.tl_query.specs.declared.forms.Item.TheVariants as items
-use Rattle.tl_query.specs.declared.forms.Query.TheVariants as queries
-use Rattle.tl_query.specs.declared.forms.Statement.{Statement}
-use Rattle.tl_query.specs.declared.forms.Statement.TheVariants as statements
-use Rattle.tl_query.specs.declared.taking.Stop.{Stop}
-use Rattle.tl_query.specs.declared.taking.Stop.TheVariants as stops
-use Rattle.tl_query.specs.Marks.{same_mark}
+use Rattle.tl_query.specs.declared.ast.Name.{Name}
+use Rattle.tl_query.specs.declared.ast.Stamp.{Stamp}
+use Rattle.tl_query.specs.declared.ast.ColumnForm.{ColumnForm}
+use Rattle.tl_query.specs.declared.ast.AggKind.{AggKind}
+use Rattle.tl_query.specs.declared.ast.AggKind.TheVariants as aggs
+use Rattle.tl_query.specs.declared.ast.Over.{Over}
+use Rattle.tl_query.specs.declared.ast.Over.TheVariants as overs
+use Rattle.tl_query.specs.declared.ast.Pred.{Pred}
+use Rattle.tl_query.specs.declared.ast.Test.{Test}
+use Rattle.tl_query.specs.declared.ast.ValidPoint.{ValidPoint}
+use Rattle.tl_query.specs.declared.ast.Item.{Item}
+use Rattle.tl_query.specs.declared.ast.Item.TheVariants as items
+use Rattle.tl_query.specs.declared.ast.Query.TheVariants as queries
+use Rattle.tl_query.specs.declared.ast.Statement.{Statement}
+use Rattle.tl_query.specs.declared.ast.Statement.TheVariants as statements
+use Rattle.tl_query.specs.declared.token_parsers.Stop.{Stop}
+use Rattle.tl_query.specs.declared.token_parsers.Stop.TheVariants as stops
+use Rattle.tl_query.specs.Terminals.{same_terminal}
 use Rattle.tl_query.specs.Grammar.{name_by, version_by, moment_by, bound_by, constant_by}
 
 infixl 10 ◌>>=◌
@@ -62,8 +62,8 @@ place_of [] = None
 place_of (p ∷ ts) = Some p.at
 
 -- the token is this mark
-abbrev pub is_fixed : Mark → Token → Bool
-is_fixed m (Fixed k) = same_mark k m
+abbrev pub is_fixed : Terminal → Token → Bool
+is_fixed m (Fixed k) = same_terminal k m
 is_fixed m _ = false
 
 -- one value where there is none, and another made of what is there
@@ -94,8 +94,8 @@ constant_of p = option_map (λ c. (c, p.at)) (constant_by p.token)
 -- the item that the token is
 abbrev pub item_by : ℕ → Token → Option Item
 item_by at (Word w) = Some (items.Column (record { text = w; at = at }))
-item_by at (Fixed marks.ValidFrom) = Some (items.ValidFrom at)
-item_by at (Fixed marks.ValidTo) = Some (items.ValidTo at)
+item_by at (Fixed terminals.ValidFrom) = Some (items.ValidFrom at)
+item_by at (Fixed terminals.ValidTo) = Some (items.ValidTo at)
 item_by at _ = None
 
 abbrev pub item_of : Placed → Option Item
@@ -103,8 +103,8 @@ item_of p = item_by p.at p.token
 
 -- the kind of columns that the token is
 abbrev pub kind_by : Token → Option ColumnKind
-kind_by (Fixed marks.Int) = Some kinds.IntKind
-kind_by (Fixed marks.Text) = Some kinds.TextKind
+kind_by (Fixed terminals.Int) = Some kinds.IntKind
+kind_by (Fixed terminals.Text) = Some kinds.TextKind
 kind_by _ = None
 
 abbrev pub kind_of : Placed → Option ColumnKind
@@ -112,12 +112,12 @@ kind_of p = kind_by p.token
 
 -- the comparison that the token is, and its offset
 abbrev pub cmp_by : Token → Option Cmp
-cmp_by (Fixed marks.Equal) = Some cmps.Eq
-cmp_by (Fixed marks.Unequal) = Some cmps.Ne
-cmp_by (Fixed marks.Less) = Some cmps.Lt
-cmp_by (Fixed marks.AtMost) = Some cmps.Le
-cmp_by (Fixed marks.Greater) = Some cmps.Gt
-cmp_by (Fixed marks.AtLeast) = Some cmps.Ge
+cmp_by (Fixed terminals.Equal) = Some cmps.Eq
+cmp_by (Fixed terminals.Unequal) = Some cmps.Ne
+cmp_by (Fixed terminals.Less) = Some cmps.Lt
+cmp_by (Fixed terminals.AtMost) = Some cmps.Le
+cmp_by (Fixed terminals.Greater) = Some cmps.Gt
+cmp_by (Fixed terminals.AtLeast) = Some cmps.Ge
 cmp_by _ = None
 
 abbrev pub cmp_of : Placed → Option (Cmp × ℕ)
@@ -125,11 +125,11 @@ cmp_of p = option_map (λ c. (c, p.at)) (cmp_by p.token)
 
 -- the kind of aggregates that the token is
 abbrev pub agg_by : Token → Option AggKind
-agg_by (Fixed marks.Count) = Some aggs.Count
-agg_by (Fixed marks.Sum) = Some aggs.Sum
-agg_by (Fixed marks.Avg) = Some aggs.Avg
-agg_by (Fixed marks.Min) = Some aggs.Min
-agg_by (Fixed marks.Max) = Some aggs.Max
+agg_by (Fixed terminals.Count) = Some aggs.Count
+agg_by (Fixed terminals.Sum) = Some aggs.Sum
+agg_by (Fixed terminals.Avg) = Some aggs.Avg
+agg_by (Fixed terminals.Min) = Some aggs.Min
+agg_by (Fixed terminals.Max) = Some aggs.Max
 agg_by _ = None
 
 abbrev pub agg_of : Placed → Option AggKind
@@ -137,7 +137,7 @@ agg_of p = agg_by p.token
 
 -- the offset of VALID, where the token is VALID
 abbrev pub valid_by : ℕ → Token → Option ℕ
-valid_by at (Fixed marks.Valid) = Some at
+valid_by at (Fixed terminals.Valid) = Some at
 valid_by at _ = None
 
 abbrev pub valid_of : Placed → Option ℕ
@@ -154,12 +154,12 @@ peek_at take [] = None
 peek_at take (p ∷ ts) = option_map (λ x. (x, ts)) (take p)
 
 -- the tokens behind this mark, where it comes first
-unfoldable pub after : Mark → List Placed → Option (List Placed)
+unfoldable pub after : Terminal → List Placed → Option (List Placed)
 after m [] = None
 after m (p ∷ ts) = if is_fixed m p.token then Some ts else None
 
 -- the tokens behind this mark, which has to come first
-unfoldable pub expect : Mark → List Placed → Result (List Placed) (Option ℕ)
+unfoldable pub expect : Terminal → List Placed → Result (List Placed) (Option ℕ)
 expect m ts = where_some (after m ts) (Err (place_of ts)) (λ rest. Ok rest)
 
 -- the statement, where no token is left
@@ -169,7 +169,7 @@ last_of s (p ∷ ts) = Err (Some p.at)
 
 -- the statement, where a `;` or nothing is left
 unfoldable pub ended : Statement → List Placed → Result Statement (Option ℕ)
-ended s ts = where_some (after marks.Semicolon ts) (last_of s ts) (last_of s)
+ended s ts = where_some (after terminals.Semicolon ts) (last_of s ts) (last_of s)
 
 -- LISTS
 
@@ -182,16 +182,16 @@ abbrev pub before : {A : Type 0} → List A → Result (List A × List Placed) (
 before xs read = read >>= λ y. Ok (xs ++ y.0, y.1)
 
 -- up to so many values, each behind this mark
-unfoldable pub up_to : {A : Type 0} → Mark → (List Placed → Result (A × List Placed) (Option ℕ)) → ℕ → List Placed → Result (List A × List Placed) (Option ℕ)
+unfoldable pub up_to : {A : Type 0} → Terminal → (List Placed → Result (A × List Placed) (Option ℕ)) → ℕ → List Placed → Result (List A × List Placed) (Option ℕ)
 up_to m one zero ts = Ok ([], ts)
 up_to m one (suc room) ts = where_some (after m ts) (Ok ([], ts)) (λ rest. one rest >>= λ x. in_front x.0 (up_to m one room x.1))
 
 -- values, each behind this mark: there are no more of them than tokens
-abbrev pub further : {A : Type 0} → Mark → (List Placed → Result (A × List Placed) (Option ℕ)) → List Placed → Result (List A × List Placed) (Option ℕ)
+abbrev pub further : {A : Type 0} → Terminal → (List Placed → Result (A × List Placed) (Option ℕ)) → List Placed → Result (List A × List Placed) (Option ℕ)
 further m one ts = up_to m one (length ts) ts
 
 -- one or more values, parted by this mark
-unfoldable pub several : {A : Type 0} → Mark → (List Placed → Result (A × List Placed) (Option ℕ)) → List Placed → Result (List A × List Placed) (Option ℕ)
+unfoldable pub several : {A : Type 0} → Terminal → (List Placed → Result (A × List Placed) (Option ℕ)) → List Placed → Result (List A × List Placed) (Option ℕ)
 several m one ts = one ts >>= λ x. in_front x.0 (further m one x.1)
 
 -- PRODUCTIONS
@@ -207,21 +207,21 @@ column_at ts = do
 unfoldable pub columns_at : List Placed → Result (List ColumnForm × List Placed) (Option ℕ)
 columns_at ts = do
   first ← column_at ts
-  in_front first.0 (up_to marks.Comma column_at 15 first.1)
+  in_front first.0 (up_to terminals.Comma column_at 15 first.1)
 
 -- whether VALID comes
 unfoldable pub valid_at : List Placed → Result (Bool × List Placed) (Option ℕ)
-valid_at ts = where_some (after marks.Valid ts) (Ok (false, ts)) (λ rest. Ok (true, rest))
+valid_at ts = where_some (after terminals.Valid ts) (Ok (false, ts)) (λ rest. Ok (true, rest))
 
 -- what follows CREATE
 unfoldable pub create_at : List Placed → Result Statement (Option ℕ)
 create_at ts = do
-  table ← expect marks.Table ts
+  table ← expect terminals.Table ts
   name ← take_at name_of table
-  first ← expect marks.Open name.1
+  first ← expect terminals.Open name.1
   columns ← columns_at first
-  close ← expect marks.Close columns.1
-  word ← expect marks.Key close
+  close ← expect terminals.Close columns.1
+  word ← expect terminals.Key close
   key ← take_at name_of word
   valid ← valid_at key.1
   ended (statements.Create (record { name = name.0; columns = columns.0; key = key.0; valid = valid.0 })) valid.1
@@ -240,11 +240,11 @@ remove_at ts = do
 
 -- items, parted by commas
 abbrev pub items_at : List Placed → Result (List Item × List Placed) (Option ℕ)
-items_at ts = several marks.Comma (take_at item_of) ts
+items_at ts = several terminals.Comma (take_at item_of) ts
 
 -- what is asked for: whether it is all, and items
 unfoldable pub asked_at : List Placed → Result ((Bool × List Item) × List Placed) (Option ℕ)
-asked_at ts = where_some (after marks.Star ts) (items_at ts >>= λ x. Ok ((false, x.0), x.1)) (λ rest. Ok ((true, []), rest))
+asked_at ts = where_some (after terminals.Star ts) (items_at ts >>= λ x. Ok ((false, x.0), x.1)) (λ rest. Ok ((true, []), rest))
 
 -- a test
 unfoldable pub test_at : List Placed → Result (Test × List Placed) (Option ℕ)
@@ -256,25 +256,25 @@ test_at ts = do
 
 -- tests, parted by AND
 abbrev pub conj_at : List Placed → Result (List Test × List Placed) (Option ℕ)
-conj_at ts = several marks.And test_at ts
+conj_at ts = several terminals.And test_at ts
 
 -- which rows, where WHERE comes
 unfoldable pub where_at : List Placed → Result (Pred × List Placed) (Option ℕ)
-where_at ts = where_some (after marks.Where ts) (Ok (record { any = [] }, ts)) (λ rest. several marks.Or conj_at rest >>= λ any. Ok (record { any = any.0 }, any.1))
+where_at ts = where_some (after terminals.Where ts) (Ok (record { any = [] }, ts)) (λ rest. several terminals.Or conj_at rest >>= λ any. Ok (record { any = any.0 }, any.1))
 
 -- the valid time behind VALID AT, where VALID comes
 unfoldable pub valid_point_at : List Placed → Result (Option ValidPoint × List Placed) (Option ℕ)
-valid_point_at ts = where_some (peek_at valid_of ts) (Ok (None, ts)) (λ valid. expect marks.At valid.1 >>= λ rest. take_at moment_of rest >>= λ value. Ok (Some (record { pos = valid.0; value = value.0 }), value.1))
+valid_point_at ts = where_some (peek_at valid_of ts) (Ok (None, ts)) (λ valid. expect terminals.At valid.1 >>= λ rest. take_at moment_of rest >>= λ value. Ok (Some (record { pos = valid.0; value = value.0 }), value.1))
 
 -- the version behind AS OF, where AS comes
 unfoldable pub as_of_at : List Placed → Result (Option Stamp × List Placed) (Option ℕ)
-as_of_at ts = where_some (after marks.As ts) (Ok (None, ts)) (λ rest. expect marks.Of rest >>= λ next. take_at version_of next >>= λ s. Ok (Some s.0, s.1))
+as_of_at ts = where_some (after terminals.As ts) (Ok (None, ts)) (λ rest. expect terminals.Of rest >>= λ next. take_at version_of next >>= λ s. Ok (Some s.0, s.1))
 
 -- what follows SELECT
-unfoldable pub select_at : List Placed → Result Statement (Option ℕ)
-select_at ts = do
+unfoldable pub parse_select : List Placed → Result Statement (Option ℕ)
+parse_select ts = do
   asked ← asked_at ts
-  from ← expect marks.From asked.1
+  from ← expect terminals.From asked.1
   table ← take_at name_of from
   pred ← where_at table.1
   valid ← valid_point_at pred.1
@@ -285,27 +285,27 @@ select_at ts = do
 unfoldable pub versions_at : List Placed → Result (Over × List Placed) (Option ℕ)
 versions_at ts = do
   from ← take_at version_of ts
-  word ← expect marks.To from.1
+  word ← expect terminals.To from.1
   to ← take_at version_of word
   Ok (overs.System from.0 to.0, to.1)
 
 -- what follows OVER SYSTEM
 unfoldable pub system_at : List Placed → Result (Over × List Placed) (Option ℕ)
-system_at ts = where_some (after marks.All ts) (versions_at ts) (λ rest. Ok (overs.SystemAll, rest))
+system_at ts = where_some (after terminals.All ts) (versions_at ts) (λ rest. Ok (overs.SystemAll, rest))
 
 -- what follows OVER, where SYSTEM does not
 unfoldable pub moments_at : List Placed → Result (Over × List Placed) (Option ℕ)
 moments_at ts = do
   valid ← take_at valid_of ts
   from ← take_at bound_of valid.1
-  word ← expect marks.To from.1
+  word ← expect terminals.To from.1
   to ← take_at bound_of word
   as_of ← as_of_at to.1
   Ok (overs.Valid valid.0 from.0 to.0 as_of.0, as_of.1)
 
 -- the range behind OVER, which has to come
 unfoldable pub over_at : List Placed → Result (Over × List Placed) (Option ℕ)
-over_at ts = expect marks.Over ts >>= λ rest. where_some (after marks.System rest) (moments_at rest) system_at
+over_at ts = expect terminals.Over ts >>= λ rest. where_some (after terminals.System rest) (moments_at rest) system_at
 
 -- the column of an aggregate: a count has none
 unfoldable pub column_name_at : AggKind → List Placed → Result (Option Name × List Placed) (Option ℕ)
@@ -314,14 +314,14 @@ column_name_at _ ts = take_at name_of ts >>= λ name. Ok (Some name.0, name.1)
 
 -- the column of the groups, where BY comes
 unfoldable pub by_at : List Placed → Result (Option Name × List Placed) (Option ℕ)
-by_at ts = where_some (after marks.By ts) (Ok (None, ts)) (λ rest. take_at name_of rest >>= λ name. Ok (Some name.0, name.1))
+by_at ts = where_some (after terminals.By ts) (Ok (None, ts)) (λ rest. take_at name_of rest >>= λ name. Ok (Some name.0, name.1))
 
 -- an aggregate, by its first word on
 unfoldable pub agg_at : List Placed → Result Statement (Option ℕ)
 agg_at ts = do
   kind ← take_at agg_of ts
   column ← column_name_at kind.0 kind.1
-  from ← expect marks.From column.1
+  from ← expect terminals.From column.1
   table ← take_at name_of from
   pred ← where_at table.1
   by ← by_at pred.1
@@ -338,9 +338,9 @@ side_at ts = do
 -- the two columns behind ON, which has to come
 unfoldable pub on_at : List Placed → Result ((Name × Name) × List Placed) (Option ℕ)
 on_at ts = do
-  word ← expect marks.On ts
+  word ← expect terminals.On ts
   left ← take_at name_of word
-  equal ← expect marks.Equal left.1
+  equal ← expect terminals.Equal left.1
   right ← take_at name_of equal
   Ok ((left.0, right.0), right.1)
 
@@ -348,7 +348,7 @@ on_at ts = do
 unfoldable pub join_at : List Placed → Result Statement (Option ℕ)
 join_at ts = do
   left ← side_at ts
-  word ← expect marks.With left.1
+  word ← expect terminals.With left.1
   right ← side_at word
   on ← on_at right.1
   over ← over_at on.1
@@ -357,9 +357,9 @@ join_at ts = do
 -- the statement that the tokens spell, or where reading it stops
 unfoldable pub statement_at : List Placed → Result Statement (Option ℕ)
 statement_at ts =
-    where_some (after marks.Create ts) (
-    where_some (after marks.Put ts) (
-    where_some (after marks.Remove ts) (
-    where_some (after marks.Select ts) (
-    where_some (after marks.Join ts) (
-    agg_at ts) join_at) select_at) remove_at) put_at) create_at
+    where_some (after terminals.Create ts) (
+    where_some (after terminals.Put ts) (
+    where_some (after terminals.Remove ts) (
+    where_some (after terminals.Select ts) (
+    where_some (after terminals.Join ts) (
+    agg_at ts) join_at) parse_select) remove_at) put_at) create_at

@@ -1,10 +1,9 @@
 -- The tokens of a text. A token is as long as it can be; spaces and tabs stand between tokens.
 use Rattle.std.specs.Prelude.{ℕ, ◌+◌, ◌-◌, ◌*◌, ◌^◌, Bool, true, false, ◌&&◌, ◌||◌, nat_lt, nat_le, ◌==◌, zero, suc, if◌then◌else◌, pos, neg_ℤ, List, [], ◌∷◌, ◌++◌, length, take, codes, Option, Some, None, Result, Ok, Err}
-use Rattle.std.specs.Str.{is_utf8}
 use Rattle.std.specs.List.{prefix_len, fold}
 use Rattle.tl_types.specs.Names.{same_bytes, is_digit, begins_word, continues_word, is_name}
-use Rattle.tl_query.specs.declared.marks.Mark.{Mark}
-use Rattle.tl_query.specs.declared.marks.Mark.TheVariants as marks
+use Rattle.tl_query.specs.declared.terminals.Terminal.{Terminal}
+use Rattle.tl_query.specs.declared.terminals.Terminal.TheVariants as terminals
 use Rattle.tl_query.specs.declared.tokens.Token.{Token}
 use Rattle.tl_query.specs.declared.tokens.Token.TheVariants.{Fixed, Word, Number, Negative, Quoted, Stray}
 use Rattle.tl_query.specs.declared.tokens.Placed.{Placed}
@@ -22,65 +21,65 @@ abbrev pub number_of : List ℕ → ℕ
 number_of digits = fold (λ n d. 10 * n + (d - 48)) 0 digits
 
 -- a word that names a statement or an aggregate
-unfoldable pub statement_mark : List ℕ → Option Mark
-statement_mark word =
-    if same_bytes word (codes "CREATE") then Some marks.Create else
-    if same_bytes word (codes "PUT") then Some marks.Put else
-    if same_bytes word (codes "REMOVE") then Some marks.Remove else
-    if same_bytes word (codes "SELECT") then Some marks.Select else
-    if same_bytes word (codes "COUNT") then Some marks.Count else
-    if same_bytes word (codes "SUM") then Some marks.Sum else
-    if same_bytes word (codes "AVG") then Some marks.Avg else
-    if same_bytes word (codes "MIN") then Some marks.Min else
-    if same_bytes word (codes "MAX") then Some marks.Max else
-    if same_bytes word (codes "JOIN") then Some marks.Join else
+unfoldable pub statement_terminal : List ℕ → Option Terminal
+statement_terminal word =
+    if same_bytes word (codes "CREATE") then Some terminals.Create else
+    if same_bytes word (codes "PUT") then Some terminals.Put else
+    if same_bytes word (codes "REMOVE") then Some terminals.Remove else
+    if same_bytes word (codes "SELECT") then Some terminals.Select else
+    if same_bytes word (codes "COUNT") then Some terminals.Count else
+    if same_bytes word (codes "SUM") then Some terminals.Sum else
+    if same_bytes word (codes "AVG") then Some terminals.Avg else
+    if same_bytes word (codes "MIN") then Some terminals.Min else
+    if same_bytes word (codes "MAX") then Some terminals.Max else
+    if same_bytes word (codes "JOIN") then Some terminals.Join else
     None
 
 -- a word that describes a table
-unfoldable pub table_mark : List ℕ → Option Mark
-table_mark word =
-    if same_bytes word (codes "TABLE") then Some marks.Table else
-    if same_bytes word (codes "KEY") then Some marks.Key else
-    if same_bytes word (codes "VALID") then Some marks.Valid else
-    if same_bytes word (codes "INT") then Some marks.Int else
-    if same_bytes word (codes "TEXT") then Some marks.Text else
-    if same_bytes word (codes "valid_from") then Some marks.ValidFrom else
-    if same_bytes word (codes "valid_to") then Some marks.ValidTo else
+unfoldable pub table_terminal : List ℕ → Option Terminal
+table_terminal word =
+    if same_bytes word (codes "TABLE") then Some terminals.Table else
+    if same_bytes word (codes "KEY") then Some terminals.Key else
+    if same_bytes word (codes "VALID") then Some terminals.Valid else
+    if same_bytes word (codes "INT") then Some terminals.Int else
+    if same_bytes word (codes "TEXT") then Some terminals.Text else
+    if same_bytes word (codes "valid_from") then Some terminals.ValidFrom else
+    if same_bytes word (codes "valid_to") then Some terminals.ValidTo else
     None
 
 -- a word between the parts of a query
-unfoldable pub clause_mark : List ℕ → Option Mark
-clause_mark word =
-    if same_bytes word (codes "FROM") then Some marks.From else
-    if same_bytes word (codes "WHERE") then Some marks.Where else
-    if same_bytes word (codes "AND") then Some marks.And else
-    if same_bytes word (codes "OR") then Some marks.Or else
-    if same_bytes word (codes "AS") then Some marks.As else
-    if same_bytes word (codes "OF") then Some marks.Of else
-    if same_bytes word (codes "AT") then Some marks.At else
-    if same_bytes word (codes "BY") then Some marks.By else
+unfoldable pub clause_terminal : List ℕ → Option Terminal
+clause_terminal word =
+    if same_bytes word (codes "FROM") then Some terminals.From else
+    if same_bytes word (codes "WHERE") then Some terminals.Where else
+    if same_bytes word (codes "AND") then Some terminals.And else
+    if same_bytes word (codes "OR") then Some terminals.Or else
+    if same_bytes word (codes "AS") then Some terminals.As else
+    if same_bytes word (codes "OF") then Some terminals.Of else
+    if same_bytes word (codes "AT") then Some terminals.At else
+    if same_bytes word (codes "BY") then Some terminals.By else
     None
 
 -- a word of a range or a join
-unfoldable pub range_mark : List ℕ → Option Mark
-range_mark word =
-    if same_bytes word (codes "OVER") then Some marks.Over else
-    if same_bytes word (codes "SYSTEM") then Some marks.System else
-    if same_bytes word (codes "ALL") then Some marks.All else
-    if same_bytes word (codes "TO") then Some marks.To else
-    if same_bytes word (codes "WITH") then Some marks.With else
-    if same_bytes word (codes "ON") then Some marks.On else
-    if same_bytes word (codes "FOREVER") then Some marks.Forever else
+unfoldable pub range_terminal : List ℕ → Option Terminal
+range_terminal word =
+    if same_bytes word (codes "OVER") then Some terminals.Over else
+    if same_bytes word (codes "SYSTEM") then Some terminals.System else
+    if same_bytes word (codes "ALL") then Some terminals.All else
+    if same_bytes word (codes "TO") then Some terminals.To else
+    if same_bytes word (codes "WITH") then Some terminals.With else
+    if same_bytes word (codes "ON") then Some terminals.On else
+    if same_bytes word (codes "FOREVER") then Some terminals.Forever else
     None
 
 -- the first, or the second where there is none
-abbrev pub or_else : Option Mark → Option Mark → Option Mark
+abbrev pub or_else : Option Terminal → Option Terminal → Option Terminal
 or_else None other = other
 or_else (Some mark) other = Some mark
 
 -- the keyword that a word is
-unfoldable pub keyword_of : List ℕ → Option Mark
-keyword_of word = or_else (statement_mark word) (or_else (table_mark word) (or_else (clause_mark word) (range_mark word)))
+unfoldable pub keyword_of : List ℕ → Option Terminal
+keyword_of word = or_else (statement_terminal word) (or_else (table_terminal word) (or_else (clause_terminal word) (range_terminal word)))
 
 -- the token that a word is, where it is no keyword: a name, if it isn't too long
 unfoldable pub other_token : List ℕ → Token
@@ -131,37 +130,37 @@ single kept [] = []
 single true (b ∷ bytes) = if b == 39 then single false bytes else b ∷ single false bytes
 single false (b ∷ bytes) = b ∷ single (b == 39) bytes
 
--- the token that a text constant is: a text of at most 65,535 bytes, whose characters are spelled in UTF-8
+-- the token that a text constant is: a text of at most 65,535 bytes
 unfoldable pub text_token : List ℕ → Token
-text_token text = if is_utf8 text && nat_le (length text) 65535 then Quoted text else Stray
+text_token text = if nat_le (length text) 65535 then Quoted text else Stray
 
 -- the text constant whose quote stands before these bytes
 unfoldable pub quoted_piece : ℕ → List ℕ → Result Piece TextFault
 quoted_piece at bytes = elim (closing false bytes) [ None ↦ Err (OpenText at) | Some n ↦ Ok (record { token = text_token (single false (take (n - 1) bytes)); len = n + 1; joins = true }) ]
 
 -- a symbol of so many bytes
-abbrev pub symbol : Mark → ℕ → Piece
+abbrev pub symbol : Terminal → ℕ → Piece
 symbol mark len = record { token = Fixed mark; len = len; joins = false }
 
 -- the symbol that begins with `<`
 abbrev pub less_piece : List ℕ → Piece
-less_piece [] = symbol marks.Less 1
-less_piece (b ∷ bytes) = if b == 62 then symbol marks.Unequal 2 else (if b == 61 then symbol marks.AtMost 2 else symbol marks.Less 1)
+less_piece [] = symbol terminals.Less 1
+less_piece (b ∷ bytes) = if b == 62 then symbol terminals.Unequal 2 else (if b == 61 then symbol terminals.AtMost 2 else symbol terminals.Less 1)
 
 -- the symbol that begins with `>`
 abbrev pub greater_piece : List ℕ → Piece
-greater_piece [] = symbol marks.Greater 1
-greater_piece (b ∷ bytes) = if b == 61 then symbol marks.AtLeast 2 else symbol marks.Greater 1
+greater_piece [] = symbol terminals.Greater 1
+greater_piece (b ∷ bytes) = if b == 61 then symbol terminals.AtLeast 2 else symbol terminals.Greater 1
 
 -- the symbol with this first byte
 unfoldable pub symbol_piece : ℕ → ℕ → List ℕ → Result Piece TextFault
 symbol_piece at b bytes =
-    if b == 40 then Ok (symbol marks.Open 1) else
-    if b == 41 then Ok (symbol marks.Close 1) else
-    if b == 44 then Ok (symbol marks.Comma 1) else
-    if b == 59 then Ok (symbol marks.Semicolon 1) else
-    if b == 42 then Ok (symbol marks.Star 1) else
-    if b == 61 then Ok (symbol marks.Equal 1) else
+    if b == 40 then Ok (symbol terminals.Open 1) else
+    if b == 41 then Ok (symbol terminals.Close 1) else
+    if b == 44 then Ok (symbol terminals.Comma 1) else
+    if b == 59 then Ok (symbol terminals.Semicolon 1) else
+    if b == 42 then Ok (symbol terminals.Star 1) else
+    if b == 61 then Ok (symbol terminals.Equal 1) else
     if b == 60 then Ok (less_piece bytes) else
     if b == 62 then Ok (greater_piece bytes) else
     Err (BadByte at)

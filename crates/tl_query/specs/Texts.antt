@@ -1,7 +1,7 @@
 -- What a text spells, and the fault of a text that spells nothing.
 use Rattle.std.specs.Prelude.{◌≡◌, ℕ, ◌<◌, ◌≤◌, nat_lt, false, if◌then◌else◌, ◌⊎◌, List, [], ◌∷◌, ◌++◌, length, Option, Some, None, Result, Ok, Err}
 use Rattle.tl_query.specs.declared.tokens.Placed.{Placed}
-use Rattle.tl_query.specs.declared.forms.Statement.{Statement}
+use Rattle.tl_query.specs.declared.ast.Statement.{Statement}
 use Rattle.tl_query.specs.declared.faults.TextFault.{TextFault}
 use Rattle.tl_query.specs.declared.faults.TextFault.TheVariants.{BadByte, OpenText, NumberTooLarge, Unexpected, QueryTooLong, NoMemory}
 use Rattle.tl_query.specs.Scanning.{Tokens, scan}

@@ -8,16 +8,16 @@ use Rattle.tl_types.specs.declared.cells.ColumnKind.{ColumnKind}
 use Rattle.tl_types.specs.declared.cells.ColumnKind.TheVariants.{IntKind, TextKind}
 use Rattle.tl_types.specs.History.{is_of_kind}
 use Rattle.tl_types.specs.Plain as plain
-use Rattle.tl_query.specs.declared.forms.AggKind.{AggKind}
-use Rattle.tl_query.specs.declared.forms.AggKind.TheVariants as kind
-use Rattle.tl_query.specs.declared.plans.Span.{Span}
-use Rattle.tl_query.specs.declared.plans.Span.TheVariants as span
-use Rattle.tl_query.specs.declared.plans.Typed.{Typed}
-use Rattle.tl_query.specs.declared.plans.Typed.TheVariants as typed
-use Rattle.tl_query.specs.declared.plans.TypedItem.{TypedItem}
-use Rattle.tl_query.specs.declared.plans.TypedItem.TheVariants as item
-use Rattle.tl_query.specs.declared.plans.TypedPred.{TypedPred}
-use Rattle.tl_query.specs.declared.plans.TypedTest.{TypedTest}
+use Rattle.tl_query.specs.declared.ast.AggKind.{AggKind}
+use Rattle.tl_query.specs.declared.ast.AggKind.TheVariants as kind
+use Rattle.tl_query.specs.declared.typed_queries.Span.{Span}
+use Rattle.tl_query.specs.declared.typed_queries.Span.TheVariants as span
+use Rattle.tl_query.specs.declared.typed_queries.Typed.{Typed}
+use Rattle.tl_query.specs.declared.typed_queries.Typed.TheVariants as typed
+use Rattle.tl_query.specs.declared.typed_queries.TypedItem.{TypedItem}
+use Rattle.tl_query.specs.declared.typed_queries.TypedItem.TheVariants as item
+use Rattle.tl_query.specs.declared.typed_queries.TypedPred.{TypedPred}
+use Rattle.tl_query.specs.declared.typed_queries.TypedTest.{TypedTest}
 
 -- COLUMNS
 

@@ -1,11 +1,11 @@
 //! Reading the clauses of a question, from left to right.
 ghost use Rattle.std.specs.Prelude.{◌≡◌, ◌<◌, ◌≤◌, length, Some, None, Ok, Err, IfOk, MatchOption};
-ghost use Rattle.tl_query.specs.declared.marks.Mark.TheVariants as marks;
+ghost use Rattle.tl_query.specs.declared.terminals.Terminal.TheVariants as terminals;
 ghost use Rattle.tl_query.specs.Reading.{Gives, after, expect, take_at, peek_at, several, test_at, conj_at, where_at, valid_point_at, as_of_at, versions_at, system_at, moments_at, over_at, column_name_at, by_at, side_at, on_at};
 
-use crate::forms::{AggKind, Name, Over, Pred, Stamp, Test, ValidPoint};
-use crate::marks::Mark;
-use crate::taking::{
+use crate::ast::{AggKind, Name, Over, Pred, Stamp, Test, ValidPoint};
+use crate::terminals::Terminal;
+use crate::token_parsers::{
     Stop, after, bound_at, cmp_at, constant_at, expect, moment_at, name_at, valid_word,
     valid_word_at, version_at,
 };
@@ -37,7 +37,7 @@ fn conj_at(alloc: Global, tokens: &[Placed]) -> Result<(Seq<Test>, &[Placed]), S
     let (first, mut rest) = test_at(tokens)?;
     let mut tests = Vec::new(alloc);
     tests.push(first)?;
-    while let Some(next) = after(rest, Mark::And) {
+    while let Some(next) = after(rest, Terminal::And) {
         let (test, behind) = test_at(next)?;
         tests.push(test)?;
         rest = behind;
@@ -47,12 +47,12 @@ fn conj_at(alloc: Global, tokens: &[Placed]) -> Result<(Seq<Test>, &[Placed]), S
 
 /// Lists of tests, parted by `OR`.
 fn any_at(alloc: Global, tokens: &[Placed]) -> Result<(Seq<Seq<Test>>, &[Placed]), Stop>
-    ensures { Gives (λ x. (x.0, x.1.now)) result (several marks.Or conj_at tokens.now) }
+    ensures { Gives (λ x. (x.0, x.1.now)) result (several terminals.Or conj_at tokens.now) }
 {
     let (first, mut rest) = conj_at(alloc, tokens)?;
     let mut any = Vec::new(alloc);
     any.push(first)?;
-    while let Some(next) = after(rest, Mark::Or) {
+    while let Some(next) = after(rest, Terminal::Or) {
         let (tests, behind) = conj_at(alloc, next)?;
         any.push(tests)?;
         rest = behind;
@@ -65,7 +65,7 @@ fn any_at(alloc: Global, tokens: &[Placed]) -> Result<(Seq<Seq<Test>>, &[Placed]
 pub(crate) fn where_at(alloc: Global, tokens: &[Placed]) -> Result<(Pred, &[Placed]), Stop>
     ensures { Gives (λ x. (x.0, x.1.now)) result (where_at tokens.now) }
 {
-    let Some(rest) = after(tokens, Mark::Where) else {
+    let Some(rest) = after(tokens, Terminal::Where) else {
         let any = Seq::new(alloc);
         return Ok((Pred { any }, tokens));
     };
@@ -81,7 +81,7 @@ pub(crate) fn valid_point_at(tokens: &[Placed]) -> Result<(Option<ValidPoint>, &
     let Some((pos, rest)) = valid_word(tokens) else {
         return Ok((None, tokens));
     };
-    let rest = expect(rest, Mark::At)?;
+    let rest = expect(rest, Terminal::At)?;
     let (value, rest) = moment_at(rest)?;
     Ok((Some(ValidPoint { pos, value }), rest))
 }
@@ -91,10 +91,10 @@ pub(crate) fn valid_point_at(tokens: &[Placed]) -> Result<(Option<ValidPoint>, &
 pub(crate) fn as_of_at(tokens: &[Placed]) -> Result<(Option<Stamp>, &[Placed]), Stop>
     ensures { Gives (λ x. (x.0, x.1.now)) result (as_of_at tokens.now) }
 {
-    let Some(rest) = after(tokens, Mark::As) else {
+    let Some(rest) = after(tokens, Terminal::As) else {
         return Ok((None, tokens));
     };
-    let rest = expect(rest, Mark::Of)?;
+    let rest = expect(rest, Terminal::Of)?;
     let (version, rest) = version_at(rest)?;
     Ok((Some(version), rest))
 }
@@ -104,7 +104,7 @@ fn versions_at(tokens: &[Placed]) -> Result<(Over, &[Placed]), Stop>
     ensures { Gives (λ x. (x.0, x.1.now)) result (versions_at tokens.now) }
 {
     let (from, rest) = version_at(tokens)?;
-    let rest = expect(rest, Mark::To)?;
+    let rest = expect(rest, Terminal::To)?;
     let (to, rest) = version_at(rest)?;
     Ok((Over::System { from, to }, rest))
 }
@@ -113,7 +113,7 @@ fn versions_at(tokens: &[Placed]) -> Result<(Over, &[Placed]), Stop>
 fn system_at(tokens: &[Placed]) -> Result<(Over, &[Placed]), Stop>
     ensures { Gives (λ x. (x.0, x.1.now)) result (system_at tokens.now) }
 {
-    match after(tokens, Mark::All) {
+    match after(tokens, Terminal::All) {
         Some(rest) => Ok((Over::SystemAll, rest)),
         None => versions_at(tokens),
     }
@@ -125,7 +125,7 @@ fn moments_at(tokens: &[Placed]) -> Result<(Over, &[Placed]), Stop>
 {
     let (pos, rest) = valid_word_at(tokens)?;
     let (from, rest) = bound_at(rest)?;
-    let rest = expect(rest, Mark::To)?;
+    let rest = expect(rest, Terminal::To)?;
     let (to, rest) = bound_at(rest)?;
     let (as_of, rest) = as_of_at(rest)?;
     let over = Over::Valid {
@@ -142,8 +142,8 @@ fn moments_at(tokens: &[Placed]) -> Result<(Over, &[Placed]), Stop>
 pub(crate) fn over_at(tokens: &[Placed]) -> Result<(Over, &[Placed]), Stop>
     ensures { Gives (λ x. (x.0, x.1.now)) result (over_at tokens.now) }
 {
-    let rest = expect(tokens, Mark::Over)?;
-    match after(rest, Mark::System) {
+    let rest = expect(tokens, Terminal::Over)?;
+    match after(rest, Terminal::System) {
         Some(behind) => system_at(behind),
         None => moments_at(rest),
     }
@@ -169,7 +169,7 @@ pub(crate) fn column_name_at(
 pub(crate) fn by_at(tokens: &[Placed]) -> Result<(Option<Name>, &[Placed]), Stop>
     ensures { Gives (λ x. (x.0, x.1.now)) result (by_at tokens.now) }
 {
-    let Some(rest) = after(tokens, Mark::By) else {
+    let Some(rest) = after(tokens, Terminal::By) else {
         return Ok((None, tokens));
     };
     let (name, rest) = name_at(rest)?;
@@ -191,9 +191,9 @@ pub(crate) fn side_at(alloc: Global, tokens: &[Placed]) -> Result<(Name, Pred, &
 pub(crate) fn on_at(tokens: &[Placed]) -> Result<(Name, Name, &[Placed]), Stop>
     ensures { Gives (λ x. ((x.0, x.1), x.2.now)) result (on_at tokens.now) }
 {
-    let rest = expect(tokens, Mark::On)?;
+    let rest = expect(tokens, Terminal::On)?;
     let (left, rest) = name_at(rest)?;
-    let rest = expect(rest, Mark::Equal)?;
+    let rest = expect(rest, Terminal::Equal)?;
     let (right, rest) = name_at(rest)?;
     Ok((left, right, rest))
 }

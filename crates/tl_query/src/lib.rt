@@ -4,22 +4,22 @@
 mod check_faults;
 mod clauses;
 mod faults;
-mod forms;
-mod marks;
+mod ast;
+mod terminals;
 mod parsing;
-mod plans;
+mod typed_queries;
 mod printing;
 mod scanning;
-mod statements;
-mod taking;
+mod grammar;
+mod token_parsers;
 mod tokens;
 
 pub use check_faults::CheckFault;
 pub use faults::TextFault;
-pub use forms::{
+pub use ast::{
     AggForm, AggKind, ColumnForm, CreateForm, Item, JoinForm, Name, Over, Pred, Query, SelectForm,
     Stamp, Statement, Test, ValidPoint,
 };
 pub use parsing::parse;
-pub use plans::{AggPlan, JoinPlan, Span, Typed, TypedItem, TypedPred, TypedTest};
+pub use typed_queries::{AggPlan, JoinPlan, Span, Typed, TypedItem, TypedPred, TypedTest};
 pub use printing::print;

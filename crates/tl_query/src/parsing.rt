@@ -1,16 +1,16 @@
 //! The statement that a text spells, or its first fault.
 ghost use Rattle.std.specs.Prelude.{◌≡◌, ◌≤◌, ◌⊎◌, length, IfOk, IfErr, IsErr, MatchResult};
-ghost use Rattle.tl_query.specs.declared.forms.Statement.{Statement};
+ghost use Rattle.tl_query.specs.declared.ast.Statement.{Statement};
 ghost use Rattle.tl_query.specs.declared.faults.TextFault.{TextFault};
 ghost use Rattle.tl_query.specs.declared.faults.TextFault.TheVariants as faults;
 ghost use Rattle.tl_query.specs.Grammar.{HasNames, IsParsed};
 ghost use Rattle.tl_query.specs.Texts.{Spells, IsFault, Answers, text_read};
 
 use crate::faults::TextFault;
-use crate::forms::Statement;
+use crate::ast::Statement;
 use crate::scanning::{Scanned, scan};
-use crate::statements::statement_at;
-use crate::taking::Stop;
+use crate::grammar::statement_at;
+use crate::token_parsers::Stop;
 use std::alloc::Global;
 
 /// How many bytes a statement's text can have.
@@ -80,7 +80,7 @@ pub fn parse(alloc: Global, text: &str) -> Result<Statement, TextFault>
 #[cfg(test)]
 mod tests {
     use super::*;
-    use crate::forms::{Item, Query};
+    use crate::ast::{Item, Query};
     use std::test::Fail;
     use tl_types::ColumnKind;
 

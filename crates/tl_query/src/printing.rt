@@ -2,19 +2,19 @@
 ghost use Rattle.std.specs.Prelude.{◌≡◌, ℕ, false, ◌≤◌, ◌∷◌, [], ◌++◌, ◌||◌, length, OnOk, IfOk, MatchOption, IfSome, Some, None};
 ghost use Rattle.std.specs.Fmt.{signed_decimal};
 ghost use Rattle.tl_types.specs.declared.cells.Cell.TheVariants as cells;
-ghost use Rattle.tl_query.specs.declared.marks.Mark.TheVariants as marks;
-ghost use Rattle.tl_query.specs.declared.forms.Statement.{Statement};
-ghost use Rattle.tl_query.specs.declared.forms.Query.TheVariants as queries;
-ghost use Rattle.tl_query.specs.declared.forms.Statement.TheVariants as statements;
-ghost use Rattle.tl_query.specs.Grammar.{said, named, version, moment, bound, constant, kind_mark, cmp_mark, agg_mark, item_part, item_parts, column_parts, valid_parts, test_parts, conj_parts, any_parts, where_parts, valid_at_parts, as_of_parts, column_name_parts, by_parts, over_parts, create_parts, asked_parts, select_parts, agg_parts, join_parts, behind_each, parted, statement_parts, IsParsed};
+ghost use Rattle.tl_query.specs.declared.terminals.Terminal.TheVariants as terminals;
+ghost use Rattle.tl_query.specs.declared.ast.Statement.{Statement};
+ghost use Rattle.tl_query.specs.declared.ast.Query.TheVariants as queries;
+ghost use Rattle.tl_query.specs.declared.ast.Statement.TheVariants as statements;
+ghost use Rattle.tl_query.specs.Grammar.{said, named, version, moment, bound, constant, kind_terminal, cmp_terminal, agg_terminal, item_part, item_parts, column_parts, valid_parts, test_parts, conj_parts, any_parts, where_parts, valid_at_parts, as_of_parts, column_name_parts, by_parts, over_parts, create_parts, asked_parts, select_parts, agg_parts, join_parts, behind_each, parted, statement_parts, IsParsed};
 ghost use Rattle.tl_query.specs.Printing.{Written, doubled, quoted, cell_text, gap, fixed, plain_word, bound_word, put, write, nothing, text_of};
 ghost use Rattle.tl_query.specs.Texts.{SpellsAgain};
 
-use crate::forms::{
+use crate::ast::{
     AggForm, AggKind, ColumnForm, CreateForm, Item, JoinForm, Name, Over, Pred, Query, SelectForm,
     Stamp, Statement, Test, ValidPoint,
 };
-use crate::marks::{Mark, same_mark, spelling};
+use crate::terminals::{Terminal, same_terminal, spelling};
 use std::alloc::{AllocError, Global};
 use std::marker::Model;
 use tl_types::{Bytes, Cell, Cmp, ColumnKind, NoMemory, Seq};
@@ -51,37 +51,37 @@ fn quoted(alloc: Global, text: &[u8]) -> Result<Vec<u8>, AllocError>
     Ok(bytes)
 }
 
-fn kind_mark(kind: ColumnKind) -> Mark
-    ensures { result ≡ kind_mark kind }
+fn kind_terminal(kind: ColumnKind) -> Terminal
+    ensures { result ≡ kind_terminal kind }
 {
     match kind {
-        ColumnKind::IntKind => Mark::Int,
-        ColumnKind::TextKind => Mark::Text,
+        ColumnKind::IntKind => Terminal::Int,
+        ColumnKind::TextKind => Terminal::Text,
     }
 }
 
-fn cmp_mark(cmp: Cmp) -> Mark
-    ensures { result ≡ cmp_mark cmp }
+fn cmp_terminal(cmp: Cmp) -> Terminal
+    ensures { result ≡ cmp_terminal cmp }
 {
     match cmp {
-        Cmp::Eq => Mark::Equal,
-        Cmp::Ne => Mark::Unequal,
-        Cmp::Lt => Mark::Less,
-        Cmp::Le => Mark::AtMost,
-        Cmp::Gt => Mark::Greater,
-        Cmp::Ge => Mark::AtLeast,
+        Cmp::Eq => Terminal::Equal,
+        Cmp::Ne => Terminal::Unequal,
+        Cmp::Lt => Terminal::Less,
+        Cmp::Le => Terminal::AtMost,
+        Cmp::Gt => Terminal::Greater,
+        Cmp::Ge => Terminal::AtLeast,
     }
 }
 
-fn agg_mark(kind: AggKind) -> Mark
-    ensures { result ≡ agg_mark kind }
+fn agg_terminal(kind: AggKind) -> Terminal
+    ensures { result ≡ agg_terminal kind }
 {
     match kind {
-        AggKind::Count => Mark::Count,
-        AggKind::Sum => Mark::Sum,
-        AggKind::Avg => Mark::Avg,
-        AggKind::Min => Mark::Min,
-        AggKind::Max => Mark::Max,
+        AggKind::Count => Terminal::Count,
+        AggKind::Sum => Terminal::Sum,
+        AggKind::Avg => Terminal::Avg,
+        AggKind::Min => Terminal::Min,
+        AggKind::Max => Terminal::Max,
     }
 }
 
@@ -114,12 +114,12 @@ impl Printer {
     }
 
     #[tactic(auto, unfolding(crate::specs::Printing::put))]
-    fn mark(&mut self, mark: Mark) -> Result<(), AllocError>
+    fn mark(&mut self, mark: Terminal) -> Result<(), AllocError>
         ensures { OnOk result (self.new ≡ put self.old (fixed mark)) }
     {
-        self.space(same_mark(mark, Mark::Close) || same_mark(mark, Mark::Comma))?;
+        self.space(same_terminal(mark, Terminal::Close) || same_terminal(mark, Terminal::Comma))?;
         self.text(spelling(mark).as_bytes())?;
-        self.tight = same_mark(mark, Mark::Open);
+        self.tight = same_terminal(mark, Terminal::Open);
         Ok(())
     }
 
@@ -157,7 +157,7 @@ impl Printer {
         ensures { OnOk result (self.new ≡ put self.old (bound_word stamp.value)) }
     {
         if stamp.value == i64::MAX {
-            self.mark(Mark::Forever)
+            self.mark(Terminal::Forever)
         } else {
             self.number(stamp.value)
         }
@@ -179,15 +179,15 @@ impl Printer {
         ensures { OnOk result (self.new ≡ write self.old (column_parts column.now)) }
     {
         self.name(&column.name)?;
-        self.mark(kind_mark(column.kind))?;
+        self.mark(kind_terminal(column.kind))?;
         Ok(())
     }
 
     fn further_columns(&mut self, columns: &[ColumnForm]) -> Result<(), AllocError>
-        ensures { OnOk result (self.new ≡ write self.old (behind_each marks.Comma column_parts columns.now)) }
+        ensures { OnOk result (self.new ≡ write self.old (behind_each terminals.Comma column_parts columns.now)) }
     {
         for column in columns {
-            self.mark(Mark::Comma)?;
+            self.mark(Terminal::Comma)?;
             self.column(column)?;
         }
         Ok(())
@@ -195,7 +195,7 @@ impl Printer {
 
     #[tactic(auto, using(crate::proofs::Writing::write_append))]
     fn columns(&mut self, columns: &[ColumnForm]) -> Result<(), AllocError>
-        ensures { OnOk result (self.new ≡ write self.old (parted marks.Comma column_parts columns.now)) }
+        ensures { OnOk result (self.new ≡ write self.old (parted terminals.Comma column_parts columns.now)) }
     {
         if let [column, rest @ ..] = columns {
             self.column(column)?;
@@ -208,7 +208,7 @@ impl Printer {
         ensures { OnOk result (self.new ≡ write self.old (valid_parts valid)) }
     {
         if valid {
-            self.mark(Mark::Valid)?;
+            self.mark(Terminal::Valid)?;
         }
         Ok(())
     }
@@ -217,13 +217,13 @@ impl Printer {
     fn create(&mut self, form: &CreateForm) -> Result<(), AllocError>
         ensures { OnOk result (self.new ≡ write self.old (create_parts form.now)) }
     {
-        self.mark(Mark::Create)?;
-        self.mark(Mark::Table)?;
+        self.mark(Terminal::Create)?;
+        self.mark(Terminal::Table)?;
         self.name(&form.name)?;
-        self.mark(Mark::Open)?;
+        self.mark(Terminal::Open)?;
         self.columns(form.columns.as_slice())?;
-        self.mark(Mark::Close)?;
-        self.mark(Mark::Key)?;
+        self.mark(Terminal::Close)?;
+        self.mark(Terminal::Key)?;
         self.name(&form.key)?;
         self.valid(form.valid)?;
         Ok(())
@@ -234,17 +234,17 @@ impl Printer {
     {
         match item {
             Item::Column(name) => self.name(name)?,
-            Item::ValidFrom(_) => self.mark(Mark::ValidFrom)?,
-            Item::ValidTo(_) => self.mark(Mark::ValidTo)?,
+            Item::ValidFrom(_) => self.mark(Terminal::ValidFrom)?,
+            Item::ValidTo(_) => self.mark(Terminal::ValidTo)?,
         }
         Ok(())
     }
 
     fn further_items(&mut self, items: &[Item]) -> Result<(), AllocError>
-        ensures { OnOk result (self.new ≡ write self.old (behind_each marks.Comma item_parts items.now)) }
+        ensures { OnOk result (self.new ≡ write self.old (behind_each terminals.Comma item_parts items.now)) }
     {
         for item in items {
-            self.mark(Mark::Comma)?;
+            self.mark(Terminal::Comma)?;
             self.item(item)?;
         }
         Ok(())
@@ -252,7 +252,7 @@ impl Printer {
 
     #[tactic(auto, using(crate::proofs::Writing::write_append))]
     fn items(&mut self, items: &[Item]) -> Result<(), AllocError>
-        ensures { OnOk result (self.new ≡ write self.old (parted marks.Comma item_parts items.now)) }
+        ensures { OnOk result (self.new ≡ write self.old (parted terminals.Comma item_parts items.now)) }
     {
         if let [item, rest @ ..] = items {
             self.item(item)?;
@@ -265,7 +265,7 @@ impl Printer {
         ensures { OnOk result (self.new ≡ write self.old (asked_parts all items.now)) }
     {
         if all {
-            self.mark(Mark::Star)?;
+            self.mark(Terminal::Star)?;
         } else {
             self.items(items)?;
         }
@@ -276,16 +276,16 @@ impl Printer {
         ensures { OnOk result (self.new ≡ write self.old (test_parts test.now)) }
     {
         self.name(&test.column)?;
-        self.mark(cmp_mark(test.cmp))?;
+        self.mark(cmp_terminal(test.cmp))?;
         self.constant(&test.value)?;
         Ok(())
     }
 
     fn further_tests(&mut self, tests: &[Test]) -> Result<(), AllocError>
-        ensures { OnOk result (self.new ≡ write self.old (behind_each marks.And test_parts tests.now)) }
+        ensures { OnOk result (self.new ≡ write self.old (behind_each terminals.And test_parts tests.now)) }
     {
         for test in tests {
-            self.mark(Mark::And)?;
+            self.mark(Terminal::And)?;
             self.test(test)?;
         }
         Ok(())
@@ -293,7 +293,7 @@ impl Printer {
 
     #[tactic(auto, using(crate::proofs::Writing::write_append))]
     fn tests(&mut self, tests: &[Test]) -> Result<(), AllocError>
-        ensures { OnOk result (self.new ≡ write self.old (parted marks.And test_parts tests.now)) }
+        ensures { OnOk result (self.new ≡ write self.old (parted terminals.And test_parts tests.now)) }
     {
         if let [test, rest @ ..] = tests {
             self.test(test)?;
@@ -303,17 +303,17 @@ impl Printer {
     }
 
     fn further_any(&mut self, any: &[Seq<Test>]) -> Result<(), AllocError>
-        ensures { OnOk result (self.new ≡ write self.old (behind_each marks.Or conj_parts any.now)) }
+        ensures { OnOk result (self.new ≡ write self.old (behind_each terminals.Or conj_parts any.now)) }
     {
         for tests in any {
-            self.mark(Mark::Or)?;
+            self.mark(Terminal::Or)?;
             self.tests(tests.as_slice())?;
         }
         Ok(())
     }
 
     fn any(&mut self, any: &[Seq<Test>]) -> Result<(), AllocError>
-        ensures { OnOk result (self.new ≡ write self.old (parted marks.Or conj_parts any.now)) }
+        ensures { OnOk result (self.new ≡ write self.old (parted terminals.Or conj_parts any.now)) }
     {
         if let [tests, ..] = any {
             let (_, rest) = any.split_at(1);
@@ -327,7 +327,7 @@ impl Printer {
         ensures { OnOk result (self.new ≡ write self.old (where_parts pred.now)) }
     {
         if !pred.any.is_empty() {
-            self.mark(Mark::Where)?;
+            self.mark(Terminal::Where)?;
         }
         self.any(pred.any.as_slice())?;
         Ok(())
@@ -337,8 +337,8 @@ impl Printer {
         ensures { OnOk result (self.new ≡ write self.old (valid_at_parts point)) }
     {
         if let Some(point) = point {
-            self.mark(Mark::Valid)?;
-            self.mark(Mark::At)?;
+            self.mark(Terminal::Valid)?;
+            self.mark(Terminal::At)?;
             self.number(point.value)?;
         }
         Ok(())
@@ -348,8 +348,8 @@ impl Printer {
         ensures { OnOk result (self.new ≡ write self.old (as_of_parts stamp)) }
     {
         if let Some(stamp) = stamp {
-            self.mark(Mark::As)?;
-            self.mark(Mark::Of)?;
+            self.mark(Terminal::As)?;
+            self.mark(Terminal::Of)?;
             self.version(stamp)?;
         }
         Ok(())
@@ -359,9 +359,9 @@ impl Printer {
     fn select(&mut self, form: &SelectForm) -> Result<(), AllocError>
         ensures { OnOk result (self.new ≡ write self.old (select_parts form.now)) }
     {
-        self.mark(Mark::Select)?;
+        self.mark(Terminal::Select)?;
         self.asked(form.all, form.items.as_slice())?;
-        self.mark(Mark::From)?;
+        self.mark(Terminal::From)?;
         self.name(&form.table)?;
         self.where_tests(&form.pred)?;
         self.valid_at(form.valid_at)?;
@@ -382,7 +382,7 @@ impl Printer {
         ensures { OnOk result (self.new ≡ write self.old (by_parts column.now)) }
     {
         if let Some(name) = column {
-            self.mark(Mark::By)?;
+            self.mark(Terminal::By)?;
             self.name(name)?;
         }
         Ok(())
@@ -391,16 +391,16 @@ impl Printer {
     fn over(&mut self, over: Over) -> Result<(), AllocError>
         ensures { OnOk result (self.new ≡ write self.old (over_parts over)) }
     {
-        self.mark(Mark::Over)?;
+        self.mark(Terminal::Over)?;
         match over {
             Over::SystemAll => {
-                self.mark(Mark::System)?;
-                self.mark(Mark::All)?;
+                self.mark(Terminal::System)?;
+                self.mark(Terminal::All)?;
             }
             Over::System { from, to } => {
-                self.mark(Mark::System)?;
+                self.mark(Terminal::System)?;
                 self.version(from)?;
-                self.mark(Mark::To)?;
+                self.mark(Terminal::To)?;
                 self.version(to)?;
             }
             Over::Valid {
@@ -409,9 +409,9 @@ impl Printer {
                 to,
                 as_of,
             } => {
-                self.mark(Mark::Valid)?;
+                self.mark(Terminal::Valid)?;
                 self.bound(from)?;
-                self.mark(Mark::To)?;
+                self.mark(Terminal::To)?;
                 self.bound(to)?;
                 self.as_of(as_of)?;
             }
@@ -423,9 +423,9 @@ impl Printer {
     fn agg(&mut self, form: &AggForm) -> Result<(), AllocError>
         ensures { OnOk result (self.new ≡ write self.old (agg_parts form.now)) }
     {
-        self.mark(agg_mark(form.kind))?;
+        self.mark(agg_terminal(form.kind))?;
         self.column_name(&form.column)?;
-        self.mark(Mark::From)?;
+        self.mark(Terminal::From)?;
         self.name(&form.table)?;
         self.where_tests(&form.pred)?;
         self.by(&form.by)?;
@@ -437,15 +437,15 @@ impl Printer {
     fn join(&mut self, form: &JoinForm) -> Result<(), AllocError>
         ensures { OnOk result (self.new ≡ write self.old (join_parts form.now)) }
     {
-        self.mark(Mark::Join)?;
+        self.mark(Terminal::Join)?;
         self.name(&form.left)?;
         self.where_tests(&form.left_pred)?;
-        self.mark(Mark::With)?;
+        self.mark(Terminal::With)?;
         self.name(&form.right)?;
         self.where_tests(&form.right_pred)?;
-        self.mark(Mark::On)?;
+        self.mark(Terminal::On)?;
         self.name(&form.left_on)?;
-        self.mark(Mark::Equal)?;
+        self.mark(Terminal::Equal)?;
         self.name(&form.right_on)?;
         self.over(form.over)?;
         Ok(())
@@ -457,11 +457,11 @@ impl Printer {
         match statement {
             Statement::Create(form) => self.create(form)?,
             Statement::Put(name) => {
-                self.mark(Mark::Put)?;
+                self.mark(Terminal::Put)?;
                 self.name(name)?;
             }
             Statement::Remove(name) => {
-                self.mark(Mark::Remove)?;
+                self.mark(Terminal::Remove)?;
                 self.name(name)?;
             }
             Statement::Ask(Query::Select(form)) => self.select(form)?,

@@ -1,12 +1,12 @@
 //! Cutting a text into tokens.
 ghost use Rattle.std.specs.Prelude.{◌≡◌, ℕ, ◌+◌, ◌-◌, ◌^◌, ◌<◌, ◌≤◌, length, min, IfOk, IfSome, Some, None, Ok, Err, true, false, pos, neg_ℤ};
 ghost use Rattle.std.specs.List.{prefix_len};
-ghost use Rattle.std.specs.Str.{IsAscii};
+ghost use Rattle.std.specs.Str.{IsUtf8};
 ghost use Rattle.tl_types.specs.Names.{is_digit, continues_word};
-ghost use Rattle.tl_query.specs.Scanning.{is_blank, number_of, statement_mark, table_mark, clause_mark, range_mark, keyword_of, other_token, word_token, word_piece, number_piece, negative_piece, closing, single, text_token, quoted_piece, symbol, less_piece, greater_piece, symbol_piece, piece_of, placed, seen, scan};
+ghost use Rattle.tl_query.specs.Scanning.{is_blank, number_of, statement_terminal, table_terminal, clause_terminal, range_terminal, keyword_of, other_token, word_token, word_piece, number_piece, negative_piece, closing, single, text_token, quoted_piece, symbol, less_piece, greater_piece, symbol_piece, piece_of, placed, seen, scan};
 
 use crate::faults::TextFault;
-use crate::marks::Mark;
+use crate::terminals::Terminal;
 use crate::tokens::{Placed, Token};
 use std::alloc::{AllocError, Global};
 use tl_types::{Text, begins_word, continues_word, is_name};
@@ -65,144 +65,144 @@ fn number_of(digits: &[u8]) -> u64
     number
 }
 
-#[tactic(auto, unfolding(crate::specs::Scanning::statement_mark))]
-fn statement_mark(word: &str) -> Option<Mark>
-    ensures { result ≡ statement_mark word.now }
+#[tactic(auto, unfolding(crate::specs::Scanning::statement_terminal))]
+fn statement_terminal(word: &str) -> Option<Terminal>
+    ensures { result ≡ statement_terminal word.now }
 {
     if word == "CREATE" {
-        return Some(Mark::Create);
+        return Some(Terminal::Create);
     }
     if word == "PUT" {
-        return Some(Mark::Put);
+        return Some(Terminal::Put);
     }
     if word == "REMOVE" {
-        return Some(Mark::Remove);
+        return Some(Terminal::Remove);
     }
     if word == "SELECT" {
-        return Some(Mark::Select);
+        return Some(Terminal::Select);
     }
     if word == "COUNT" {
-        return Some(Mark::Count);
+        return Some(Terminal::Count);
     }
     if word == "SUM" {
-        return Some(Mark::Sum);
+        return Some(Terminal::Sum);
     }
     if word == "AVG" {
-        return Some(Mark::Avg);
+        return Some(Terminal::Avg);
     }
     if word == "MIN" {
-        return Some(Mark::Min);
+        return Some(Terminal::Min);
     }
     if word == "MAX" {
-        return Some(Mark::Max);
+        return Some(Terminal::Max);
     }
     if word == "JOIN" {
-        return Some(Mark::Join);
+        return Some(Terminal::Join);
     }
     None
 }
 
-#[tactic(auto, unfolding(crate::specs::Scanning::table_mark))]
-fn table_mark(word: &str) -> Option<Mark>
-    ensures { result ≡ table_mark word.now }
+#[tactic(auto, unfolding(crate::specs::Scanning::table_terminal))]
+fn table_terminal(word: &str) -> Option<Terminal>
+    ensures { result ≡ table_terminal word.now }
 {
     if word == "TABLE" {
-        return Some(Mark::Table);
+        return Some(Terminal::Table);
     }
     if word == "KEY" {
-        return Some(Mark::Key);
+        return Some(Terminal::Key);
     }
     if word == "VALID" {
-        return Some(Mark::Valid);
+        return Some(Terminal::Valid);
     }
     if word == "INT" {
-        return Some(Mark::Int);
+        return Some(Terminal::Int);
     }
     if word == "TEXT" {
-        return Some(Mark::Text);
+        return Some(Terminal::Text);
     }
     if word == "valid_from" {
-        return Some(Mark::ValidFrom);
+        return Some(Terminal::ValidFrom);
     }
     if word == "valid_to" {
-        return Some(Mark::ValidTo);
+        return Some(Terminal::ValidTo);
     }
     None
 }
 
-#[tactic(auto, unfolding(crate::specs::Scanning::clause_mark))]
-fn clause_mark(word: &str) -> Option<Mark>
-    ensures { result ≡ clause_mark word.now }
+#[tactic(auto, unfolding(crate::specs::Scanning::clause_terminal))]
+fn clause_terminal(word: &str) -> Option<Terminal>
+    ensures { result ≡ clause_terminal word.now }
 {
     if word == "FROM" {
-        return Some(Mark::From);
+        return Some(Terminal::From);
     }
     if word == "WHERE" {
-        return Some(Mark::Where);
+        return Some(Terminal::Where);
     }
     if word == "AND" {
-        return Some(Mark::And);
+        return Some(Terminal::And);
     }
     if word == "OR" {
-        return Some(Mark::Or);
+        return Some(Terminal::Or);
     }
     if word == "AS" {
-        return Some(Mark::As);
+        return Some(Terminal::As);
     }
     if word == "OF" {
-        return Some(Mark::Of);
+        return Some(Terminal::Of);
     }
     if word == "AT" {
-        return Some(Mark::At);
+        return Some(Terminal::At);
     }
     if word == "BY" {
-        return Some(Mark::By);
+        return Some(Terminal::By);
     }
     None
 }
 
-#[tactic(auto, unfolding(crate::specs::Scanning::range_mark))]
-fn range_mark(word: &str) -> Option<Mark>
-    ensures { result ≡ range_mark word.now }
+#[tactic(auto, unfolding(crate::specs::Scanning::range_terminal))]
+fn range_terminal(word: &str) -> Option<Terminal>
+    ensures { result ≡ range_terminal word.now }
 {
     if word == "OVER" {
-        return Some(Mark::Over);
+        return Some(Terminal::Over);
     }
     if word == "SYSTEM" {
-        return Some(Mark::System);
+        return Some(Terminal::System);
     }
     if word == "ALL" {
-        return Some(Mark::All);
+        return Some(Terminal::All);
     }
     if word == "TO" {
-        return Some(Mark::To);
+        return Some(Terminal::To);
     }
     if word == "WITH" {
-        return Some(Mark::With);
+        return Some(Terminal::With);
     }
     if word == "ON" {
-        return Some(Mark::On);
+        return Some(Terminal::On);
     }
     if word == "FOREVER" {
-        return Some(Mark::Forever);
+        return Some(Terminal::Forever);
     }
     None
 }
 
 #[tactic(auto, unfolding(crate::specs::Scanning::keyword_of))]
-fn keyword_of(word: &str) -> Option<Mark>
+fn keyword_of(word: &str) -> Option<Terminal>
     ensures { result ≡ keyword_of word.now }
 {
-    if let Some(mark) = statement_mark(word) {
+    if let Some(mark) = statement_terminal(word) {
         return Some(mark);
     }
-    if let Some(mark) = table_mark(word) {
+    if let Some(mark) = table_terminal(word) {
         return Some(mark);
     }
-    if let Some(mark) = clause_mark(word) {
+    if let Some(mark) = clause_terminal(word) {
         return Some(mark);
     }
-    range_mark(word)
+    range_terminal(word)
 }
 
 #[tactic(auto, unfolding(crate::specs::Scanning::other_token))]
@@ -225,9 +225,9 @@ fn word_token(alloc: Global, word: &str) -> Result<Token, AllocError>
     }
 }
 
-/// Bytes of ASCII as a text.
+/// The text that bytes of UTF-8 are.
 fn as_text(bytes: &[u8]) -> &str
-    requires { IsAscii bytes.now }
+    requires { IsUtf8 bytes.now }
     ensures { result.now ≡ bytes.now }
 {
     match str::from_utf8(bytes) {
@@ -329,11 +329,10 @@ fn single(alloc: Global, bytes: &[u8]) -> Result<Vec<u8>, AllocError>
 
 #[tactic(auto, unfolding(crate::specs::Scanning::text_token))]
 fn text_token(alloc: Global, bytes: &[u8]) -> Result<Token, AllocError>
+    requires { IsUtf8 bytes.now }
     ensures { IfOk result (λ token. token ≡ text_token bytes.now) }
 {
-    let Ok(text) = str::from_utf8(bytes) else {
-        return Ok(Token::Stray);
-    };
+    let text = as_text(bytes);
     if text.len() > MOST_TEXT_BYTES {
         return Ok(Token::Stray);
     }
@@ -346,7 +345,8 @@ fn quoted_piece(
     at: u32,
     bytes: &[u8],
 ) -> Result<Result<Piece, TextFault>, AllocError>
-    requires { length bytes.now < 2 ^ 32 }
+    requires short { length bytes.now < 2 ^ 32 }
+    requires utf8 { IsUtf8 bytes.now }
     ensures { IfOk result (λ piece. piece ≡ quoted_piece at bytes.now) }
 {
     let Some(count) = closing(bytes) else {
@@ -360,7 +360,7 @@ fn quoted_piece(
     Ok(Ok(Piece { token, len, joins }))
 }
 
-fn symbol(mark: Mark, len: usize) -> Piece
+fn symbol(mark: Terminal, len: usize) -> Piece
     ensures { result ≡ symbol mark len }
 {
     let token = Token::Fixed(mark);
@@ -372,9 +372,9 @@ fn less_piece(bytes: &[u8]) -> Piece
     ensures { result ≡ less_piece bytes.now }
 {
     match bytes {
-        [b'>', ..] => symbol(Mark::Unequal, 2),
-        [b'=', ..] => symbol(Mark::AtMost, 2),
-        _ => symbol(Mark::Less, 1),
+        [b'>', ..] => symbol(Terminal::Unequal, 2),
+        [b'=', ..] => symbol(Terminal::AtMost, 2),
+        _ => symbol(Terminal::Less, 1),
     }
 }
 
@@ -382,8 +382,8 @@ fn greater_piece(bytes: &[u8]) -> Piece
     ensures { result ≡ greater_piece bytes.now }
 {
     match bytes {
-        [b'=', ..] => symbol(Mark::AtLeast, 2),
-        _ => symbol(Mark::Greater, 1),
+        [b'=', ..] => symbol(Terminal::AtLeast, 2),
+        _ => symbol(Terminal::Greater, 1),
     }
 }
 
@@ -392,22 +392,23 @@ fn symbol_piece(at: u32, first: u8, bytes: &[u8]) -> Result<Piece, TextFault>
     ensures { result ≡ symbol_piece at first bytes.now }
 {
     match first {
-        b'(' => Ok(symbol(Mark::Open, 1)),
-        b')' => Ok(symbol(Mark::Close, 1)),
-        b',' => Ok(symbol(Mark::Comma, 1)),
-        b';' => Ok(symbol(Mark::Semicolon, 1)),
-        b'*' => Ok(symbol(Mark::Star, 1)),
-        b'=' => Ok(symbol(Mark::Equal, 1)),
+        b'(' => Ok(symbol(Terminal::Open, 1)),
+        b')' => Ok(symbol(Terminal::Close, 1)),
+        b',' => Ok(symbol(Terminal::Comma, 1)),
+        b';' => Ok(symbol(Terminal::Semicolon, 1)),
+        b'*' => Ok(symbol(Terminal::Star, 1)),
+        b'=' => Ok(symbol(Terminal::Equal, 1)),
         b'<' => Ok(less_piece(bytes)),
         b'>' => Ok(greater_piece(bytes)),
         _ => Err(TextFault::BadByte { at }),
     }
 }
 
-/// The token at the front of the bytes, at most 65,536, or its fault.
+/// The token at the front of a text of at most 65,536 bytes, or its fault.
 #[tactic(auto, unfolding(crate::specs::Scanning::piece_at))]
 fn piece_of(alloc: Global, at: u32, bytes: &[u8]) -> Result<Result<Piece, TextFault>, AllocError>
-    requires { length bytes.now < 2 ^ 32 }
+    requires short { length bytes.now < 2 ^ 32 }
+    requires utf8 { IsUtf8 bytes.now }
     ensures { IfOk result (λ piece. piece ≡ piece_of at bytes.now) }
 {
     let [first, behind @ ..] = bytes else {
@@ -454,9 +455,10 @@ pub(crate) struct Scanned {
     pub fault: Option<TextFault>,
 }
 
-/// The tokens of at most 65,536 bytes. The error is want of memory.
+/// The tokens of a text of at most 65,536 bytes. The error is want of memory.
 pub(crate) fn scan(alloc: Global, bytes: &[u8]) -> Result<Scanned, AllocError>
-    requires { length bytes.now ≤ 65536 }
+    requires short { length bytes.now ≤ 65536 }
+    requires utf8 { IsUtf8 bytes.now }
     ensures { IfOk result (λ read. seen read ≡ scan 0 false 0 bytes.now) }
 {
     let mut tokens = Vec::new(alloc);

@@ -1,12 +1,12 @@
 //! The tokens of a text.
-use crate::marks::Mark;
+use crate::terminals::Terminal;
 use tl_types::Text;
 
 /// A token.
 #[derive(Debug, Drop, PartialEq, Eq)]
 pub(crate) enum Token {
     /// A keyword or a symbol.
-    Fixed(Mark),
+    Fixed(Terminal),
     /// A name.
     Word(Text),
     /// A number spelled without `-`.

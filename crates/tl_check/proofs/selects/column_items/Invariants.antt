@@ -1,6 +1,6 @@
 use Rattle.std.proofs.Common.{◌≡◌, map, take}
 use Rattle.std.specs.List.{enumerate_from}
-use Rattle.tl_query.specs.declared.plans.TypedItem.TheVariants as typed_item
+use Rattle.tl_query.specs.declared.typed_queries.TypedItem.TheVariants as typed_item
 use Rattle.tl_check.proofs.selects.column_items.Given as goal
 
 abbrev pub invariant-loop-place : goal.invariant-loop-place

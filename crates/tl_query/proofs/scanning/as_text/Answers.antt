@@ -1,5 +1,4 @@
-use Rattle.std.proofs.lemmas.Str.{IsUtf8-from_ascii}
 use Rattle.tl_query.proofs.scanning.as_text.Goals as goal
 
 pub unreachable-requires : goal.unreachable-requires
-unreachable-requires c = c.in-Err.ensures.cases.0 (IsUtf8-from_ascii c.args.bytes.now c.requires)
+unreachable-requires c = c.in-Err.ensures.cases.0 c.requires

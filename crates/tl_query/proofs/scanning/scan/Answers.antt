@@ -1,17 +1,24 @@
-use Rattle.std.proofs.Common.{◌≡◌, ◌∙◌, sym, ap, ◌<◌, length, get_or, Some, None, Ok, Err, true, false, List, [], ◌∷◌, ◌++◌, append-nil, length-drop, arith}
+use Rattle.std.proofs.Common.{◌≡◌, ℕ, ◌∙◌, sym, ap, ◌<◌, length, get_or, Some, None, Ok, Err, true, false, List, [], ◌∷◌, ◌++◌, append-nil, length-drop, arith}
 use Rattle.std.proofs.lemmas.Grind.{common_steps}
 use Rattle.std.proofs.lemmas.Bool.Decides.{nat_tests}
 use Rattle.tl_query.specs.declared.tokens.Placed.{Placed}
 use Rattle.tl_query.specs.Scanning.{is_blank, piece_of, placed}
 use Rattle.tl_query.proofs.Turns.{blank_step, fault_step, piece_step, step_within, scan_done}
+use Rattle.tl_query.proofs.Utf8.{behind_piece, behind_byte}
 use Rattle.tl_query.proofs.scanning.scan.Goals as goal
+
+-- a blank is ASCII
+blank_low : (b : ℕ) → is_blank b ≡ true → b < 128
+blank_low b h = grind (arith, nat_tests)
 
 pub tokens-preserved-then-is_blank : goal.tokens-preserved-then-is_blank
 tokens-preserved-then-is_blank c =
     let some : 0 < length c.tokens.rest.now = grind (arith, nat_tests) in
     let rest = c.split_at.ensures.back in
     let blank : is_blank (get_or c.tokens.rest.now 0 0) ≡ true = sym c.is_blank.ensures ∙ c.if-is_blank.true in
+    let low : get_or c.tokens.rest.now 0 0 < 128 = blank_low (get_or c.tokens.rest.now 0 0) blank in
     record {
+      utf8 = rw rest (behind_byte c.tokens.rest.now some low c.tokens.invariant.utf8);
       place = let n = ap length rest in omega (arith, n, length-drop 1 c.tokens.rest.now, c.tokens.invariant.place);
       read = rw rest (sym (blank_step c.tokens.tokens.items c.tokens.at c.tokens.joined c.tokens.rest.now some blank) ∙ c.tokens.invariant.read);
     }
@@ -43,8 +50,10 @@ tokens-preserved c =
     let read : Ok c.in-Ok.piece ≡ piece_of c.tokens.at c.tokens.rest.now = sym c.in-Ok.is ∙ c.in_ok-fault.ensures in
     let within = step_within c.tokens.at c.tokens.rest.now c.in-Ok.piece some read in
     let rest = c.split_at-in-Ok.ensures.back in
+    let left = behind_piece c.tokens.at c.tokens.rest.now c.in-Ok.piece some read c.tokens.invariant.utf8 in
     let items : c.push.new.self.items ≡ c.tokens.tokens.items ++ (placed c.tokens.at c.tokens.joined c.in-Ok.piece ∷ []) = grind (arith, common_steps) in
     record {
+      utf8 = rw rest left;
       place = let n = ap length rest in omega (arith, n, within.1, length-drop c.in-Ok.piece.len c.tokens.rest.now, c.tokens.invariant.place);
       read = rw (rest, items) (sym (piece_step c.tokens.tokens.items c.tokens.at c.tokens.joined c.tokens.rest.now c.in-Ok.piece some black read) ∙ c.tokens.invariant.read);
     }

@@ -1,6 +1,6 @@
-use Rattle.std.proofs.Common.{◌≡◌, ◌∙◌, ap, List}
-use Rattle.tl_query.specs.declared.marks.Mark.TheVariants as marks
-use Rattle.tl_query.specs.declared.forms.Test.{Test}
+use Rattle.std.proofs.Common.{◌∙◌, ap, List}
+use Rattle.tl_query.specs.declared.terminals.Terminal.TheVariants as terminals
+use Rattle.tl_query.specs.declared.ast.Test.{Test}
 use Rattle.tl_query.specs.Grammar.{conj_parts, behind_each}
 use Rattle.tl_query.specs.Printing.{Written, write}
 use Rattle.tl_query.proofs.Writing.{write_first}
@@ -9,5 +9,5 @@ use Rattle.tl_query.proofs.printing.Printer.any.Goals as goal
 pub returns-in_ok-further_any : goal.returns-in_ok-further_any
 returns-in_ok-further_any c =
     c.in_ok-further_any.ensures
-    ∙ ap (λ (w : Written). write w (behind_each marks.Or conj_parts c.split_at.result.1.now)) (c.in_ok-tests.ensures ∙ ap (λ (tests : List Test). write c.args.self.now (conj_parts tests)) c.as_slice.ensures)
-    ∙ write_first marks.Or conj_parts c.args.any.now c.tests-item.result c.split_at.result.1.now c.args.self.now c.in-len1-up.len_at_least c.tests-item.is c.split_at.ensures.back
+    ∙ ap (λ (w : Written). write w (behind_each terminals.Or conj_parts c.split_at.result.1.now)) (c.in_ok-tests.ensures ∙ ap (λ (tests : List Test). write c.args.self.now (conj_parts tests)) c.as_slice.ensures)
+    ∙ write_first terminals.Or conj_parts c.args.any.now c.tests-item.result c.split_at.result.1.now c.args.self.now c.in-len1-up.len_at_least c.tests-item.is c.split_at.ensures.back

@@ -1,5 +1,5 @@
 //! Checked questions, with tables and columns by number.
-use crate::forms::AggKind;
+use crate::ast::AggKind;
 use tl_types::{Cell, Cmp, Seq};
 
 /// A comparison of a column with a constant of its kind.

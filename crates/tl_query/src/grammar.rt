@@ -1,13 +1,13 @@
 //! Reading the tokens of a statement, from left to right.
 ghost use Rattle.std.specs.Prelude.{◌≡◌, ◌-◌, ◌<◌, ◌≤◌, length, Some, None, Ok, Err, IfOk, true, false};
-ghost use Rattle.tl_query.specs.Reading.{Gives, after, expect, take_at, column_at, columns_at, valid_at, create_at, put_at, remove_at, items_at, asked_at, select_at, agg_at, join_at, statement_at};
+ghost use Rattle.tl_query.specs.Reading.{Gives, after, expect, take_at, column_at, columns_at, valid_at, create_at, put_at, remove_at, items_at, asked_at, parse_select, agg_at, join_at, statement_at};
 
 use crate::clauses::{
     as_of_at, by_at, column_name_at, on_at, over_at, side_at, valid_point_at, where_at,
 };
-use crate::forms::{AggForm, ColumnForm, CreateForm, Item, JoinForm, Query, SelectForm, Statement};
-use crate::marks::Mark;
-use crate::taking::{Stop, after, agg_kind_at, ended, expect, item_at, kind_at, name_at};
+use crate::ast::{AggForm, ColumnForm, CreateForm, Item, JoinForm, Query, SelectForm, Statement};
+use crate::terminals::Terminal;
+use crate::token_parsers::{Stop, after, agg_kind_at, ended, expect, item_at, kind_at, name_at};
 use crate::tokens::Placed;
 use std::alloc::Global;
 use tl_types::Seq;
@@ -32,7 +32,7 @@ fn columns_at(alloc: Global, tokens: &[Placed]) -> Result<(Seq<ColumnForm>, &[Pl
     let mut columns = Vec::new(alloc);
     columns.push(first)?;
     while columns.len() < MOST_COLUMNS {
-        let Some(next) = after(rest, Mark::Comma) else {
+        let Some(next) = after(rest, Terminal::Comma) else {
             break;
         };
         let (column, behind) = column_at(next)?;
@@ -46,7 +46,7 @@ fn columns_at(alloc: Global, tokens: &[Placed]) -> Result<(Seq<ColumnForm>, &[Pl
 fn valid_at(tokens: &[Placed]) -> (bool, &[Placed])
     ensures { valid_at tokens.now ≡ Ok (result.0, result.1.now) }
 {
-    match after(tokens, Mark::Valid) {
+    match after(tokens, Terminal::Valid) {
         Some(rest) => (true, rest),
         None => (false, tokens),
     }
@@ -56,12 +56,12 @@ fn valid_at(tokens: &[Placed]) -> (bool, &[Placed])
 fn create_at(alloc: Global, tokens: &[Placed]) -> Result<Statement, Stop>
     ensures { Gives (λ s. s) result (create_at tokens.now) }
 {
-    let rest = expect(tokens, Mark::Table)?;
+    let rest = expect(tokens, Terminal::Table)?;
     let (name, rest) = name_at(rest)?;
-    let rest = expect(rest, Mark::Open)?;
+    let rest = expect(rest, Terminal::Open)?;
     let (columns, rest) = columns_at(alloc, rest)?;
-    let rest = expect(rest, Mark::Close)?;
-    let rest = expect(rest, Mark::Key)?;
+    let rest = expect(rest, Terminal::Close)?;
+    let rest = expect(rest, Terminal::Key)?;
     let (key, rest) = name_at(rest)?;
     let (valid, rest) = valid_at(rest);
     ended(
@@ -97,7 +97,7 @@ fn items_at(alloc: Global, tokens: &[Placed]) -> Result<(Seq<Item>, &[Placed]), 
     let (first, mut rest) = item_at(tokens)?;
     let mut items = Vec::new(alloc);
     items.push(first)?;
-    while let Some(next) = after(rest, Mark::Comma) {
+    while let Some(next) = after(rest, Terminal::Comma) {
         let (item, behind) = item_at(next)?;
         items.push(item)?;
         rest = behind;
@@ -109,19 +109,19 @@ fn items_at(alloc: Global, tokens: &[Placed]) -> Result<(Seq<Item>, &[Placed]), 
 fn asked_at(alloc: Global, tokens: &[Placed]) -> Result<(bool, Seq<Item>, &[Placed]), Stop>
     ensures { Gives (λ x. ((x.0, x.1), x.2.now)) result (asked_at tokens.now) }
 {
-    if let Some(rest) = after(tokens, Mark::Star) {
+    if let Some(rest) = after(tokens, Terminal::Star) {
         return Ok((true, Seq::new(alloc), rest));
     }
     let (items, rest) = items_at(alloc, tokens)?;
     Ok((false, items, rest))
 }
 
-#[tactic(auto, unfolding(crate::specs::Reading::select_at))]
-fn select_at(alloc: Global, tokens: &[Placed]) -> Result<Statement, Stop>
-    ensures { Gives (λ s. s) result (select_at tokens.now) }
+#[tactic(auto, unfolding(crate::specs::Reading::parse_select))]
+fn parse_select(alloc: Global, tokens: &[Placed]) -> Result<Statement, Stop>
+    ensures { Gives (λ s. s) result (parse_select tokens.now) }
 {
     let (all, items, rest) = asked_at(alloc, tokens)?;
-    let rest = expect(rest, Mark::From)?;
+    let rest = expect(rest, Terminal::From)?;
     let (table, rest) = name_at(rest)?;
     let (pred, rest) = where_at(alloc, rest)?;
     let (valid_at, rest) = valid_point_at(rest)?;
@@ -143,7 +143,7 @@ fn agg_at(alloc: Global, tokens: &[Placed]) -> Result<Statement, Stop>
 {
     let (kind, rest) = agg_kind_at(tokens)?;
     let (column, rest) = column_name_at(kind, rest)?;
-    let rest = expect(rest, Mark::From)?;
+    let rest = expect(rest, Terminal::From)?;
     let (table, rest) = name_at(rest)?;
     let (pred, rest) = where_at(alloc, rest)?;
     let (by, rest) = by_at(rest)?;
@@ -164,7 +164,7 @@ fn join_at(alloc: Global, tokens: &[Placed]) -> Result<Statement, Stop>
     ensures { Gives (λ s. s) result (join_at tokens.now) }
 {
     let (left, left_pred, rest) = side_at(alloc, tokens)?;
-    let rest = expect(rest, Mark::With)?;
+    let rest = expect(rest, Terminal::With)?;
     let (right, right_pred, rest) = side_at(alloc, rest)?;
     let (left_on, right_on, rest) = on_at(rest)?;
     let (over, rest) = over_at(rest)?;
@@ -185,19 +185,19 @@ fn join_at(alloc: Global, tokens: &[Placed]) -> Result<Statement, Stop>
 pub(crate) fn statement_at(alloc: Global, tokens: &[Placed]) -> Result<Statement, Stop>
     ensures { Gives (λ s. s) result (statement_at tokens.now) }
 {
-    if let Some(rest) = after(tokens, Mark::Create) {
+    if let Some(rest) = after(tokens, Terminal::Create) {
         return create_at(alloc, rest);
     }
-    if let Some(rest) = after(tokens, Mark::Put) {
+    if let Some(rest) = after(tokens, Terminal::Put) {
         return put_at(rest);
     }
-    if let Some(rest) = after(tokens, Mark::Remove) {
+    if let Some(rest) = after(tokens, Terminal::Remove) {
         return remove_at(rest);
     }
-    if let Some(rest) = after(tokens, Mark::Select) {
-        return select_at(alloc, rest);
+    if let Some(rest) = after(tokens, Terminal::Select) {
+        return parse_select(alloc, rest);
     }
-    if let Some(rest) = after(tokens, Mark::Join) {
+    if let Some(rest) = after(tokens, Terminal::Join) {
         return join_at(alloc, rest);
     }
     agg_at(alloc, tokens)

@@ -2,8 +2,8 @@
 ghost use Rattle.std.specs.Prelude.{◌≡◌, ◌<◌, length, Some, None, Ok, Err, IfOk, IfSome, MatchOption};
 ghost use Rattle.tl_query.specs.Reading.{IsStopAt, Gives, place_of, is_fixed, after, expect, name_of, version_of, moment_of, bound_of, constant_of, item_of, kind_of, cmp_of, agg_of, valid_of, take_at, peek_at, ended, last_of};
 
-use crate::forms::{AggKind, Item, Name, Stamp, Statement};
-use crate::marks::{Mark, same_mark};
+use crate::ast::{AggKind, Item, Name, Stamp, Statement};
+use crate::terminals::{Terminal, same_terminal};
 use crate::tokens::{Placed, Token};
 use std::alloc::{AllocError, AllocFailed};
 use tl_types::{Cell, Cmp, ColumnKind};
@@ -20,7 +20,7 @@ pub(crate) enum Stop {
 }
 
 impl From<AllocError> for Stop {
-    ghost use Rattle.tl_query.specs.declared.taking.Stop.TheVariants as stops;
+    ghost use Rattle.tl_query.specs.declared.token_parsers.Stop.TheVariants as stops;
 
     ghost from_gives = { λ _ e. e ≡ stops.NoMemory };
 
@@ -30,7 +30,7 @@ impl From<AllocError> for Stop {
 }
 
 impl<T: Drop> From<AllocFailed<T>> for Stop {
-    ghost use Rattle.tl_query.specs.declared.taking.Stop.TheVariants as stops;
+    ghost use Rattle.tl_query.specs.declared.token_parsers.Stop.TheVariants as stops;
 
     ghost from_gives = { λ _ e. e ≡ stops.NoMemory };
 
@@ -48,18 +48,18 @@ fn stop_at(tokens: &[Placed]) -> Stop
     }
 }
 
-fn is_fixed(token: &Token, mark: Mark) -> bool
+fn is_fixed(token: &Token, mark: Terminal) -> bool
     ensures { result ≡ is_fixed mark token.now }
 {
     match token {
-        Token::Fixed(found) => same_mark(*found, mark),
+        Token::Fixed(found) => same_terminal(*found, mark),
         _ => false,
     }
 }
 
 /// The tokens behind a mark, where it comes first.
 #[tactic(auto, unfolding(crate::specs::Reading::after))]
-pub(crate) fn after(tokens: &[Placed], mark: Mark) -> Option<&[Placed]>
+pub(crate) fn after(tokens: &[Placed], mark: Terminal) -> Option<&[Placed]>
     ensures value { MatchOption result (after mark tokens.now ≡ None)
         (λ rest. after mark tokens.now ≡ Some rest.now) }
     ensures shorter { IfSome result (λ rest. length rest.now < length tokens.now) }
@@ -78,7 +78,7 @@ pub(crate) fn after(tokens: &[Placed], mark: Mark) -> Option<&[Placed]>
 
 /// The tokens behind a mark, which has to come first.
 #[tactic(auto, using(crate::proofs::Readers::fails_by), unfolding(crate::specs::Reading::expect))]
-pub(crate) fn expect(tokens: &[Placed], mark: Mark) -> Result<&[Placed], Stop>
+pub(crate) fn expect(tokens: &[Placed], mark: Terminal) -> Result<&[Placed], Stop>
     ensures { Gives (λ rest. rest.now) result (expect mark tokens.now) }
 {
     match after(tokens, mark) {
@@ -149,7 +149,7 @@ pub(crate) fn bound_at(tokens: &[Placed]) -> Result<(Stamp, &[Placed]), Stop>
             match &first.token {
                 Token::Number(value) => Ok((Stamp { value: *value, at }, rest)),
                 Token::Negative(value) => Ok((Stamp { value: *value, at }, rest)),
-                Token::Fixed(Mark::Forever) => Ok((
+                Token::Fixed(Terminal::Forever) => Ok((
                     Stamp {
                         value: i64::MAX,
                         at,
@@ -195,8 +195,8 @@ pub(crate) fn item_at(tokens: &[Placed]) -> Result<(Item, &[Placed]), Stop>
                     let text = text.clone()?;
                     Ok((Item::Column(Name { text, at }), rest))
                 }
-                Token::Fixed(Mark::ValidFrom) => Ok((Item::ValidFrom(at), rest)),
-                Token::Fixed(Mark::ValidTo) => Ok((Item::ValidTo(at), rest)),
+                Token::Fixed(Terminal::ValidFrom) => Ok((Item::ValidFrom(at), rest)),
+                Token::Fixed(Terminal::ValidTo) => Ok((Item::ValidTo(at), rest)),
                 _ => Err(Stop::Token(at)),
             }
         }
@@ -211,8 +211,8 @@ pub(crate) fn kind_at(tokens: &[Placed]) -> Result<(ColumnKind, &[Placed]), Stop
     match tokens {
         [] => Err(Stop::End),
         [first, rest @ ..] => match &first.token {
-            Token::Fixed(Mark::Int) => Ok((ColumnKind::IntKind, rest)),
-            Token::Fixed(Mark::Text) => Ok((ColumnKind::TextKind, rest)),
+            Token::Fixed(Terminal::Int) => Ok((ColumnKind::IntKind, rest)),
+            Token::Fixed(Terminal::Text) => Ok((ColumnKind::TextKind, rest)),
             _ => Err(Stop::Token(first.at)),
         },
     }
@@ -228,12 +228,12 @@ pub(crate) fn cmp_at(tokens: &[Placed]) -> Result<((Cmp, u32), &[Placed]), Stop>
         [first, rest @ ..] => {
             let at = first.at;
             match &first.token {
-                Token::Fixed(Mark::Equal) => Ok(((Cmp::Eq, at), rest)),
-                Token::Fixed(Mark::Unequal) => Ok(((Cmp::Ne, at), rest)),
-                Token::Fixed(Mark::Less) => Ok(((Cmp::Lt, at), rest)),
-                Token::Fixed(Mark::AtMost) => Ok(((Cmp::Le, at), rest)),
-                Token::Fixed(Mark::Greater) => Ok(((Cmp::Gt, at), rest)),
-                Token::Fixed(Mark::AtLeast) => Ok(((Cmp::Ge, at), rest)),
+                Token::Fixed(Terminal::Equal) => Ok(((Cmp::Eq, at), rest)),
+                Token::Fixed(Terminal::Unequal) => Ok(((Cmp::Ne, at), rest)),
+                Token::Fixed(Terminal::Less) => Ok(((Cmp::Lt, at), rest)),
+                Token::Fixed(Terminal::AtMost) => Ok(((Cmp::Le, at), rest)),
+                Token::Fixed(Terminal::Greater) => Ok(((Cmp::Gt, at), rest)),
+                Token::Fixed(Terminal::AtLeast) => Ok(((Cmp::Ge, at), rest)),
                 _ => Err(Stop::Token(at)),
             }
         }
@@ -248,11 +248,11 @@ pub(crate) fn agg_kind_at(tokens: &[Placed]) -> Result<(AggKind, &[Placed]), Sto
     match tokens {
         [] => Err(Stop::End),
         [first, rest @ ..] => match &first.token {
-            Token::Fixed(Mark::Count) => Ok((AggKind::Count, rest)),
-            Token::Fixed(Mark::Sum) => Ok((AggKind::Sum, rest)),
-            Token::Fixed(Mark::Avg) => Ok((AggKind::Avg, rest)),
-            Token::Fixed(Mark::Min) => Ok((AggKind::Min, rest)),
-            Token::Fixed(Mark::Max) => Ok((AggKind::Max, rest)),
+            Token::Fixed(Terminal::Count) => Ok((AggKind::Count, rest)),
+            Token::Fixed(Terminal::Sum) => Ok((AggKind::Sum, rest)),
+            Token::Fixed(Terminal::Avg) => Ok((AggKind::Avg, rest)),
+            Token::Fixed(Terminal::Min) => Ok((AggKind::Min, rest)),
+            Token::Fixed(Terminal::Max) => Ok((AggKind::Max, rest)),
             _ => Err(Stop::Token(first.at)),
         },
     }
@@ -266,7 +266,7 @@ pub(crate) fn valid_word_at(tokens: &[Placed]) -> Result<(u32, &[Placed]), Stop>
     match tokens {
         [] => Err(Stop::End),
         [first, rest @ ..] => match &first.token {
-            Token::Fixed(Mark::Valid) => Ok((first.at, rest)),
+            Token::Fixed(Terminal::Valid) => Ok((first.at, rest)),
             _ => Err(Stop::Token(first.at)),
         },
     }
@@ -281,7 +281,7 @@ pub(crate) fn valid_word(tokens: &[Placed]) -> Option<(u32, &[Placed])>
     match tokens {
         [] => None,
         [first, rest @ ..] => match &first.token {
-            Token::Fixed(Mark::Valid) => Some((first.at, rest)),
+            Token::Fixed(Terminal::Valid) => Some((first.at, rest)),
             _ => None,
         },
     }
@@ -302,7 +302,7 @@ fn last_of(statement: Statement, tokens: &[Placed]) -> Result<Statement, Stop>
 pub(crate) fn ended(statement: Statement, tokens: &[Placed]) -> Result<Statement, Stop>
     ensures { Gives (λ s. s) result (ended statement tokens.now) }
 {
-    match after(tokens, Mark::Semicolon) {
+    match after(tokens, Terminal::Semicolon) {
         Some(rest) => last_of(statement, rest),
         None => last_of(statement, tokens),
     }

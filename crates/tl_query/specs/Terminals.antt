@@ -1,10 +1,10 @@
 -- The fixed words and symbols of the language.
 use Rattle.std.specs.Prelude.{ℕ, Bool, ◌==◌, List, codes}
-use Rattle.tl_query.specs.declared.marks.Mark.{Mark}
-use Rattle.tl_query.specs.declared.marks.Mark.TheVariants.{Create, Table, Key, Valid, Int, Text, Put, Remove, Select, From, Where, And, Or, As, Of, At, Count, Sum, Avg, Min, Max, By, Over, System, All, To, Join, With, On, Forever, ValidFrom, ValidTo, Open, Close, Comma, Semicolon, Star, Equal, Unequal, Less, AtMost, Greater, AtLeast}
+use Rattle.tl_query.specs.declared.terminals.Terminal.{Terminal}
+use Rattle.tl_query.specs.declared.terminals.Terminal.TheVariants.{Create, Table, Key, Valid, Int, Text, Put, Remove, Select, From, Where, And, Or, As, Of, At, Count, Sum, Avg, Min, Max, By, Over, System, All, To, Join, With, On, Forever, ValidFrom, ValidTo, Open, Close, Comma, Semicolon, Star, Equal, Unequal, Less, AtMost, Greater, AtLeast}
 
 -- the place of a mark among them
-abbrev pub place : Mark → ℕ
+abbrev pub place : Terminal → ℕ
 place Create = 0
 place Table = 1
 place Key = 2
@@ -50,11 +50,11 @@ place Greater = 41
 place AtLeast = 42
 
 -- two marks are the same
-abbrev pub same_mark : Mark → Mark → Bool
-same_mark a b = place a == place b
+abbrev pub same_terminal : Terminal → Terminal → Bool
+same_terminal a b = place a == place b
 
 -- how a mark is spelled
-unfoldable pub spelling : Mark → List ℕ
+unfoldable pub spelling : Terminal → List ℕ
 spelling Create = codes "CREATE"
 spelling Table = codes "TABLE"
 spelling Key = codes "KEY"

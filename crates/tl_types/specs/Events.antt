@@ -1,4 +1,5 @@
--- The events of a list of rows, the place of a version among them, and the rows that a checkpoint keeps.
+-- The events of a list of rows, the place of a version among them, and the rows that a checkpoint
+-- keeps.
 use Rattle.std.specs.Prelude.{ℕ, zero, suc, Bool, true, false, ◌==◌, List, [], ◌++◌, length, map}
 use Rattle.std.specs.List.{filter}
 use Rattle.tl_types.specs.declared.events.Event.{Event}

@@ -14,7 +14,8 @@ are_distinct (x ∷ xs) = not (list_any (λ y. same_bytes y x) xs) && are_distin
 abbrev pub names_of : List Column → List (List ℕ)
 names_of columns = map (λ c. c.name) columns
 
--- the names are names, the columns' names differ, there are 1 to 16 columns, and the key is one of them
+-- the names are names, the columns' names differ, there are 1 to 16 columns, and the key is one of
+-- them
 abbrev pub is_schema : plain.Schema → Bool
 is_schema s =
     is_name s.name && list_all (λ c. is_name c.name) s.columns && are_distinct (names_of s.columns)

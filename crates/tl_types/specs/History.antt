@@ -35,17 +35,20 @@ has_id ids id = list_any (λ x. x == id) ids
 
 -- a row after the version: it ends there if its id is closed
 abbrev pub row_after : ℕ → List ℕ → (ℕ × plain.Row) → plain.Row
-row_after version closes entry = if has_id closes entry.0 then record entry.1 { to = version } else entry.1
+row_after version closes entry =
+    if has_id closes entry.0 then record entry.1 { to = version } else entry.1
 
 -- the row that the version opens
 abbrev pub new_row : ℕ → plain.Opened → plain.Row
-new_row version opened = record { cells = opened.cells; period = opened.period; from = version; to = open_end }
+new_row version opened =
+    record { cells = opened.cells; period = opened.period; from = version; to = open_end }
 
 -- a table without rows
 abbrev pub new_table : plain.Schema → plain.Table
 new_table schema = record { schema = schema; floor = 0; rows = [] }
 
--- the table after the version's change: the closed rows end, the opened rows stand behind the others
+-- the table after the version's change: the closed rows end, the opened rows stand behind the
+-- others
 abbrev pub table_after : ℕ → plain.Change → plain.Table → plain.Table
 table_after version change table =
     record table { rows = map (row_after version change.closes) (with_ids table.rows) ++ map (new_row version) change.opens }
@@ -59,11 +62,13 @@ at_place (suc i) f (x ∷ xs) = x ∷ at_place i f xs
 -- the tables after the version's commit
 abbrev pub after_body : ℕ → Body → List plain.Table → List plain.Table
 after_body version (body.Create schema) tables = tables ++ new_table schema ∷ []
-after_body version (body.Change change) tables = at_place change.table (table_after version change) tables
+after_body version (body.Change change) tables =
+    at_place change.table (table_after version change) tables
 
 -- the database after one commit more, whose version is the next
 abbrev pub after_commit : plain.Database → Commit → plain.Database
-after_commit db commit = record { version = db.version + 1; tables = after_body (db.version + 1) commit.body db.tables }
+after_commit db commit =
+    record { version = db.version + 1; tables = after_body (db.version + 1) commit.body db.tables }
 
 -- the database without commits
 abbrev pub nothing : plain.Database
@@ -99,7 +104,8 @@ match_columns (c ∷ cs) (x ∷ xs) = is_of_kind c.kind x && match_columns cs xs
 
 -- the row's cells match the columns, and it has a period exactly where the schema says so
 abbrev pub matches : plain.Schema → plain.Opened → Bool
-matches schema opened = match_columns schema.columns opened.cells && beq schema.valid (is_some opened.period)
+matches schema opened =
+    match_columns schema.columns opened.cells && beq schema.valid (is_some opened.period)
 
 -- the row with the id is there and is current
 abbrev pub is_open_at : List plain.Row → ℕ → Bool
@@ -107,7 +113,8 @@ is_open_at [] id = false
 is_open_at (row ∷ rows) zero = is_open row
 is_open_at (row ∷ rows) (suc id) = is_open_at rows id
 
--- the change names this table, closes open rows only, opens rows that match, and leaves few enough rows
+-- the change names this table, closes open rows only, opens rows that match, and leaves few enough
+-- rows
 abbrev pub fits_table : Limits → plain.Change → Option plain.Table → Bool
 fits_table limits change None = false
 fits_table limits change (Some table) =
@@ -119,7 +126,8 @@ fits_table limits change (Some table) =
 abbrev pub fits_body : Limits → List plain.Table → Body → Bool
 fits_body limits tables (body.Create schema) =
     not (list_any (has_name schema.name) tables) && nat_lt (length tables) limits.tables
-fits_body limits tables (body.Change change) = fits_table limits change (slice_get tables change.table)
+fits_body limits tables (body.Change change) =
+    fits_table limits change (slice_get tables change.table)
 
 -- the commit fits the database: there is room for a version, and what it does fits the tables
 abbrev pub fits : Limits → plain.Database → Commit → Bool

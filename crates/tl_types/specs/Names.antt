@@ -58,7 +58,13 @@ spelling_of keyword.ValidTo = codes "valid_to"
 
 -- all keywords of the language
 unfoldable pub keywords : List Keyword
-keywords = keyword.Create ∷ keyword.Table ∷ keyword.Key ∷ keyword.Valid ∷ keyword.Int ∷ keyword.Text ∷ keyword.Put ∷ keyword.Remove ∷ keyword.Select ∷ keyword.From ∷ keyword.Where ∷ keyword.And ∷ keyword.Or ∷ keyword.As ∷ keyword.Of ∷ keyword.At ∷ keyword.Count ∷ keyword.Sum ∷ keyword.Avg ∷ keyword.Min ∷ keyword.Max ∷ keyword.By ∷ keyword.Over ∷ keyword.System ∷ keyword.All ∷ keyword.To ∷ keyword.Join ∷ keyword.With ∷ keyword.On ∷ keyword.Forever ∷ keyword.ValidFrom ∷ keyword.ValidTo ∷ []
+keywords =
+    keyword.Create ∷ keyword.Table ∷ keyword.Key ∷ keyword.Valid ∷ keyword.Int ∷ keyword.Text
+    ∷ keyword.Put ∷ keyword.Remove ∷ keyword.Select ∷ keyword.From ∷ keyword.Where ∷ keyword.And
+    ∷ keyword.Or ∷ keyword.As ∷ keyword.Of ∷ keyword.At ∷ keyword.Count ∷ keyword.Sum ∷ keyword.Avg
+    ∷ keyword.Min ∷ keyword.Max ∷ keyword.By ∷ keyword.Over ∷ keyword.System ∷ keyword.All
+    ∷ keyword.To ∷ keyword.Join ∷ keyword.With ∷ keyword.On ∷ keyword.Forever ∷ keyword.ValidFrom
+    ∷ keyword.ValidTo ∷ []
 
 -- the keyword that a word is, where it is one
 abbrev pub keyword_of : List ℕ → Option Keyword

@@ -12,7 +12,8 @@ pub record Period : Type 0 where
 abbrev pub forever : ℤ
 forever = pos 9223372036854775807
 
--- a table's name, its columns, the place of its key among them, and whether its rows have a valid period
+-- a table's name, its columns, the place of its key among them, and whether its rows have a valid
+-- period
 pub record Schema : Type 0 where
   pub name : List ℕ
   pub columns : List Column
@@ -38,8 +39,8 @@ pub record Row : Type 0 where
   pub from : ℕ
   pub to : ℕ
 
--- a table: its schema, the version before which its past is forgotten, and its rows; the i-th row, counted
--- from 0, has id i
+-- a table: its schema, the version before which its past is forgotten, and its rows; the i-th row,
+-- counted from 0, has id i
 pub record Table : Type 0 where
   pub schema : Schema
   pub floor : ℕ

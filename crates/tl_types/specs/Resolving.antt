@@ -36,7 +36,8 @@ overlap None q = false
 overlap (Some p) None = false
 overlap (Some p) (Some q) = int_lt p.from q.to && int_lt q.from p.to
 
--- the line affects the row: the row has the line's key, and in a table with valid time their periods overlap
+-- the line affects the row: the row has the line's key, and in a table with valid time their
+-- periods overlap
 abbrev pub affects : plain.Schema → BatchLine → WorkingRow → Bool
 affects schema line working =
     same_key (slice_get working.row.cells schema.key) line.key
@@ -54,7 +55,8 @@ remainders line working = left_of line.period working.row.period where
   left_of : Option plain.Period → Option plain.Period → List WorkingRow
   left_of None q = []
   left_of (Some p) None = []
-  left_of (Some p) (Some q) = remainder working.row.cells q.from p.from ++ remainder working.row.cells p.to q.to
+  left_of (Some p) (Some q) =
+      remainder working.row.cells q.from p.from ++ remainder working.row.cells p.to q.to
 
 -- the row that a line puts, at the end of the list
 abbrev pub put_row : BatchLine → List WorkingRow
@@ -63,10 +65,11 @@ put_row line = put line.puts where
   put None = []
   put (Some row) = record { id = None; row = row } ∷ []
 
--- the working list after a line: each affected row is replaced in its place by its remainders, and the row
--- that the line puts comes last
+-- the working list after a line: each affected row is replaced in its place by its remainders, and
+-- the row that the line puts comes last
 abbrev pub after_line : plain.Schema → List WorkingRow → BatchLine → List WorkingRow
-after_line schema list line = flat_map (λ w. if affects schema line w then remainders line w else w ∷ []) list ++ put_row line
+after_line schema list line =
+    flat_map (λ w. if affects schema line w then remainders line w else w ∷ []) list ++ put_row line
 
 -- the working list at the start: the open rows of the table, in order of id
 abbrev pub open_rows : plain.Table → List WorkingRow
@@ -86,12 +89,13 @@ ids_of list = filter_map (λ w. w.id) list
 abbrev pub new_rows : List WorkingRow → List plain.Opened
 new_rows list = filter_map (λ w. if is_some w.id then None else Some w.row) list
 
--- the change that the lines make: it closes the old ids that are no longer in the working list, and opens the
--- rows of the list that have no id yet
+-- the change that the lines make: it closes the old ids that are no longer in the working list, and
+-- opens the rows of the list that have no id yet
 abbrev pub change_of : ℕ → plain.Table → List BatchLine → plain.Change
 change_of number table lines = record {
   table = number;
-  closes = filter (λ id. not (has_id (ids_of (working_list table lines)) id)) (ids_of (open_rows table));
+  closes =
+      filter (λ id. not (has_id (ids_of (working_list table lines)) id)) (ids_of (open_rows table));
   opens = new_rows (working_list table lines);
 }
 
@@ -104,9 +108,10 @@ put_lines schema lines =
 abbrev pub removal_lines : List KeyLine → List BatchLine
 removal_lines lines = map (λ k. record { key = Some k.key; period = k.period; puts = None }) lines
 
--- the first fault of the lines from a record number on, over the earlier lines and the working list so far:
--- a key that stands twice in a table without valid time, then a removal that affects no row
-abbrev pub line_fault : plain.Schema → ℕ → List BatchLine → List WorkingRow → List BatchLine → Option BatchFault
+-- the first fault of the lines from a record number on, over the earlier lines and the working list
+-- so far: a key that stands twice in a table without valid time, then a removal that affects no row
+abbrev pub line_fault : plain.Schema → ℕ → List BatchLine → List WorkingRow → List BatchLine
+    → Option BatchFault
 line_fault schema rec earlier list [] = None
 line_fault schema rec earlier list (line ∷ lines) =
     if not schema.valid && list_any (λ e. same_key e.key line.key) earlier then Some (fault.KeyTwice rec)
@@ -122,7 +127,8 @@ find_from n name (t ∷ ts) = if has_name name t then Some (n, t) else find_from
 abbrev pub find_table : List ℕ → List plain.Table → Option (ℕ × plain.Table)
 find_table name tables = find_from 0 name tables
 
--- the commit of a change, or its fault: no version is left, then the first fault of a line, then too many rows
+-- the commit of a change, or its fault: no version is left, then the first fault of a line, then
+-- too many rows
 abbrev pub resolved_change : Limits → plain.Database → ℕ → Option (ℕ × plain.Table)
     → (plain.Schema → List BatchLine) → Result Commit BatchFault
 resolved_change limits db author None lines = Err fault.UnknownTable

@@ -15,7 +15,8 @@ same_field field.Empty field.Empty = true
 same_field field.Forever field.Forever = true
 same_field x y = false
 
--- the runs, and a stretch of time behind them: the last run goes on where it has the same value, else a run begins
+-- the runs, and a stretch of time behind them: the last run goes on where it has the same value,
+-- else a run begins
 abbrev pub add_stretch : List Run → Run → List Run
 add_stretch [] stretch = stretch ∷ []
 add_stretch (run ∷ []) stretch =

@@ -20,15 +20,16 @@ pub struct KeyLine {
 pub enum Batch {
     /// A new table.
     Create(Schema),
-    /// Rows that take the place of what the open rows of their keys say: of all of it, or, where the table has
-    /// valid time, of the part within their valid periods.
+    /// Rows that take the place of what the open rows of their keys say: of all of it, or, where
+    /// the table has valid time, of the part within their valid periods.
     Put {
         /// The table's name.
         table: Text,
         /// The rows, in order.
         lines: Seq<Opened>,
     },
-    /// Keys whose open rows are closed: wholly, or, where the table has valid time, within these valid periods.
+    /// Keys whose open rows are closed: wholly, or, where the table has valid time, within these
+    /// valid periods.
     Remove {
         /// The table's name.
         table: Text,
@@ -37,7 +38,8 @@ pub enum Batch {
     },
 }
 
-/// Why a batch becomes no commit. `rec` is the record number of a line: its place in the batch plus 2.
+/// Why a batch becomes no commit. `rec` is the record number of a line: its place in the batch plus
+/// 2.
 #[derive(Clone, Copy, Debug, PartialEq, Eq)]
 pub enum BatchFault {
     /// No table has the name.
@@ -51,8 +53,8 @@ pub enum BatchFault {
         /// The record number.
         rec: u32,
     },
-    /// A removal finds no open row of its key, or, where the table has valid time, none whose valid period
-    /// overlaps the line's, after the lines before it.
+    /// A removal finds no open row of its key, or, where the table has valid time, none whose valid
+    /// period overlaps the line's, after the lines before it.
     NoRow {
         /// The record number.
         rec: u32,

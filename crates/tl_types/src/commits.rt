@@ -10,8 +10,8 @@ use crate::sequences::Seq;
 use std::alloc::AllocError;
 use std::marker::Model;
 
-/// A change of one table: the ids of the rows that it closes, strictly ascending, and the rows that it opens.
-/// There are fewer than 2^32 of each.
+/// A change of one table: the ids of the rows that it closes, strictly ascending, and the rows that
+/// it opens. There are fewer than 2^32 of each.
 #[derive(Debug, Drop, PartialEq, Eq)]
 pub struct Change {
     table: u16,

@@ -36,8 +36,8 @@ fn matches(schema: &Schema, opened: &Opened) -> bool
     match_columns(schema.columns(), opened.cells()) && schema.valid() == opened.period().is_some()
 }
 
-/// Whether each row has one cell for each column of the schema, of the column's kind, and a valid period exactly
-/// where the schema says so.
+/// Whether each row has one cell for each column of the schema, of the column's kind, and a valid
+/// period exactly where the schema says so.
 pub fn all_match(schema: &Schema, opens: &[Opened]) -> bool
     ensures { result ≡ list_all (matches schema.now) opens.now }
 {

@@ -3,8 +3,8 @@ ghost use Rattle.std.specs.Prelude.{◌≡◌, ◌<ℤ◌};
 
 use std::marker::Model;
 
-/// The moments of valid time from `from` on and before `to`, where `from` is less than `to`. A `to` of
-/// `FOREVER` has no end.
+/// The moments of valid time from `from` on and before `to`, where `from` is less than `to`. A `to`
+/// of `FOREVER` has no end.
 #[derive(Clone, Copy, Debug, PartialEq, Eq)]
 pub struct Period {
     from: i64,

@@ -32,8 +32,8 @@ impl Clone for Column {
     }
 }
 
-/// The shape of a table. Its names are names, its columns' names differ, it has 1 to 16 columns, and its key
-/// is one of them.
+/// The shape of a table. Its names are names, its columns' names differ, it has 1 to 16 columns,
+/// and its key is one of them.
 #[derive(Debug, Drop, PartialEq, Eq)]
 pub struct Schema {
     name: Text,
@@ -73,9 +73,10 @@ impl Model for Schema {
 }
 
 impl Schema {
-    /// The schema of a table `name` with these columns, whose key is the column at place `key` (from 0), and
-    /// whose rows have a valid period where `valid` is set. `None` exactly where a name is no name, two columns
-    /// have one name, there are not 1 to 16 columns, or the key is none of them.
+    /// The schema of a table `name` with these columns, whose key is the column at place `key`
+    /// (from 0), and whose rows have a valid period where `valid` is set. `None` exactly where a
+    /// name is no name, two columns have one name, there are not 1 to 16 columns, or the key is
+    /// none of them.
     pub fn new(name: Text, columns: Seq<Column>, key: u8, valid: bool) -> Option<Schema>
         ensures { result ≡ schema_of (record {
           name = name;

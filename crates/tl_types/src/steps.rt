@@ -4,7 +4,8 @@ ghost use Rattle.std.specs.Prelude.{◌≡◌, ◌+◌, ◌<◌};
 use std::marker::Model;
 use std::sync::ledger::{Blank, Book, Ledger, Share};
 
-/// How many steps were taken so far. It takes no bytes, and only `tick` changes it. Contracts see the number.
+/// How many steps were taken so far. It takes no bytes, and only `tick` changes it. Contracts see
+/// the number.
 #[derive(Drop)]
 pub struct Steps<L: Ledger> {
     book: Book<L>,
@@ -22,8 +23,9 @@ impl<L: Ledger> Model for Steps<L> {
 }
 
 impl<L: Ledger> Steps<L> {
-    /// A counter that stands at 0, of a ledger of one part or more that no counter has yet. A caller that counts
-    /// nothing calls a function over its ledger with `Brand` and passes a `Blank::new(1)`.
+    /// A counter that stands at 0, of a ledger of one part or more that no counter has yet. A
+    /// caller that counts nothing calls a function over its ledger with `Brand` and passes a
+    /// `Blank::new(1)`.
     pub fn new(blank: Blank) -> Steps<L>
         requires name { blank.name ≡ L.name }
         requires parts { blank.parts ≡ L.parts }

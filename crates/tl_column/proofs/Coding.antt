@@ -85,7 +85,7 @@ found_exactly texts text None e = (λ none. found_none texts text e, λ lacks. r
 found_exactly texts text (Some code) e =
     (λ none. cc, λ lacks. let bad : true ≡ false = sym (found_some texts text code e).2 ∙ lacks in cc)
 
-contains_at : (texts : List (List ℕ)) (code : ℕ) → code < length texts → contains_text texts (text_of texts code) ≡ true
+pub contains_at : (texts : List (List ℕ)) (code : ℕ) → code < length texts → contains_text texts (text_of texts code) ≡ true
 contains_at [] code h = absurd (omega arith)
 contains_at (first ∷ rest) zero h = ap (λ b. b || contains_text rest first) (same_text first)
 contains_at (first ∷ rest) (suc code) h =
@@ -152,7 +152,7 @@ kept_at : (b : Bool) (texts : List (List ℕ)) (text : List ℕ) (code : ℕ) �
 kept_at true texts text code h = refl
 kept_at false texts text code h = get_or_append_left texts (text ∷ []) [] code h
 
-fold_kept : (cells texts : List (List ℕ)) (code : ℕ) → code < length texts → text_of (fold with_text texts cells) code ≡ text_of texts code
+pub fold_kept : (cells texts : List (List ℕ)) (code : ℕ) → code < length texts → text_of (fold with_text texts cells) code ≡ text_of texts code
 fold_kept [] texts code h = refl
 fold_kept (cell ∷ cells) texts code h =
     fold_kept cells (with_text texts cell) code (omega (arith, (length_at (contains_text texts cell) texts cell).0))

@@ -1,3 +1,4 @@
 pub mod Ordered
 pub mod RunFacts
 pub mod Coding
+pub mod Known

@@ -3,10 +3,6 @@ use Rattle.std.proofs.Common.{◌≡◌, ◌≢◌, ℕ, ◌+◌, ◌-◌, ◌<�
 use Rattle.std.proofs.lemmas.List.{get_or_append_left, get_or-map, map_push, take_all, take_more}
 use Rattle.std.proofs.lemmas.Bool.{eqb-true, cases_eq}
 use Rattle.std.specs.declared.cmp.Ordering.TheVariants.{Less, Greater}
-use Rattle.std.specs.declared.sync.Arc.{Arc}
-use Rattle.std.specs.declared.vec.Vec.{Vec}
-use Rattle.tl_shared.specs.Chunks.{pieces_of}
-use Rattle.tl_shared.proofs.Chunked.{shared_more}
 use Rattle.tl_shared.specs.Chunks.{flatten}
 use Rattle.tl_shared.proofs.Pieces.{rejoin, flatten_more}
 use Rattle.tl_column.specs.Dictionary.{text_of}
@@ -21,21 +17,6 @@ cons_parts (x ∷ xs) h = ap (λ ys. x ∷ ys) (sym (take_all (length (x ∷ xs)
 -- a list that was split before an item
 pub item_between : (n : ℕ) (xs front back : List ℕ) → front ≡ take n xs → back ≡ drop n xs → 1 ≤ length back → front ++ get_or back 0 0 ∷ take (length back - 1) (drop 1 back) ≡ xs
 item_between n xs front back p q h = ap (λ t. front ++ t) (sym (cons_parts back h)) ∙ rejoin n xs front back p q
-
--- the items of one more run, and of the run at a place
-pub last_pieces : {X Y Z : Type 0} (runs : List (Arc (Vec X Y) Z)) (last : Arc (Vec X Y) Z) → pieces_of (runs ++ last ∷ []) ≡ pieces_of runs ++ last.value.items ∷ []
-last_pieces {X} {Y} {Z} runs last = let f : Arc (Vec X Y) Z → List X = λ run. run.value.items in map_push f runs last
-
-pub piece_read : {X Y Z : Type 0} (runs : List (Arc (Vec X Y) Z)) (k : ℕ) (run : Arc (Vec X Y) Z) → k < length runs → run ≡ get_or runs k run → get_or (pieces_of runs) k run.value.items ≡ run.value.items
-piece_read {X} {Y} {Z} runs k run h is =
-    let f : Arc (Vec X Y) Z → List X = λ run. run.value.items in
-    get_or-map f runs k run (f run) h ∙ ap f (sym is)
-
--- one more shared run
-pub shared_one : {X Y Z : Type 0} (runs shared : List (Arc (Vec X Y) Z)) (i : ℕ) (x y : Arc (Vec X Y) Z) → pieces_of shared ≡ take i (pieces_of runs) → i < length runs → x ≡ get_or runs i x → y.value ≡ x.value → pieces_of (shared ++ y ∷ []) ≡ take (i + 1) (pieces_of runs)
-shared_one runs shared i x y so_far within is same =
-    let all : take (length runs) runs ≡ runs = take_all (length runs) runs (omega arith) in
-    shared_more runs shared (length runs) i x y so_far (subst (λ xs. i < length xs) (sym all) within) (subst (λ xs. x ≡ get_or xs i x) (sym all) is) same
 
 module _ (texts : List (List ℕ)) where
   abbrev t : ℕ → List ℕ

@@ -12,7 +12,8 @@ IsUpTo first second = is_gt (slice_cmp nat_cmp first second) ≡ false
 -- the text of a code is not behind those of some codes
 abbrev pub IsUpToAll : List (List ℕ) → ℕ → List ℕ → Type 0
 IsUpToAll texts code [] = Unit {0}
-IsUpToAll texts code (next ∷ rest) = IsUpTo (text_of texts code) (text_of texts next) × IsUpToAll texts code rest
+IsUpToAll texts code (next ∷ rest) =
+    IsUpTo (text_of texts code) (text_of texts next) × IsUpToAll texts code rest
 
 -- codes in the order of their texts
 abbrev pub IsRun : List (List ℕ) → List ℕ → Type 0

@@ -1,33 +1,32 @@
-// Distinct texts by code.
+//! Distinct texts by code.
 ghost use Rattle.std.specs.Prelude.{◌≡◌, ℕ, ◌+◌, ◌<◌, ◌≤◌, ◌^◌, ◌++◌, ◌∷◌, [], false, length, IfOk};
 ghost use Rattle.tl_column.specs.Dictionary.{text_of, contains_text, code_in, with_text};
 
-use crate::runs::{add_run, code_in_run, shared_runs};
+use crate::runs::{add_run, code_in_run};
 use crate::text_list::TextList;
 use std::alloc::Global;
 use std::marker::Model;
-use std::sync::Arc;
-use tl_shared::Shareable;
+use tl_shared::{Chunk, Shareable, share_all};
 use tl_types::{NoMemory, Text};
 
-// Distinct texts, each with its place in the list as its code. Contracts see the list. A code is looked up
-// by its text in runs, of which each is at least eight times as long as the next when it is made.
+// Distinct texts, each with its place in the list as its code. Contracts see the list. A code is
+// looked up by its text in runs, of which each is at least eight times as long as the next when
+// it is made.
 #[derive(Drop)]
 pub(crate) struct Dictionary {
     texts: TextList,
-    runs: Vec<Arc<Vec<u32>>>,
+    runs: Vec<Chunk<u32>>,
 }
 
 impl Model for Dictionary {
     ghost use Rattle.std.specs.Prelude.{List, ℕ};
-    ghost use Rattle.tl_shared.specs.Chunks.{pieces_of};
     ghost use Rattle.tl_column.specs.Runs.{IsLookUp};
 
     ghost Value = { List (List ℕ) };
 
     ghost view = { λ d. d.texts };
 
-    ghost invariant = { λ d. IsLookUp d.texts (pieces_of d.runs.items) };
+    ghost invariant = { λ d. IsLookUp d.texts d.runs.items };
 }
 
 impl Dictionary {
@@ -104,7 +103,7 @@ impl Shareable for Dictionary {
     fn share(&self, alloc: Global) -> Result<Dictionary, NoMemory> {
         Ok(Dictionary {
             texts: self.texts.share(alloc)?,
-            runs: shared_runs(alloc, self.runs.as_slice())?,
+            runs: share_all(alloc, self.runs.as_slice())?,
         })
     }
 }

@@ -1,4 +1,4 @@
-// A column of whole numbers.
+//! A column of whole numbers.
 ghost use Rattle.std.specs.Prelude.{◌≡◌, ◌<◌, ◌++◌, [], pos, length, slice_index_or, IfOk};
 
 use std::alloc::Global;
@@ -37,8 +37,8 @@ impl IntColumn {
         self.cells.len()
     }
 
-    /// The column followed by `cells`. It shares with this one, which stays as it was. `NoMemory` comes
-    /// only for want of memory.
+    /// The column followed by `cells`. It shares with this one, which stays as it was. The error is
+    /// `NoMemory`.
     pub fn push_all(&self, alloc: Global, cells: &[i64]) -> Result<IntColumn, NoMemory>
         ensures { IfOk result (λ column. column ≡ self.now ++ cells.now) }
     {

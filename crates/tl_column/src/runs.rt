@@ -1,13 +1,13 @@
-// Runs: codes in the order of their texts.
+//! Runs: codes in the order of their texts.
 ghost use Rattle.std.specs.Prelude.{◌≡◌, ℕ, ◌+◌, ◌<◌, [], length, IfOk, IfSome, IsNone, MatchOption};
-ghost use Rattle.tl_shared.specs.Chunks.{pieces_of, flatten};
+ghost use Rattle.tl_shared.specs.Chunks.{flatten};
 ghost use Rattle.tl_column.specs.Dictionary.{text_of};
 ghost use Rattle.tl_column.specs.Runs.{IsRun, AreRuns, LacksText, IsNext, times};
 
 use crate::text_list::TextList;
 use std::alloc::Global;
 use std::cmp::Ordering;
-use std::sync::Arc;
+use tl_shared::Chunk;
 use tl_types::NoMemory;
 
 // How many times longer than a run the one before it is at least.
@@ -31,8 +31,8 @@ pub(crate) fn code_in_run(texts: &TextList, run: &[u32], text: &str) -> Option<u
     }
 }
 
-// The first of the codes of two runs in the order of their texts, and the codes behind it in each. None
-// where neither has a code.
+// The first of the codes of two runs in the order of their texts, and the codes behind it in
+// each. None where neither has a code.
 fn next_code<'a>(
     texts: &TextList,
     left: &'a [u32],
@@ -86,28 +86,29 @@ pub(crate) fn merged(
     Ok(run)
 }
 
-// Adds a run. It is merged with those behind which it would be too long, so that there are few of them.
+// Adds a run. It is merged with those behind which it would be too long, so that there are few of
+// them.
 pub(crate) fn add_run(
     alloc: Global,
     texts: &TextList,
-    runs: &mut Vec<Arc<Vec<u32>>>,
+    runs: &mut Vec<Chunk<u32>>,
     run: Vec<u32>,
 ) -> Result<(), NoMemory>
-    requires runs { AreRuns texts.now (pieces_of runs.old.items) }
+    requires runs { AreRuns texts.now runs.old.items }
     requires run { IsRun texts.now run.items }
-    ensures runs { IfOk result (λ _. AreRuns texts.now (pieces_of runs.new.items)) }
+    ensures runs { IfOk result (λ _. AreRuns texts.now runs.new.items) }
     ensures all { IfOk result (λ _. (code : ℕ)
-        → times code (flatten (pieces_of runs.new.items))
-        ≡ times code (flatten (pieces_of runs.old.items)) + times code run.items) }
+        → times code (flatten runs.new.items)
+        ≡ times code (flatten runs.old.items) + times code run.items) }
 {
     match runs.pop() {
         None => {
-            runs.push(Arc::new(alloc, run)?)?;
+            runs.push(Chunk::new(alloc, run)?)?;
             Ok(())
         }
-        Some(last) if last.len() / SPREAD > run.len() => {
+        Some(last) if last.as_slice().len() / SPREAD > run.len() => {
             runs.push(last)?;
-            runs.push(Arc::new(alloc, run)?)?;
+            runs.push(Chunk::new(alloc, run)?)?;
             Ok(())
         }
         Some(last) => {
@@ -116,18 +117,4 @@ pub(crate) fn add_run(
             Ok(())
         }
     }
-}
-
-// The same runs, shared.
-pub(crate) fn shared_runs(
-    alloc: Global,
-    runs: &[Arc<Vec<u32>>],
-) -> Result<Vec<Arc<Vec<u32>>>, NoMemory>
-    ensures { IfOk result (λ shared. pieces_of shared.items ≡ pieces_of runs.now) }
-{
-    let mut shared = Vec::with_capacity(alloc, runs.len())?;
-    'sharing: for run in runs {
-        shared.push(Arc::try_clone(run)?)?;
-    }
-    Ok(shared)
 }

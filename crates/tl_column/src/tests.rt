@@ -1,4 +1,4 @@
-// Columns, each looked at after a longer one was made of it.
+//! Columns, each looked at after a longer one was made of it.
 use super::{IntColumn, TextColumn};
 use std::alloc::Global;
 use std::test::Fail;

@@ -1,17 +1,18 @@
-// A column of texts.
+//! A column of texts.
 ghost use Rattle.std.specs.Prelude.{◌≡◌, ℕ, ◌+◌, ◌<◌, ◌≤◌, ◌^◌, ◌++◌, [], Some, false, length, fold, slice_index_or, IfOk, IfSome, IsNone, ◌↔◌};
-ghost use Rattle.tl_column.specs.Dictionary.{text_of, contains_text, code_in, with_text, dictionary_of, texts_of, AreCodes};
+ghost use Rattle.tl_column.specs.Dictionary.{text_of, contains_text, code_in, with_text, dictionary_of, texts_of, AreCodes, lent_texts, KnowsCodes};
 
 use crate::dictionary::Dictionary;
 use std::alloc::Global;
+use std::collections::HashMap;
 use std::marker::Model;
 use tl_shared::{Shareable, SharedList};
 use tl_types::{NoMemory, Text};
 
 /// A column of texts. Contracts see it as the list of its cells.
 ///
-/// Each distinct text has a code, its number among the distinct texts in the order of first appearance,
-/// counted from 0.
+/// Each distinct text has a code, its number among the distinct texts in the order of first
+/// appearance, counted from 0.
 #[derive(Drop)]
 pub struct TextColumn {
     codes: SharedList<u32>,
@@ -47,11 +48,24 @@ impl TextColumn {
         self.codes.len()
     }
 
-    /// The column followed by `cells`. It shares with this one, which stays as it was. `NoMemory` comes
-    /// only for want of memory.
+    /// The column followed by `cells`. It shares with this one, which stays as it was. The error is
+    /// `NoMemory`.
     pub fn push_all(&self, alloc: Global, cells: &[Text]) -> Result<TextColumn, NoMemory>
         requires { length self.now + length cells.now < 2 ^ 32 }
         ensures { IfOk result (λ column. column ≡ self.now ++ cells.now) }
+    {
+        let mut lent = Vec::with_capacity(alloc, cells.len())?;
+        for cell in cells {
+            lent.push(cell)?;
+        }
+        self.push_lent(alloc, lent.as_slice())
+    }
+
+    /// The column followed by cells that are lent. It shares with this one, which stays as it
+    /// was, and takes copies of those texts alone that are new in it. The error is `NoMemory`.
+    pub fn push_lent(&self, alloc: Global, cells: &[&Text]) -> Result<TextColumn, NoMemory>
+        requires { length self.now + length cells.now < 2 ^ 32 }
+        ensures { IfOk result (λ column. column ≡ self.now ++ lent_texts cells.now) }
     {
         let (dictionary, codes) = coded(alloc, self.dictionary.share(alloc)?, cells)?;
         Ok(TextColumn {
@@ -81,7 +95,8 @@ impl TextColumn {
     /// The code of the cell of row `row`, counted from 0.
     pub fn code_at(&self, row: u32) -> u32
         requires { row < length self.now }
-        ensures code { Some result ≡ code_in (dictionary_of self.now) (slice_index_or self.now row []) }
+        ensures code { Some result
+            ≡ code_in (dictionary_of self.now) (slice_index_or self.now row []) }
         ensures text { text_of (dictionary_of self.now) result ≡ slice_index_or self.now row [] }
         ensures valid { result < length (dictionary_of self.now) }
     {
@@ -108,21 +123,46 @@ impl Shareable for TextColumn {
     }
 }
 
-// The dictionary with the texts of some cells, and the code of each cell.
+// The code of a text, and the dictionary with it, where some texts of it were looked up already.
+fn coded_text<'a>(
+    alloc: Global,
+    dictionary: Dictionary,
+    known: &mut HashMap<&'a str, u32>,
+    text: &'a Text,
+) -> Result<(Dictionary, u32), NoMemory>
+    requires few { length dictionary < 2 ^ 32 }
+    requires known { KnowsCodes dictionary known.old }
+    ensures texts { IfOk result (λ found. found.0 ≡ with_text dictionary text.now) }
+    ensures valid { IfOk result (λ found. found.1 < length found.0) }
+    ensures code { IfOk result (λ found. text_of found.0 found.1 ≡ text.now) }
+    ensures known { IfOk result (λ found. KnowsCodes found.0 known.new) }
+{
+    if let Some(code) = known.get(text.as_str()) {
+        return Ok((dictionary, *code));
+    }
+    let (dictionary, code) = dictionary.with(alloc, text)?;
+    known.insert(text.as_str(), code)?;
+    Ok((dictionary, code))
+}
+
+// The dictionary with the texts of some cells, and the code of each cell. A text is looked up in
+// the dictionary where it stands first among the cells, and nowhere else.
 fn coded(
     alloc: Global,
     dictionary: Dictionary,
-    cells: &[Text],
+    cells: &[&Text],
 ) -> Result<(Dictionary, Vec<u32>), NoMemory>
     requires { length dictionary + length cells.now < 2 ^ 32 }
-    ensures dictionary { IfOk result (λ pair. pair.0 ≡ fold with_text dictionary cells.now) }
-    ensures cells { IfOk result (λ pair. texts_of pair.0 pair.1.items ≡ cells.now) }
+    ensures dictionary { IfOk result
+        (λ pair. pair.0 ≡ fold with_text dictionary (lent_texts cells.now)) }
+    ensures cells { IfOk result (λ pair. texts_of pair.0 pair.1.items ≡ lent_texts cells.now) }
     ensures valid { IfOk result (λ pair. AreCodes pair.0 pair.1.items) }
 {
     let mut dictionary = dictionary;
+    let mut known = HashMap::new(alloc);
     let mut codes = Vec::with_capacity(alloc, cells.len())?;
     'coding: for cell in cells {
-        let (next, code) = dictionary.with(alloc, cell)?;
+        let (next, code) = coded_text(alloc, dictionary, &mut known, cell)?;
         dictionary = next;
         codes.push(code)?;
     }

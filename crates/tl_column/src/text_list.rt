@@ -1,18 +1,18 @@
-// A list of texts that grows at its end.
+//! A list of texts that grows at its end.
 ghost use Rattle.std.specs.Prelude.{◌≡◌, ◌<◌, ◌≤◌, ◌^◌, ◌++◌, ◌∷◌, [], length, IfOk};
 ghost use Rattle.tl_column.specs.Dictionary.{text_of};
 
-use crate::shared_text::SharedText;
 use std::alloc::Global;
 use std::marker::Model;
-use tl_shared::{Shareable, SharedList};
+use tl_shared::{Shareable, Shared, SharedList};
 use tl_types::{NoMemory, Text};
 
-// Texts of which the first are shared, and those behind them are not yet. Contracts see the list of them all.
+// Texts of which the first are shared, and those behind them are not yet. Contracts see the list
+// of them all.
 #[derive(Drop)]
 pub(crate) struct TextList {
-    settled: SharedList<SharedText>,
-    fresh: Vec<SharedText>,
+    settled: SharedList<Shared<Text>>,
+    fresh: Vec<Shared<Text>>,
 }
 
 impl Model for TextList {
@@ -50,9 +50,11 @@ impl TextList {
     {
         let code = code as u64;
         if code < self.settled.len() {
-            return self.settled.at(code).as_str();
+            return self.settled.at(code).get().as_str();
         }
-        self.fresh[(code - self.settled.len()) as usize].as_str()
+        self.fresh[(code - self.settled.len()) as usize]
+            .get()
+            .as_str()
     }
 
     /// The list followed by a text.
@@ -60,7 +62,7 @@ impl TextList {
         ensures { IfOk result (λ texts. texts ≡ self ++ text.now ∷ []) }
     {
         let TextList { settled, mut fresh } = self;
-        fresh.push(SharedText::new(alloc, text)?)?;
+        fresh.push(Shared::new(alloc, text.clone()?)?)?;
         Ok(TextList { settled, fresh })
     }
 

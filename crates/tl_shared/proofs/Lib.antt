@@ -1,3 +1,2 @@
+pub mod Groups
 pub mod Pieces
-pub mod Chunked
-pub mod Grouped

@@ -1,11 +1,24 @@
 -- Pieces of a list, each of `size` items but for the last, which has 1 to `size`.
-use Rattle.std.proofs.Common.{◌≡◌, ℕ, ◌+◌, ◌-◌, ◌*◌, ◌<◌, ◌≤◌, zero, suc, List, [], ◌∷◌, ◌++◌, length, set, take, drop, refl, sym, ap, ◌∙◌, arith, append_assoc, length-append}
-use Rattle.std.proofs.lemmas.List.{append-nil, take-append-drop, drop-drop, drop_at, take_at, take_all, drop_all, set-append_left, set-append_right}
+use Rattle.std.proofs.Common.{◌≡◌, ℕ, ◌+◌, ◌-◌, ◌*◌, ◌<◌, ◌≤◌, zero, suc, min, List, [], ◌∷◌, ◌++◌, length, get_or, set, take, drop, refl, sym, ap, ◌∙◌, arith, append_assoc, length-append}
+use Rattle.std.proofs.lemmas.List.{append-nil, take-append-drop, drop-drop, drop_at, take_at, take_all, drop_all, take_min, length-take, length-drop, get_or-take, get_or-drop, set-append_left, set-append_right}
+use Rattle.std.proofs.lemmas.Grind.{flat_map-append}
+use Rattle.std.proofs.Math.Seq.{take-append-add, take-add}
 use Rattle.tl_shared.specs.Chunks.{flatten, AreFull, IsChunked, piece_or_nil}
 
 -- the two parts of a list that was split
 pub rejoin : {X : Type 0} (n : ℕ) (xs front behind : List X) → front ≡ take n xs → behind ≡ drop n xs → front ++ behind ≡ xs
 rejoin n xs front behind p q = rw (p, q) (take-append-drop n xs)
+
+-- the piece that was read at a place
+pub same_piece : {X : Type 0} (ds : List (List X)) (i : ℕ) (d : List X) → i < length ds → d ≡ get_or ds i d → d ≡ piece_or_nil i ds
+same_piece [] i d h is = absurd (omega arith)
+same_piece (c ∷ ds) zero d h is = is
+same_piece (c ∷ ds) (suc i) d h is = same_piece ds i d (omega arith) is
+
+-- items stand in some piece
+pub some_pieces : {X : Type 0} (ds : List (List X)) → 0 < length (flatten ds) → 0 < length ds
+some_pieces [] h = h
+some_pieces (d ∷ ds) h = omega arith
 
 -- no pieces are all full
 full_none : (X : Type 0) (size i : ℕ) (none : List (List X)) → none ≡ [] → AreFull size (take i none)
@@ -19,14 +32,20 @@ module _ {X : Type 0} (size : ℕ) where
   full_more (d ∷ ds) c h e = (h.0, full_more ds c h.1 e)
 
   -- one more piece behind full ones
-  pub chunked_more : (ds : List (List X)) (c : List X) → AreFull size ds → 0 < length c → length c ≤ size → IsChunked size (ds ++ c ∷ [])
-  chunked_more [] c h some most = (some, most)
-  chunked_more (d ∷ []) c h some most = (h.0, (some, most))
-  chunked_more (d ∷ e ∷ ds) c h some most = (h.0, chunked_more (e ∷ ds) c h.1 some most)
+  pub piece_more : (ds : List (List X)) (c : List X) → AreFull size ds → 0 < length c → length c ≤ size → IsChunked size (ds ++ c ∷ [])
+  piece_more [] c h some most = (some, most)
+  piece_more (d ∷ []) c h some most = (h.0, (some, most))
+  piece_more (d ∷ e ∷ ds) c h some most = (h.0, piece_more (e ∷ ds) c h.1 some most)
+
+  -- pieces behind full ones
+  pub chunked_join : (ds cs : List (List X)) → 0 < size → AreFull size ds → IsChunked size cs → IsChunked size (ds ++ cs)
+  chunked_join [] cs some h k = k
+  chunked_join (d ∷ []) [] some h k = (omega (arith, h.0), omega (arith, h.0))
+  chunked_join (d ∷ []) (c ∷ cs) some h k = (h.0, k)
+  chunked_join (d ∷ e ∷ ds) cs some h k = (h.0, chunked_join (e ∷ ds) cs some h.1 k)
 
   pub flatten_more : (ds : List (List X)) (c : List X) → flatten (ds ++ c ∷ []) ≡ flatten ds ++ c
-  flatten_more [] c = append-nil c
-  flatten_more (d ∷ ds) c = ap (λ t. d ++ t) (flatten_more ds c) ∙ sym (append_assoc d (flatten ds) c)
+  flatten_more ds c = flat_map-append (λ piece. piece) ds (c ∷ []) ∙ ap (λ t. flatten ds ++ t) (append-nil c)
 
   -- behind a full piece the places are those of the rest
   skip_piece : (c rest : List X) (i : ℕ) → length c ≡ size → drop (size * suc i) (c ++ rest) ≡ drop (size * i) rest
@@ -58,18 +77,34 @@ module _ {X : Type 0} (size : ℕ) where
   piece_at (c ∷ d ∷ ds) (suc i) h =
       piece_at (d ∷ ds) i h.1 ∙ sym (ap (λ t. take size t) (skip_piece c (flatten (d ∷ ds)) i h.0))
 
-  -- how many items that many pieces have
-  pub most_items : (ds : List (List X)) → IsChunked size ds → length (flatten ds) ≤ size * length ds
-  most_items [] h = omega arith
-  most_items (c ∷ []) h = omega (arith, length-append c [], h.1)
-  most_items (c ∷ d ∷ ds) h =
-      omega (arith, length-append c (flatten (d ∷ ds)), h.0, most_items (d ∷ ds) h.1)
+  -- the first pieces hold the first items
+  pub front_at : (ds : List (List X)) (i : ℕ) → IsChunked size ds → flatten (take i ds) ≡ take (size * i) (flatten ds)
+  front_at [] zero h = sym (take_nothing (size * 0))
+  front_at [] (suc i) h = sym (take_nothing (size * suc i))
+  front_at (c ∷ ds) zero h = let none : size * 0 ≡ 0 = omega arith in sym (ap (λ n. take n (flatten (c ∷ ds))) none)
+  front_at (c ∷ []) (suc i) h =
+      let all : length (c ++ []) ≤ size * suc i = omega (arith, length-append c [], h.1) in
+      ap (λ ps. c ++ flatten ps) (take_all i [] (omega arith)) ∙ sym (take_all (size * suc i) (c ++ []) all)
+  front_at (c ∷ d ∷ ds) (suc i) h =
+      let more : size * suc i ≡ length c + size * i = omega (arith, h.0) in
+      ap (λ t. c ++ t) (front_at (d ∷ ds) i h.1)
+      ∙ sym (ap (λ n. take n (c ++ flatten (d ∷ ds))) more ∙ take-append-add c (flatten (d ∷ ds)) (size * i))
 
-  pub least_items : (ds : List (List X)) → 0 < size → IsChunked size ds → size * length ds < length (flatten ds) + size
-  least_items [] some h = omega arith
-  least_items (c ∷ []) some h = omega (arith, length-append c [], h.0)
-  least_items (c ∷ d ∷ ds) some h =
-      omega (arith, length-append c (flatten (d ∷ ds)), h.0, least_items (d ∷ ds) some h.1)
+  -- a piece is there where its first place is, and where all places before it are taken
+  pub piece_there : (ds : List (List X)) (i : ℕ) → IsChunked size ds → size * i < length (flatten ds) → i < length ds
+  piece_there [] i h low = absurd (omega arith)
+  piece_there (c ∷ ds) zero h low = omega arith
+  piece_there (c ∷ []) (suc i) h low = absurd (omega (arith, length-append c [], h.1))
+  piece_there (c ∷ d ∷ ds) (suc i) h low =
+      let later = piece_there (d ∷ ds) i h.1 (omega (arith, length-append c (flatten (d ∷ ds)), h.0)) in omega arith
+
+  pub front_there : (ds : List (List X)) (i : ℕ) → 0 < size → IsChunked size ds → size * i ≤ length (flatten ds) → i ≤ length ds
+  front_there ds zero some h low = omega arith
+  front_there [] (suc i) some h low = absurd (omega arith)
+  front_there (c ∷ []) (suc zero) some h low = omega arith
+  front_there (c ∷ []) (suc (suc i)) some h low = absurd (omega (arith, length-append c [], h.1))
+  front_there (c ∷ d ∷ ds) (suc i) some h low =
+      let later = front_there (d ∷ ds) i some h.1 (omega (arith, length-append c (flatten (d ∷ ds)), h.0)) in omega arith
 
   -- the pieces whose places are all taken are full
   pub front_full : (ds : List (List X)) (i : ℕ) → IsChunked size ds → size * i ≤ length (flatten ds) → AreFull size (take i ds)
@@ -78,15 +113,6 @@ module _ {X : Type 0} (size : ℕ) where
   front_full (c ∷ []) (suc i) h most = (omega (arith, length-append c [], h.1), full_none X size i [] refl)
   front_full (c ∷ d ∷ ds) (suc i) h most =
       (h.0, front_full (d ∷ ds) i h.1 (omega (arith, length-append c (flatten (d ∷ ds)), h.0)))
-
-  -- the list is its front and the piece behind it, where no further one follows
-  pub front_and_last : (ds : List (List X)) (i : ℕ) → length ds ≤ i + 1 → flatten (take i ds) ++ piece_or_nil i ds ≡ flatten ds
-  front_and_last [] zero h = refl
-  front_and_last [] (suc i) h = refl
-  front_and_last (c ∷ []) zero h = sym (append-nil c)
-  front_and_last (c ∷ d ∷ ds) zero h = absurd (omega arith)
-  front_and_last (c ∷ ds) (suc i) h =
-      append_assoc c (flatten (take i ds)) (piece_or_nil i ds) ∙ ap (λ t. c ++ t) (front_and_last ds i (omega arith))
 
   -- a changed item in one piece is one in the list
   pub flatten_set : (ds : List (List X)) (i j : ℕ) (x : X) → IsChunked size ds → i < length ds → j < length (piece_or_nil i ds) → flatten (set ds i (set (piece_or_nil i ds) j x)) ≡ set (flatten ds) (size * i + j) x
@@ -109,3 +135,66 @@ module _ {X : Type 0} (size : ℕ) where
   chunked_set (d ∷ f ∷ ds) zero c h e = (e ∙ h.0, h.1)
   chunked_set (d ∷ f ∷ ds) (suc zero) c h e = (h.0, chunked_set (f ∷ ds) zero c h.1 e)
   chunked_set (d ∷ f ∷ ds) (suc (suc i)) c h e = (h.0, chunked_set (f ∷ ds) (suc i) c h.1 e)
+
+-- a list that is kept in pieces
+module _ {X : Type 0} (size : ℕ) (ds : List (List X)) (xs : List X) (chunked : IsChunked size ds) (is : flatten ds ≡ xs) where
+  -- piece `q` of the list
+  pub piece_is : (q : ℕ) → piece_or_nil q ds ≡ take size (drop (size * q) xs)
+  piece_is q = piece_at size ds q chunked ∙ ap (λ t. take size (drop (size * q) t)) is
+
+  pub piece_len : (q : ℕ) → length (piece_or_nil q ds) ≡ min size (length xs - size * q)
+  piece_len q =
+      ap length (piece_is q) ∙ length-take size (drop (size * q) xs) ∙ ap (λ n. min size n) (length-drop (size * q) xs)
+
+  -- an item by its piece and its place there
+  pub item_at : (q r : ℕ) (d : X) → r < size → get_or (piece_or_nil q ds) r d ≡ get_or xs (size * q + r) d
+  item_at q r d h =
+      ap (λ t. get_or t r d) (piece_is q)
+      ∙ get_or-take size (drop (size * q) xs) r d h
+      ∙ get_or-drop (size * q) xs r d
+
+  pub piece_within : (q r : ℕ) → size * q + r < length xs → q < length ds
+  piece_within q r h = piece_there size ds q chunked (omega (arith, ap length is))
+
+  pub place_within : (q r : ℕ) → r < size → size * q + r < length xs → r < length (piece_or_nil q ds)
+  place_within q r low h = omega (arith, piece_len q)
+
+  -- the list with one item changed
+  pub with_list : (q r : ℕ) (x : X) → r < size → size * q + r < length xs → flatten (set ds q (set (piece_or_nil q ds) r x)) ≡ set xs (size * q + r) x
+  with_list q r x low h =
+      flatten_set size ds q r x chunked (piece_within q r h) (place_within q r low h)
+      ∙ ap (λ t. set t (size * q + r) x) is
+
+  -- the first items, by the pieces that they fill and the first items of the next
+  pub prefix_is : (q r : ℕ) → r ≤ size → flatten (take q ds) ++ take r (piece_or_nil q ds) ≡ take (size * q + r) xs
+  prefix_is q r h =
+      let rest = drop (size * q) xs in
+      let inner : take r (take size rest) ≡ take r rest = take_twice r size rest h in
+      ap (λ t. t ++ take r (piece_or_nil q ds)) (front_at size ds q chunked ∙ ap (λ t. take (size * q) t) is)
+      ∙ ap (λ t. take (size * q) xs ++ take r t) (piece_is q)
+      ∙ ap (λ t. take (size * q) xs ++ t) inner
+      ∙ sym (take-add (size * q) r xs) where
+        take_twice : (n m : ℕ) (ys : List X) → n ≤ m → take n (take m ys) ≡ take n ys
+        take_twice zero m ys l = refl
+        take_twice (suc n) zero ys l = absurd (omega arith)
+        take_twice (suc n) (suc m) [] l = refl
+        take_twice (suc n) (suc m) (y ∷ ys) l = ap (λ t. y ∷ t) (take_twice n m ys (omega arith))
+
+  -- all items, where only the piece behind full ones is not full
+  pub all_is : (q : ℕ) → length xs < size * q + size → flatten (take q ds) ++ piece_or_nil q ds ≡ xs
+  all_is q h =
+      ap (λ t. t ++ piece_or_nil q ds) (front_at size ds q chunked ∙ ap (λ t. take (size * q) t) is)
+      ∙ ap (λ t. take (size * q) xs ++ t) (piece_is q ∙ take_all size (drop (size * q) xs) (omega (arith, length-drop (size * q) xs)))
+      ∙ take-append-drop (size * q) xs
+
+  -- pieces of further items in place of those behind the first `q`
+  pub tail_list : (q : ℕ) (tail : List (List X)) (kept more ys : List X) → flatten (take q ds) ++ kept ≡ ys → flatten tail ≡ kept ++ more → flatten (take q ds ++ tail) ≡ ys ++ more
+  tail_list q tail kept more ys all e =
+      flat_map-append (λ piece. piece) (take q ds) tail
+      ∙ ap (λ t. flatten (take q ds) ++ t) e
+      ∙ sym (append_assoc (flatten (take q ds)) kept more)
+      ∙ ap (λ t. t ++ more) all
+
+  pub tail_chunked : (q : ℕ) (tail : List (List X)) → 0 < size → size * q ≤ length xs → IsChunked size tail → IsChunked size (take q ds ++ tail)
+  tail_chunked q tail some low h =
+      chunked_join size (take q ds) tail some (front_full size ds q chunked (omega (arith, ap length is))) h

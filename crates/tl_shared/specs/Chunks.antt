@@ -1,12 +1,6 @@
 -- A list in chunks.
-use Rattle.std.specs.Prelude.{◌≡◌, ℕ, ◌%◌, ◌<◌, ◌≤◌, List, [], ◌∷◌, map, fold, length, slice_index_or, slice_set}
+use Rattle.std.specs.Prelude.{◌≡◌, ℕ, ◌%◌, ◌<◌, ◌≤◌, List, [], ◌∷◌, fold, length, slice_index_or, slice_set}
 use Rattle.std.specs.List.{flat_map}
-use Rattle.std.specs.declared.sync.Arc.{Arc}
-use Rattle.std.specs.declared.vec.Vec.{Vec}
-
--- the items of each chunk
-abbrev pub pieces_of : {X Y Z : Type 0} → List (Arc (Vec X Y) Z) → List (List X)
-pieces_of {X} {Y} {Z} chunks = map (λ (chunk : Arc (Vec X Y) Z). chunk.value.items) chunks
 
 -- the pieces, one after another
 abbrev pub flatten : {X : Type 0} → List (List X) → List X

@@ -1,32 +1,33 @@
-// The list.
-ghost use Rattle.std.specs.Prelude.{◌≡◌, ℕ, ◌+◌, ◌*◌, ◌<◌, ◌≤◌, ◌++◌, [], length, take, drop, slice_index_or, slice_set, All, IfOk};
-ghost use Rattle.tl_shared.specs.Chunks.{set_each};
+//! The list.
+ghost use Rattle.std.specs.Prelude.{◌≡◌, ℕ, ◌+◌, ◌*◌, ◌/◌, ◌%◌, ◌<◌, ◌≤◌, ◌++◌, [], length, take, drop, slice_index, slice_index_or, slice_set, All, IfOk};
+ghost use Rattle.tl_shared.specs.Chunks.{flatten, IsChunked, piece_or_nil, set_each, set_within};
 
-use crate::chunks::{
-    CHUNK, change_chunks, items_of_chunk, push_chunk, push_pieces, share_items, shared_front,
-};
-use crate::shareable::{NoMemory, Shareable};
+use crate::chunk::{Chunk, chunks_of};
+use crate::chunk_list::ChunkList;
+use crate::shareable::{Shareable, share_all};
 use std::alloc::{AllocError, Global};
 use std::marker::Model;
-use std::sync::Arc;
+use tl_types::NoMemory;
+
+/// How many items a full chunk has.
+pub const CHUNK: usize = 1024;
 
 /// A list of items whose parts may have other owners. Contracts see it as the list of its items.
 #[derive(Drop)]
 pub struct SharedList<T> {
-    chunks: Vec<Arc<Vec<T>>>,
+    chunks: ChunkList<T>,
     len: u64,
 }
 
 impl<T> Model for SharedList<T> {
     ghost use Rattle.std.specs.Prelude.{◌≡◌, List, length};
-    ghost use Rattle.tl_shared.specs.Chunks.{pieces_of, flatten, IsChunked};
+    ghost use Rattle.tl_shared.specs.Chunks.{flatten, IsChunked};
 
     ghost Value = { List T };
 
-    ghost view = { λ l. flatten (pieces_of l.chunks.items) };
+    ghost view = { λ l. flatten l.chunks };
 
-    ghost invariant = { λ l. IsChunked 1024 (pieces_of l.chunks.items)
-        × (l.len ≡ length (flatten (pieces_of l.chunks.items))) };
+    ghost invariant = { λ l. IsChunked 1024 l.chunks × (l.len ≡ length (flatten l.chunks)) };
 }
 
 impl<T: Shareable> SharedList<T> {
@@ -35,7 +36,7 @@ impl<T: Shareable> SharedList<T> {
         ensures { result ≡ [] }
     {
         SharedList {
-            chunks: Vec::new(alloc),
+            chunks: ChunkList::none(alloc),
             len: 0,
         }
     }
@@ -47,8 +48,9 @@ impl<T: Shareable> SharedList<T> {
         self.len
     }
 
-    /// The list followed by `items`. It shares every full chunk with this one, and this one stays as
-    /// it was. `NoMemory` comes only for want of memory, or where the items would be 2^64 or more.
+    /// The list followed by `items`. It shares every full chunk with this one, and this one stays
+    /// as it was. `NoMemory` comes only where memory is out, or where the items would be 2^64 or
+    /// more.
     pub fn push_all(&self, alloc: Global, items: &[T]) -> Result<SharedList<T>, NoMemory>
         ensures { IfOk result (λ list. list ≡ self.now ++ items.now) }
     {
@@ -59,36 +61,31 @@ impl<T: Shareable> SharedList<T> {
             return Err(AllocError);
         };
         let full = (self.len / CHUNK as u64) as usize;
-        let mut chunks = shared_front(alloc, &self.chunks, full)?;
-        let unfilled = items_of_chunk(&self.chunks, full);
-        let (front, rest) = items.split_at(items.len().min(CHUNK - unfilled.len()));
-        push_chunk(alloc, &mut chunks, unfilled, front)?;
-        push_pieces(alloc, &mut chunks, rest)?;
+        let tail = chunks_of(alloc, CHUNK, self.chunks.chunk(full), items)?;
+        let chunks = self.chunks.with_tail(alloc, full, tail.as_slice())?;
         Ok(SharedList { chunks, len })
     }
 
-    /// The list with `item` in place of the item at `at`, counted from 0. It shares every other chunk
-    /// with this one, and this one stays as it was. `NoMemory` comes only for want of memory.
+    /// The list with `item` in place of the item at `at`, counted from 0. It shares every other
+    /// chunk with this one, and this one stays as it was. The error is `NoMemory`.
     pub fn with(&self, alloc: Global, at: u64, item: T) -> Result<SharedList<T>, NoMemory>
         requires { at < length self.now }
         ensures { IfOk result (λ list. list ≡ slice_set self.now at item) }
     {
         let i = (at / CHUNK as u64) as usize;
-        let chunk = items_of_chunk(&self.chunks, i);
-        let mut items = Vec::with_capacity(alloc, chunk.len())?;
-        share_items(alloc, &mut items, chunk)?;
+        let mut items = share_all(alloc, self.chunks.chunk(i))?;
         items[(at % CHUNK as u64) as usize] = item;
-        let mut chunks = shared_front(alloc, &self.chunks, self.chunks.len())?;
-        chunks[i] = Arc::new(alloc, items)?;
+        let chunk = Chunk::new(alloc, items)?;
+        let chunks = self.chunks.share(alloc)?.with(alloc, i, chunk)?;
         Ok(SharedList {
             chunks,
             len: self.len,
         })
     }
 
-    /// The list with `item` at each of these places, counted from 0. It shares with this one each chunk that
-    /// has none of the places, and copies a chunk once for places of it that stand next to each other. This
-    /// one stays as it was. `NoMemory` comes only for want of memory.
+    /// The list with `item` at each of these places, counted from 0. It shares with this one each
+    /// chunk that has none of the places, and copies a chunk once for places of it that stand next
+    /// to each other. This one stays as it was. The error is `NoMemory`.
     pub fn with_each(
         &self,
         alloc: Global,
@@ -98,8 +95,7 @@ impl<T: Shareable> SharedList<T> {
         requires { All (λ place. place < length self.now) places.now }
         ensures { IfOk result (λ list. list ≡ set_each item.now self.now places.now) }
     {
-        let mut chunks = shared_front(alloc, &self.chunks, self.chunks.len())?;
-        change_chunks(alloc, &mut chunks, places, item)?;
+        let chunks = set_in_chunks(alloc, self.chunks.share(alloc)?, places, item)?;
         Ok(SharedList {
             chunks,
             len: self.len,
@@ -111,7 +107,7 @@ impl<T: Shareable> SharedList<T> {
         requires { at < length self.now }
         ensures { result.now ≡ slice_index_or self.now at result.now }
     {
-        let chunk = items_of_chunk(&self.chunks, (at / CHUNK as u64) as usize);
+        let chunk = self.chunks.chunk((at / CHUNK as u64) as usize);
         &chunk[(at % CHUNK as u64) as usize]
     }
 
@@ -120,15 +116,88 @@ impl<T: Shareable> SharedList<T> {
         requires { CHUNK * i < length self.now }
         ensures { result.now ≡ take CHUNK (drop (CHUNK * i) self.now) }
     {
-        items_of_chunk(&self.chunks, i as usize)
+        self.chunks.chunk(i as usize)
     }
 }
 
 impl<T: Shareable> Shareable for SharedList<T> {
     fn share(&self, alloc: Global) -> Result<SharedList<T>, NoMemory> {
         Ok(SharedList {
-            chunks: shared_front(alloc, &self.chunks, self.chunks.len())?,
+            chunks: self.chunks.share(alloc)?,
             len: self.len,
         })
     }
+}
+
+// How many of the places, from the first on, are in chunk `i`.
+fn places_in_chunk(places: &[u32], i: usize) -> usize
+    ensures within { result ≤ length places.now }
+    ensures inside { All (λ place. place / CHUNK ≡ i) (take result places.now) }
+    ensures some { 0 < length places.now → slice_index places.now 0 / CHUNK ≡ i → 0 < result }
+{
+    for (count, place) in places.iter().enumerate() {
+        if *place as usize / CHUNK != i {
+            return count;
+        }
+    }
+    places.len()
+}
+
+// Puts the item at the place within its chunk of each of these places of a list.
+fn set_within<T: Shareable>(
+    alloc: Global,
+    items: &mut Vec<T>,
+    places: &[u32],
+    item: &T,
+) -> Result<(), NoMemory>
+    requires { All (λ place. place % CHUNK < length items.old.items) places.now }
+    ensures { IfOk result
+        (λ _. items.new.items ≡ set_within CHUNK item.now items.old.items places.now) }
+{
+    for place in places {
+        items[*place as usize % CHUNK] = item.share(alloc)?;
+    }
+    Ok(())
+}
+
+// The chunks with the item at each of these places of the list, which are in chunk `i`.
+fn set_in_chunk<T: Shareable>(
+    alloc: Global,
+    chunks: ChunkList<T>,
+    i: usize,
+    places: &[u32],
+    item: &T,
+) -> Result<ChunkList<T>, NoMemory>
+    requires chunk { i < length chunks }
+    requires places { All (λ place. place % CHUNK < length (piece_or_nil i chunks)) places.now }
+    ensures { IfOk result (λ changed. changed
+        ≡ slice_set chunks i (set_within CHUNK item.now (piece_or_nil i chunks) places.now)) }
+{
+    let mut items = share_all(alloc, chunks.chunk(i))?;
+    set_within(alloc, &mut items, places, item)?;
+    chunks.with(alloc, i, Chunk::new(alloc, items)?)
+}
+
+// The chunks with the item at each of these places of the list.
+fn set_in_chunks<T: Shareable>(
+    alloc: Global,
+    chunks: ChunkList<T>,
+    places: &[u32],
+    item: &T,
+) -> Result<ChunkList<T>, NoMemory>
+    requires chunked { IsChunked CHUNK chunks }
+    requires places { All (λ place. place < length (flatten chunks)) places.now }
+    ensures list { IfOk result
+        (λ changed. flatten changed ≡ set_each item.now (flatten chunks) places.now) }
+    ensures chunked { IfOk result (λ changed. IsChunked CHUNK changed) }
+{
+    let mut chunks = chunks;
+    let mut rest = places;
+    while let [first, ..] = rest {
+        let i = *first as usize / CHUNK;
+        let (group, after) = rest.split_at(places_in_chunk(rest, i));
+        chunks = set_in_chunk(alloc, chunks, i, group, item)?;
+        rest = after;
+    }
+    Ok(chunks)
 }

@@ -1,16 +1,14 @@
-// Items of which a further value can be made.
+//! Items of which a further value can be made.
 ghost use Rattle.std.specs.Prelude.{◌≡◌, IfOk};
 
-use std::alloc::{AllocError, Global};
-
-/// The answer for want of memory, the whole error of a call that can fail in no other way.
-pub type NoMemory = AllocError;
+use std::alloc::Global;
+use tl_types::NoMemory;
 
 /// An item of a `SharedList`: a value of which an equal one can be made.
 pub trait Shareable: Drop {
     /// A value equal to this one.
     ///
-    /// `alloc` is the memory to take. `NoMemory` comes only for want of memory.
+    /// `alloc` is the memory to take. The error is `NoMemory`.
     fn share(&self, alloc: Global) -> Result<Self, NoMemory>
         ensures { IfOk result (λ v. v ≡ self.now) };
 }
@@ -43,4 +41,15 @@ impl Shareable for i64 {
     fn share(&self, _alloc: Global) -> Result<i64, NoMemory> {
         Ok(*self)
     }
+}
+
+/// A value equal to each of the items, in their order. The error is `NoMemory`.
+pub fn share_all<T: Shareable>(alloc: Global, items: &[T]) -> Result<Vec<T>, NoMemory>
+    ensures { IfOk result (λ shared. shared.items ≡ items.now) }
+{
+    let mut shared = Vec::with_capacity(alloc, items.len())?;
+    for item in items {
+        shared.push(item.share(alloc)?)?;
+    }
+    Ok(shared)
 }

@@ -15,7 +15,8 @@ use Rattle.tl_types.specs.Plain as plain
 use Rattle.tl_store.specs.declared.columns.ColumnData.{ColumnData}
 use Rattle.tl_store.specs.Columns.{cell_in, longer_from, periods_in, row_in, rows_in, IsTable}
 use Rattle.tl_store.specs.Kept.{Kept, table_of, kept_after}
-use Rattle.tl_store.proofs.RowLemmas.{rows_number, open_within, and_left, and_right, get_left, get_right, length-rows_in, rows_in_at, cells_kept, cells_new, are_columns_longer, length-longer_from}
+use Rattle.tl_types.proofs.Lists.{and_left, and_right, open_within}
+use Rattle.tl_store.proofs.RowLemmas.{rows_number, get_left, get_right, length-rows_in, rows_in_at, cells_kept, cells_new, are_columns_longer, length-longer_from}
 
 -- ENDED ROWS
 
@@ -162,8 +163,8 @@ module _ (schema : plain.Schema) (cs : List ColumnData) (ps : List plain.Period)
       ∙ sym mapped
       ∙ sym (get_left front (map (new_row v) opens) k d (omega (arith, long_front)))
 
-  new_row : (k j : ℕ) (d : plain.Row) (o : plain.Opened) → length fs + j ≡ k → j < length opens → get_or (rows_in more_cs more_ps 0 more_fs more_ts) k d ≡ get_or (front ++ map (new_row v) opens) k d
-  new_row k j d o s h =
+  opened_row : (k j : ℕ) (d : plain.Row) (o : plain.Opened) → length fs + j ≡ k → j < length opens → get_or (rows_in more_cs more_ps 0 more_fs more_ts) k d ≡ get_or (front ++ map (new_row v) opens) k d
+  opened_row k j d o s h =
       let x = get_or opens j o in
       let cells : map (cell_in k) more_cs ≡ x.cells = cells_new (length fs) schema.columns cs opens 0 k j o x.cells table.cells s h refl (and_left (match_columns schema.columns x.cells) (beq schema.valid (is_some x.period)) (match_at schema opens j o fit h)) in
       let period = periods_new schema ps opens (length fs) k j o table.valid fit s h in
@@ -185,7 +186,7 @@ module _ (schema : plain.Schema) (cs : List ColumnData) (ps : List plain.Period)
 
     each : (k : ℕ) → k < length fs + length opens → (b : Bool) → ltb k (length fs) ≡ b → get_or (rows_in more_cs more_ps 0 more_fs more_ts) k none ≡ get_or (front ++ map (new_row v) opens) k none
     each k h true e = let low : k < length fs = grind (arith, nat_tests) in kept_row k none low
-    each k h false e = let high : length fs ≤ k = grind (arith, nat_tests) in new_row k (k - length fs) none (record { cells = []; period = None }) (omega arith) (omega arith)
+    each k h false e = let high : length fs ≤ k = grind (arith, nat_tests) in opened_row k (k - length fs) none (record { cells = []; period = None }) (omega arith) (omega arith)
 
 -- A WHOLE TABLE
 

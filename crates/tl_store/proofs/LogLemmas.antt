@@ -3,7 +3,7 @@ use Rattle.std.proofs.Common.{◌≡◌, ◌≢◌, ℕ, zero, suc, ◌+◌, ◌
 use Rattle.std.specs.List.{list_any, enumerate_from, position_from}
 use Rattle.std.specs.Option.{option_map}
 use Rattle.std.proofs.lemmas.Option.{slice_get-get_or, slice_get-map}
-use Rattle.std.proofs.lemmas.List.{length-map, length-set, length-drop, length_push, map_push, map-set, take-map, drop-map, drop_at, take-append-le, drop-append-le, take_all, get_or_append_left, get_or_at, get_or-set_same, get_or-set_other, get_or-map, get_or_default}
+use Rattle.std.proofs.lemmas.List.{length-map, length-set, length-drop, length_push, map_push, map-append, map-set, take-map, drop-map, drop_at, take-append-le, drop-append-le, take_all, get_or_append_left, get_or_at, get_or-set_same, get_or-set_other, get_or-map, get_or_default}
 use Rattle.std.proofs.lemmas.List.FromFn.{length-enumerate_from}
 use Rattle.std.proofs.lemmas.List.Sums.{fold-append}
 use Rattle.std.proofs.lemmas.Bool.Decides.{nat_tests}
@@ -22,7 +22,7 @@ use Rattle.tl_store.specs.declared.log.LogEntry.{LogEntry}
 use Rattle.tl_store.specs.Kept.{Kept, table_of, kept_new, kept_after, kept_none}
 use Rattle.tl_store.specs.Reading.{columns_of, columns_of_table, has_periods, has_periods_table}
 use Rattle.tl_store.specs.Log.{opened_of, part, body_of, kept_at, commit_of, history_of, AllFit, IsDeed, AreEntries, IsHistory, deed_of}
-use Rattle.tl_store.proofs.RowLemmas.{and_left, and_right}
+use Rattle.tl_types.proofs.Lists.{and_left, and_right, at_place-set}
 
 -- COMMITS THAT FIT
 
@@ -179,11 +179,6 @@ module _ (tables : List Kept) (log : List LogEntry) (history : IsHistory tables 
 
 -- ONE TABLE CHANGED
 
-pub at_place-set : {X : Type 0} → (xs : List X) (i : ℕ) (f : X → X) (d : X) → i < length xs → at_place i f xs ≡ set xs i (f (get_or xs i d))
-at_place-set [] i f d h = absurd (omega arith)
-at_place-set (x ∷ xs) zero f d h = refl
-at_place-set (x ∷ xs) (suc i) f d h = ap (λ t. x ∷ t) (at_place-set xs i f d (omega arith))
-
 pub table_there : (limits : Limits) (change : plain.Change) (tables : List plain.Table) (i : ℕ) → fits_table limits change (slice_get tables i) ≡ true → i < length tables
 table_there limits change [] i h = absurd cc
 table_there limits change (t ∷ ts) zero h = omega arith
@@ -208,10 +203,6 @@ opened_kept v ids n (row ∷ rows) =
       by_test true = refl
       by_test false = refl
 
-map_append : {X Y : Type 0} (f : X → Y) (xs ys : List X) → map f (xs ++ ys) ≡ map f xs ++ map f ys
-map_append f [] ys = refl
-map_append f (x ∷ xs) ys = ap (λ t. f x ∷ t) (map_append f xs ys)
-
 pub grows_changed : (v : ℕ) (change : plain.Change) (kept : Kept) → Grows kept (kept_after v change kept)
 grows_changed v change kept = record {
   schema = refl;
@@ -219,7 +210,7 @@ grows_changed v change kept = record {
   closed = refl;
   opens = change.opens;
   rows =
-      map_append opened_of (map (row_after v change.closes) (enumerate_from 0 kept.rows)) (map (new_row v) change.opens)
+      map-append opened_of (map (row_after v change.closes) (enumerate_from 0 kept.rows)) (map (new_row v) change.opens)
       ∙ ap (λ t. t ++ map opened_of (map (new_row v) change.opens)) (opened_kept v change.closes 0 kept.rows)
       ∙ ap (λ t. map opened_of kept.rows ++ t) (opened_back v change.opens);
 }

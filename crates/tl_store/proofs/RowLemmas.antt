@@ -11,6 +11,7 @@ use Rattle.tl_types.specs.declared.cells.ColumnKind.TheVariants.{IntKind, TextKi
 use Rattle.tl_types.specs.declared.schemas.Column.{Column}
 use Rattle.tl_types.specs.History.{open_end, is_open_at, is_of_kind, match_columns}
 use Rattle.tl_types.specs.Plain as plain
+use Rattle.tl_types.proofs.Lists.{and_left, and_right}
 use Rattle.tl_store.specs.declared.columns.ColumnData.{ColumnData}
 use Rattle.tl_store.specs.declared.columns.ColumnData.TheVariants as held
 use Rattle.tl_store.specs.Log.{part, opened_of}
@@ -95,14 +96,6 @@ cells_kept rows (name ∷ names) (c ∷ cs) opens place k h l =
     let tail = cells_kept rows names cs opens (place + 1) k h.2 l in
     cc
 
-pub and_left : (a b : Bool) → (a && b) ≡ true → a ≡ true
-and_left true b h = refl
-and_left false b h = h
-
-pub and_right : (a b : Bool) → (a && b) ≡ true → b ≡ true
-and_right true b h = h
-and_right false b h = absurd cc
-
 drop_head : {X : Type 0} (xs : List X) (place : ℕ) (x : X) (rest : List X) → x ∷ rest ≡ drop place xs → (slice_get xs place ≡ Some x) × (rest ≡ drop (place + 1) xs)
 drop_head [] zero x rest e = absurd cc
 drop_head [] (suc place) x rest e = absurd cc
@@ -147,11 +140,6 @@ pub cell_in_row : (cs : List ColumnData) (row place : ℕ) (column : ColumnData)
 cell_in_row [] row place column h is = absurd (omega arith)
 cell_in_row (c ∷ cs) row zero column h is = ap (λ t. Some (cell_in row t)) (sym is)
 cell_in_row (c ∷ cs) row (suc place) column h is = cell_in_row cs row place column (omega arith) is
-
-pub open_within : (rows : List plain.Row) (id : ℕ) → is_open_at rows id ≡ true → id < length rows
-open_within [] id h = absurd (cc)
-open_within (r ∷ rows) zero h = omega arith
-open_within (r ∷ rows) (suc id) h = let l = open_within rows id h in omega arith
 
 -- A TABLE WITHOUT ROWS
 

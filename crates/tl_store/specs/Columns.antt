@@ -55,7 +55,8 @@ longer opens place (held.Texts texts) = held.Texts (texts ++ map (text_at place)
 -- the columns from a place on, each followed by the cells of rows
 abbrev pub longer_from : List plain.Opened → ℕ → List ColumnData → List ColumnData
 longer_from opens place [] = []
-longer_from opens place (column ∷ columns) = longer opens place column ∷ longer_from opens (place + 1) columns
+longer_from opens place (column ∷ columns) =
+    longer opens place column ∷ longer_from opens (place + 1) columns
 
 -- the column holds what the kind says
 abbrev pub HoldsKind : ColumnKind → ColumnData → Type 0
@@ -69,7 +70,8 @@ abbrev pub AreColumns : ℕ → List Column → List ColumnData → Type 0
 AreColumns rows [] [] = Unit {0}
 AreColumns rows [] (column ∷ columns) = ⊥
 AreColumns rows (named ∷ names) [] = ⊥
-AreColumns rows (named ∷ names) (column ∷ columns) = HoldsKind named.kind column × (column_length column ≡ rows) × AreColumns rows names columns
+AreColumns rows (named ∷ names) (column ∷ columns) =
+    HoldsKind named.kind column × (column_length column ≡ rows) × AreColumns rows names columns
 
 -- PERIODS
 
@@ -78,7 +80,8 @@ abbrev pub periods_of : List ℤ → List ℤ → List plain.Period
 periods_of [] [] = []
 periods_of [] (end ∷ ends) = []
 periods_of (start ∷ starts) [] = []
-periods_of (start ∷ starts) (end ∷ ends) = record { from = start; to = end } ∷ periods_of starts ends
+periods_of (start ∷ starts) (end ∷ ends) =
+    record { from = start; to = end } ∷ periods_of starts ends
 
 -- there are as many ends as starts, and each start is less than its end
 abbrev pub AreEnds : List ℤ → List ℤ → Type 0
@@ -95,18 +98,21 @@ periods_in opens = filter_map (λ opened. opened.period) opens
 
 -- the row with an id
 abbrev pub row_in : List ColumnData → List plain.Period → ℕ → ℕ → ℕ → plain.Row
-row_in columns periods id from to = record { cells = map (cell_in id) columns; period = slice_get periods id; from = from; to = to }
+row_in columns periods id from to =
+    record { cells = map (cell_in id) columns; period = slice_get periods id; from = from; to = to }
 
 -- the rows from an id on
 abbrev pub rows_in : List ColumnData → List plain.Period → ℕ → List ℕ → List ℕ → List plain.Row
 rows_in columns periods id [] [] = []
 rows_in columns periods id [] (to ∷ tos) = []
 rows_in columns periods id (from ∷ froms) [] = []
-rows_in columns periods id (from ∷ froms) (to ∷ tos) = row_in columns periods id from to ∷ rows_in columns periods (id + 1) froms tos
+rows_in columns periods id (from ∷ froms) (to ∷ tos) =
+    row_in columns periods id from to ∷ rows_in columns periods (id + 1) froms tos
 
--- the columns are those of the schema, each as long as the table, and there is a period for each row where the
--- schema says so
-pub record IsTable (schema : plain.Schema) (columns : List ColumnData) (periods : List plain.Period) (from to : List ℕ) : Type 0 where
+-- the columns are those of the schema, each as long as the table, and there is a period for each
+-- row where the schema says so
+pub record IsTable (schema : plain.Schema) (columns : List ColumnData) (periods : List plain.Period)
+    (from to : List ℕ) : Type 0 where
   pub even : length to ≡ length from
   pub few : length from ≤ 16777216
   pub cells : AreColumns (length from) schema.columns columns

@@ -19,7 +19,13 @@ kept_new schema = record { schema = schema; rows = []; closed = [] }
 
 -- what is kept after a change of a version
 abbrev pub kept_after : ℕ → plain.Change → Kept → Kept
-kept_after version change kept = record { schema = kept.schema; rows = (table_after version change (table_of kept)).rows; closed = kept.closed ++ change.closes }
+kept_after version change kept =
+    record {
+      schema = kept.schema;
+      rows = (table_after version change (table_of kept)).rows;
+      closed
+          = kept.closed ++ change.closes;
+    }
 
 -- what is kept of no table
 abbrev pub kept_none : Kept

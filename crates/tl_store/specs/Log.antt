@@ -23,11 +23,18 @@ part from count xs = take count (drop from xs)
 -- what a commit did to a table
 abbrev pub body_of : ℕ → Deed → Kept → Body
 body_of table deed.Create kept = body.Create kept.schema
-body_of table (deed.Change first_close closes first_open opens) kept = body.Change (record { table = table; closes = part first_close closes kept.closed; opens = map opened_of (part first_open opens kept.rows) })
+body_of table (deed.Change first_close closes first_open opens) kept =
+    body.Change (record {
+      table = table;
+      closes = part first_close closes kept.closed;
+      opens = map
+          opened_of (part first_open opens kept.rows);
+    })
 
 -- what a change does to a table, of which this is kept before it
 abbrev pub deed_of : Kept → plain.Change → Deed
-deed_of kept change = deed.Change (length kept.closed) (length change.closes) (length kept.rows) (length change.opens)
+deed_of kept change =
+    deed.Change (length kept.closed) (length change.closes) (length kept.rows) (length change.opens)
 
 -- the table with a number
 abbrev pub kept_at : List Kept → ℕ → Kept
@@ -35,7 +42,12 @@ kept_at tables table = slice_index_or tables table kept_none
 
 -- the commit of an entry
 abbrev pub commit_of : List Kept → LogEntry → Commit
-commit_of tables entry = record { author = entry.author; body = body_of entry.table entry.deed (kept_at tables entry.table) }
+commit_of tables entry =
+    record {
+      author = entry.author;
+      body = body_of entry.table entry.deed
+          (kept_at tables entry.table);
+    }
 
 -- the commits of a log
 abbrev pub history_of : List Kept → List LogEntry → List Commit
@@ -44,7 +56,8 @@ history_of tables log = map (commit_of tables) log
 -- each commit fits the database after those before it
 abbrev pub AllFit : plain.Database → List Commit → Type 0
 AllFit db [] = Unit {0}
-AllFit db (commit ∷ commits) = IsTrue (fits standard_limits db commit) × AllFit (after_commit db commit) commits
+AllFit db (commit ∷ commits) =
+    IsTrue (fits standard_limits db commit) × AllFit (after_commit db commit) commits
 
 -- what an entry says of its table is there
 abbrev pub IsDeed : Deed → Kept → Type 0
@@ -59,11 +72,14 @@ IsDeed (deed.Change first_close closes first_open opens) kept =
 -- each entry names a table, and what it says of the table is there
 abbrev pub AreEntries : List Kept → List LogEntry → Type 0
 AreEntries tables [] = Unit {0}
-AreEntries tables (entry ∷ log) = (entry.table < length tables) × IsDeed entry.deed (kept_at tables entry.table) × AreEntries tables log
+AreEntries tables (entry ∷ log) =
+    (entry.table < length tables) × IsDeed entry.deed (kept_at tables entry.table)
+    × AreEntries tables log
 
 -- the tables are those of the log's commits, and each commit fits those before it
 pub record IsHistory (tables : List Kept) (log : List LogEntry) : Type 0 where
-  pub stands : database_of (history_of tables log) ≡ record { version = length log; tables = map table_of tables }
+  pub stands : database_of (history_of tables log)
+      ≡ record { version = length log; tables = map table_of tables }
   pub fitting : AllFit nothing (history_of tables log)
   pub entries : AreEntries tables log
   pub few_tables : length tables ≤ 64

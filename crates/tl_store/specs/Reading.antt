@@ -57,6 +57,6 @@ IsShort (shown.Int number) = Unit {0}
 IsShort (shown.Text text) = length text.now ≤ 65535
 
 -- how many rows are closed or opened
-abbrev pub rows_touched : Body → ℕ
-rows_touched (body.Create schema) = 0
-rows_touched (body.Change change) = length change.closes + length change.opens
+abbrev pub rows_changed : Body → ℕ
+rows_changed (body.Create schema) = 0
+rows_changed (body.Change change) = length change.closes + length change.opens

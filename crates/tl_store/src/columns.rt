@@ -1,5 +1,6 @@
 //! The cells of a column.
-ghost use Rattle.std.specs.Prelude.{◌≡◌, ◌+◌, ◌<◌, ◌^◌, length, map, All, IfOk};
+ghost use Rattle.std.specs.Prelude.{◌≡◌, ◌+◌, ◌<◌, ◌^◌, [], length, map, All, IfOk};
+ghost use Rattle.tl_column.specs.Dictionary.{lent_texts};
 ghost use Rattle.tl_store.specs.Columns.{empty_column, column_length, cell_in, number_at, text_at, longer, longer_from};
 ghost use Rattle.tl_store.specs.Reading.{cell_shown, IsShort};
 
@@ -44,8 +45,9 @@ impl ColumnData {
                 Ok(ColumnData::Ints(column.push_all(alloc, numbers.as_slice())?))
             }
             ColumnData::Texts(column) => {
-                let texts = texts_at(alloc, opens, place)?;
-                Ok(ColumnData::Texts(column.push_all(alloc, texts.as_slice())?))
+                let none = Text::new(alloc, "")?;
+                let texts = texts_at(alloc, opens, place, &none)?;
+                Ok(ColumnData::Texts(column.push_lent(alloc, texts.as_slice())?))
             }
         }
     }
@@ -83,22 +85,29 @@ fn numbers_at(alloc: Global, opens: &[Opened], place: usize) -> Result<Vec<i64>,
     Ok(numbers)
 }
 
-fn text_at(alloc: Global, opened: &Opened, place: usize) -> Result<Text, NoMemory>
-    ensures { IfOk result (λ text. text ≡ text_at place opened.now) }
+fn text_at<'a>(opened: &'a Opened, place: usize, none: &'a Text) -> &'a Text
+    requires { none.now ≡ [] }
+    ensures { result.now ≡ text_at place opened.now }
 {
     match opened.cells().get(place) {
-        None => Ok(Text::new(alloc, "")?),
-        Some(Cell::Int(_)) => Ok(Text::new(alloc, "")?),
-        Some(Cell::Text(text)) => Ok(text.clone()?),
+        None => none,
+        Some(Cell::Int(_)) => none,
+        Some(Cell::Text(text)) => text,
     }
 }
 
-fn texts_at(alloc: Global, opens: &[Opened], place: usize) -> Result<Vec<Text>, NoMemory>
-    ensures { IfOk result (λ texts. texts.items ≡ map (text_at place) opens.now) }
+fn texts_at<'a>(
+    alloc: Global,
+    opens: &'a [Opened],
+    place: usize,
+    none: &'a Text,
+) -> Result<Vec<&'a Text>, NoMemory>
+    requires { none.now ≡ [] }
+    ensures { IfOk result (λ texts. lent_texts texts.items ≡ map (text_at place) opens.now) }
 {
     let mut texts = Vec::with_capacity(alloc, opens.len())?;
     for opened in opens {
-        texts.push(text_at(alloc, opened, place)?)?;
+        texts.push(text_at(opened, place, none))?;
     }
     Ok(texts)
 }

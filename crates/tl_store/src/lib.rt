@@ -1,18 +1,19 @@
-// The store of commits. A store stands for the list of the commits that were applied, and contracts see it as
-// that list; its tables are what those commits make of no table. A further commit gives a further store, which
-// shares with the older one all that the commit does not touch, and the older one stays as it was.
-//
-// Inside, a table is kept by columns, with the first and the last version of each row; a log says for each
-// commit which closed and which opened rows of its table are its own, so that each commit can be read again.
+//! The store of commits. A store stands for the list of the commits that were applied, and
+//! contracts see it as that list; its tables are what those commits make of no table. A further
+//! commit gives a further store, which shares with the older one all that the commit leaves as it
+//! was, and the older one stays as it was.
+//!
+//! Inside, a table is kept by columns, with the first and the last version of each row; a log
+//! says for each commit which closed and which opened rows of its table are its own, so that each
+//! commit can be read again.
 #![tactic(auto)]
 
 mod columns;
 mod log;
 mod periods;
-mod shared_table;
 mod shown;
 mod store;
-mod tables;
+mod table;
 
 pub use shown::{CellRef, SystemPeriod};
 pub use store::Store;

@@ -8,7 +8,8 @@ use std::marker::Model;
 use tl_column::IntColumn;
 use tl_types::{NoMemory, Opened, Period};
 
-/// A list of periods, their two ends each in a column of its own. Contracts see the list of periods.
+/// A list of periods, their two ends each in a column of its own. Contracts see the list of
+/// periods.
 #[derive(Drop)]
 pub(crate) struct PeriodList {
     starts: IntColumn,
@@ -95,7 +96,8 @@ fn put_ends(
 
 // The ends of the periods of those rows that have one.
 fn ends_in(alloc: Global, opens: &[Opened]) -> Result<(Vec<i64>, Vec<i64>), NoMemory>
-    ensures periods { IfOk result (λ ends. periods_of ends.0.items ends.1.items ≡ periods_in opens.now) }
+    ensures periods { IfOk result
+        (λ ends. periods_of ends.0.items ends.1.items ≡ periods_in opens.now) }
     ensures ends { IfOk result (λ ends. AreEnds ends.0.items ends.1.items) }
 {
     let mut starts = Vec::new(alloc);

@@ -5,8 +5,8 @@ ghost use Rattle.tl_store.specs.Reading.{IsShort, cell_shown};
 use std::alloc::Global;
 use tl_types::{Cell, NoMemory, Text};
 
-/// The versions at which a row stands: from `from` on and before `to`, which is the greatest number of 32 bits
-/// while the row is current.
+/// The versions at which a row stands: from `from` on and before `to`, which is the greatest
+/// number of 32 bits while the row is current.
 #[derive(Clone, Copy, Debug, PartialEq, Eq)]
 pub struct SystemPeriod {
     /// The first version at which the row stands.
@@ -25,7 +25,7 @@ pub enum CellRef<'a> {
 }
 
 impl CellRef<'_> {
-    /// The cell as a value of its own. The error is want of memory.
+    /// The cell as a value of its own. The error is `NoMemory`.
     pub fn to_cell(self, alloc: Global) -> Result<Cell, NoMemory>
         requires { IsShort self }
         ensures { IfOk result (λ cell. cell ≡ cell_shown self.entry) }

@@ -8,23 +8,23 @@ ghost use Rattle.tl_types.specs.Limits.{standard_limits};
 ghost use Rattle.tl_types.specs.Facts.{IsChange};
 ghost use Rattle.tl_store.specs.Kept.{table_of};
 ghost use Rattle.tl_store.specs.Log.{deed_of};
-ghost use Rattle.tl_store.specs.Reading.{columns_of, has_periods, row_of, cell_of, cell_shown, IsShort, system_period, rows_touched};
+ghost use Rattle.tl_store.specs.Reading.{columns_of, has_periods, row_of, cell_of, cell_shown, IsShort, system_period, rows_changed};
 
 use crate::log::{Deed, LogEntry};
-use crate::shared_table::{SharedTable, share_tables};
 use crate::shown::{CellRef, SystemPeriod};
-use crate::tables::TableData;
+use crate::table::TableData;
 use std::alloc::Global;
 use std::marker::Model;
 use std::sync::ledger::Ledger;
-use tl_shared::SharedList;
-use tl_types::{Body, Change, Commit, Limits, NoMemory, Period, Schema, Steps};
+use tl_shared::{Shared, SharedList, share_all};
+use tl_types::{Body, Cell, Change, Commit, Limits, NoMemory, Period, Schema, Seq, Steps};
 
-/// The commits that were applied, in order, and the tables that they make. Contracts see the list of commits;
-/// its tables are `database_of` of that list. No call changes a store: a further commit gives a further one.
+/// The commits that were applied, in order, and the tables that they make. Contracts see the list
+/// of commits; its tables are `database_of` of that list. No call changes a store: a further
+/// commit gives a further one.
 #[derive(Drop)]
 pub struct Store {
-    tables: Vec<SharedTable>,
+    tables: Vec<Shared<TableData>>,
     log: SharedList<LogEntry>,
 }
 
@@ -71,7 +71,8 @@ impl Store {
 
     /// The number of the table with a name, from 0. `None` exactly where no table has the name.
     pub fn find(&self, name: &str) -> Option<u16>
-        ensures { result ≡ option_map (λ found. found.0) (find_table name.now (database_of self.now).tables) }
+        ensures { result
+            ≡ option_map (λ found. found.0) (find_table name.now (database_of self.now).tables) }
     {
         match place_of(self.tables.as_slice(), name) {
             Some(number) => Some(number as u16),
@@ -82,25 +83,27 @@ impl Store {
     /// The schema of the table with a number.
     pub fn schema(&self, table: u16) -> &Schema
         requires { table < length (database_of self.now).tables }
-        ensures value { Some result.now ≡ option_map (λ t. t.schema) (slice_get (database_of self.now).tables table) }
+        ensures value { Some result.now
+            ≡ option_map (λ t. t.schema) (slice_get (database_of self.now).tables table) }
         ensures columns { result.now.columns ≡ columns_of (database_of self.now) table }
         ensures valid { result.now.valid ≡ has_periods (database_of self.now) table }
     {
-        self.tables[table as usize].table().schema()
+        self.tables[table as usize].get().schema()
     }
 
-    /// The number of rows of the table with a number, ended ones included. Their ids are the numbers below it.
+    /// The number of rows of the table with a number, ended ones included. Their ids are the
+    /// numbers below it.
     pub fn rows(&self, table: u16) -> u32
         requires { table < length (database_of self.now).tables }
         ensures number { result ≡ length (rows_of (database_of self.now) table) }
         ensures few { result ≤ 16777216 }
     {
-        self.tables[table as usize].table().rows()
+        self.tables[table as usize].get().rows()
     }
 
-    /// Whether a commit fits: fewer commits than the limits allow are there; a new table has a new name, and
-    /// there is room for it; a change names a table, closes open rows only, opens rows that match the schema,
-    /// and leaves few enough rows.
+    /// Whether a commit fits: fewer commits than the limits allow are there; a new table has a
+    /// new name, and there is room for it; a change names a table, closes open rows only, opens
+    /// rows that match the schema, and leaves few enough rows.
     pub fn fits(&self, commit: &Commit, limits: &Limits) -> bool
         ensures { result ≡ fits limits.now (database_of self.now) commit.now }
     {
@@ -108,8 +111,8 @@ impl Store {
             && fits_body(self.tables.as_slice(), &commit.body, limits)
     }
 
-    /// The store after a commit that fits. It shares with this one what the commit does not touch, and this one
-    /// stays as it was. The error is want of memory.
+    /// The store after a commit that fits. It shares with this one what the commit leaves as it
+    /// was, and this one stays as it was. The error is `NoMemory`.
     pub fn apply(&self, alloc: Global, commit: &Commit) -> Result<Store, NoMemory>
         requires { IsTrue (fits standard_limits (database_of self.now) commit.now) }
         ensures { IfOk result (λ store. store ≡ self.now ++ commit.now ∷ []) }
@@ -122,35 +125,39 @@ impl Store {
 
     // The store after the commit of an author that makes a table.
     fn with_table(&self, alloc: Global, author: u32, schema: &Schema) -> Result<Store, NoMemory>
-        requires { IsTrue (fits standard_limits (database_of self.now) (record { author = author; body = body.Create schema.now })) }
-        ensures { IfOk result (λ store. store ≡ self.now ++ record { author = author; body = body.Create schema.now } ∷ []) }
+        requires { IsTrue (fits standard_limits (database_of self.now)
+            (record { author = author; body = body.Create schema.now })) }
+        ensures { IfOk result (λ store. store
+            ≡ self.now ++ record { author = author; body = body.Create schema.now } ∷ []) }
     {
         let entry = LogEntry {
             author,
             table: self.tables.len() as u16,
             deed: Deed::Create,
         };
-        let mut tables = share_tables(alloc, self.tables.as_slice())?;
-        tables.push(SharedTable::new(alloc, TableData::new(alloc, schema)?)?)?;
+        let mut tables = share_all(alloc, self.tables.as_slice())?;
+        tables.push(Shared::new(alloc, TableData::new(alloc, schema)?)?)?;
         let log = self.log.push_all(alloc, [entry].as_slice())?;
         Ok(Store { tables, log })
     }
 
     // The store after the commit of an author that changes a table.
     fn with_change(&self, alloc: Global, author: u32, change: &Change) -> Result<Store, NoMemory>
-        requires { IsTrue (fits standard_limits (database_of self.now) (record { author = author; body = body.Change change.now })) }
-        ensures { IfOk result (λ store. store ≡ self.now ++ record { author = author; body = body.Change change.now } ∷ []) }
+        requires { IsTrue (fits standard_limits (database_of self.now)
+            (record { author = author; body = body.Change change.now })) }
+        ensures { IfOk result (λ store. store
+            ≡ self.now ++ record { author = author; body = body.Change change.now } ∷ []) }
     {
         let number = change.table() as usize;
-        let before = self.tables[number].table();
+        let before = self.tables[number].get();
         let entry = LogEntry {
             author,
             table: change.table(),
             deed: deed_of(before, change),
         };
         let after = before.change(alloc, self.versions() + 1, change)?;
-        let mut tables = share_tables(alloc, self.tables.as_slice())?;
-        tables[number] = SharedTable::new(alloc, after)?;
+        let mut tables = share_all(alloc, self.tables.as_slice())?;
+        tables[number] = Shared::new(alloc, after)?;
         let log = self.log.push_all(alloc, [entry].as_slice())?;
         Ok(Store { tables, log })
     }
@@ -158,11 +165,12 @@ impl Store {
     /// The versions at which a row of a table stands. It ticks once.
     pub fn period_at<L: Ledger>(&self, table: u16, row: u32, steps: &mut Steps<L>) -> SystemPeriod
         requires { row < length (rows_of (database_of self.now) table) }
-        ensures value { Some result ≡ option_map system_period (row_of (database_of self.now) table row) }
+        ensures value { Some result
+            ≡ option_map system_period (row_of (database_of self.now) table row) }
         ensures ticks { steps.new ≡ steps.old + 1 }
     {
         steps.tick();
-        self.tables[table as usize].table().period_at(row)
+        self.tables[table as usize].get().period_at(row)
     }
 
     /// The cell of a row of a table in the column at a place, from 0. It ticks once.
@@ -180,22 +188,37 @@ impl Store {
         ensures ticks { steps.new ≡ steps.old + 1 }
     {
         steps.tick();
-        self.tables[table as usize].table().cell(row, column)
+        self.tables[table as usize].get().cell(row, column)
+    }
+
+    /// The cells of a row of a table, each as a value of its own. The error is `NoMemory`.
+    pub fn row_cells(&self, alloc: Global, table: u16, row: u32) -> Result<Seq<Cell>, NoMemory>
+        requires { row < length (rows_of (database_of self.now) table) }
+        ensures value { IfOk result
+            (λ cells. Some cells
+            ≡ option_map (λ r. r.cells) (row_of (database_of self.now) table row)) }
+        ensures each { IfOk result
+            (λ cells. (column : ℕ)
+            → slice_get cells column ≡ cell_of (database_of self.now) table row column) }
+    {
+        let cells = self.tables[table as usize].get().row_cells(alloc, row)?;
+        Ok(Seq::from_vec(cells))
     }
 
     /// The valid period of a row of a table whose rows have one. It ticks once.
     pub fn valid_at<L: Ledger>(&self, table: u16, row: u32, steps: &mut Steps<L>) -> Period
         requires row { row < length (rows_of (database_of self.now) table) }
         requires valid { IsTrue (has_periods (database_of self.now) table) }
-        ensures value { Some (Some result) ≡ option_map (λ r. r.period) (row_of (database_of self.now) table row) }
+        ensures value { Some (Some result)
+            ≡ option_map (λ r. r.period) (row_of (database_of self.now) table row) }
         ensures ticks { steps.new ≡ steps.old + 1 }
     {
         steps.tick();
-        self.tables[table as usize].table().valid_at(row)
+        self.tables[table as usize].get().valid_at(row)
     }
 
-    /// The commit that made a version, from 1. The error is want of memory. Where there is none, it has ticked
-    /// once for each row that the commit closes or opens, and once more.
+    /// The commit that made a version, from 1. The error is `NoMemory`. Where there is none, it
+    /// has ticked once for each row that the commit closes or opens, and once more.
     pub fn commit_at<L: Ledger>(
         &self,
         alloc: Global,
@@ -205,12 +228,14 @@ impl Store {
         requires some { 1 ≤ version }
         requires there { version ≤ length self.now }
         ensures value { IfOk result (λ commit. Some commit ≡ slice_get self.now (version - 1)) }
-        ensures fitting { IfOk result (λ commit. IsTrue (fits standard_limits (database_at self.now (version - 1)) commit)) }
-        ensures ticks { IfOk result (λ commit. steps.new ≡ steps.old + rows_touched commit.body + 1) }
+        ensures fitting { IfOk result
+            (λ commit. IsTrue (fits standard_limits (database_at self.now (version - 1)) commit)) }
+        ensures ticks { IfOk result
+            (λ commit. steps.new ≡ steps.old + rows_changed commit.body + 1) }
     {
         steps.tick();
         let entry = *self.log.at((version - 1) as u64);
-        let table = self.tables[entry.table as usize].table();
+        let table = self.tables[entry.table as usize].get();
         Ok(Commit {
             author: entry.author,
             body: table.body(alloc, entry.table, entry.deed, steps)?,
@@ -218,7 +243,8 @@ impl Store {
     }
 }
 
-// What a change does to a table, and where what it closes and opens will stand in what is kept of the table.
+// What a change does to a table, and where what it closes and opens will stand in what is kept of
+// the table.
 fn deed_of(table: &TableData, change: &Change) -> Deed
     ensures deed { result ≡ deed_of table.now change.now }
     ensures kept { IsChange change.now }
@@ -231,20 +257,21 @@ fn deed_of(table: &TableData, change: &Change) -> Deed
     }
 }
 
-fn place_of(tables: &[SharedTable], name: &str) -> Option<usize>
-    ensures first { result ≡ position_from (λ kept. has_name name.now (table_of kept)) 0 tables.now }
+fn place_of(tables: &[Shared<TableData>], name: &str) -> Option<usize>
+    ensures first { result
+        ≡ position_from (λ kept. has_name name.now (table_of kept)) 0 tables.now }
     ensures within { IfSome result (λ number. number < length tables.now) }
 {
-    tables.iter().position(|table| table.table().has_name(name))
+    tables.iter().position(|table| table.get().has_name(name))
 }
 
-fn is_named(tables: &[SharedTable], name: &str) -> bool
+fn is_named(tables: &[Shared<TableData>], name: &str) -> bool
     ensures { result ≡ list_any (λ kept. has_name name.now (table_of kept)) tables.now }
 {
-    tables.iter().any(|table| table.table().has_name(name))
+    tables.iter().any(|table| table.get().has_name(name))
 }
 
-fn fits_create(tables: &[SharedTable], schema: &Schema, limits: &Limits) -> bool
+fn fits_create(tables: &[Shared<TableData>], schema: &Schema, limits: &Limits) -> bool
     ensures { result ≡ fits_body limits.now (map table_of tables.now) (body.Create schema.now) }
 {
     let named = is_named(tables, schema.name().as_str());
@@ -252,16 +279,16 @@ fn fits_create(tables: &[SharedTable], schema: &Schema, limits: &Limits) -> bool
     !named && room
 }
 
-fn fits_change(tables: &[SharedTable], change: &Change, limits: &Limits) -> bool
+fn fits_change(tables: &[Shared<TableData>], change: &Change, limits: &Limits) -> bool
     ensures { result ≡ fits_body limits.now (map table_of tables.now) (body.Change change.now) }
 {
     match tables.get(change.table() as usize) {
-        Some(table) => table.table().fits(change, limits),
+        Some(table) => table.get().fits(change, limits),
         None => false,
     }
 }
 
-fn fits_body(tables: &[SharedTable], body: &Body, limits: &Limits) -> bool
+fn fits_body(tables: &[Shared<TableData>], body: &Body, limits: &Limits) -> bool
     ensures { result ≡ fits_body limits.now (map table_of tables.now) body.now }
 {
     match body {

@@ -1,4 +1,5 @@
-//! A worked history: a table of employees, two rows, of which one is changed, and the other removed and put again.
+//! A worked history: a table of employees, two rows, of which one is changed, and the other
+//! removed and put again.
 ghost use Rattle.std.specs.Prelude.{◌≡◌, ◌≤◌, ◌<◌, ◌^◌, IfOk, length};
 
 use crate::Store;
@@ -140,8 +141,8 @@ fn rows_by_version(rt: HostRuntime) -> Result<(), Fail> {
     let alloc = rt.alloc();
     let store = worked(alloc)?;
     let shown = shown_rows::<Brand>(alloc, Blank::new(1), &store)?;
-    let expected =
-        "2 3 Int(1) Text(\"ops\")|2 4 Int(2) Text(\"dev\")|3 4294967295 Int(3) Text(\"ops\")|5 4294967295 Int(2) Text(\"dev\")|";
+    let expected = "2 3 Int(1) Text(\"ops\")|2 4 Int(2) Text(\"dev\")|\
+                    3 4294967295 Int(3) Text(\"ops\")|5 4294967295 Int(2) Text(\"dev\")|";
     assert_eq!(rt; shown.as_str(), expected);
     assert_eq!(rt; (store.versions(), store.tables()), (5, 1));
     assert_eq!(rt; (store.find("emp"), store.find("emps")), (Some(0), None));
@@ -204,88 +205,6 @@ fn an_older_store_stays(rt: HostRuntime) -> Result<(), Fail> {
     assert_eq!(rt; (older.versions(), newest.versions()), (5, 7));
     assert_eq!(rt; newest.tables(), 1);
     assert_eq!(rt; newest.rows(0), 2104);
-    Ok(())
-}
-
-// Whether a commit fits the worked history.
-fn fits_worked(alloc: Global, commit: &Commit, limits: &Limits) -> Result<bool, Fail> {
-    Ok(worked(alloc)?.fits(commit, limits))
-}
-
-fn creating(alloc: Global, name: &str, limits: &Limits) -> Result<bool, Fail>
-    requires { length name.now ≤ 65535 }
-{
-    fits_worked(alloc, &create(alloc, name, false)?, limits)
-}
-
-fn closing(alloc: Global, table: u16, id: u32) -> Result<bool, Fail> {
-    let commit = change(alloc, table, Some(id), Vec::new(alloc))?;
-    fits_worked(alloc, &commit, &Limits::standard())
-}
-
-fn opening(alloc: Global, row: Opened, limits: &Limits) -> Result<bool, Fail> {
-    fits_worked(alloc, &put(alloc, None, row)?, limits)
-}
-
-#[test]
-fn tables_that_fit(rt: HostRuntime) -> Result<(), Fail> {
-    let all = Limits::standard();
-    let cases = [
-        (all, true),
-        (Limits { tables: 1, ..all }, false),
-        (Limits { versions: 5, ..all }, false),
-    ];
-    for (limits, expected) in cases {
-        assert_eq!(rt; creating(rt.alloc(), "dep", &limits)?, expected);
-        assert!(rt; !creating(rt.alloc(), "emp", &limits)?, "name taken");
-    }
-    Ok(())
-}
-
-#[test]
-fn closes_that_fit(rt: HostRuntime) -> Result<(), Fail> {
-    let cases = [
-        (0u16, 2u32, true),
-        (0, 0, false),
-        (0, 4, false),
-        (1, 2, false),
-    ];
-    for (table, id, expected) in cases {
-        assert_eq!(rt; closing(rt.alloc(), table, id)?, expected, "{table} {id}");
-    }
-    Ok(())
-}
-
-// A row of a number, or of two.
-fn odd_row(alloc: Global, two: bool) -> Result<Opened, NoMemory> {
-    let mut odd = Vec::new(alloc);
-    odd.push(Cell::Int(1))?;
-    if two {
-        odd.push(Cell::Int(1))?;
-    }
-    Ok(Opened::new(Seq::from_vec(odd), None))
-}
-
-#[test]
-fn rows_that_fit(rt: HostRuntime) -> Result<(), Fail> {
-    let all = Limits::standard();
-    let four = Limits { rows: 4, ..all };
-    let row = opened(rt.alloc(), 7, "ops", None)?;
-    assert!(rt; opening(rt.alloc(), row, &all)?);
-    let row = opened(rt.alloc(), 7, "ops", None)?;
-    assert!(rt; !opening(rt.alloc(), row, &four)?, "rows full");
-    Ok(())
-}
-
-#[test]
-fn rows_of_another_shape(rt: HostRuntime) -> Result<(), Fail> {
-    let all = Limits::standard();
-    let valid = opened(rt.alloc(), 7, "ops", Some(Period::new(0, 1)))?;
-    assert!(rt; !opening(rt.alloc(), valid, &all)?, "a period too many");
-    for two in [false, true] {
-        let odd = odd_row(rt.alloc(), two)?;
-        assert!(rt; !opening(rt.alloc(), odd, &all)?, "cells of other kinds");
-    }
     Ok(())
 }
 

@@ -1,120 +1,47 @@
-use Rattle.std.proofs.Common.{◌≡◌, ◌/◌, ◌<◌, ◌++◌, ◌∷◌, [], length, take, ap, ◌∙◌, append_assoc, length-append, arith}
+use Rattle.std.proofs.Common.{◌≡◌, ◌*◌, ◌/◌, ◌+◌, ◌<◌, ◌≤◌, ◌++◌, length, take, ap, ◌∙◌, sym, subst, arith, length-append}
 use Rattle.std.proofs.lemmas.Bool.Decides.{nat_tests}
-use Rattle.tl_shared.specs.Chunks.{pieces_of, flatten, piece_or_nil}
-use Rattle.tl_shared.proofs.Pieces.{rejoin}
-use Rattle.tl_shared.proofs.Chunked.{pieces_len, front_there, unfilled_short, push_list, push_chunked, push_full}
+use Rattle.tl_shared.specs.Chunks.{flatten, IsChunked, piece_or_nil}
+use Rattle.tl_shared.proofs.Pieces.{front_there, piece_len, some_pieces, all_is, tail_list, tail_chunked}
 use Rattle.tl_shared.proofs.list.SharedList.push_all.Goals as goal
 
-pub shared_front-requires : goal.shared_front-requires
-shared_front-requires g c =
-    let ds = pieces_of c.self.inside.chunks.items in
-    let xs = c.args.self.now in
-    let f = c.self.inside.len / 1024 in
-    let len : c.self.inside.len ≡ length xs = c.self.invariant.1 ∙ ap length c.self.view_is in
-    rw c.deref.ensures.value
-    (omega (arith, pieces_len c.self.inside.chunks.items, front_there ds xs c.self.invariant.0 c.self.view_is f (omega arith) (omega arith)))
+pub chunks_of-requires-clause-room : goal.chunks_of-requires-clause-room
+chunks_of-requires-clause-room g c =
+    let len : c.self.inside.len ≡ length c.args.self.now = c.self.invariant.1 ∙ ap length c.self.view_is in
+    omega (arith, len, ap length c.chunk.ensures, piece_len 1024 c.self.inside.chunks c.args.self.now c.self.invariant.0 c.self.view_is (c.self.inside.len / 1024))
 
-pub overflow_sub-unfilled : goal.overflow_sub-unfilled
-overflow_sub-unfilled g c =
-    let ds = pieces_of c.self.inside.chunks.items in
-    let xs = c.args.self.now in
-    let f = c.self.inside.len / 1024 in
-    let len : c.self.inside.len ≡ length xs = c.self.invariant.1 ∙ ap length c.self.view_is in
-    let unfilled : c.items_of_chunk-unfilled.result.now ≡ piece_or_nil f ds = rw c.deref-2.ensures.value at c.items_of_chunk-unfilled.ensures in
-    let short : length (piece_or_nil f ds) < 1024 = unfilled_short ds xs c.self.invariant.0 c.self.view_is f (omega arith) (omega arith) in
-    omega (arith, ap length unfilled)
+pub with_tail-requires-clause-keep : goal.with_tail-requires-clause-keep
+with_tail-requires-clause-keep g c =
+    let low : 1024 * (c.self.inside.len / 1024) ≤ length (flatten c.self.inside.chunks) = omega (arith, c.self.invariant.1) in
+    front_there 1024 c.self.inside.chunks (c.self.inside.len / 1024) (omega arith) c.self.invariant.0 low
 
-pub push_chunk-requires : goal.push_chunk-requires
-push_chunk-requires g c =
-    let ds = pieces_of c.self.inside.chunks.items in
-    let xs = c.args.self.now in
-    let f = c.self.inside.len / 1024 in
-    let len : c.self.inside.len ≡ length xs = c.self.invariant.1 ∙ ap length c.self.view_is in
-    let unfilled : c.items_of_chunk-unfilled.result.now ≡ piece_or_nil f ds = rw c.deref-2.ensures.value at c.items_of_chunk-unfilled.ensures in
-    let short : length (piece_or_nil f ds) < 1024 = unfilled_short ds xs c.self.invariant.0 c.self.view_is f (omega arith) (omega arith) in
-    omega (arith, ap length unfilled, c.split_at.ensures.front_len)
-
-pub push_pieces-requires-clause-chunked : goal.push_pieces-requires-clause-chunked
-push_pieces-requires-clause-chunked g c =
-    let ds = pieces_of c.self.inside.chunks.items in
-    let xs = c.args.self.now in
-    let f = c.self.inside.len / 1024 in
-    let len : c.self.inside.len ≡ length xs = c.self.invariant.1 ∙ ap length c.self.view_is in
-    let unfilled : c.items_of_chunk-unfilled.result.now ≡ piece_or_nil f ds = rw c.deref-2.ensures.value at c.items_of_chunk-unfilled.ensures in
-    let short : length (piece_or_nil f ds) < 1024 = unfilled_short ds xs c.self.invariant.0 c.self.view_is f (omega arith) (omega arith) in
-    let front = c.split_at.result.0.now in
-    let shared : pieces_of c.in_ok-chunks.chunks.items ≡ take f ds = rw c.deref.ensures.value at c.in_ok-chunks.ensures in
-    let pushed : pieces_of c.push_chunk.new.chunks.items ≡ take f ds ++ (piece_or_nil f ds ++ front) ∷ [] =
-    c.in_ok-push_chunk.ensures
-    ∙ ap (λ t. t ++ (c.items_of_chunk-unfilled.result.now ++ front) ∷ []) shared
-    ∙ ap (λ t. take f ds ++ (t ++ front) ∷ []) unfilled in
+pub with_tail-requires-clause-some : goal.with_tail-requires-clause-some
+with_tail-requires-clause-some g c =
     let some : 0 < length c.args.items.now = grind (arith, nat_tests) in
-    rw pushed
-    (push_chunked ds xs c.self.invariant.0 c.self.view_is f (omega arith) (omega arith) front
-    (omega (arith, ap length unfilled, c.split_at.ensures.front_len))
-    (omega (arith, ap length unfilled, c.split_at.ensures.front_len)))
-
-pub push_pieces-requires-clause-full : goal.push_pieces-requires-clause-full
-push_pieces-requires-clause-full g c =
-    let ds = pieces_of c.self.inside.chunks.items in
-    let xs = c.args.self.now in
-    let f = c.self.inside.len / 1024 in
-    let len : c.self.inside.len ≡ length xs = c.self.invariant.1 ∙ ap length c.self.view_is in
-    let unfilled : c.items_of_chunk-unfilled.result.now ≡ piece_or_nil f ds = rw c.deref-2.ensures.value at c.items_of_chunk-unfilled.ensures in
-    let short : length (piece_or_nil f ds) < 1024 = unfilled_short ds xs c.self.invariant.0 c.self.view_is f (omega arith) (omega arith) in
-    let front = c.split_at.result.0.now in
-    let shared : pieces_of c.in_ok-chunks.chunks.items ≡ take f ds = rw c.deref.ensures.value at c.in_ok-chunks.ensures in
-    let pushed : pieces_of c.push_chunk.new.chunks.items ≡ take f ds ++ (piece_or_nil f ds ++ front) ∷ [] =
-    c.in_ok-push_chunk.ensures
-    ∙ ap (λ t. t ++ (c.items_of_chunk-unfilled.result.now ++ front) ∷ []) shared
-    ∙ ap (λ t. take f ds ++ (t ++ front) ∷ []) unfilled in
-    λ more. rw pushed
-    (push_full ds xs c.self.invariant.0 c.self.view_is f (omega arith) (omega arith) front
-    (omega (arith, more, ap length unfilled, c.split_at.ensures.front_len, c.split_at.ensures.back_len)))
+    let left : 0 < length (flatten c.in_ok-tail.tail.items) = omega (arith, some, ap length c.in_ok-tail.ensures.list, length-append c.chunk.result.now c.args.items.now) in
+    omega (arith, ap length c.as_slice.ensures.value, some_pieces c.in_ok-tail.tail.items left)
 
 pub invariant_of-result : goal.invariant_of-result
 invariant_of-result g c =
-    let ds = pieces_of c.self.inside.chunks.items in
+    let ds = c.self.inside.chunks in
     let xs = c.args.self.now in
     let f = c.self.inside.len / 1024 in
+    let tail = c.in_ok-tail.tail.items in
     let len : c.self.inside.len ≡ length xs = c.self.invariant.1 ∙ ap length c.self.view_is in
-    let unfilled : c.items_of_chunk-unfilled.result.now ≡ piece_or_nil f ds = rw c.deref-2.ensures.value at c.items_of_chunk-unfilled.ensures in
-    let short : length (piece_or_nil f ds) < 1024 = unfilled_short ds xs c.self.invariant.0 c.self.view_is f (omega arith) (omega arith) in
-    let front = c.split_at.result.0.now in
-    let shared : pieces_of c.in_ok-chunks.chunks.items ≡ take f ds = rw c.deref.ensures.value at c.in_ok-chunks.ensures in
-    let pushed : pieces_of c.push_chunk.new.chunks.items ≡ take f ds ++ (piece_or_nil f ds ++ front) ∷ [] =
-    c.in_ok-push_chunk.ensures
-    ∙ ap (λ t. t ++ (c.items_of_chunk-unfilled.result.now ++ front) ∷ []) shared
-    ∙ ap (λ t. take f ds ++ (t ++ front) ∷ []) unfilled in
-    let whole : front ++ c.split_at.result.1.now ≡ c.args.items.now =
-    rejoin c.min.result c.args.items.now front c.split_at.result.1.now c.split_at.ensures.front c.split_at.ensures.back in
-    let list : flatten (pieces_of c.push_pieces.new.chunks.items) ≡ xs ++ c.args.items.now =
-    c.in_ok-push_pieces.ensures.list
-    ∙ ap (λ t. flatten t ++ c.split_at.result.1.now) pushed
-    ∙ ap (λ t. t ++ c.split_at.result.1.now) (push_list ds xs c.self.invariant.0 c.self.view_is f (omega arith) (omega arith) front)
-    ∙ append_assoc xs front c.split_at.result.1.now
-    ∙ ap (λ t. xs ++ t) whole
-    in
-    (c.in_ok-push_pieces.ensures.chunked, omega (arith, ap length list, length-append xs c.args.items.now, c.in-Some.ensures))
+    let all : c.in_ok-chunks.chunks ≡ take f ds ++ tail = c.in_ok-chunks.ensures ∙ ap (λ t. take f ds ++ t) c.as_slice.ensures.value in
+    let whole = all_is 1024 ds xs c.self.invariant.0 c.self.view_is f (omega (arith, len)) in
+    let list : flatten c.in_ok-chunks.chunks ≡ xs ++ c.args.items.now =
+    ap flatten all ∙ tail_list 1024 ds xs c.self.invariant.0 c.self.view_is f tail (piece_or_nil f ds) c.args.items.now xs whole (c.in_ok-tail.ensures.list ∙ ap (λ t. t ++ c.args.items.now) c.chunk.ensures) in (
+      subst (λ t. IsChunked 1024 t) (sym all) (tail_chunked 1024 ds xs c.self.invariant.0 c.self.view_is f tail (omega arith) (omega (arith, len)) c.in_ok-tail.ensures.chunked),
+      omega (arith, ap length list, len, length-append xs c.args.items.now, c.in-Some.ensures),
+    )
 
 pub returns : goal.returns
 returns g c =
-    let ds = pieces_of c.self.inside.chunks.items in
+    let ds = c.self.inside.chunks in
     let xs = c.args.self.now in
     let f = c.self.inside.len / 1024 in
+    let tail = c.in_ok-tail.tail.items in
     let len : c.self.inside.len ≡ length xs = c.self.invariant.1 ∙ ap length c.self.view_is in
-    let unfilled : c.items_of_chunk-unfilled.result.now ≡ piece_or_nil f ds = rw c.deref-2.ensures.value at c.items_of_chunk-unfilled.ensures in
-    let short : length (piece_or_nil f ds) < 1024 = unfilled_short ds xs c.self.invariant.0 c.self.view_is f (omega arith) (omega arith) in
-    let front = c.split_at.result.0.now in
-    let shared : pieces_of c.in_ok-chunks.chunks.items ≡ take f ds = rw c.deref.ensures.value at c.in_ok-chunks.ensures in
-    let pushed : pieces_of c.push_chunk.new.chunks.items ≡ take f ds ++ (piece_or_nil f ds ++ front) ∷ [] =
-    c.in_ok-push_chunk.ensures
-    ∙ ap (λ t. t ++ (c.items_of_chunk-unfilled.result.now ++ front) ∷ []) shared
-    ∙ ap (λ t. take f ds ++ (t ++ front) ∷ []) unfilled in
-    let whole : front ++ c.split_at.result.1.now ≡ c.args.items.now =
-    rejoin c.min.result c.args.items.now front c.split_at.result.1.now c.split_at.ensures.front c.split_at.ensures.back in
-    c.in_ok-push_pieces.ensures.list
-    ∙ ap (λ t. flatten t ++ c.split_at.result.1.now) pushed
-    ∙ ap (λ t. t ++ c.split_at.result.1.now) (push_list ds xs c.self.invariant.0 c.self.view_is f (omega arith) (omega arith) front)
-    ∙ append_assoc xs front c.split_at.result.1.now
-    ∙ ap (λ t. xs ++ t) whole
+    let all : c.in_ok-chunks.chunks ≡ take f ds ++ tail = c.in_ok-chunks.ensures ∙ ap (λ t. take f ds ++ t) c.as_slice.ensures.value in
+    let whole = all_is 1024 ds xs c.self.invariant.0 c.self.view_is f (omega (arith, len)) in
+    ap flatten all ∙ tail_list 1024 ds xs c.self.invariant.0 c.self.view_is f tail (piece_or_nil f ds) c.args.items.now xs whole (c.in_ok-tail.ensures.list ∙ ap (λ t. t ++ c.args.items.now) c.chunk.ensures)

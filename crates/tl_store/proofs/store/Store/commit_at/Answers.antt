@@ -27,8 +27,8 @@ body-requires g c =
     let log = c.self.inside.log in
     let low : c.args.version - 1 < length log = omega (arith, c.requires.some, c.requires.there, ap length c.self.view_is, length-map log (commit_of tables)) in
     let entry = entry_at tables log (c.args.version - 1) c.at-entry.result.now c.self.invariant.entries low c.at-entry.ensures in
-    let kept : c.table-table.result.now ≡ kept_at tables c.at-entry.result.now.table =
-    c.table-table.ensures ∙ c.index.ensures ∙ get_or_default tables c.at-entry.result.now.table c.index.result.now kept_none entry.0 in
+    let kept : c.get-table.result.now ≡ kept_at tables c.at-entry.result.now.table =
+    c.get-table.ensures ∙ c.index.ensures ∙ get_or_default tables c.at-entry.result.now.table c.index.result.now kept_none entry.0 in
     subst (λ (k : Kept). IsDeed c.at-entry.result.now.deed k) (sym kept) entry.1
 
 pub returns-clause-value : goal.returns-clause-value
@@ -37,9 +37,9 @@ returns-clause-value g c =
     let log = c.self.inside.log in
     let low : c.args.version - 1 < length log = omega (arith, c.requires.some, c.requires.there, ap length c.self.view_is, length-map log (commit_of tables)) in
     let entry = entry_at tables log (c.args.version - 1) c.at-entry.result.now c.self.invariant.entries low c.at-entry.ensures in
-    let kept : c.table-table.result.now ≡ kept_at tables c.at-entry.result.now.table =
-    c.table-table.ensures ∙ c.index.ensures ∙ get_or_default tables c.at-entry.result.now.table c.index.result.now kept_none entry.0 in
-    (commit_there tables log c.args.self.now (c.args.version - 1) c.at-entry.result.now c.table-table.result.now c.in_ok-body.field-0 c.self.invariant c.self.view_is low c.at-entry.ensures kept c.in_ok-body.ensures.value).0
+    let kept : c.get-table.result.now ≡ kept_at tables c.at-entry.result.now.table =
+    c.get-table.ensures ∙ c.index.ensures ∙ get_or_default tables c.at-entry.result.now.table c.index.result.now kept_none entry.0 in
+    (commit_there tables log c.args.self.now (c.args.version - 1) c.at-entry.result.now c.get-table.result.now c.in_ok-body.field-0 c.self.invariant c.self.view_is low c.at-entry.ensures kept c.in_ok-body.ensures.value).0
 
 pub returns-clause-fitting : goal.returns-clause-fitting
 returns-clause-fitting g c =
@@ -47,6 +47,6 @@ returns-clause-fitting g c =
     let log = c.self.inside.log in
     let low : c.args.version - 1 < length log = omega (arith, c.requires.some, c.requires.there, ap length c.self.view_is, length-map log (commit_of tables)) in
     let entry = entry_at tables log (c.args.version - 1) c.at-entry.result.now c.self.invariant.entries low c.at-entry.ensures in
-    let kept : c.table-table.result.now ≡ kept_at tables c.at-entry.result.now.table =
-    c.table-table.ensures ∙ c.index.ensures ∙ get_or_default tables c.at-entry.result.now.table c.index.result.now kept_none entry.0 in
-    (commit_there tables log c.args.self.now (c.args.version - 1) c.at-entry.result.now c.table-table.result.now c.in_ok-body.field-0 c.self.invariant c.self.view_is low c.at-entry.ensures kept c.in_ok-body.ensures.value).1
+    let kept : c.get-table.result.now ≡ kept_at tables c.at-entry.result.now.table =
+    c.get-table.ensures ∙ c.index.ensures ∙ get_or_default tables c.at-entry.result.now.table c.index.result.now kept_none entry.0 in
+    (commit_there tables log c.args.self.now (c.args.version - 1) c.at-entry.result.now c.get-table.result.now c.in_ok-body.field-0 c.self.invariant c.self.view_is low c.at-entry.ensures kept c.in_ok-body.ensures.value).1

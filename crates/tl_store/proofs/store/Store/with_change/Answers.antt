@@ -15,10 +15,10 @@ invariant_of-result c =
     let tables = c.self.inside.tables.items in
     let log = c.self.inside.log in
     let change = c.args.change.now in
-    let kept : Kept = c.table-before.result.now in
+    let kept : Kept = c.get-before.result.now in
     let entry : LogEntry = record { author = c.args.author; table = c.table.result; deed = c.deed_of.result } in
     let fit = subst (λ (cs : List Commit). fits standard_limits (database_of cs) (record { author = c.args.author; body = body.Change change }) ≡ true) (sym c.self.view_is) c.requires in
-    let kept_is : kept ≡ get_or tables change.table kept = kept_read tables c.table-number.result change.table c.index.result.now kept c.index.ensures c.table-before.ensures c.table-number.ensures in
+    let kept_is : kept ≡ get_or tables change.table kept = kept_read tables c.table-number.result change.table c.index.result.now kept c.index.ensures c.get-before.ensures c.table-number.ensures in
     let version : c.versions.result + 1 ≡ length log + 1 = omega (arith, c.versions.ensures.number, ap length c.self.view_is, length-map log (commit_of tables)) in
     let next : c.in_ok-tables-2.field-0 ≡ kept_after (length log + 1) change kept = c.in_ok-tables-2.ensures ∙ c.in_ok-after.ensures ∙ ap (λ v. kept_after v change kept) version in
     let more : set c.in_ok-tables.tables.items c.table-number.result c.in_ok-tables-2.field-0 ≡ set tables change.table (kept_after (length log + 1) change kept) =
@@ -33,10 +33,10 @@ returns c =
     let tables = c.self.inside.tables.items in
     let log = c.self.inside.log in
     let change = c.args.change.now in
-    let kept : Kept = c.table-before.result.now in
+    let kept : Kept = c.get-before.result.now in
     let entry : LogEntry = record { author = c.args.author; table = c.table.result; deed = c.deed_of.result } in
     let fit = subst (λ (cs : List Commit). fits standard_limits (database_of cs) (record { author = c.args.author; body = body.Change change }) ≡ true) (sym c.self.view_is) c.requires in
-    let kept_is : kept ≡ get_or tables change.table kept = kept_read tables c.table-number.result change.table c.index.result.now kept c.index.ensures c.table-before.ensures c.table-number.ensures in
+    let kept_is : kept ≡ get_or tables change.table kept = kept_read tables c.table-number.result change.table c.index.result.now kept c.index.ensures c.get-before.ensures c.table-number.ensures in
     let version : c.versions.result + 1 ≡ length log + 1 = omega (arith, c.versions.ensures.number, ap length c.self.view_is, length-map log (commit_of tables)) in
     let next : c.in_ok-tables-2.field-0 ≡ kept_after (length log + 1) change kept = c.in_ok-tables-2.ensures ∙ c.in_ok-after.ensures ∙ ap (λ v. kept_after v change kept) version in
     let more : set c.in_ok-tables.tables.items c.table-number.result c.in_ok-tables-2.field-0 ≡ set tables change.table (kept_after (length log + 1) change kept) =

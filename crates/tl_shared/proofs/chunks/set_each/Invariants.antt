@@ -1,6 +1,0 @@
-use Rattle.std.proofs.Common.{◌≡◌, take}
-use Rattle.tl_shared.specs.Chunks.{set_within}
-use Rattle.tl_shared.proofs.chunks.set_each.Given as goal
-
-abbrev pub invariant-loop-place : goal.invariant-loop-place
-invariant-loop-place g l = l.items.items ≡ set_within 1024 l.item l.fn.items.items (take l.place-index l.places)

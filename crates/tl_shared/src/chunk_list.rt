@@ -1,0 +1,89 @@
+//! Lists of chunks, which are kept in blocks of chunks, so that a longer or changed list copies few
+//! pointers.
+ghost use Rattle.std.specs.Prelude.{◌≡◌, ◌<◌, ◌≤◌, ◌++◌, [], length, take, slice_set, IfOk};
+ghost use Rattle.tl_shared.specs.Chunks.{piece_or_nil};
+
+use crate::chunk::{Chunk, chunks_of, items_of_chunk};
+use crate::shareable::{Shareable, share_all};
+use std::alloc::Global;
+use std::marker::Model;
+use tl_types::NoMemory;
+
+// How many chunks a full block has.
+const BLOCK: usize = 64;
+
+// Chunks in their order. Contracts see the list of what each of them holds.
+#[derive(Drop)]
+pub(crate) struct ChunkList<T> {
+    blocks: Vec<Chunk<Chunk<T>>>,
+}
+
+impl<T> Model for ChunkList<T> {
+    ghost use Rattle.std.specs.Prelude.{List};
+    ghost use Rattle.tl_shared.specs.Chunks.{flatten, IsChunked};
+
+    ghost Value = { List (List T) };
+
+    ghost view = { λ l. flatten l.blocks.items };
+
+    ghost invariant = { λ l. IsChunked 64 l.blocks.items };
+}
+
+impl<T: Shareable> ChunkList<T> {
+    /// No chunks. `alloc` is the memory that it will take, none as yet.
+    pub fn none(alloc: Global) -> ChunkList<T>
+        ensures { result ≡ [] }
+    {
+        ChunkList {
+            blocks: Vec::new(alloc),
+        }
+    }
+
+    /// The items of chunk `i`, none where there is no such chunk.
+    pub fn chunk(&self, i: usize) -> &[T]
+        ensures { result.now ≡ piece_or_nil i self.now }
+    {
+        let block = items_of_chunk(self.blocks.as_slice(), i / BLOCK);
+        items_of_chunk(block, i % BLOCK)
+    }
+
+    /// The first `keep` chunks and then further ones. It shares each full block of those that are
+    /// kept.
+    pub fn with_tail(
+        &self,
+        alloc: Global,
+        keep: usize,
+        more: &[Chunk<T>],
+    ) -> Result<ChunkList<T>, NoMemory>
+        requires keep { keep ≤ length self.now }
+        requires some { 0 < length more.now }
+        ensures { IfOk result (λ list. list ≡ take keep self.now ++ more.now) }
+    {
+        let full = keep / BLOCK;
+        let kept = &items_of_chunk(self.blocks.as_slice(), full)[..keep % BLOCK];
+        let mut tail = chunks_of(alloc, BLOCK, kept, more)?;
+        let mut blocks = share_all(alloc, &self.blocks[..full])?;
+        blocks.append(&mut tail)?;
+        Ok(ChunkList { blocks })
+    }
+
+    /// The list with `chunk` in place of chunk `i`. It copies the block of that chunk unless it
+    /// owns it alone.
+    pub fn with(self, alloc: Global, i: usize, chunk: Chunk<T>) -> Result<ChunkList<T>, NoMemory>
+        requires there { i < length self }
+        requires same { length chunk ≡ length (piece_or_nil i self) }
+        ensures { IfOk result (λ list. list ≡ slice_set self i chunk) }
+    {
+        let ChunkList { mut blocks } = self;
+        blocks[i / BLOCK].set(alloc, i % BLOCK, chunk)?;
+        Ok(ChunkList { blocks })
+    }
+}
+
+impl<T: Shareable> Shareable for ChunkList<T> {
+    fn share(&self, alloc: Global) -> Result<ChunkList<T>, NoMemory> {
+        Ok(ChunkList {
+            blocks: share_all(alloc, self.blocks.as_slice())?,
+        })
+    }
+}

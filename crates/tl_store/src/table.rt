@@ -1,0 +1,309 @@
+//! One table, kept by columns.
+ghost use Rattle.std.specs.Prelude.{◌≡◌, ℕ, ◌+◌, ◌<◌, ◌≤◌, ◌^◌, IsTrue, IfOk, Some, length, map, slice_get, All, option_map, replicate};
+ghost use Rattle.std.specs.List.{list_all};
+ghost use Rattle.tl_types.specs.History.{fits_table, has_name, is_open_at, cell_at};
+ghost use Rattle.tl_types.specs.Limits.{standard_limits};
+ghost use Rattle.tl_store.specs.Columns.{empty_column, column_length, cell_in};
+ghost use Rattle.tl_store.specs.Kept.{table_of, kept_new, kept_after};
+ghost use Rattle.tl_store.specs.Log.{IsDeed, body_of, part, opened_of};
+ghost use Rattle.tl_store.specs.Reading.{cell_shown, IsShort, cell_of_row, system_period, rows_changed};
+
+use crate::columns::{self, ColumnData};
+use crate::log::Deed;
+use crate::periods::PeriodList;
+use crate::shown::{CellRef, SystemPeriod};
+use std::alloc::Global;
+use std::marker::Model;
+use std::sync::Arc;
+use std::sync::ledger::Ledger;
+use tl_shared::{Shareable, SharedList};
+use tl_types::{
+    Body, Cell, Change, Column, Limits, NoMemory, OPEN, Opened, Period, Schema, Seq, Steps, Text,
+    all_match,
+};
+
+/// A table: its schema, a column for each of the schema's, the valid periods of its rows where it
+/// has them, the versions from which and before which each row stands, and the ids of closed rows
+/// in the order in which commits closed them.
+#[derive(Drop)]
+pub(crate) struct TableData {
+    schema: Arc<Schema>,
+    columns: Vec<ColumnData>,
+    periods: PeriodList,
+    from: SharedList<u32>,
+    to: SharedList<u32>,
+    closed: SharedList<u32>,
+}
+
+impl Model for TableData {
+    ghost use Rattle.tl_store.specs.Kept.{Kept};
+
+    ghost Value = { Kept };
+
+    ghost use Rattle.std.specs.Arc.{arc_value};
+    ghost use Rattle.tl_store.specs.Columns.{rows_in, IsTable};
+
+    ghost view = { λ t. record {
+      schema = arc_value t.schema;
+      rows = rows_in t.columns.items t.periods 0 t.from t.to;
+      closed = t.closed;
+    } };
+
+    ghost invariant = { λ t. IsTable (arc_value t.schema) t.columns.items t.periods t.from t.to };
+}
+
+impl TableData {
+    /// A table without rows.
+    pub fn new(alloc: Global, schema: &Schema) -> Result<TableData, NoMemory>
+        ensures { IfOk result (λ table. table ≡ kept_new schema.now) }
+    {
+        Ok(TableData {
+            columns: empty_columns(alloc, schema.columns())?,
+            schema: Arc::new(alloc, schema.clone()?)?,
+            periods: PeriodList::none(alloc),
+            from: SharedList::none(alloc),
+            to: SharedList::none(alloc),
+            closed: SharedList::none(alloc),
+        })
+    }
+
+    /// The schema.
+    pub fn schema(&self) -> &Schema
+        ensures { result.now ≡ self.now.schema }
+    {
+        &self.schema
+    }
+
+    /// How many rows there are, ended ones included.
+    pub fn rows(&self) -> u32
+        ensures number { result ≡ length self.now.rows }
+        ensures few { result ≤ 16777216 }
+    {
+        self.from.len() as u32
+    }
+
+    /// How many rows were closed.
+    pub fn closed(&self) -> u64
+        ensures { result ≡ length self.now.closed }
+    {
+        self.closed.len()
+    }
+
+    /// Whether the table has the name.
+    pub fn has_name(&self, name: &str) -> bool
+        ensures { result ≡ has_name name.now (table_of self.now) }
+    {
+        self.schema.name().as_str() == name
+    }
+
+    /// Whether the row with an id is there and is current.
+    fn is_open_at(&self, id: u32) -> bool
+        ensures { result ≡ is_open_at self.now.rows id }
+    {
+        (id as u64) < self.to.len() && *self.to.at(id as u64) == OPEN
+    }
+
+    /// Whether each id is that of a current row.
+    fn all_open(&self, ids: &[u32]) -> bool
+        ensures { result ≡ list_all (is_open_at self.now.rows) ids.now }
+    {
+        ids.iter().all(|id| self.is_open_at(*id))
+    }
+
+    /// Whether a change fits the table: it closes open rows only, opens rows that match the
+    /// schema, and leaves few enough rows.
+    pub fn fits(&self, change: &Change, limits: &Limits) -> bool
+        ensures { result ≡ fits_table limits.now change.now (Some (table_of self.now)) }
+    {
+        self.all_open(change.closes())
+            && all_match(&self.schema, change.opens())
+            && self.rows() as u64 + change.opens().len() as u64 <= limits.rows
+    }
+
+    /// The table after the change of a version, which shares with this one what the change leaves
+    /// as it was.
+    pub fn change(
+        &self,
+        alloc: Global,
+        version: u32,
+        change: &Change,
+    ) -> Result<TableData, NoMemory>
+        requires { IsTrue (fits_table standard_limits change.now (Some (table_of self.now))) }
+        ensures { IfOk result (λ table. table ≡ kept_after version change.now self.now) }
+    {
+        let opens = change.opens();
+        let closes = change.closes();
+        let begins = filled(alloc, version, opens.len())?;
+        let ends = filled(alloc, OPEN, opens.len())?;
+        let ended = self.to.with_each(alloc, closes, &version)?;
+        Ok(TableData {
+            schema: Arc::try_clone(&self.schema)?,
+            columns: columns::all_followed_by(alloc, self.columns.as_slice(), opens)?,
+            periods: self.periods.followed_by(alloc, opens)?,
+            from: self.from.push_all(alloc, begins.as_slice())?,
+            to: ended.push_all(alloc, ends.as_slice())?,
+            closed: self.closed.push_all(alloc, closes)?,
+        })
+    }
+
+    /// The versions at which a row stands.
+    pub fn period_at(&self, row: u32) -> SystemPeriod
+        requires { row < length self.now.rows }
+        ensures { Some result ≡ option_map system_period (slice_get self.now.rows row) }
+    {
+        SystemPeriod {
+            from: *self.from.at(row as u64),
+            to: *self.to.at(row as u64),
+        }
+    }
+
+    /// The cell of a row in the column at a place.
+    pub fn cell(&self, row: u32, column: u8) -> CellRef<'_>
+        requires row { row < length self.now.rows }
+        requires column { column < length self.now.schema.columns }
+        ensures value { Some (cell_shown result)
+            ≡ cell_of_row column (slice_get self.now.rows row) }
+        ensures short { IsShort result }
+    {
+        let column = &self.columns[column as usize];
+        column.cell(row)
+    }
+
+    /// The valid period of a row.
+    pub fn valid_at(&self, row: u32) -> Period
+        requires row { row < length self.now.rows }
+        requires valid { IsTrue self.now.schema.valid }
+        ensures { Some (Some result) ≡ option_map (λ r. r.period) (slice_get self.now.rows row) }
+    {
+        self.periods.at(row)
+    }
+
+    /// The cells of a row.
+    pub fn row_cells(&self, alloc: Global, row: u32) -> Result<Vec<Cell>, NoMemory>
+        requires { row < length self.now.rows }
+        ensures { IfOk result
+            (λ cells. Some cells.items ≡ option_map (λ r. r.cells) (slice_get self.now.rows row)) }
+    {
+        let cells = cells_at(alloc, self.columns.as_slice(), row)?;
+        Ok(cells)
+    }
+
+    /// The row as its commit opened it.
+    fn opened_at(&self, alloc: Global, row: u32) -> Result<Opened, NoMemory>
+        requires { row < length self.now.rows }
+        ensures { IfOk result
+            (λ opened. Some opened ≡ option_map opened_of (slice_get self.now.rows row)) }
+    {
+        let cells = cells_at(alloc, self.columns.as_slice(), row)?;
+        Ok(Opened::new(Seq::from_vec(cells), self.periods.get(row)))
+    }
+
+    /// A part of the closed ids. It ticks once for each.
+    fn closes<L: Ledger>(
+        &self,
+        alloc: Global,
+        first: u64,
+        count: u32,
+        steps: &mut Steps<L>,
+    ) -> Result<Seq<u32>, NoMemory>
+        requires { first + count ≤ length self.now.closed }
+        ensures value { IfOk result (λ closes. closes ≡ part first count self.now.closed) }
+        ensures ticks { IfOk result (λ _. steps.new ≡ steps.old + count) }
+    {
+        let _all = self.closed();
+        let mut closes = Vec::with_capacity(alloc, count as usize)?;
+        for place in 0..count {
+            steps.tick();
+            closes.push(*self.closed.at(first + place as u64))?;
+        }
+        Ok(Seq::from_vec(closes))
+    }
+
+    /// A part of the rows, as their commits opened them. It ticks once for each.
+    fn opens<L: Ledger>(
+        &self,
+        alloc: Global,
+        first: u32,
+        count: u32,
+        steps: &mut Steps<L>,
+    ) -> Result<Seq<Opened>, NoMemory>
+        requires { first + count ≤ length self.now.rows }
+        ensures value { IfOk result
+            (λ opens. opens ≡ map opened_of (part first count self.now.rows)) }
+        ensures ticks { IfOk result (λ _. steps.new ≡ steps.old + count) }
+    {
+        let _all = self.rows();
+        let mut opens = Vec::with_capacity(alloc, count as usize)?;
+        for place in 0..count {
+            steps.tick();
+            opens.push(self.opened_at(alloc, first + place)?)?;
+        }
+        Ok(Seq::from_vec(opens))
+    }
+
+    /// What a commit did to the table. It ticks once for each row that the commit closes or opens.
+    pub fn body<L: Ledger>(
+        &self,
+        alloc: Global,
+        table: u16,
+        deed: Deed,
+        steps: &mut Steps<L>,
+    ) -> Result<Body, NoMemory>
+        requires { IsDeed deed self.now }
+        ensures value { IfOk result (λ body. body ≡ body_of table deed self.now) }
+        ensures ticks { IfOk result (λ body. steps.new ≡ steps.old + rows_changed body) }
+    {
+        match deed {
+            Deed::Create => Ok(Body::Create(self.schema().clone()?)),
+            Deed::Change {
+                first_close,
+                closes,
+                first_open,
+                opens,
+            } => {
+                let closes = self.closes(alloc, first_close, closes, steps)?;
+                let opens = self.opens(alloc, first_open, opens, steps)?;
+                Ok(Body::Change(Change::new(table, closes, opens)))
+            }
+        }
+    }
+}
+
+// A column without cells for each of these.
+fn empty_columns(alloc: Global, columns: &[Column]) -> Result<Vec<ColumnData>, NoMemory>
+    ensures { IfOk result
+        (λ empty. empty.items ≡ map (λ column. empty_column column.kind) columns.now) }
+{
+    let mut empty = Vec::with_capacity(alloc, columns.len())?;
+    for column in columns {
+        empty.push(ColumnData::none(alloc, column.kind))?;
+    }
+    Ok(empty)
+}
+
+// A number, so many times.
+fn filled(alloc: Global, number: u32, count: usize) -> Result<Vec<u32>, NoMemory>
+    ensures { IfOk result (λ numbers. numbers.items ≡ replicate count number) }
+{
+    Ok(vec![in alloc; number; count]?)
+}
+
+// A cell, owned.
+fn cell_at(alloc: Global, column: &ColumnData, row: u32) -> Result<Cell, NoMemory>
+    requires { row < column_length column.now }
+    ensures { IfOk result (λ cell. cell ≡ cell_in row column.now) }
+{
+    column.cell(row).to_cell(alloc)
+}
+
+// The cells of a row.
+fn cells_at(alloc: Global, columns: &[ColumnData], row: u32) -> Result<Vec<Cell>, NoMemory>
+    requires { All (λ column. row < column_length column) columns.now }
+    ensures { IfOk result (λ cells. cells.items ≡ map (cell_in row) columns.now) }
+{
+    let mut cells = Vec::with_capacity(alloc, columns.len())?;
+    for column in columns {
+        cells.push(cell_at(alloc, column, row)?)?;
+    }
+    Ok(cells)
+}

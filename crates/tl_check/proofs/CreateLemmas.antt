@@ -10,11 +10,13 @@ use Rattle.std.specs.List.{enumerate_from, list_any, list_all, position}
 use Rattle.std.specs.Cmp.Lexicographic.{nat_list_eq_equiv}
 use Rattle.tl_types.specs.declared.schemas.Column.{Column}
 use Rattle.tl_types.specs.Names.{same_bytes, is_name}
+use Rattle.tl_types.proofs.Lists.{and_both}
 use Rattle.tl_types.specs.Facts.{are_distinct, names_of, is_schema}
 use Rattle.tl_query.specs.declared.ast.ColumnForm.{ColumnForm}
 use Rattle.tl_query.specs.declared.ast.CreateForm.{CreateForm}
 use Rattle.tl_check.proofs.FirstLemmas.{AllNone, all_none, earlier_none, fault_if_none}
-use Rattle.tl_query.specs.Checking.{twice_at, twice_fault, columns_of, key_of, create_fault, or_zero, IsWellNamed}
+use Rattle.tl_query.specs.Checking.{twice_at, twice_fault, columns_of, key_of, create_fault, or_zero}
+use Rattle.tl_query.specs.Parsed.{IsNewTable}
 
 same_back : (xs ys : List ℕ) → same_bytes xs ys ≡ false → same_bytes ys xs ≡ false
 same_back xs ys h = nat_list_eq_equiv.symm ys xs ∙ h
@@ -27,9 +29,6 @@ ApartFrom P (y ∷ ys) = (list_any (λ e. same_bytes e.name.text y.name.text) P 
 or_single : (b : Bool) → (b || false) ≡ false → b ≡ false
 or_single true h = h
 or_single false h = refl
-
-and_both : (a b : Bool) → a ≡ true → b ≡ true → (a && b) ≡ true
-and_both a b p q = cc
 
 not_false : (b : Bool) → b ≡ false → not b ≡ true
 not_false b h = ap not h
@@ -74,7 +73,7 @@ five : (a b c d e : Bool) → a ≡ true → b ≡ true → c ≡ true → d ≡
 five a b c d e h i j k l = cc
 
 -- a new table without a fault has a schema
-pub schema_there : (form : CreateForm) → IsWellNamed form → create_fault form ≡ None →
+pub schema_there : (form : CreateForm) → IsNewTable form → create_fault form ≡ None →
     is_schema (record { name = form.name.text; columns = columns_of form.columns; key = or_zero (key_of form); valid = form.valid }) ≡ true
 schema_there form named none =
     let both = earlier_none (twice_fault form.columns) _ none in
@@ -83,8 +82,8 @@ schema_there form named none =
     let names : list_all (λ c. is_name c.name) (columns_of form.columns) ≡ true = list_all-map (λ c. is_name c.name) _ form.columns ∙ named.columns in
     five _ _ _ _ _ named.name names (distinct_columns form.columns both.0) (true_le _ _ (omega (arith, columns, named.few))) (true_lt _ _ (omega (arith, columns, key)))
 
--- the schema that a new table without a fault has
-pub schema_made : (form : CreateForm) (name : List ℕ) (columns : List Column) (key : ℕ) → IsWellNamed form → create_fault form ≡ None →
+-- the same of its parts
+pub schema_there_by : (form : CreateForm) (name : List ℕ) (columns : List Column) (key : ℕ) → IsNewTable form → create_fault form ≡ None →
     name ≡ form.name.text → columns ≡ columns_of form.columns → key ≡ or_zero (key_of form) →
     is_schema (record { name = name; columns = columns; key = key; valid = form.valid }) ≡ true
-schema_made form name columns key named none e f g = rw (e, f, g) (schema_there form named none)
+schema_there_by form name columns key named none e f g = rw (e, f, g) (schema_there form named none)

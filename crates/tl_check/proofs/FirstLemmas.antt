@@ -162,7 +162,7 @@ none_is fs h = every fs (all_none fs h) where
   every [] h = tt
   every (f ∷ fs) h = (h.0, every fs h.1)
 
--- THE PARTS OF A QUESTION
+-- THE PARTS OF A QUERY
 
 -- the first fault of five parts of which the second is one place and the last are two
 pub parts_of_select : (items : List (Option CheckFault)) (name : Option CheckFault) (pred : List (Option CheckFault)) (point version : Option CheckFault) → first_of (items ++ (name ∷ []) ++ pred ++ (point ∷ version ∷ [])) ≡ first_of (first_of items ∷ name ∷ first_of pred ∷ point ∷ version ∷ [])

@@ -1,4 +1,4 @@
--- The range of a question without faults has no fault.
+-- The range of a query without faults has no fault.
 use Rattle.std.proofs.Common.{◌≡◌, ℕ, ◌||◌, ◌∷◌, [], ◌++◌, None}
 use Rattle.tl_query.specs.declared.ast.AggForm.{AggForm}
 use Rattle.tl_query.specs.declared.ast.JoinForm.{JoinForm}

@@ -1,4 +1,4 @@
--- A question without faults is well typed.
+-- A query without faults is well typed.
 use Rattle.std.proofs.Common.{◌≡◌, ℕ, ◌+◌, ◌-◌, ◌<◌, Bool, true, false, not, ◌&&◌, ◌||◌, List, [], ◌∷◌, ◌++◌, length, map, get_or, Option, Some, None, Result, Ok, Err, is_some, refl, ap, arith, sym, ◌∙◌, subst, nat_le, nat_lt, nat_abs, int_lt, slice_get, IfOk, IfErr, ◌⊎◌, inl, inr}
 use Rattle.std.proofs.lemmas.List.Quantifiers.{position-Some}
 use Rattle.std.proofs.lemmas.List.Folds.{list_all-append}
@@ -33,10 +33,12 @@ use Rattle.tl_query.specs.declared.typed_queries.TypedItem.TheVariants as typed_
 use Rattle.tl_query.specs.declared.check_faults.CheckFault.{CheckFault}
 use Rattle.tl_query.specs.declared.check_faults.CheckFault.TheVariants as fault
 use Rattle.tl_query.specs.Checking.{all_items, column_of, first_of, item_fault, or_zero, period_items, table_named, typed_item_of, typed_items_of, version_fault, version_of, IsUnlessMemory}
-use Rattle.tl_query.specs.CheckingQueries.{Known, agg_by_numbers, agg_faults, by_faults, checked, column_fault, column_place, constant_fault, fault_or, faults_of, join_by_numbers, join_faults, kind_of, kinds_fault, measure_faults, number_fault, on_faults, order_fault, over_faults, point_fault, pred_faults, select_by_numbers, select_faults, span_of, table_fault, takes_column, test_faults, tests_faults, typed_pred_of, typed_test_of, IsFaultless, IsFirst, IsQuestion}
+use Rattle.tl_query.specs.CheckingQueries.{Known, agg_by_numbers, agg_faults, by_faults, checked, column_fault, column_place, constant_fault, fault_or, faults_of, join_by_numbers, join_faults, kind_of, kinds_fault, measure_faults, number_fault, on_faults, order_fault, over_faults, point_fault, pred_faults, select_by_numbers, select_faults, span_of, table_fault, test_faults, tests_faults, typed_pred_of, typed_test_of, IsFaultless, IsFirst}
 use Rattle.tl_query.specs.TypedFor.{has_column, holds_cell, is_int_kind, is_ordered, is_typed_agg, is_typed_aggregate, is_typed_for, is_typed_group, is_typed_item, is_typed_join, is_typed_pred, is_typed_select, is_typed_span, is_typed_test, kind_at, same_kinds, schema_at, IsTypedFor}
+use Rattle.tl_query.specs.Grammar.{takes_column}
+use Rattle.tl_query.specs.Parsed.{IsQuery}
 use Rattle.tl_check.proofs.FirstLemmas.{AllNone, all_none, fault_if_none, first_is, none_is, none_of_parts}
-use Rattle.tl_check.proofs.TableLemmas.{found_from}
+use Rattle.tl_types.proofs.FoundTables.{found_from}
 
 -- TESTS
 
@@ -220,7 +222,7 @@ found_at db (Some x) name t e h =
 table_at : (db : plain.Database) (name : Name) (t : ℕ × plain.Schema) → table_named db name ≡ Some t → schema_at db t.0 ≡ Some t.1
 table_at db name t h = found_at db (find_table name.text db.tables) name t refl h
 
--- QUESTIONS
+-- QUERIES
 
 select_typed : (now : ℕ) (t : ℕ × plain.Schema) (form : SelectForm) → first_of (select_faults now (Some t) form) ≡ None → is_typed_select now (typed_items_of t.1 form) (typed_pred_of t.1 form.pred) (is_some (option_map (λ p. p.value) form.valid_at)) (version_of now form.as_of) (Some t.1) ≡ true
 select_typed now t form h =
@@ -249,35 +251,35 @@ join_typed now l r form h =
     let left = none_of_parts ((None ∷ []) ++ pred_faults l.1 form.left_pred) _ right.0 in
     both _ _ (both _ _ (both _ _ (pred_typed l.1 form.left_pred left.0.1) (pred_typed r.1 form.right_pred right.1)) (kinds_typed l.1 r.1 form.left_on form.right_on on.1.0 on.1.1.0 on.1.1.1.0)) (span_typed now _ (l.1.valid && r.1.valid) form.over (either_not l.1.valid r.1.valid) last.1)
 
--- the question is there where there is no fault
-settled : (f : Option CheckFault) (question : Option Typed) (name : Name) (t : Typed) → fault_or f question name ≡ Ok t → (f ≡ None) × (question ≡ Some t)
-settled (Some e) question name t h = absurd (cc)
-settled None (Some q) name t h = (refl, let e : q ≡ t = cc in ap Some e)
-settled None None name t h = absurd (cc)
+-- the query is there where there is no fault
+fault_or_right : (f : Option CheckFault) (found : Option Typed) (name : Name) (t : Typed) → fault_or f found name ≡ Ok t → (f ≡ None) × (found ≡ Some t)
+fault_or_right (Some e) found name t h = absurd (cc)
+fault_or_right None (Some q) name t h = (refl, let e : q ≡ t = cc in ap Some e)
+fault_or_right None None name t h = absurd (cc)
 
 select_for : (now : ℕ) (db : plain.Database) (form : SelectForm) (table : Known) (t : Typed) → now ≡ db.version → table_named db form.table ≡ table → fault_or (first_of (select_faults now table form)) (option_map (λ k. select_by_numbers now k form) table) form.table ≡ Ok t → is_typed_for db t ≡ true
-select_for now db form None t same named h = absurd (let e = (settled _ _ _ t h).1 in cc)
+select_for now db form None t same named h = absurd (let e = (fault_or_right _ _ _ t h).1 in cc)
 select_for now db form (Some k) t same named h =
-    let s = settled _ _ _ t h in
+    let s = fault_or_right _ _ _ t h in
     let is : select_by_numbers now k form ≡ t = let e = s.1 in cc in
     subst (λ (q : Typed). is_typed_for db q ≡ true) is
     (ap (is_typed_select db.version (typed_items_of k.1 form) (typed_pred_of k.1 form.pred) (is_some (option_map (λ p. p.value) form.valid_at)) (version_of now form.as_of)) (table_at db form.table k named)
     ∙ (rw (← same) (select_typed now k form s.0)))
 
 agg_for : (now : ℕ) (db : plain.Database) (form : AggForm) (table : Known) (t : Typed) → now ≡ db.version → is_some form.column ≡ takes_column form.kind → table_named db form.table ≡ table → fault_or (first_of (agg_faults now table form)) (option_map (λ k. agg_by_numbers now k form) table) form.table ≡ Ok t → is_typed_for db t ≡ true
-agg_for now db form None t same takes named h = absurd (let e = (settled _ _ _ t h).1 in cc)
+agg_for now db form None t same takes named h = absurd (let e = (fault_or_right _ _ _ t h).1 in cc)
 agg_for now db form (Some k) t same takes named h =
-    let s = settled _ _ _ t h in
+    let s = fault_or_right _ _ _ t h in
     let is : agg_by_numbers now k form ≡ t = let e = s.1 in cc in
     subst (λ (q : Typed). is_typed_for db q ≡ true) is
     (ap (is_typed_agg db.version form.kind (option_map (column_place k.1) form.column) (option_map (column_place k.1) form.by) (typed_pred_of k.1 form.pred) (span_of now form.over)) (table_at db form.table k named)
     ∙ (rw (← same) (agg_typed now k form takes s.0)))
 
 join_for : (now : ℕ) (db : plain.Database) (form : JoinForm) (left right : Known) (t : Typed) → now ≡ db.version → table_named db form.left ≡ left → table_named db form.right ≡ right → fault_or (first_of (join_faults now left right form)) (option_and_then (λ l. option_map (λ r. join_by_numbers now l r form) right) left) form.left ≡ Ok t → is_typed_for db t ≡ true
-join_for now db form None right t same named other h = absurd (let e = (settled _ _ _ t h).1 in cc)
-join_for now db form (Some l) None t same named other h = absurd (let e = (settled _ _ _ t h).1 in cc)
+join_for now db form None right t same named other h = absurd (let e = (fault_or_right _ _ _ t h).1 in cc)
+join_for now db form (Some l) None t same named other h = absurd (let e = (fault_or_right _ _ _ t h).1 in cc)
 join_for now db form (Some l) (Some r) t same named other h =
-    let s = settled _ _ _ t h in
+    let s = fault_or_right _ _ _ t h in
     let is : join_by_numbers now l r form ≡ t = let e = s.1 in cc in
     let both_typed = is_typed_join db.version (typed_pred_of l.1 form.left_pred) (typed_pred_of r.1 form.right_pred) (column_place l.1 form.left_on) (column_place r.1 form.right_on) (span_of now form.over) in
     subst (λ (q : Typed). is_typed_for db q ≡ true) is
@@ -285,22 +287,22 @@ join_for now db form (Some l) (Some r) t same named other h =
     ∙ (ap (λ o. both_typed (Some l.1) o) (table_at db form.right r other)
     ∙ (rw (← same) (join_typed now l r form s.0))))
 
--- a question without a fault is well typed over the tables
-pub checked_typed : (now : ℕ) (db : plain.Database) (q : Query) (t : Typed) → now ≡ db.version → IsQuestion q → checked now db q ≡ Ok t → is_typed_for db t ≡ true
+-- a query without a fault is well typed over the tables
+pub checked_typed : (now : ℕ) (db : plain.Database) (q : Query) (t : Typed) → now ≡ db.version → IsQuery q → checked now db q ≡ Ok t → is_typed_for db t ≡ true
 checked_typed now db (query.Select form) t same is h = select_for now db form (table_named db form.table) t same refl h
 checked_typed now db (query.Agg form) t same is h = agg_for now db form (table_named db form.table) t same is.0 refl h
 checked_typed now db (query.Join form) t same is h = join_for now db form (table_named db form.left) (table_named db form.right) t same refl refl h
 
 -- the same of what a check answers
-pub answered_typed : (now : ℕ) (db : plain.Database) (q : Query) (r : Result Typed CheckFault) → now ≡ db.version → IsQuestion q → IsUnlessMemory r (checked now db q) → IfOk r (λ t. IsTypedFor db t)
+pub answered_typed : (now : ℕ) (db : plain.Database) (q : Query) (r : Result Typed CheckFault) → now ≡ db.version → IsQuery q → IsUnlessMemory r (checked now db q) → IfOk r (λ t. IsTypedFor db t)
 answered_typed now db q (Ok t) same is h = checked_typed now db q t same is h
 answered_typed now db q (Err e) same is h = tt
 
--- THE FAULT OF A QUESTION
+-- THE FAULT OF A QUERY
 
--- a fault that is answered is the first one, where a question that has no table has a fault
-fault_first : (o : Option CheckFault) (question : Option Typed) (name : Name) (e : CheckFault) → (question ≡ None → o ≡ None → ⊥) → fault_or o question name ≡ Err e → o ≡ Some e
-fault_first (Some f) question name e some h = let same : f ≡ e = cc in ap Some same
+-- a fault that is answered is the first one, where a query that has no table has a fault
+fault_first : (o : Option CheckFault) (found : Option Typed) (name : Name) (e : CheckFault) → (found ≡ None → o ≡ None → ⊥) → fault_or o found name ≡ Err e → o ≡ Some e
+fault_first (Some f) found name e some h = let same : f ≡ e = cc in ap Some same
 fault_first None (Some q) name e some h = absurd (cc)
 fault_first None None name e some h = absurd (some refl refl)
 
@@ -334,11 +336,11 @@ answered_first now db q (Err fault.NoMemory) h = inl refl
 answered_first now db q (Err e) h = inr (first_is (faults_of now db q) e (checked_fault now db q e h))
 
 checked_right : (now : ℕ) (db : plain.Database) (q : Query) (t : Typed) → checked now db q ≡ Ok t → first_of (faults_of now db q) ≡ None
-checked_right now db (query.Select form) t h = (settled _ _ form.table t h).0
-checked_right now db (query.Agg form) t h = (settled _ _ form.table t h).0
-checked_right now db (query.Join form) t h = (settled _ _ form.left t h).0
+checked_right now db (query.Select form) t h = (fault_or_right _ _ form.table t h).0
+checked_right now db (query.Agg form) t h = (fault_or_right _ _ form.table t h).0
+checked_right now db (query.Join form) t h = (fault_or_right _ _ form.left t h).0
 
--- where a question is given there is no fault at any place
+-- where a query is given there is no fault at any place
 pub answered_right : (now : ℕ) (db : plain.Database) (q : Query) (r : Result Typed CheckFault) → IsUnlessMemory r (checked now db q) → IfOk r (λ t. IsFaultless (faults_of now db q))
 answered_right now db q (Ok t) h = none_is (faults_of now db q) (checked_right now db q t h)
 answered_right now db q (Err e) h = tt

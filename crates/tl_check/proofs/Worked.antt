@@ -1,4 +1,4 @@
--- Checks of questions over small tables, computed.
+-- Checks of queries over small tables, computed.
 use Rattle.std.proofs.Common.{◌≡◌, ℕ, true, false, pos, List, [], ◌∷◌, Option, Some, None, Ok, Err, refl, codes}
 use Rattle.tl_types.specs.declared.cells.Cell.{Cell}
 use Rattle.tl_types.specs.declared.cells.Cell.TheVariants as cell

@@ -1,7 +1,16 @@
-//! The check of a question for an aggregate over time.
+//! The check of a query for an aggregate over time.
 ghost use Rattle.std.specs.Prelude.{◌≡◌, ◌≤◌, option_map};
 ghost use Rattle.tl_query.specs.Checking.{first_of, IsUnlessMemory};
-ghost use Rattle.tl_query.specs.CheckingQueries.{agg_checked, agg_faults, by_faults, column_place, measure_faults, number_fault, where_known, HasVersionNumbers};
+ghost use Rattle.tl_query.specs.CheckingQueries.{
+  agg_checked,
+  agg_faults,
+  by_faults,
+  column_place,
+  measure_faults,
+  number_fault,
+  where_known,
+};
+ghost use Rattle.tl_query.specs.Parsed.{HasVersions};
 ghost use Rattle.tl_check.specs.Known.{known};
 
 use crate::columns::{column_fault, column_place, is_timeless, kind_of, table_fault};
@@ -23,7 +32,8 @@ fn number_fault(kind: Option<ColumnKind>, name: &Name) -> Option<CheckFault>
 
 // The first fault at the column that the aggregate works on, where the table is known.
 fn measure_fault(table: Option<(u16, &Schema)>, form: &AggForm) -> Option<CheckFault>
-    ensures { result ≡ first_of (where_known (known table.entry) (λ s. measure_faults s form.now.column)) }
+    ensures { result ≡ first_of
+        (where_known (known table.entry) (λ s. measure_faults s form.now.column)) }
 {
     match (table, &form.column) {
         (Some((_, schema)), Some(name)) => {
@@ -34,7 +44,7 @@ fn measure_fault(table: Option<(u16, &Schema)>, form: &AggForm) -> Option<CheckF
     }
 }
 
-// The fault at the column behind BY, where the table is known.
+// The fault at the column after BY, where the table is known.
 fn by_fault(table: Option<(u16, &Schema)>, form: &AggForm) -> Option<CheckFault>
     ensures { result ≡ first_of (where_known (known table.entry) (λ s. by_faults s form.now.by)) }
 {
@@ -46,7 +56,7 @@ fn by_fault(table: Option<(u16, &Schema)>, form: &AggForm) -> Option<CheckFault>
 
 #[tactic(auto, using(crate::proofs::FirstLemmas::parts_of_agg))]
 fn agg_fault(now: u32, table: Option<(u16, &Schema)>, form: &AggForm) -> Option<CheckFault>
-    requires { HasVersionNumbers form.now.over }
+    requires { HasVersions form.now.over }
     ensures { result ≡ first_of (agg_faults now (known table.entry) form.now) }
 {
     let measure = measure_fault(table, form);
@@ -57,7 +67,7 @@ fn agg_fault(now: u32, table: Option<(u16, &Schema)>, form: &AggForm) -> Option<
     first_of([measure, name, pred, by, over].as_slice())
 }
 
-fn place_of(schema: &Schema, name: &Option<Name>) -> Option<u8>
+fn column_place_of(schema: &Schema, name: &Option<Name>) -> Option<u8>
     ensures { result ≡ option_map (column_place schema.now) name.now }
 {
     match name {
@@ -66,8 +76,8 @@ fn place_of(schema: &Schema, name: &Option<Name>) -> Option<u8>
     }
 }
 
-/// The aggregate by numbers at `now` commits, over the table that its name means if it means one, or its first
-/// fault. `NoMemory` is want of memory.
+/// The aggregate by numbers at `now` commits, over the table that its name means if it means one,
+/// or its first fault. `NoMemory` says that memory ran out.
 pub(crate) fn check_agg(
     alloc: Global,
     now: u32,
@@ -75,7 +85,7 @@ pub(crate) fn check_agg(
     form: &AggForm,
 ) -> Result<Typed, CheckFault>
     requires few { now ≤ 16777215 }
-    requires positive { HasVersionNumbers form.now.over }
+    requires positive { HasVersions form.now.over }
     ensures { IsUnlessMemory result (agg_checked now (known table.entry) form.now) }
 {
     match (agg_fault(now, table, form), table) {
@@ -84,8 +94,8 @@ pub(crate) fn check_agg(
         (None, Some((number, schema))) => Ok(Typed::Agg {
             table: number,
             kind: form.kind,
-            column: place_of(schema, &form.column),
-            by: place_of(schema, &form.by),
+            column: column_place_of(schema, &form.column),
+            by: column_place_of(schema, &form.by),
             pred: typed_pred(alloc, schema, &form.pred)?,
             span: span_of(now, is_timeless(table), form.over),
         }),

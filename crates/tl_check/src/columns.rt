@@ -2,7 +2,14 @@
 ghost use Rattle.std.specs.Prelude.{◌≡◌};
 ghost use Rattle.tl_types.specs.History.{database_of};
 ghost use Rattle.tl_query.specs.Checking.{place_among, table_named};
-ghost use Rattle.tl_query.specs.CheckingQueries.{column_fault, column_place, is_timeless, kind_of, known_kind, table_fault};
+ghost use Rattle.tl_query.specs.CheckingQueries.{
+  column_fault,
+  column_place,
+  is_timeless,
+  kind_of,
+  known_kind,
+  table_fault,
+};
 ghost use Rattle.tl_check.specs.Known.{known};
 
 use tl_query::{CheckFault, Name};

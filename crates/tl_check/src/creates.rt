@@ -3,7 +3,16 @@ ghost use Rattle.std.specs.Prelude.{IfOk, ◌≡◌, ◌≤◌, length, None, Is
 ghost use Rattle.std.specs.List.{list_any};
 ghost use Rattle.tl_types.specs.Names.{same_bytes};
 ghost use Rattle.tl_types.specs.Facts.{is_schema};
-ghost use Rattle.tl_query.specs.Checking.{IsUnlessMemory, IsWellNamed, twice_at, twice_fault, columns_of, key_of, create_fault, checked_create};
+ghost use Rattle.tl_query.specs.Checking.{
+  IsUnlessMemory,
+  twice_at,
+  twice_fault,
+  columns_of,
+  key_of,
+  create_fault,
+  checked_create,
+};
+ghost use Rattle.tl_query.specs.Parsed.{IsNewTable};
 
 use crate::first_fault::earlier;
 use std::alloc::{AllocError, Global};
@@ -69,28 +78,34 @@ fn create_fault(form: &CreateForm) -> Option<CheckFault>
     earlier(twice_fault(form.columns.as_slice()), key)
 }
 
-fn made_schema(name: Text, columns: Seq<Column>, key: u8, valid: bool) -> Schema
-    requires { IsTrue (is_schema (record { name = name; columns = columns; key = key; valid = valid })) }
+fn schema_with(name: Text, columns: Seq<Column>, key: u8, valid: bool) -> Schema
+    requires { IsTrue (is_schema (record {
+      name = name;
+      columns = columns;
+      key = key;
+      valid = valid;
+    })) }
     ensures { result ≡ record { name = name; columns = columns; key = key; valid = valid } }
 {
     Schema::new(name, columns, key, valid).unwrap()
 }
 
 fn schema_of(alloc: Global, form: &CreateForm) -> Result<Schema, AllocError>
-    requires named { IsWellNamed form.now }
+    requires named { IsNewTable form.now }
     requires right { create_fault form.now ≡ None }
     ensures { IfOk result (λ schema. checked_create form.now ≡ Ok schema) }
 {
     let key = key_place(form).unwrap_or(0) as u8;
     let columns = columns_of(alloc, form.columns.as_slice())?;
-    Ok(made_schema(form.name.text.clone()?, columns, key, form.valid))
+    Ok(schema_with(form.name.text.clone()?, columns, key, form.valid))
 }
 
-/// The schema of a new table, or its first fault: the one that stands furthest to the left. `ColumnTwice` stands at
-/// the first column whose name an earlier one has, `UnknownColumn` at the name behind KEY where no column has it;
-/// that no table has the name of the new one is not looked at here. `NoMemory` is want of memory.
+/// The schema of a new table, or its first fault: the one that stands furthest to the left.
+/// `ColumnTwice` stands at the first column whose name an earlier one has, `UnknownColumn` at the
+/// name after KEY where no column has it; that no table has the name of the new one is not looked
+/// at here. `NoMemory` says that memory ran out.
 pub fn check_create(alloc: Global, form: &CreateForm) -> Result<Schema, CheckFault>
-    requires { IsWellNamed form.now }
+    requires { IsNewTable form.now }
     ensures { IsUnlessMemory result (checked_create form.now) }
 {
     match create_fault(form) {

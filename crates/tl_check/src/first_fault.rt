@@ -42,8 +42,8 @@ fn comes_before(first: &CheckFault, second: &CheckFault) -> bool
     left < right || (left == right && rank_of(first) < rank_of(second))
 }
 
-/// The earlier of two faults, where there are two: the one that stands further to the left, at one place the one
-/// of the lesser number.
+/// The earlier of two faults, where there are two: the one that stands further to the left, at one
+/// place the one of the lesser number.
 pub(crate) fn earlier(first: Option<CheckFault>, second: Option<CheckFault>) -> Option<CheckFault>
     ensures { result ≡ earlier first second }
 {

@@ -1,8 +1,17 @@
-//! The check of a question for a join over time.
+//! The check of a query for a join over time.
 ghost use Rattle.std.specs.Prelude.{◌≡◌, ◌≤◌, ◌∷◌, ◌||◌, [], Some};
 ghost use Rattle.tl_query.specs.Checking.{first_of, IsUnlessMemory};
-ghost use Rattle.tl_query.specs.CheckingQueries.{column_fault, is_timeless, join_checked, join_faults, kinds_fault, on_faults, where_known, HasVersionNumbers};
+ghost use Rattle.tl_query.specs.CheckingQueries.{
+  column_fault,
+  is_timeless,
+  join_checked,
+  join_faults,
+  kinds_fault,
+  on_faults,
+  where_known,
+};
 ghost use Rattle.tl_query.specs.TypedFor.{same_kinds};
+ghost use Rattle.tl_query.specs.Parsed.{HasVersions};
 ghost use Rattle.tl_check.specs.Known.{known};
 
 use crate::columns::{column_fault, column_place, is_timeless, known_kind, table_fault};
@@ -24,7 +33,7 @@ fn is_same_kind(left: ColumnKind, right: ColumnKind) -> bool
     }
 }
 
-// `WrongType` at the right column behind ON, where both are known and of two kinds.
+// `WrongType` at the right column after ON, where both are known and of two kinds.
 fn kinds_fault(left: Option<ColumnKind>, right: Option<ColumnKind>, at: u32) -> Option<CheckFault>
     ensures { result ≡ kinds_fault left right at }
 {
@@ -40,9 +49,10 @@ fn kinds_fault(left: Option<ColumnKind>, right: Option<ColumnKind>, at: u32) -> 
     }
 }
 
-// The fault at a column behind ON, where its table is known.
+// The fault at a column after ON, where its table is known.
 fn on_fault(table: Option<(u16, &Schema)>, name: &Name) -> Option<CheckFault>
-    ensures { result ≡ first_of (where_known (known table.entry) (λ s. column_fault s name.now ∷ [])) }
+    ensures { result ≡ first_of
+        (where_known (known table.entry) (λ s. column_fault s name.now ∷ [])) }
 {
     match table {
         None => None,
@@ -50,7 +60,7 @@ fn on_fault(table: Option<(u16, &Schema)>, name: &Name) -> Option<CheckFault>
     }
 }
 
-// The first fault at the columns behind ON.
+// The first fault at the columns after ON.
 fn columns_fault(
     left: Option<(u16, &Schema)>,
     right: Option<(u16, &Schema)>,
@@ -79,7 +89,7 @@ fn join_fault(
     right: Option<(u16, &Schema)>,
     form: &JoinForm,
 ) -> Option<CheckFault>
-    requires { HasVersionNumbers form.now.over }
+    requires { HasVersions form.now.over }
     ensures { result ≡ first_of (join_faults now (known left.entry) (known right.entry) form.now) }
 {
     let left_name = table_fault(left, &form.left);
@@ -91,8 +101,8 @@ fn join_fault(
     first_of([left_name, left_pred, right_name, right_pred, columns, over].as_slice())
 }
 
-/// The join by numbers at `now` commits, over the tables that its names mean if they mean any, or its first
-/// fault. `NoMemory` is want of memory.
+/// The join by numbers at `now` commits, over the tables that its names mean if they mean any, or
+/// its first fault. `NoMemory` says that memory ran out.
 pub(crate) fn check_join(
     alloc: Global,
     now: u32,
@@ -101,8 +111,9 @@ pub(crate) fn check_join(
     form: &JoinForm,
 ) -> Result<Typed, CheckFault>
     requires few { now ≤ 16777215 }
-    requires positive { HasVersionNumbers form.now.over }
-    ensures { IsUnlessMemory result (join_checked now (known left.entry) (known right.entry) form.now) }
+    requires positive { HasVersions form.now.over }
+    ensures { IsUnlessMemory result
+        (join_checked now (known left.entry) (known right.entry) form.now) }
 {
     if let Some(fault) = join_fault(now, left, right, form) {
         return Err(fault);

@@ -1,6 +1,7 @@
-// The check of questions against the tables of a store, and of new tables. A question is checked place by place;
-// of the faults that it has, the one that stands furthest to the left is its fault, and of several at one place
-// the one of the least number. A question without faults comes with its tables and columns by number.
+//! The check of queries against the tables of a store, and of new tables. A query is checked place
+//! by place; of the faults that it has, the one that stands furthest to the left is its fault, and
+//! of several at one place the one of the least number. A query without faults comes with its
+//! tables and columns by number.
 #![tactic(auto)]
 
 mod aggregates;

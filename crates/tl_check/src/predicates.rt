@@ -1,8 +1,17 @@
-//! The tests of a question.
+//! The tests of a query.
 ghost use Rattle.std.specs.Prelude.{◌≡◌, IfOk, flat_map, map};
 ghost use Rattle.tl_types.specs.History.{is_of_kind};
 ghost use Rattle.tl_query.specs.Checking.{first_of};
-ghost use Rattle.tl_query.specs.CheckingQueries.{constant_fault, order_fault, pred_faults, test_faults, tests_faults, typed_pred_of, typed_test_of, where_known};
+ghost use Rattle.tl_query.specs.CheckingQueries.{
+  constant_fault,
+  order_fault,
+  pred_faults,
+  test_faults,
+  tests_faults,
+  typed_pred_of,
+  typed_test_of,
+  where_known,
+};
 ghost use Rattle.tl_query.specs.TypedFor.{is_ordered};
 ghost use Rattle.tl_check.specs.Known.{known};
 
@@ -92,8 +101,9 @@ fn any_fault(schema: &Schema, any: &[Seq<Test>]) -> Option<CheckFault>
     first
 }
 
-/// The first fault of a predicate over a table, where the table is known: at a column that the table lacks, at an
-/// order that is asked of texts, or at a constant that is not of its column's kind.
+/// The first fault of a predicate over a table, where the table is known: at a column that the
+/// table lacks, at an order that is asked of texts, or at a constant that is not of its column's
+/// kind.
 pub(crate) fn pred_fault(table: Option<(u16, &Schema)>, pred: &Pred) -> Option<CheckFault>
     ensures { result ≡ first_of (where_known (known table.entry) (λ s. pred_faults s pred.now)) }
 {
@@ -123,7 +133,7 @@ fn typed_tests(alloc: Global, schema: &Schema, tests: &[Test]) -> Result<Seq<Typ
     Ok(Seq::from_vec(typed))
 }
 
-/// A predicate with its columns by their places. The error is want of memory.
+/// A predicate with its columns by their places. The error is that memory ran out.
 pub(crate) fn typed_pred(
     alloc: Global,
     schema: &Schema,

@@ -2,15 +2,23 @@
 ghost use Rattle.std.specs.Prelude.{◌≡◌, ◌≤◌, ◌+◌, None, nat_abs};
 ghost use Rattle.std.specs.Option.{ForSome};
 ghost use Rattle.tl_query.specs.Checking.{fault_if, first_of, version_fault, version_of};
-ghost use Rattle.tl_query.specs.CheckingQueries.{end_fault, moments_fault, over_faults, point_fault, span_of, versions_fault, HasVersionNumbers, IsVersionNumber};
+ghost use Rattle.tl_query.specs.CheckingQueries.{
+  end_fault,
+  moments_fault,
+  over_faults,
+  point_fault,
+  span_of,
+  versions_fault,
+};
 ghost use Rattle.tl_query.specs.declared.check_faults.CheckFault.TheVariants as fault;
+ghost use Rattle.tl_query.specs.Parsed.{HasVersions, IsVersion};
 
 use crate::first_fault::first_of;
 use tl_query::{CheckFault, Over, Span, Stamp, ValidPoint};
 
 /// `VersionAhead` at the version that is asked for, where it is after the last commit.
 pub(crate) fn version_fault(now: u32, asked: Option<Stamp>) -> Option<CheckFault>
-    requires { ForSome asked IsVersionNumber }
+    requires { ForSome asked IsVersion }
     ensures { result ≡ version_fault now asked }
 {
     match asked {
@@ -32,7 +40,7 @@ pub(crate) fn version_fault(now: u32, asked: Option<Stamp>) -> Option<CheckFault
 
 /// The version that is asked for: the last one where none is given.
 pub(crate) fn version_of(now: u32, asked: Option<Stamp>) -> u32
-    requires positive { ForSome asked IsVersionNumber }
+    requires positive { ForSome asked IsVersion }
     requires reached { version_fault now asked ≡ None }
     ensures { result ≡ version_of now asked }
 {
@@ -63,9 +71,10 @@ pub(crate) fn point_fault(timeless: bool, point: Option<ValidPoint>) -> Option<C
     }
 }
 
-// `VersionAhead` at the end of a range of versions, where it is after the version that follows the last commit.
+// `VersionAhead` at the end of a range of versions, where it is after the version that follows the
+// last commit.
 fn end_fault(now: u32, to: Stamp) -> Option<CheckFault>
-    requires { IsVersionNumber to }
+    requires { IsVersion to }
     ensures { result ≡ end_fault now to }
 {
     let end = to.value as u64;
@@ -81,8 +90,8 @@ fn end_fault(now: u32, to: Stamp) -> Option<CheckFault>
 }
 
 fn versions_fault(from: Stamp, to: Stamp) -> Option<CheckFault>
-    requires from { IsVersionNumber from }
-    requires to { IsVersionNumber to }
+    requires from { IsVersion from }
+    requires to { IsVersion to }
     ensures { result ≡ versions_fault from to }
 {
     let first = from.value as u64;
@@ -104,11 +113,11 @@ fn moments_fault(from: Stamp, to: Stamp) -> Option<CheckFault>
     }
 }
 
-/// The first fault of a range of time at `now` commits, where the rows of a known table have no valid period, or
-/// not: `EmptyRange` at the first bound where it is not less than the second, `VersionAhead` at a version that is
-/// too great, and `NotValidTable` at `VALID`.
+/// The first fault of a range of time at `now` commits, where the rows of a known table have no
+/// valid period, or not: `EmptyRange` at the first bound where it is not less than the second,
+/// `VersionAhead` at a version that is too great, and `NotValidTable` at `VALID`.
 pub(crate) fn over_fault(now: u32, timeless: bool, over: Over) -> Option<CheckFault>
-    requires { HasVersionNumbers over }
+    requires { HasVersions over }
     ensures { result ≡ first_of (over_faults now timeless over) }
 {
     match over {
@@ -131,7 +140,7 @@ pub(crate) fn over_fault(now: u32, timeless: bool, over: Over) -> Option<CheckFa
 
 // A version up to the one that follows the last commit.
 fn bound_of(now: u32, bound: Stamp) -> u32
-    requires positive { IsVersionNumber bound }
+    requires positive { IsVersion bound }
     requires few { now ≤ 16777215 }
     requires reached { nat_abs bound.value ≤ now + 1 }
     ensures { result ≡ nat_abs bound.value }
@@ -141,7 +150,7 @@ fn bound_of(now: u32, bound: Stamp) -> u32
 
 /// A range of time without a fault, at `now` commits.
 pub(crate) fn span_of(now: u32, timeless: bool, over: Over) -> Span
-    requires positive { HasVersionNumbers over }
+    requires positive { HasVersions over }
     requires few { now ≤ 16777215 }
     requires right { first_of (over_faults now timeless over) ≡ None }
     ensures { result ≡ span_of now over }

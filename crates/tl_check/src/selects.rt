@@ -1,10 +1,18 @@
-//! The check of a question for rows.
+//! The check of a query for rows.
 ghost use Rattle.std.specs.Prelude.{◌≡◌, ◌≤◌, IfOk, length, map, option_map};
 ghost use Rattle.std.specs.List.{enumerate_from};
 ghost use Rattle.std.specs.Option.{ForSome};
-ghost use Rattle.tl_query.specs.Checking.{all_items, first_of, item_fault, typed_item_of, typed_items_of, IsUnlessMemory};
-ghost use Rattle.tl_query.specs.CheckingQueries.{select_checked, select_faults, where_known, IsVersionNumber};
+ghost use Rattle.tl_query.specs.Checking.{
+  all_items,
+  first_of,
+  item_fault,
+  typed_item_of,
+  typed_items_of,
+  IsUnlessMemory,
+};
+ghost use Rattle.tl_query.specs.CheckingQueries.{select_checked, select_faults, where_known};
 ghost use Rattle.tl_query.specs.declared.typed_queries.TypedItem.TheVariants as typed_item;
+ghost use Rattle.tl_query.specs.Parsed.{IsVersion};
 ghost use Rattle.tl_check.specs.Known.{known};
 
 use crate::columns::{column_fault, column_place, is_timeless, table_fault};
@@ -42,7 +50,8 @@ fn items_fault(schema: &Schema, items: &[Item]) -> Option<CheckFault>
 
 // The first fault of the items, where the table is known.
 fn known_items_fault(table: Option<(u16, &Schema)>, form: &SelectForm) -> Option<CheckFault>
-    ensures { result ≡ first_of (where_known (known table.entry) (λ s. map (item_fault s) form.now.items)) }
+    ensures { result ≡ first_of
+        (where_known (known table.entry) (λ s. map (item_fault s) form.now.items)) }
 {
     match table {
         None => None,
@@ -52,7 +61,7 @@ fn known_items_fault(table: Option<(u16, &Schema)>, form: &SelectForm) -> Option
 
 #[tactic(auto, using(crate::proofs::FirstLemmas::parts_of_select))]
 fn select_fault(now: u32, table: Option<(u16, &Schema)>, form: &SelectForm) -> Option<CheckFault>
-    requires { ForSome form.now.as_of IsVersionNumber }
+    requires { ForSome form.now.as_of IsVersion }
     ensures { result ≡ first_of (select_faults now (known table.entry) form.now) }
 {
     let items = known_items_fault(table, form);
@@ -86,7 +95,8 @@ fn typed_items(alloc: Global, schema: &Schema, items: &[Item]) -> Result<Seq<Typ
 // Each column by its place.
 fn column_items(alloc: Global, columns: &[Column]) -> Result<Vec<TypedItem>, AllocError>
     requires { length columns.now ≤ 16 }
-    ensures { IfOk result (λ typed. typed.items ≡ map (λ c. typed_item.Column c.0) (enumerate_from 0 columns.now)) }
+    ensures { IfOk result (λ typed. typed.items
+        ≡ map (λ c. typed_item.Column c.0) (enumerate_from 0 columns.now)) }
 {
     let mut typed = Vec::new(alloc);
     for (place, _column) in columns.iter().enumerate() {
@@ -131,16 +141,16 @@ fn moment_of(form: &SelectForm) -> Option<i64>
     }
 }
 
-/// The question by numbers at `now` commits, over the table that its name means if it means one, or its first
-/// fault. `*` stands for all columns in order, and then the ends of the valid period where the table's rows have
-/// one. `NoMemory` is want of memory.
+/// The query by numbers at `now` commits, over the table that its name means if it means one, or
+/// its first fault. `*` stands for all columns in order, and then the ends of the valid period
+/// where the table's rows have one. `NoMemory` says that memory ran out.
 pub(crate) fn check_select(
     alloc: Global,
     now: u32,
     table: Option<(u16, &Schema)>,
     form: &SelectForm,
 ) -> Result<Typed, CheckFault>
-    requires { ForSome form.now.as_of IsVersionNumber }
+    requires { ForSome form.now.as_of IsVersion }
     ensures { IsUnlessMemory result (select_checked now (known table.entry) form.now) }
 {
     match (select_fault(now, table, form), table) {

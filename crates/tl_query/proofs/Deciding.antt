@@ -1,5 +1,5 @@
 -- What is read of a text is what it spells, or its fault, and nothing else is either.
-use Rattle.std.proofs.Common.{◌≡◌, ℕ, ◌+◌, ◌<◌, ◌≤◌, ◌-◌, ◌^◌, ◌==◌, nat_le, take, zero, suc, Bool, true, false, cond, nat_lt, ◌⊎◌, inl, inr, List, [], ◌∷◌, ◌++◌, length, Option, Some, None, Result, Ok, Err, IfOk, IfSome, IfErr, IsErr, MatchResult, refl, sym, ◌∙◌, ap, subst, append_assoc, append-nil, arith}
+use Rattle.std.proofs.Common.{◌≡◌, ℕ, ◌+◌, ◌<◌, ◌≤◌, ◌-◌, ◌^◌, ◌==◌, nat_le, take, zero, suc, Bool, true, false, cond, nat_lt, ◌⊎◌, inl, inr, List, [], ◌∷◌, ◌++◌, length, Option, Some, None, Result, Ok, Err, IfOk, IfSome, IfErr, refl, sym, ◌∙◌, ap, subst, append_assoc, append-nil, arith}
 use Rattle.std.proofs.lemmas.Bool.{cases_lt}
 use Rattle.std.proofs.lemmas.Bool.Decides.{nat_tests}
 use Rattle.tl_query.specs.declared.tokens.Placed.{Placed}
@@ -9,21 +9,21 @@ use Rattle.tl_query.specs.declared.faults.TextFault.TheVariants.{BadByte, OpenTe
 use Rattle.std.specs.List.{prefix_len}
 use Rattle.tl_types.specs.Names.{is_digit, begins_word}
 use Rattle.tl_query.specs.declared.scanning.Piece.{Piece}
-use Rattle.tl_query.specs.Scanning.{Tokens, scan, with_piece, is_blank, number_of, piece_at, number_piece, negative_piece, quoted_piece, symbol_piece, closing, single, text_token}
+use Rattle.tl_query.specs.Scanning.{Tokens, scan, with_piece, is_blank, digits_value, piece_at, number_piece, negative_piece, quoted_piece, symbol_piece, closing_len, single_quotes, text_token}
 use Rattle.tl_query.specs.Grammar.{IsSpelling, IsViable}
-use Rattle.tl_query.specs.Reading.{place_of, statement_at}
-use Rattle.tl_query.specs.Texts.{tokens_of, Spells, IsRefused, EndsEarly, IsBroken, IsFault, outcome, text_read, Answers}
+use Rattle.tl_query.specs.Reading.{first_offset, statement_at}
+use Rattle.tl_query.specs.Texts.{tokens_of, Spells, IsRefused, EndsEarly, IsBroken, IsFault, outcome, text_read, Answers, HasOneMeaning}
 use Rattle.tl_query.proofs.Laws.{StopsRight, Reads, shorter_viable}
 use Rattle.tl_query.proofs.Parts.{statement_good}
 use Rattle.tl_query.proofs.Again.{statement_again}
 
 -- a token that is refused whatever follows makes the tokens not viable
-not_viable : (front : List Placed) (p : Placed) → ((y : List Placed) (s : Statement) → statement_at (front ++ (p ∷ y)) ≡ Ok s → ⊥) → IsViable (front ++ (p ∷ [])) → ⊥
-not_viable front p h v = h v.0 v.1 (statement_again (front ++ (p ∷ v.0)) v.1 (subst (λ w. IsSpelling w v.1) (append_assoc front (p ∷ []) v.0) v.2))
+not_viable : (prefix : List Placed) (p : Placed) → ((y : List Placed) (s : Statement) → statement_at (prefix ++ (p ∷ y)) ≡ Ok s → ⊥) → IsViable (prefix ++ (p ∷ [])) → ⊥
+not_viable prefix p h v = h v.0 v.1 (statement_again (prefix ++ (p ∷ v.0)) v.1 (subst (λ w. IsSpelling w v.1) (append_assoc prefix (p ∷ []) v.0) v.2))
 
 -- what is viable has viable fronts
-front_viable : (ts front behind : List Placed) (p : Placed) → ts ≡ front ++ (p ∷ behind) → IsViable ts → IsViable (front ++ (p ∷ []))
-front_viable ts front behind p e v = shorter_viable (front ++ (p ∷ [])) behind (subst (λ x. IsViable x) (e ∙ sym (append_assoc front (p ∷ []) behind)) v)
+prefix_viable : (ts prefix behind : List Placed) (p : Placed) → ts ≡ prefix ++ (p ∷ behind) → IsViable ts → IsViable (prefix ++ (p ∷ []))
+prefix_viable ts prefix behind p e v = shorter_viable (prefix ++ (p ∷ [])) behind (subst (λ x. IsViable x) (e ∙ sym (append_assoc prefix (p ∷ []) behind)) v)
 
 spelled_viable : (ts : List Placed) (s : Statement) → IsSpelling ts s → IsViable ts
 spelled_viable ts s h = ([], s, subst (λ w. IsSpelling w s) (sym (append-nil ts)) h)
@@ -43,19 +43,19 @@ order [] b (r ∷ c) d x y e = inl (c, let h : x ≡ r = cc in cc)
 order (q ∷ a) b [] d x y e = inr (inl (a, let h : q ≡ y = cc in cc))
 order (q ∷ a) b (r ∷ c) d x y e = let h : q ≡ r = cc in let k : a ++ (x ∷ b) ≡ c ++ (y ∷ d) = cc in later q r a c x y h (order a b c d x y k)
 
-empty_rest : (rest : List Placed) → place_of rest ≡ None → rest ≡ []
+empty_rest : (rest : List Placed) → first_offset rest ≡ None → rest ≡ []
 empty_rest [] e = refl
 empty_rest (p ∷ rest) e = absurd (cc)
 
 viable_from : (ts : List Placed) → StopsRight [] statement_at ts None → IsViable ts
-viable_from ts h = subst (λ x. IsViable x) (sym (h.parts ∙ ap (λ r. h.front ++ r) (empty_rest h.rest h.place) ∙ append-nil h.front)) h.viable
+viable_from ts h = subst (λ x. IsViable x) (sym (h.parts ∙ ap (λ r. h.prefix ++ r) (empty_rest h.rest h.place) ∙ append-nil h.prefix)) h.viable
 
-refused_at : (ts front rest : List Placed) (at : ℕ) → ts ≡ front ++ rest → place_of rest ≡ Some at → IsViable front → ((p : Placed) (behind : List Placed) → rest ≡ p ∷ behind → (y : List Placed) (s : Statement) → statement_at (front ++ (p ∷ y)) ≡ Ok s → ⊥) → IsRefused ts at
-refused_at ts front [] at e place v h = absurd (cc)
-refused_at ts front (p ∷ behind) at e place v h = record { front = front; token = p; behind = behind; parts = e; place = let k : Some p.at ≡ Some at = place in cc; viable = v; refused = not_viable front p (h p behind refl) }
+refused_at : (ts prefix rest : List Placed) (at : ℕ) → ts ≡ prefix ++ rest → first_offset rest ≡ Some at → IsViable prefix → ((p : Placed) (behind : List Placed) → rest ≡ p ∷ behind → (y : List Placed) (s : Statement) → statement_at (prefix ++ (p ∷ y)) ≡ Ok s → ⊥) → IsRefused ts at
+refused_at ts prefix [] at e place v h = absurd (cc)
+refused_at ts prefix (p ∷ behind) at e place v h = record { prefix = prefix; token = p; after = behind; parts = e; place = let k : Some p.at ≡ Some at = place in cc; viable = v; refused = not_viable prefix p (h p behind refl) }
 
 refused_from : (ts : List Placed) (at : ℕ) → StopsRight [] statement_at ts (Some at) → IsRefused ts at
-refused_from ts at h = refused_at ts h.front h.rest at h.parts h.place h.viable h.refused
+refused_from ts at h = refused_at ts h.prefix h.rest at h.parts h.place h.viable h.refused
 
 -- where reading stopped
 at_token : (ts : List Placed) (at : ℕ) → statement_at ts ≡ Err (Some at) → IsRefused ts at
@@ -69,16 +69,16 @@ at_whole ts s e = subst (λ r. Reads [] statement_at ts r) e (statement_good (le
 
 -- no token of viable tokens is refused
 unrefused : (ts : List Placed) (at : ℕ) → IsViable ts → IsRefused ts at → ⊥
-unrefused ts at v h = h.refused (front_viable ts h.front h.behind h.token h.parts v)
+unrefused ts at v h = h.refused (prefix_viable ts h.prefix h.after h.token h.parts v)
 
-same_by : (ts : List Placed) (m n : ℕ) (g : IsRefused ts m) (h : IsRefused ts n) → Order g.front g.token h.front h.token → m ≡ n
-same_by ts m n g h (inl k) = absurd (g.refused (front_viable h.front g.front k.0 g.token k.1 h.viable))
-same_by ts m n g h (inr (inl k)) = absurd (h.refused (front_viable g.front h.front k.0 h.token k.1 g.viable))
+same_by : (ts : List Placed) (m n : ℕ) (g : IsRefused ts m) (h : IsRefused ts n) → Order g.prefix g.token h.prefix h.token → m ≡ n
+same_by ts m n g h (inl k) = absurd (g.refused (prefix_viable h.prefix g.prefix k.0 g.token k.1 h.viable))
+same_by ts m n g h (inr (inl k)) = absurd (h.refused (prefix_viable g.prefix h.prefix k.0 h.token k.1 g.viable))
 same_by ts m n g h (inr (inr k)) = sym g.place ∙ ap (λ p. p.at) k ∙ h.place
 
 -- at most one token is refused first
 same_refused : (ts : List Placed) (m n : ℕ) → IsRefused ts m → IsRefused ts n → m ≡ n
-same_refused ts m n g h = same_by ts m n g h (order g.front g.behind h.front h.behind g.token h.token (sym g.parts ∙ h.parts))
+same_refused ts m n g h = same_by ts m n g h (order g.prefix g.after h.prefix h.after g.token h.token (sym g.parts ∙ h.parts))
 
 reads_refused : (ts : List Placed) (at : ℕ) (r : Result Statement (Option ℕ)) → statement_at ts ≡ r → IsRefused ts at → r ≡ Err (Some at)
 reads_refused ts at (Ok s) e h = absurd (unrefused ts at (spelled_viable ts s (at_whole ts s e)) h)
@@ -172,13 +172,13 @@ lexical_if false x y h k = k
 
 quoted_lexical : (at : ℕ) (bytes : List ℕ) → IfErr (quoted_piece at bytes) IsLexical
 unfolding quoted_piece
-quoted_lexical at bytes = elim (closing false bytes) as (λ o. IfErr {T = Piece} (elim o [ None ↦ Err (OpenText at) | Some n ↦ Ok (record { token = text_token (single false (take (n - 1) bytes)); len = n + 1; joins = true }) ]) IsLexical) [ None ↦ tt | Some n ↦ tt ]
+quoted_lexical at bytes = elim (closing_len false bytes) as (λ o. IfErr {T = Piece} (elim o [ None ↦ Err (OpenText at) | Some n ↦ Ok (record { token = text_token (single_quotes false (take (n - 1) bytes)); len = n + 1; joins = true }) ]) IsLexical) [ None ↦ tt | Some n ↦ tt ]
 
 piece_lexical : (at b : ℕ) (bytes : List ℕ) → IfErr (piece_at at b bytes) IsLexical
 unfolding piece_at number_piece negative_piece symbol_piece
 piece_lexical at b bytes =
-    lexical_if (begins_word b) _ _ tt (lexical_if (is_digit b) _ _ (lexical_if (nat_lt (number_of (take (prefix_len is_digit (b ∷ bytes)) (b ∷ bytes))) (2 ^ 63)) _ _ tt tt)
-    (lexical_if (b == 45) _ _ (lexical_if (prefix_len is_digit bytes == 0) _ _ tt (lexical_if (nat_le (number_of (take (prefix_len is_digit bytes) bytes)) (2 ^ 63)) _ _ tt tt))
+    lexical_if (begins_word b) _ _ tt (lexical_if (is_digit b) _ _ (lexical_if (nat_lt (digits_value (take (prefix_len is_digit (b ∷ bytes)) (b ∷ bytes))) (2 ^ 63)) _ _ tt tt)
+    (lexical_if (b == 45) _ _ (lexical_if (prefix_len is_digit bytes == 0) _ _ tt (lexical_if (nat_le (digits_value (take (prefix_len is_digit bytes) bytes)) (2 ^ 63)) _ _ tt tt))
     (lexical_if (b == 39) _ _ (quoted_lexical at bytes)
     (lexical_if (b == 40) _ _ tt (lexical_if (b == 41) _ _ tt (lexical_if (b == 44) _ _ tt (lexical_if (b == 59) _ _ tt (lexical_if (b == 42) _ _ tt (lexical_if (b == 61) _ _ tt (lexical_if (b == 60) _ _ tt (lexical_if (b == 62) _ _ tt tt)))))))))))
 
@@ -216,14 +216,6 @@ pub found_of : (text : List ℕ) (r : Result Statement TextFault) → Answers r 
 found_of text (Ok s) h = read_spelled text s h
 found_of text (Err e) h = tt
 
-only_err : (text : List ℕ) (e : TextFault) (s : Statement) → (e ≡ NoMemory) ⊎ (text_read text ≡ Err e) → text_read text ≡ Ok s → e ≡ NoMemory
-only_err text e s (inl h) k = h
-only_err text e s (inr h) k = absurd (cc)
-
-pub only_of : (text : List ℕ) (r : Result Statement TextFault) → Answers r (text_read text) → (s : Statement) → Spells text s → MatchResult r (λ t. t ≡ s) (λ e. e ≡ NoMemory)
-only_of text (Ok t) h s k = let w = spelled_read text s k in cc
-only_of text (Err e) h s k = only_err text e s (answer_err e (text_read text) h) (spelled_read text s k)
-
 fault_or : (text : List ℕ) (e : TextFault) → (e ≡ NoMemory) ⊎ (text_read text ≡ Err e) → (e ≡ NoMemory) ⊎ IsFault text e
 fault_or text e (inl h) = inl h
 fault_or text e (inr h) = inr (read_fault text e h)
@@ -232,14 +224,27 @@ pub fault_of : (text : List ℕ) (r : Result Statement TextFault) → Answers r 
 fault_of text (Ok s) h = tt
 fault_of text (Err e) h = fault_or text e (answer_err e (text_read text) h)
 
-same_fault : (text : List ℕ) (e f : TextFault) → (e ≡ NoMemory) ⊎ (text_read text ≡ Err e) → text_read text ≡ Err f → (e ≡ NoMemory) ⊎ (e ≡ f)
-same_fault text e f (inl h) k = inl h
-same_fault text e f (inr h) k = inr (err_one e f (sym h ∙ k))
+-- a text spells at most one statement
+pub one_statement : (text : List ℕ) (s t : Statement) → Spells text s → Spells text t → s ≡ t
+one_statement text s t h k = let e = spelled_read text s h in let f = spelled_read text t k in cc
 
-pub cause_of : (text : List ℕ) (r : Result Statement TextFault) → Answers r (text_read text) → (f : TextFault) → IsFault text f → IfErr r (λ e. (e ≡ NoMemory) ⊎ (e ≡ f))
-cause_of text (Ok s) h f k = tt
-cause_of text (Err e) h f k = same_fault text e f (answer_err e (text_read text) h) (fault_read text f k)
+-- a text has at most one fault
+pub one_fault : (text : List ℕ) (e f : TextFault) → IsFault text e → IsFault text f → e ≡ f
+one_fault text e f h k = err_one e f (sym (fault_read text e h) ∙ fault_read text f k)
 
-pub refused_of : (text : List ℕ) (r : Result Statement TextFault) → Answers r (text_read text) → (f : TextFault) → IsFault text f → IsErr r
-refused_of text (Ok s) h f k = let w = fault_read text f k in absurd (cc)
-refused_of text (Err e) h f k = refl
+-- a text that spells a statement has no fault
+pub never_both : (text : List ℕ) (s : Statement) (e : TextFault) → Spells text s → IsFault text e → ⊥
+never_both text s e h k = let m = spelled_read text s h in let n = fault_read text e k in absurd (cc)
+
+either_by : (text : List ℕ) (r : Result Statement TextFault) → text_read text ≡ r → ((s : Statement) × Spells text s) ⊎ ((e : TextFault) × IsFault text e)
+either_by text (Ok s) h = inl (s, read_spelled text s h)
+either_by text (Err e) h = inr (e, read_fault text e h)
+
+-- a text means one thing
+pub one_meaning : (text : List ℕ) → HasOneMeaning text
+one_meaning text = record {
+  statement = one_statement text;
+  fault = one_fault text;
+  never_both = never_both text;
+  either = either_by text (text_read text) refl;
+}

@@ -29,9 +29,9 @@ use Rattle.std.specs.Fmt.{digits}
 use Rattle.tl_query.specs.Terminals.{spelling}
 use Rattle.tl_query.specs.Printing.{put, text_of}
 use Rattle.tl_query.specs.Texts.{text_read, IsFault, Spells}
-use Rattle.tl_query.specs.Scanning.{scan, piece_at, word_piece, word_token, other_token, number_piece, negative_piece, quoted_piece, text_token, single, symbol_piece, keyword_of, statement_terminal, table_terminal, clause_terminal, range_terminal, closing}
-use Rattle.tl_types.specs.Names.{statement_words, table_words, clause_words, range_words}
-use Rattle.tl_query.specs.Reading.{after, expect, take_at, peek_at, last_of, ended, up_to, several, column_at, columns_at, valid_at, create_at, put_at, remove_at, asked_at, test_at, where_at, valid_point_at, as_of_at, parse_select, versions_at, system_at, moments_at, over_at, column_name_at, by_at, agg_at, side_at, on_at, join_at, statement_at}
+use Rattle.tl_query.specs.Scanning.{scan, piece_at, word_piece, word_token, other_token, number_piece, negative_piece, quoted_piece, text_token, single_quotes, symbol_piece, closing_len}
+use Rattle.tl_types.specs.Names.{keywords, spelling_of}
+use Rattle.tl_query.specs.Reading.{after, expect, take_at, peek_at, last_of, statement_end, up_to, several, column_at, columns_at, valid_at, create_at, put_at, remove_at, asked_at, test_at, where_at, valid_point_at, as_of_at, parse_select, versions_at, system_at, moments_at, over_at, column_name_at, by_at, agg_at, side_at, on_at, join_at, statement_at}
 use Rattle.tl_query.proofs.Deciding.{read_fault, read_spelled}
 
 -- a name, a number or bound, a test, and a predicate of one test
@@ -47,7 +47,7 @@ none = record { any = [] }
 abbrev only : Test → Pred
 only test = record { any = (test ∷ []) ∷ [] }
 
--- a question for items, for an aggregate
+-- a query for items, for an aggregate
 abbrev select_of : List Item → Name → Pred → Option ValidPoint → Option Stamp → Statement
 select_of items table pred valid as_of = statements.Ask (queries.Select (record { all = false; items = items; table = table; pred = pred; valid_at = valid; as_of = as_of }))
 
@@ -56,47 +56,47 @@ agg_of kind column table pred by over = statements.Ask (queries.Agg (record { ki
 
 -- faults of texts, at their first byte
 text_faults : IsFault (codes "SELECT id FORM emp") (Unexpected 10) × IsFault (codes "SELECT $ FROM emp") (BadByte 7) × IsFault (codes "SELECT id FROM emp WHERE dept = 'ops") (OpenText 32) × IsFault (codes "SELECT id FROM emp AS OF 9223372036854775808") (NumberTooLarge 25)
-unfolding text_read scan piece_at word_piece word_token other_token number_piece negative_piece quoted_piece symbol_piece keyword_of statement_terminal table_terminal clause_terminal range_terminal closing statement_words table_words clause_words range_words after expect take_at peek_at last_of ended up_to several column_at columns_at valid_at create_at put_at remove_at asked_at test_at where_at valid_point_at as_of_at parse_select versions_at system_at moments_at over_at column_name_at by_at agg_at side_at on_at join_at statement_at
+unfolding text_read scan piece_at word_piece word_token other_token number_piece negative_piece quoted_piece symbol_piece keywords spelling_of closing_len after expect take_at peek_at last_of statement_end up_to several column_at columns_at valid_at create_at put_at remove_at asked_at test_at where_at valid_point_at as_of_at parse_select versions_at system_at moments_at over_at column_name_at by_at agg_at side_at on_at join_at statement_at
 text_faults = (read_fault (codes "SELECT id FORM emp") (Unexpected 10) refl, read_fault (codes "SELECT $ FROM emp") (BadByte 7) refl, read_fault (codes "SELECT id FROM emp WHERE dept = 'ops") (OpenText 32) refl, read_fault (codes "SELECT id FROM emp AS OF 9223372036854775808") (NumberTooLarge 25) refl)
 
 -- words that cannot stand where they do, and texts that end too early
 words_misplaced : IsFault (codes "DROP t") (Unexpected 0) × IsFault (codes "") (Unexpected 0) × IsFault (codes "PUT 'b''") (OpenText 4) × IsFault (codes "CREATE TABLE t (k BLOB) KEY k") (Unexpected 18) × IsFault (codes "SELECT *, k FROM t") (Unexpected 8) × IsFault (codes "SELECT k FROM valid_from") (Unexpected 14)
-unfolding text_read scan piece_at word_piece word_token other_token number_piece negative_piece quoted_piece symbol_piece keyword_of statement_terminal table_terminal clause_terminal range_terminal closing statement_words table_words clause_words range_words after expect take_at peek_at last_of ended up_to several column_at columns_at valid_at create_at put_at remove_at asked_at test_at where_at valid_point_at as_of_at parse_select versions_at system_at moments_at over_at column_name_at by_at agg_at side_at on_at join_at statement_at
+unfolding text_read scan piece_at word_piece word_token other_token number_piece negative_piece quoted_piece symbol_piece keywords spelling_of closing_len after expect take_at peek_at last_of statement_end up_to several column_at columns_at valid_at create_at put_at remove_at asked_at test_at where_at valid_point_at as_of_at parse_select versions_at system_at moments_at over_at column_name_at by_at agg_at side_at on_at join_at statement_at
 words_misplaced = (read_fault (codes "DROP t") (Unexpected 0) refl, read_fault (codes "") (Unexpected 0) refl, read_fault (codes "PUT 'b''") (OpenText 4) refl, read_fault (codes "CREATE TABLE t (k BLOB) KEY k") (Unexpected 18) refl, read_fault (codes "SELECT *, k FROM t") (Unexpected 8) refl, read_fault (codes "SELECT k FROM valid_from") (Unexpected 14) refl)
 
 -- VALID, REMOVE and the ends of the period where they cannot stand, or where something lacks
 misplaced : IsFault (codes "CREATE TABLE t (k INT) KEY k VALI") (Unexpected 29) × IsFault (codes "CREATE TABLE t (k INT) KEY k VALID x") (Unexpected 35) × IsFault (codes "REMOVE") (Unexpected 6) × IsFault (codes "REMOVE 5") (Unexpected 7) × IsFault (codes "REMOVE t x") (Unexpected 9) × IsFault (codes "SELECT valid_to, FROM t") (Unexpected 17) × IsFault (codes "SELECT valid_from valid_to FROM t") (Unexpected 18)
-unfolding text_read scan piece_at word_piece word_token other_token number_piece negative_piece quoted_piece symbol_piece keyword_of statement_terminal table_terminal clause_terminal range_terminal closing statement_words table_words clause_words range_words after expect take_at peek_at last_of ended up_to several column_at columns_at valid_at create_at put_at remove_at asked_at test_at where_at valid_point_at as_of_at parse_select versions_at system_at moments_at over_at column_name_at by_at agg_at side_at on_at join_at statement_at
+unfolding text_read scan piece_at word_piece word_token other_token number_piece negative_piece quoted_piece symbol_piece keywords spelling_of closing_len after expect take_at peek_at last_of statement_end up_to several column_at columns_at valid_at create_at put_at remove_at asked_at test_at where_at valid_point_at as_of_at parse_select versions_at system_at moments_at over_at column_name_at by_at agg_at side_at on_at join_at statement_at
 misplaced = (read_fault (codes "CREATE TABLE t (k INT) KEY k VALI") (Unexpected 29) refl, read_fault (codes "CREATE TABLE t (k INT) KEY k VALID x") (Unexpected 35) refl, read_fault (codes "REMOVE") (Unexpected 6) refl, read_fault (codes "REMOVE 5") (Unexpected 7) refl, read_fault (codes "REMOVE t x") (Unexpected 9) refl, read_fault (codes "SELECT valid_to, FROM t") (Unexpected 17) refl, read_fault (codes "SELECT valid_from valid_to FROM t") (Unexpected 18) refl)
 
 -- clauses where they cannot stand, or where something lacks
 clauses_misplaced : IsFault (codes "SELECT id FROM emp WHERE") (Unexpected 24) × IsFault (codes "SELECT id FROM emp WHERE id = 1 AND") (Unexpected 35) × IsFault (codes "SELECT id FROM emp WHERE id 1") (Unexpected 28) × IsFault (codes "SELECT id FROM emp AS OF 1 VALID AT 2") (Unexpected 27) × IsFault (codes "SELECT id FROM emp AS OF -0") (Unexpected 25) × IsFault (codes "SELECT id FROM emp VALID AT FOREVER") (Unexpected 28) × IsFault (codes "COUNT id FROM emp OVER SYSTEM ALL") (Unexpected 6) × IsFault (codes "SUM FROM emp OVER SYSTEM ALL") (Unexpected 4) × IsFault (codes "COUNT FROM emp") (Unexpected 14) × IsFault (codes "COUNT FROM emp OVER SYSTEM 1") (Unexpected 28) × IsFault (codes "COUNT FROM emp OVER 1 TO 2") (Unexpected 20) × IsFault (codes "COUNT FROM emp OVER SYSTEM FOREVER TO 2") (Unexpected 27) × IsFault (codes "JOIN emp ON id = id OVER SYSTEM ALL") (Unexpected 9) × IsFault (codes "JOIN a WITH b ON k < k OVER SYSTEM ALL") (Unexpected 19) × IsFault (codes "PUT t;;") (Unexpected 6) × IsFault (codes ";") (Unexpected 0)
-unfolding text_read scan piece_at word_piece word_token other_token number_piece negative_piece quoted_piece symbol_piece keyword_of statement_terminal table_terminal clause_terminal range_terminal closing statement_words table_words clause_words range_words after expect take_at peek_at last_of ended up_to several column_at columns_at valid_at create_at put_at remove_at asked_at test_at where_at valid_point_at as_of_at parse_select versions_at system_at moments_at over_at column_name_at by_at agg_at side_at on_at join_at statement_at
+unfolding text_read scan piece_at word_piece word_token other_token number_piece negative_piece quoted_piece symbol_piece keywords spelling_of closing_len after expect take_at peek_at last_of statement_end up_to several column_at columns_at valid_at create_at put_at remove_at asked_at test_at where_at valid_point_at as_of_at parse_select versions_at system_at moments_at over_at column_name_at by_at agg_at side_at on_at join_at statement_at
 clauses_misplaced = (read_fault (codes "SELECT id FROM emp WHERE") (Unexpected 24) refl, read_fault (codes "SELECT id FROM emp WHERE id = 1 AND") (Unexpected 35) refl, read_fault (codes "SELECT id FROM emp WHERE id 1") (Unexpected 28) refl, read_fault (codes "SELECT id FROM emp AS OF 1 VALID AT 2") (Unexpected 27) refl, read_fault (codes "SELECT id FROM emp AS OF -0") (Unexpected 25) refl, read_fault (codes "SELECT id FROM emp VALID AT FOREVER") (Unexpected 28) refl, read_fault (codes "COUNT id FROM emp OVER SYSTEM ALL") (Unexpected 6) refl, read_fault (codes "SUM FROM emp OVER SYSTEM ALL") (Unexpected 4) refl, read_fault (codes "COUNT FROM emp") (Unexpected 14) refl, read_fault (codes "COUNT FROM emp OVER SYSTEM 1") (Unexpected 28) refl, read_fault (codes "COUNT FROM emp OVER 1 TO 2") (Unexpected 20) refl, read_fault (codes "COUNT FROM emp OVER SYSTEM FOREVER TO 2") (Unexpected 27) refl, read_fault (codes "JOIN emp ON id = id OVER SYSTEM ALL") (Unexpected 9) refl, read_fault (codes "JOIN a WITH b ON k < k OVER SYSTEM ALL") (Unexpected 19) refl, read_fault (codes "PUT t;;") (Unexpected 6) refl, read_fault (codes ";") (Unexpected 0) refl)
 
 -- tables, and what is put into them and removed
 tables : Spells (codes "PUT t") (statements.Put (called (codes "t") 4)) × Spells (codes "REMOVE t;") (statements.Remove (called (codes "t") 7)) × Spells (codes "CREATE TABLE t (k INT, x TEXT) KEY k") (statements.Create (record { name = (called (codes "t") 13); columns = record { name = (called (codes "k") 16); kind = IntKind } ∷ record { name = (called (codes "x") 23); kind = TextKind } ∷ []; key = (called (codes "k") 35); valid = false })) × Spells (codes "CREATE TABLE t (k INT) KEY k VALID") (statements.Create (record { name = (called (codes "t") 13); columns = record { name = (called (codes "k") 16); kind = IntKind } ∷ []; key = (called (codes "k") 27); valid = true }))
-unfolding text_read scan piece_at word_piece word_token other_token number_piece negative_piece quoted_piece symbol_piece keyword_of statement_terminal table_terminal clause_terminal range_terminal closing statement_words table_words clause_words range_words after expect take_at peek_at last_of ended up_to several column_at columns_at valid_at create_at put_at remove_at asked_at test_at where_at valid_point_at as_of_at parse_select versions_at system_at moments_at over_at column_name_at by_at agg_at side_at on_at join_at statement_at
+unfolding text_read scan piece_at word_piece word_token other_token number_piece negative_piece quoted_piece symbol_piece keywords spelling_of closing_len after expect take_at peek_at last_of statement_end up_to several column_at columns_at valid_at create_at put_at remove_at asked_at test_at where_at valid_point_at as_of_at parse_select versions_at system_at moments_at over_at column_name_at by_at agg_at side_at on_at join_at statement_at
 tables = (read_spelled (codes "PUT t") _ refl, read_spelled (codes "REMOVE t;") _ refl, read_spelled (codes "CREATE TABLE t (k INT, x TEXT) KEY k") _ refl, read_spelled (codes "CREATE TABLE t (k INT) KEY k VALID") _ refl)
 
--- questions for rows
+-- queries for rows
 selects : Spells (codes "SELECT id, pay FROM emp AS OF 2") (select_of (Column (called (codes "id") 7) ∷ Column (called (codes "pay") 11) ∷ []) (called (codes "emp") 20) none None (Some (stamp 2 30))) × Spells (codes "SELECT valid_to, validfrom, valid_from FROM t") (select_of (ValidTo 7 ∷ Column (called (codes "validfrom") 17) ∷ ValidFrom 28 ∷ []) (called (codes "t") 44) none None None) × Spells (codes "SELECT x FROM q VALID AT -10 ;") (select_of (Column (called (codes "x") 7) ∷ []) (called (codes "q") 14) none (Some (record { pos = 16; value = negsuc 9 })) None) × Spells (codes "SELECT x, valid_to FROM q AS OF 2") (select_of (Column (called (codes "x") 7) ∷ ValidTo 10 ∷ []) (called (codes "q") 24) none None (Some (stamp 2 32))) × Spells (codes "SELECT*FROM t") (statements.Ask (queries.Select (record { all = true; items = []; table = (called (codes "t") 12); pred = none; valid_at = None; as_of = None })))
-unfolding text_read scan piece_at word_piece word_token other_token number_piece negative_piece quoted_piece symbol_piece keyword_of statement_terminal table_terminal clause_terminal range_terminal closing statement_words table_words clause_words range_words after expect take_at peek_at last_of ended up_to several column_at columns_at valid_at create_at put_at remove_at asked_at test_at where_at valid_point_at as_of_at parse_select versions_at system_at moments_at over_at column_name_at by_at agg_at side_at on_at join_at statement_at
+unfolding text_read scan piece_at word_piece word_token other_token number_piece negative_piece quoted_piece symbol_piece keywords spelling_of closing_len after expect take_at peek_at last_of statement_end up_to several column_at columns_at valid_at create_at put_at remove_at asked_at test_at where_at valid_point_at as_of_at parse_select versions_at system_at moments_at over_at column_name_at by_at agg_at side_at on_at join_at statement_at
 selects = (read_spelled (codes "SELECT id, pay FROM emp AS OF 2") _ refl, read_spelled (codes "SELECT valid_to, validfrom, valid_from FROM t") _ refl, read_spelled (codes "SELECT x FROM q VALID AT -10 ;") _ refl, read_spelled (codes "SELECT x, valid_to FROM q AS OF 2") _ refl, read_spelled (codes "SELECT*FROM t") _ refl)
 
--- questions for rows that pass tests
+-- queries for rows that pass tests
 tests : Spells (codes "SELECT id FROM emp WHERE dept < 'ops'") (select_of (Column (called (codes "id") 7) ∷ []) (called (codes "emp") 15) (only (record { column = (called (codes "dept") 25); cmp = cmps.Lt; cmp_at = 30; value = cells.Text (codes "ops"); value_at = 32 })) None None) × Spells (codes "SELECT id FROM emp WHERE id >= 1 AND pay <> -0 OR dept = 'o''s'") (select_of (Column (called (codes "id") 7) ∷ []) (called (codes "emp") 15) (record { any = (record { column = (called (codes "id") 25); cmp = cmps.Ge; cmp_at = 28; value = cells.Int (pos 1); value_at = 31 } ∷ record { column = (called (codes "pay") 37); cmp = cmps.Ne; cmp_at = 41; value = cells.Int (pos 0); value_at = 44 } ∷ []) ∷ (record { column = (called (codes "dept") 50); cmp = cmps.Eq; cmp_at = 55; value = cells.Text (codes "o's"); value_at = 57 } ∷ []) ∷ [] }) None None)
-unfolding text_read scan piece_at word_piece word_token other_token number_piece negative_piece quoted_piece text_token single symbol_piece keyword_of statement_terminal table_terminal clause_terminal range_terminal closing statement_words table_words clause_words range_words after expect take_at peek_at last_of ended up_to several column_at columns_at valid_at create_at put_at remove_at asked_at test_at where_at valid_point_at as_of_at parse_select versions_at system_at moments_at over_at column_name_at by_at agg_at side_at on_at join_at statement_at
+unfolding text_read scan piece_at word_piece word_token other_token number_piece negative_piece quoted_piece text_token single_quotes symbol_piece keywords spelling_of closing_len after expect take_at peek_at last_of statement_end up_to several column_at columns_at valid_at create_at put_at remove_at asked_at test_at where_at valid_point_at as_of_at parse_select versions_at system_at moments_at over_at column_name_at by_at agg_at side_at on_at join_at statement_at
 tests = (read_spelled (codes "SELECT id FROM emp WHERE dept < 'ops'") _ refl, read_spelled (codes "SELECT id FROM emp WHERE id >= 1 AND pay <> -0 OR dept = 'o''s'") _ refl)
 
--- questions for aggregates
+-- queries for aggregates
 aggregates : Spells (codes "COUNT FROM emp OVER SYSTEM 1 TO 6") (agg_of aggs.Count None (called (codes "emp") 11) none None (overs.System (stamp 1 27) (stamp 6 32))) × Spells (codes "SUM pay FROM emp WHERE pay >= 100 OVER SYSTEM 1 TO 6") (agg_of aggs.Sum (Some (called (codes "pay") 4)) (called (codes "emp") 13) (only (record { column = (called (codes "pay") 23); cmp = cmps.Ge; cmp_at = 27; value = cells.Int (pos 100); value_at = 30 })) None (overs.System (stamp 1 46) (stamp 6 51))) × Spells (codes "AVG pay FROM emp BY dept OVER SYSTEM 2 TO 6") (agg_of aggs.Avg (Some (called (codes "pay") 4)) (called (codes "emp") 13) none (Some (called (codes "dept") 20)) (overs.System (stamp 2 37) (stamp 6 42))) × Spells (codes "MIN x FROM m OVER SYSTEM 2 TO 5") (agg_of aggs.Min (Some (called (codes "x") 4)) (called (codes "m") 11) none None (overs.System (stamp 2 25) (stamp 5 30))) × Spells (codes "COUNT FROM emp OVER VALID 0 TO 9") (agg_of aggs.Count None (called (codes "emp") 11) none None (overs.Valid 20 (stamp 0 26) (stamp 9 31) None)) × Spells (codes "COUNT FROM c OVER VALID 0 TO FOREVER AS OF 1") (agg_of aggs.Count None (called (codes "c") 11) none None (overs.Valid 18 (stamp 0 24) (stamp 9223372036854775807 29) (Some (stamp 1 43))))
-unfolding text_read scan piece_at word_piece word_token other_token number_piece negative_piece quoted_piece symbol_piece keyword_of statement_terminal table_terminal clause_terminal range_terminal closing statement_words table_words clause_words range_words after expect take_at peek_at last_of ended up_to several column_at columns_at valid_at create_at put_at remove_at asked_at test_at where_at valid_point_at as_of_at parse_select versions_at system_at moments_at over_at column_name_at by_at agg_at side_at on_at join_at statement_at
+unfolding text_read scan piece_at word_piece word_token other_token number_piece negative_piece quoted_piece symbol_piece keywords spelling_of closing_len after expect take_at peek_at last_of statement_end up_to several column_at columns_at valid_at create_at put_at remove_at asked_at test_at where_at valid_point_at as_of_at parse_select versions_at system_at moments_at over_at column_name_at by_at agg_at side_at on_at join_at statement_at
 aggregates = (read_spelled (codes "COUNT FROM emp OVER SYSTEM 1 TO 6") _ refl, read_spelled (codes "SUM pay FROM emp WHERE pay >= 100 OVER SYSTEM 1 TO 6") _ refl, read_spelled (codes "AVG pay FROM emp BY dept OVER SYSTEM 2 TO 6") _ refl, read_spelled (codes "MIN x FROM m OVER SYSTEM 2 TO 5") _ refl, read_spelled (codes "COUNT FROM emp OVER VALID 0 TO 9") _ refl, read_spelled (codes "COUNT FROM c OVER VALID 0 TO FOREVER AS OF 1") _ refl)
 
--- questions for pairs
+-- queries for pairs
 joins : Spells (codes "JOIN emp WITH emp ON id = id OVER SYSTEM 2 TO 6") (statements.Ask (queries.Join (record { left = (called (codes "emp") 5); left_pred = none; right = (called (codes "emp") 14); right_pred = none; left_on = (called (codes "id") 21); right_on = (called (codes "id") 26); over = overs.System (stamp 2 41) (stamp 6 46) }))) × Spells (codes "JOIN emp WHERE zz = 1 WITH nope ON id = id OVER SYSTEM ALL") (statements.Ask (queries.Join (record { left = (called (codes "emp") 5); left_pred = (only (record { column = (called (codes "zz") 15); cmp = cmps.Eq; cmp_at = 18; value = cells.Int (pos 1); value_at = 20 })); right = (called (codes "nope") 27); right_pred = none; left_on = (called (codes "id") 35); right_on = (called (codes "id") 40); over = overs.SystemAll })))
-unfolding text_read scan piece_at word_piece word_token other_token number_piece negative_piece quoted_piece symbol_piece keyword_of statement_terminal table_terminal clause_terminal range_terminal closing statement_words table_words clause_words range_words after expect take_at peek_at last_of ended up_to several column_at columns_at valid_at create_at put_at remove_at asked_at test_at where_at valid_point_at as_of_at parse_select versions_at system_at moments_at over_at column_name_at by_at agg_at side_at on_at join_at statement_at
+unfolding text_read scan piece_at word_piece word_token other_token number_piece negative_piece quoted_piece symbol_piece keywords spelling_of closing_len after expect take_at peek_at last_of statement_end up_to several column_at columns_at valid_at create_at put_at remove_at asked_at test_at where_at valid_point_at as_of_at parse_select versions_at system_at moments_at over_at column_name_at by_at agg_at side_at on_at join_at statement_at
 joins = (read_spelled (codes "JOIN emp WITH emp ON id = id OVER SYSTEM 2 TO 6") _ refl, read_spelled (codes "JOIN emp WHERE zz = 1 WITH nope ON id = id OVER SYSTEM ALL") _ refl)
 
 -- TEXTS
@@ -106,7 +106,7 @@ texts : (text_of (statements.Remove (called (codes "t") 9)) ≡ codes "REMOVE t"
     × (text_of (statements.Create (record { name = called (codes "t") 0; columns = record { name = called (codes "k") 0; kind = IntKind } ∷ record { name = called (codes "x") 0; kind = TextKind } ∷ []; key = called (codes "k") 0; valid = true })) ≡ codes "CREATE TABLE t (k INT, x TEXT) KEY k VALID")
     × (text_of (select_of (ValidTo 0 ∷ Column (called (codes "x") 0) ∷ []) (called (codes "q") 0) (only (record { column = called (codes "x") 0; cmp = cmps.Ne; cmp_at = 0; value = cells.Text (codes "o's"); value_at = 0 })) (Some (record { pos = 0; value = negsuc 9 })) (Some (stamp 2 0))) ≡ codes "SELECT valid_to, x FROM q WHERE x <> 'o''s' VALID AT -10 AS OF 2")
     × (text_of (agg_of aggs.Count None (called (codes "c") 0) none None (overs.Valid 0 (stamp 0 0) (stamp 9223372036854775807 0) None)) ≡ codes "COUNT FROM c OVER VALID 0 TO FOREVER")
-unfolding put spelling digits
+unfolding put spelling spelling_of digits
 texts = (refl, refl, refl, refl)
 
 -- CHECKS

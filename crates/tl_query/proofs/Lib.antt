@@ -1,6 +1,6 @@
 pub mod Closing
 pub mod Turns
-pub mod Places
+pub mod SameTerminals
 pub mod Laws
 pub mod Takers
 pub mod Lists
@@ -9,7 +9,9 @@ pub mod Parts
 pub mod Again
 pub mod Deciding
 pub mod Examples
-pub mod Naming
+pub mod SoundTokens
+pub mod ReadParts
+pub mod NamedTables
 pub mod Writing
 pub mod Unplaced
 pub mod Words

@@ -1,4 +1,4 @@
--- A text stays UTF-8 where tokens are taken off its front, and inside the quotes of a text constant.
+-- A text stays UTF-8 where tokens are taken off its prefix, and inside the quotes of a text constant.
 use Rattle.std.proofs.Common.{◌≡◌, ℕ, ◌+◌, ◌-◌, ◌^◌, ◌<◌, ◌≤◌, ◌==◌, zero, suc, nat_lt, nat_le, Bool, true, false, cond, ◌&&◌, List, [], ◌∷◌, ◌++◌, length, drop, take, get_or, Option, Some, None, Result, Ok, Err, IfOk, IfSome, refl, sym, ◌∙◌, ap, subst, append-nil, arith, lit<}
 use lib.Utf8.{scalar, scalars, encode, encodes}
 use Rattle.std.specs.Str.{IsUtf8}
@@ -10,7 +10,7 @@ use Rattle.tl_types.specs.Names.{is_digit, begins_word, continues_word}
 use Rattle.tl_query.specs.declared.scanning.Piece.{Piece}
 use Rattle.tl_query.specs.declared.faults.TextFault.{TextFault}
 use Rattle.tl_query.specs.declared.faults.TextFault.TheVariants.{OpenText}
-use Rattle.tl_query.specs.Scanning.{number_of, word_piece, number_piece, negative_piece, one_more, closing, single, text_token, quoted_piece, less_piece, greater_piece, symbol_piece, piece_at, piece_of}
+use Rattle.tl_query.specs.Scanning.{digits_value, word_piece, number_piece, negative_piece, one_more, closing_len, single_quotes, text_token, quoted_piece, less_piece, greater_piece, symbol_piece, piece_at, piece_of}
 use Rattle.tl_query.proofs.Closing.{word_byte, not_39}
 use Rattle.tl_query.proofs.Turns.{begun, step_within, closing_within}
 use Rattle.tl_query.proofs.Words.{cond_true, cond_false}
@@ -20,13 +20,13 @@ use Rattle.tl_query.proofs.Words.{cond_true, cond_false}
 abbrev NoQuote : List ℕ → Type 0
 NoQuote es = (k : ℕ) → k < length es → get_or es k 0 ≡ 39 → ⊥
 
-single_pass : (es rest : List ℕ) → NoQuote es → single false (es ++ rest) ≡ es ++ single false rest
-unfolding single
+single_pass : (es rest : List ℕ) → NoQuote es → single_quotes false (es ++ rest) ≡ es ++ single_quotes false rest
+unfolding single_quotes
 single_pass [] rest h = refl
-single_pass (e ∷ es) rest h = ap (λ u. e ∷ single u (es ++ rest)) (not_39 e (h 0 (omega arith))) ∙ ap (λ y. e ∷ y) (single_pass es rest (λ k l. h (suc k) (omega arith)))
+single_pass (e ∷ es) rest h = ap (λ u. e ∷ single_quotes u (es ++ rest)) (not_39 e (h 0 (omega arith))) ∙ ap (λ y. e ∷ y) (single_pass es rest (λ k l. h (suc k) (omega arith)))
 
-single_kept : (es rest : List ℕ) → 1 ≤ length es → NoQuote es → single true (es ++ rest) ≡ es ++ single false rest
-unfolding single
+single_kept : (es rest : List ℕ) → 1 ≤ length es → NoQuote es → single_quotes true (es ++ rest) ≡ es ++ single_quotes false rest
+unfolding single_quotes
 single_kept [] rest some h = absurd (omega arith)
 single_kept (e ∷ es) rest some h = cond_false (e == 39) _ _ (not_39 e (h 0 (omega arith))) ∙ ap (λ y. e ∷ y) (single_pass es rest (λ k l. h (suc k) (omega arith)))
 
@@ -43,25 +43,25 @@ is_39 c e = grind (arith, nat_tests)
 no_39 : (c : ℕ) → (c == 39) ≡ false → c ≡ 39 → ⊥
 no_39 c e h = grind (arith, nat_tests)
 
-quote_by : (cs : List ℕ) (kept : Bool) → ((kept : Bool) → single kept (encodes cs) ≡ encodes (single kept cs)) → single kept (encode 39 ++ encodes cs) ≡ encodes (single kept (39 ∷ cs))
-unfolding single encode
+quote_by : (cs : List ℕ) (kept : Bool) → ((kept : Bool) → single_quotes kept (encodes cs) ≡ encodes (single_quotes kept cs)) → single_quotes kept (encode 39 ++ encodes cs) ≡ encodes (single_quotes kept (39 ∷ cs))
+unfolding single_quotes encode
 quote_by cs true h = h false
 quote_by cs false h = ap (λ y. 39 ∷ y) (h true)
 
-single_quote : (cs : List ℕ) (c : ℕ) (kept : Bool) → c ≡ 39 → ((kept : Bool) → single kept (encodes cs) ≡ encodes (single kept cs)) → single kept (encode c ++ encodes cs) ≡ encodes (single kept (c ∷ cs))
-single_quote cs c kept e h = subst (λ c. single kept (encode c ++ encodes cs) ≡ encodes (single kept (c ∷ cs))) (sym e) (quote_by cs kept h)
+single_quote : (cs : List ℕ) (c : ℕ) (kept : Bool) → c ≡ 39 → ((kept : Bool) → single_quotes kept (encodes cs) ≡ encodes (single_quotes kept cs)) → single_quotes kept (encode c ++ encodes cs) ≡ encodes (single_quotes kept (c ∷ cs))
+single_quote cs c kept e h = subst (λ c. single_quotes kept (encode c ++ encodes cs) ≡ encodes (single_quotes kept (c ∷ cs))) (sym e) (quote_by cs kept h)
 
-single_other : (cs : List ℕ) (c : ℕ) (kept : Bool) → (c == 39) ≡ false → ((kept : Bool) → single kept (encodes cs) ≡ encodes (single kept cs)) → single kept (encode c ++ encodes cs) ≡ encodes (single kept (c ∷ cs))
-unfolding single
+single_other : (cs : List ℕ) (c : ℕ) (kept : Bool) → (c == 39) ≡ false → ((kept : Bool) → single_quotes kept (encodes cs) ≡ encodes (single_quotes kept cs)) → single_quotes kept (encode c ++ encodes cs) ≡ encodes (single_quotes kept (c ∷ cs))
+unfolding single_quotes
 single_other cs c true e h =
-    single_kept (encode c) (encodes cs) (some_bytes c) (quote_free c (no_39 c e)) ∙ ap (λ y. encode c ++ y) (h false) ∙ sym (ap encodes (cond_false (c == 39) (single false cs) (c ∷ single false cs) e))
+    single_kept (encode c) (encodes cs) (some_bytes c) (quote_free c (no_39 c e)) ∙ ap (λ y. encode c ++ y) (h false) ∙ sym (ap encodes (cond_false (c == 39) (single_quotes false cs) (c ∷ single_quotes false cs) e))
 single_other cs c false e h =
-    single_pass (encode c) (encodes cs) (quote_free c (no_39 c e)) ∙ ap (λ y. encode c ++ y) (h false) ∙ sym (ap (λ u. encode c ++ encodes (single u cs)) e)
+    single_pass (encode c) (encodes cs) (quote_free c (no_39 c e)) ∙ ap (λ y. encode c ++ y) (h false) ∙ sym (ap (λ u. encode c ++ encodes (single_quotes u cs)) e)
 
-single_encodes : (cs : List ℕ) (kept : Bool) → single kept (encodes cs) ≡ encodes (single kept cs)
-unfolding single
+single_encodes : (cs : List ℕ) (kept : Bool) → single_quotes kept (encodes cs) ≡ encodes (single_quotes kept cs)
+unfolding single_quotes
 single_encodes [] kept = refl
-single_encodes (c ∷ cs) kept = elim (c == 39) as (λ u. (c == 39) ≡ u → single kept (encode c ++ encodes cs) ≡ encodes (single kept (c ∷ cs))) [ true ↦ λ e. single_quote cs c kept (is_39 c e) (single_encodes cs) | false ↦ λ e. single_other cs c kept e (single_encodes cs) ] refl
+single_encodes (c ∷ cs) kept = elim (c == 39) as (λ u. (c == 39) ≡ u → single_quotes kept (encode c ++ encodes cs) ≡ encodes (single_quotes kept (c ∷ cs))) [ true ↦ λ e. single_quote cs c kept (is_39 c e) (single_encodes cs) | false ↦ λ e. single_other cs c kept e (single_encodes cs) ] refl
 
 both_true : (a b : Bool) → (a && b) ≡ true → (a ≡ true) × (b ≡ true)
 both_true true b e = (refl, e)
@@ -71,14 +71,14 @@ scalars_if : (t : Bool) (xs ys : List ℕ) → scalars xs ≡ true → scalars y
 scalars_if true xs ys h k = h
 scalars_if false xs ys h k = k
 
-scalars_single : (cs : List ℕ) (kept : Bool) → scalars cs ≡ true → scalars (single kept cs) ≡ true
-unfolding single
+scalars_single : (cs : List ℕ) (kept : Bool) → scalars cs ≡ true → scalars (single_quotes kept cs) ≡ true
+unfolding single_quotes
 scalars_single [] kept h = refl
-scalars_single (c ∷ cs) true h = let k = both_true (scalar c) (scalars cs) h in scalars_if (c == 39) (single false cs) (c ∷ single false cs) (scalars_single cs false k.1) (ap (λ t. t && scalars (single false cs)) k.0 ∙ scalars_single cs false k.1)
-scalars_single (c ∷ cs) false h = let k = both_true (scalar c) (scalars cs) h in ap (λ t. t && scalars (single (c == 39) cs)) k.0 ∙ scalars_single cs (c == 39) k.1
+scalars_single (c ∷ cs) true h = let k = both_true (scalar c) (scalars cs) h in scalars_if (c == 39) (single_quotes false cs) (c ∷ single_quotes false cs) (scalars_single cs false k.1) (ap (λ t. t && scalars (single_quotes false cs)) k.0 ∙ scalars_single cs false k.1)
+scalars_single (c ∷ cs) false h = let k = both_true (scalar c) (scalars cs) h in ap (λ t. t && scalars (single_quotes (c == 39) cs)) k.0 ∙ scalars_single cs (c == 39) k.1
 
-single_utf8 : (bytes : List ℕ) → IsUtf8 bytes → IsUtf8 (single false bytes)
-single_utf8 bytes h = (single false h.0, (scalars_single h.0 false h.1.0, sym (single_encodes h.0 false) ∙ ap (single false) h.1.1))
+single_utf8 : (bytes : List ℕ) → IsUtf8 bytes → IsUtf8 (single_quotes false bytes)
+single_utf8 bytes h = (single_quotes false h.0, (scalars_single h.0 false h.1.0, sym (single_encodes h.0 false) ∙ ap (single_quotes false) h.1.1))
 
 -- a quote closes
 abbrev Closes : Bool → List ℕ → Option ℕ → Type 0
@@ -109,23 +109,23 @@ more_quote : (b : ℕ) (bytes : List ℕ) (o : Option ℕ) → b ≡ 39 → Clos
 more_quote b bytes None e h = tt
 more_quote b bytes (Some m) e h = (omega arith, at_front b bytes m e h)
 
-closes : (q : Bool) (bytes : List ℕ) → Closes q bytes (closing q bytes)
-unfolding closing
+closes : (q : Bool) (bytes : List ℕ) → Closes q bytes (closing_len q bytes)
+unfolding closing_len
 closes true [] = λ l. absurd (omega arith)
 closes false [] = tt
-closes true (b ∷ bytes) = closes_if (b ∷ bytes) true (b == 39) (one_more (closing false bytes)) (Some 0) (λ e. more_quoted b bytes (closing false bytes) (closes false bytes)) (λ e. λ l. absurd (omega arith))
-closes false (b ∷ bytes) = closes_if (b ∷ bytes) false (b == 39) (one_more (closing true bytes)) (one_more (closing false bytes)) (λ e. more_quote b bytes (closing true bytes) (is_39 b e) (closes true bytes)) (λ e. more_open b bytes (closing false bytes) (closes false bytes))
+closes true (b ∷ bytes) = closes_if (b ∷ bytes) true (b == 39) (one_more (closing_len false bytes)) (Some 0) (λ e. more_quoted b bytes (closing_len false bytes) (closes false bytes)) (λ e. λ l. absurd (omega arith))
+closes false (b ∷ bytes) = closes_if (b ∷ bytes) false (b == 39) (one_more (closing_len true bytes)) (one_more (closing_len false bytes)) (λ e. more_quote b bytes (closing_len true bytes) (is_39 b e) (closes true bytes)) (λ e. more_open b bytes (closing_len false bytes) (closes false bytes))
 
-inside_by : (bytes : List ℕ) (o : Option ℕ) (n : ℕ) → o ≡ Some n → IsUtf8 bytes → Closes false bytes o → IfSome o (λ m. m ≤ length bytes) → IsUtf8 (single false (take (n - 1) bytes))
+inside_by : (bytes : List ℕ) (o : Option ℕ) (n : ℕ) → o ≡ Some n → IsUtf8 bytes → Closes false bytes o → IfSome o (λ m. m ≤ length bytes) → IsUtf8 (single_quotes false (take (n - 1) bytes))
 inside_by bytes None n e u h l = absurd (cc)
 inside_by bytes (Some m) n e u h l =
     let same : m ≡ n = cc in
     let low : get_or bytes (m - 1) 0 < 128 = subst (λ n. n < 128) (sym h.1) (lit< tt) in
-    subst (λ n. IsUtf8 (single false (take (n - 1) bytes))) same (single_utf8 (take (m - 1) bytes) (IsUtf8-take bytes (m - 1) u (IsCharBoundary-before_ascii bytes (m - 1) (omega (arith, h.0, l)) low)))
+    subst (λ n. IsUtf8 (single_quotes false (take (n - 1) bytes))) same (single_utf8 (take (m - 1) bytes) (IsUtf8-take bytes (m - 1) u (IsCharBoundary-before_ascii bytes (m - 1) (omega (arith, h.0, l)) low)))
 
 -- what stands inside the quotes of a text is a text
-pub inside_utf8 : (bytes : List ℕ) (n : ℕ) → closing false bytes ≡ Some n → IsUtf8 bytes → IsUtf8 (single false (take (n - 1) bytes))
-inside_utf8 bytes n e u = inside_by bytes (closing false bytes) n e u (closes false bytes) (closing_within false bytes)
+pub inside_utf8 : (bytes : List ℕ) (n : ℕ) → closing_len false bytes ≡ Some n → IsUtf8 bytes → IsUtf8 (single_quotes false (take (n - 1) bytes))
+inside_utf8 bytes n e u = inside_by bytes (closing_len false bytes) n e u (closes false bytes) (closing_within false bytes)
 
 -- BEHIND A TOKEN
 
@@ -153,7 +153,7 @@ number_low : (at b : ℕ) (bytes : List ℕ) → is_digit b ≡ true → EndsLow
 unfolding number_piece
 number_low at b bytes e =
     let n : prefix_len is_digit (b ∷ bytes) ≡ 1 + prefix_len is_digit bytes = cond_true (is_digit b) _ _ e in
-    low_if (b ∷ bytes) (nat_lt (number_of (take (prefix_len is_digit (b ∷ bytes)) (b ∷ bytes))) (2 ^ 63)) _ _ (λ _. digits_low (b ∷ bytes) (omega (arith, n))) tt
+    low_if (b ∷ bytes) (nat_lt (digits_value (take (prefix_len is_digit (b ∷ bytes)) (b ∷ bytes))) (2 ^ 63)) _ _ (λ _. digits_low (b ∷ bytes) (omega (arith, n))) tt
 
 none_of : (n : ℕ) → (n == 0) ≡ false → 1 ≤ n
 none_of n h = grind (arith, nat_tests)
@@ -170,15 +170,15 @@ negative_low : (at b : ℕ) (bytes : List ℕ) → EndsLow (b ∷ bytes) (negati
 unfolding negative_piece
 negative_low at b bytes =
     low_either (b ∷ bytes) (prefix_len is_digit bytes == 0) _ _ (λ e. tt)
-    (λ e. low_if (b ∷ bytes) (nat_le (number_of (take (prefix_len is_digit bytes) bytes)) (2 ^ 63)) _ _ (λ _. one_further b bytes (prefix_len is_digit bytes) (none_of (prefix_len is_digit bytes) e) (digits_low bytes (none_of (prefix_len is_digit bytes) e))) tt)
+    (λ e. low_if (b ∷ bytes) (nat_le (digits_value (take (prefix_len is_digit bytes) bytes)) (2 ^ 63)) _ _ (λ _. one_further b bytes (prefix_len is_digit bytes) (none_of (prefix_len is_digit bytes) e) (digits_low bytes (none_of (prefix_len is_digit bytes) e))) tt)
 
-quoted_by : (at b : ℕ) (bytes : List ℕ) (o : Option ℕ) → Closes false bytes o → EndsLow (b ∷ bytes) (elim o [ None ↦ Err (OpenText at) | Some n ↦ Ok (record { token = text_token (single false (take (n - 1) bytes)); len = n + 1; joins = true }) ])
+quoted_by : (at b : ℕ) (bytes : List ℕ) (o : Option ℕ) → Closes false bytes o → EndsLow (b ∷ bytes) (elim o [ None ↦ Err (OpenText at) | Some n ↦ Ok (record { token = text_token (single_quotes false (take (n - 1) bytes)); len = n + 1; joins = true }) ])
 quoted_by at b bytes None h = tt
 quoted_by at b bytes (Some n) h = one_further b bytes n h.0 (subst (λ n. n < 128) (sym h.1) (lit< tt))
 
 quoted_low : (at b : ℕ) (bytes : List ℕ) → EndsLow (b ∷ bytes) (quoted_piece at bytes)
 unfolding quoted_piece
-quoted_low at b bytes = quoted_by at b bytes (closing false bytes) (closes false bytes)
+quoted_low at b bytes = quoted_by at b bytes (closing_len false bytes) (closes false bytes)
 
 piece_if : (bytes : List ℕ) (t : Bool) (x y : Piece) → (t ≡ true → get_or bytes (x.len - 1) 0 < 128) → get_or bytes (y.len - 1) 0 < 128 → get_or bytes ((cond t x y).len - 1) 0 < 128
 piece_if bytes true x y h k = h refl

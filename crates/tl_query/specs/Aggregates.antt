@@ -85,27 +85,32 @@ abbrev pub standing_at : plain.Database → ℕ → ℤ → List (ℕ × plain.R
 standing_at db table (pos version) = visible_rows db table version
 standing_at db table (negsuc n) = []
 
--- the rows of a table at a moment of the range's time: those that stand at a version, or those that are valid at a moment
--- and stand at the range's version
+-- the rows of a table at a moment of the range's time: those that stand at a version, or those that
+-- are valid at a moment and stand at the range's version
 abbrev pub rows_at : plain.Database → ℕ → Span → ℤ → List (ℕ × plain.Row)
 rows_at db table (span.System from to) moment = standing_at db table moment
-rows_at db table (span.Valid version from to) moment = rows_valid_at moment (visible_rows db table version)
+rows_at db table (span.Valid version from to) moment =
+    rows_valid_at moment (visible_rows db table version)
 
 -- those of them that pass
 abbrev pub passing_at : plain.Database → ℕ → TypedPred → Span → ℤ → List plain.Row
-passing_at db table pred span moment = filter (passes pred) (map (λ r. r.1) (rows_at db table span moment))
+passing_at db table pred span moment =
+    filter (passes pred) (map (λ r. r.1) (rows_at db table span moment))
 
 -- the row has the value in the column
 abbrev pub has_value : ℕ → Cell → plain.Row → Bool
-has_value column value row = passes_test row (record { column = column; cmp = cmp.Eq; value = value })
+has_value column value row =
+    passes_test row (record { column = column; cmp = cmp.Eq; value = value })
 
 -- the rows that pass and have the value in the column, at a moment
 abbrev pub group_at : plain.Database → ℕ → TypedPred → Span → ℕ → Cell → ℤ → List plain.Row
-group_at db table pred span by value moment = filter (has_value by value) (passing_at db table pred span moment)
+group_at db table pred span by value moment =
+    filter (has_value by value) (passing_at db table pred span moment)
 
 -- the runs of the aggregate over the rows that rows gives at each moment of the range
 abbrev pub runs_in : AggKind → Option ℕ → Span → (ℤ → List plain.Row) → List Run
-runs_in kind column span rows = runs_of (λ moment. aggregate_of kind column (rows moment)) (span_start span) (span_end span)
+runs_in kind column span rows =
+    runs_of (λ moment. aggregate_of kind column (rows moment)) (span_start span) (span_end span)
 
 -- a run of the group of a value
 abbrev pub in_group : Cell → Run → Run
@@ -117,10 +122,15 @@ with_rows rows runs = filter (λ run. not (length (rows run.from) == 0)) runs
 
 -- of the group of a value the runs that have a row
 abbrev pub group_runs : AggKind → Option ℕ → Span → (ℤ → List plain.Row) → Cell → List Run
-group_runs kind column span rows value = map (in_group value) (with_rows rows (runs_in kind column span rows))
+group_runs kind column span rows value =
+    map (in_group value) (with_rows rows (runs_in kind column span rows))
 
--- the runs of an aggregate over time; parted by a column, those of each value that the column has in the table, in order
-unfoldable pub aggregate_runs : plain.Database → ℕ → AggKind → Option ℕ → Option ℕ → TypedPred → Span → List Run
-aggregate_runs db table kind column None pred span = runs_in kind column span (passing_at db table pred span)
+-- the runs of an aggregate over time; separated by a column, those of each value that the column
+-- has in the table, in order
+unfoldable pub aggregate_runs : plain.Database → ℕ → AggKind → Option ℕ → Option ℕ → TypedPred
+    → Span → List Run
+aggregate_runs db table kind column None pred span =
+    runs_in kind column span (passing_at db table pred span)
 aggregate_runs db table kind column (Some by) pred span =
-    flat_map (λ value. group_runs kind column span (group_at db table pred span by value) value) (values_of by (rows_of db table))
+    flat_map (λ value. group_runs kind column span (group_at db table pred span by value) value)
+    (values_of by (rows_of db table))

@@ -1,9 +1,9 @@
--- The check of a new table, and the parts of the check of a question: what names mean, and the first of several
--- faults.
-use Rattle.std.specs.Prelude.{ℕ, ◌≡◌, ◌≤◌, IsTrue, nat_abs, Bool, true, false, ◌&&◌, ◌||◌, not, nat_lt, ◌==◌, List, [], ◌∷◌, ◌++◌, length, map, take, Option, Some, None, is_some, Result, Ok, Err, if◌then◌else◌}
-use Rattle.std.specs.List.{list_all, list_any, fold, position, enumerate_from}
+-- The check of a new table, and the parts of the check of a query: what names mean, and the first
+-- of several faults.
+use Rattle.std.specs.Prelude.{ℕ, ◌≡◌, nat_abs, Bool, true, false, ◌&&◌, ◌||◌, not, nat_lt, ◌==◌, List, [], ◌∷◌, ◌++◌, map, take, Option, Some, None, is_some, Result, Ok, Err, if◌then◌else◌}
+use Rattle.std.specs.List.{list_any, fold, position, enumerate_from}
 use Rattle.tl_types.specs.declared.schemas.Column.{Column}
-use Rattle.tl_types.specs.Names.{same_bytes, is_name}
+use Rattle.tl_types.specs.Names.{same_bytes}
 use Rattle.tl_types.specs.Plain as plain
 use Rattle.tl_types.specs.Resolving.{find_table}
 use Rattle.tl_query.specs.declared.ast.Name.{Name}
@@ -42,9 +42,11 @@ rank_of (fault.EmptyRange at) = 6
 rank_of (fault.ColumnTwice at) = 7
 rank_of fault.NoMemory = 8
 
--- the first fault comes before the second: it stands further to the left, or at the same place with a lesser number
+-- the first fault comes before the second: it stands further to the left, or at the same place with
+-- a lesser number
 abbrev pub comes_before : CheckFault → CheckFault → Bool
-comes_before e f = nat_lt (place_of e) (place_of f) || (place_of e == place_of f) && nat_lt (rank_of e) (rank_of f)
+comes_before e f =
+    nat_lt (place_of e) (place_of f) || (place_of e == place_of f) && nat_lt (rank_of e) (rank_of f)
 
 -- the earlier of two faults, where there are two
 abbrev pub earlier : Option CheckFault → Option CheckFault → Option CheckFault
@@ -61,7 +63,7 @@ abbrev pub fault_if : Bool → CheckFault → Option CheckFault
 fault_if true f = Some f
 fault_if false f = None
 
--- QUESTIONS
+-- QUERIES
 
 -- the number and the schema of the table that a name means
 abbrev pub table_named : plain.Database → Name → Option (ℕ × plain.Schema)
@@ -80,14 +82,17 @@ column_of schema name = place_among schema.columns name
 
 -- the fault of an item, where its table is known
 abbrev pub item_fault : plain.Schema → Item → Option CheckFault
-item_fault schema (item.Column name) = fault_if (not (is_some (column_of schema name.text))) (fault.UnknownColumn name.at)
+item_fault schema (item.Column name) =
+    fault_if (not (is_some (column_of schema name.text))) (fault.UnknownColumn name.at)
 item_fault schema (item.ValidFrom at) = fault_if (not schema.valid) (fault.NotValidTable at)
 item_fault schema (item.ValidTo at) = fault_if (not schema.valid) (fault.NotValidTable at)
 
 -- the version that is asked for is after the last commit
 abbrev pub version_fault : ℕ → Option Stamp → Option CheckFault
 version_fault now None = None
-version_fault now (Some stamp) = fault_if (nat_lt now (nat_abs stamp.value)) (fault.VersionAhead stamp.at (nat_abs stamp.value) now)
+version_fault now (Some stamp) =
+    fault_if (nat_lt now (nat_abs stamp.value))
+    (fault.VersionAhead stamp.at (nat_abs stamp.value) now)
 
 -- a number, 0 where there is none
 abbrev pub or_zero : Option ℕ → ℕ
@@ -105,13 +110,16 @@ abbrev pub period_items : Bool → List TypedItem
 period_items true = typed_item.ValidFrom ∷ typed_item.ValidTo ∷ []
 period_items false = []
 
--- what `*` stands for: all columns in order, then the ends of the valid period where the table's rows have one
+-- what `*` stands for: all columns in order, then the ends of the valid period where the table's
+-- rows have one
 abbrev pub all_items : plain.Schema → List TypedItem
-all_items schema = map (λ c. typed_item.Column c.0) (enumerate_from 0 schema.columns) ++ period_items schema.valid
+all_items schema =
+    map (λ c. typed_item.Column c.0) (enumerate_from 0 schema.columns) ++ period_items schema.valid
 
 -- the items that are asked for, by number
 abbrev pub typed_items_of : plain.Schema → SelectForm → List TypedItem
-typed_items_of schema form = if form.all then all_items schema else map (typed_item_of schema) form.items
+typed_items_of schema form =
+    if form.all then all_items schema else map (typed_item_of schema) form.items
 
 -- the version that is asked for: the last one where none is given
 abbrev pub version_of : ℕ → Option Stamp → ℕ
@@ -122,7 +130,9 @@ version_of now (Some stamp) = nat_abs stamp.value
 
 -- the column at a place has the name of an earlier one
 abbrev pub twice_at : List ColumnForm → ℕ × ColumnForm → Option CheckFault
-twice_at columns (place, column) = fault_if (list_any (λ e. same_bytes e.name.text column.name.text) (take place columns)) (fault.ColumnTwice column.name.at)
+twice_at columns (place, column) =
+    fault_if (list_any (λ e. same_bytes e.name.text column.name.text) (take place columns))
+    (fault.ColumnTwice column.name.at)
 
 -- the first column that has the name of an earlier one
 abbrev pub twice_fault : List ColumnForm → Option CheckFault
@@ -138,24 +148,25 @@ key_of form = position (λ c. same_bytes c.name.text form.key.text) form.columns
 
 -- the first fault of a CREATE: two columns of one name, or a key that is no column
 abbrev pub create_fault : CreateForm → Option CheckFault
-create_fault form = earlier (twice_fault form.columns) (fault_if (not (is_some (key_of form))) (fault.UnknownColumn form.key.at))
+create_fault form =
+    earlier (twice_fault form.columns)
+    (fault_if (not (is_some (key_of form))) (fault.UnknownColumn form.key.at))
 
 -- the schema of a new table, or its first fault
 abbrev pub checked_create : CreateForm → Result plain.Schema CheckFault
 checked_create form = unless (create_fault form) where
   unless : Option CheckFault → Result plain.Schema CheckFault
   unless (Some f) = Err f
-  unless None = Ok (record { name = form.name.text; columns = columns_of form.columns; key = or_zero (key_of form); valid = form.valid })
+  unless None =
+      Ok (record {
+        name = form.name.text;
+        columns = columns_of form.columns;
+        key = or_zero (key_of form);
+        valid = form.valid;
+      })
 
 -- the answer is this one, or memory ran out
 abbrev pub IsUnlessMemory : {X : Type 0} → Result X CheckFault → Result X CheckFault → Type 0
 IsUnlessMemory (Ok x) want = want ≡ Ok x
 IsUnlessMemory (Err fault.NoMemory) want = Unit {0}
 IsUnlessMemory (Err f) want = want ≡ Err f
-
--- a new table as the language spells it: its names are names, and it has 1 to 16 columns
-pub record IsWellNamed (form : CreateForm) : Type 0 where
-  pub name : IsTrue (is_name form.name.text)
-  pub columns : IsTrue (list_all (λ c. is_name c.name.text) form.columns)
-  pub some : 1 ≤ length form.columns
-  pub few : length form.columns ≤ 16

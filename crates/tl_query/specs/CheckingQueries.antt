@@ -1,9 +1,7 @@
--- The check of a question: the faults at all of its places, the first of them, and the question by numbers where
--- there is none.
-use Rattle.std.specs.Prelude.{ℕ, ◌+◌, ◌≡◌, nat_abs, Bool, true, false, not, ◌||◌, nat_lt, int_lt, List, [], ◌∷◌, ◌++◌, map, flat_map, Option, Some, None, is_some, option_map, option_and_then, Result, Ok, Err, IfSome}
+-- The check of a query: the faults at all of its places, the first of them, and the query by
+-- numbers where there is none.
+use Rattle.std.specs.Prelude.{ℕ, ◌+◌, ◌≡◌, nat_abs, Bool, false, not, ◌||◌, nat_lt, int_lt, List, [], ◌∷◌, ◌++◌, map, flat_map, Option, Some, None, is_some, option_map, option_and_then, Result, Ok, Err, IfSome}
 use Rattle.std.specs.List.{AllByRecursion, Contains}
-use Rattle.std.specs.Option.{ForSome}
-use Rattle.std.specs.Int.{IsNonNegative}
 use Rattle.tl_types.specs.declared.cells.ColumnKind.{ColumnKind}
 use Rattle.tl_types.specs.declared.cells.ColumnKind.TheVariants as kind
 use Rattle.tl_types.specs.History.{is_of_kind}
@@ -14,8 +12,6 @@ use Rattle.tl_query.specs.declared.ast.Test.{Test}
 use Rattle.tl_query.specs.declared.ast.Pred.{Pred}
 use Rattle.tl_query.specs.declared.ast.ValidPoint.{ValidPoint}
 use Rattle.tl_query.specs.declared.ast.SelectForm.{SelectForm}
-use Rattle.tl_query.specs.declared.ast.AggKind.{AggKind}
-use Rattle.tl_query.specs.declared.ast.AggKind.TheVariants as agg
 use Rattle.tl_query.specs.declared.ast.AggForm.{AggForm}
 use Rattle.tl_query.specs.declared.ast.JoinForm.{JoinForm}
 use Rattle.tl_query.specs.declared.ast.Over.{Over}
@@ -39,8 +35,10 @@ use Rattle.tl_query.specs.TypedFor.{is_ordered, kind_at, same_kinds}
 abbrev pub Known : Type 0
 Known = Option (ℕ × plain.Schema)
 
--- the faults of a part of a question that speaks of a table, which has none where the table is not known
-abbrev pub where_known : Known → (plain.Schema → List (Option CheckFault)) → List (Option CheckFault)
+-- the faults of a part of a query that speaks of a table, which has none where the table is not
+-- known
+abbrev pub where_known : Known → (plain.Schema → List (Option CheckFault))
+    → List (Option CheckFault)
 where_known None faults = []
 where_known (Some t) faults = faults t.1
 
@@ -51,7 +49,8 @@ table_fault (Some t) name = None
 
 -- the table has no column of the name
 abbrev pub column_fault : plain.Schema → Name → Option CheckFault
-column_fault schema name = fault_if (not (is_some (column_of schema name.text))) (fault.UnknownColumn name.at)
+column_fault schema name =
+    fault_if (not (is_some (column_of schema name.text))) (fault.UnknownColumn name.at)
 
 -- the kind of the column that a name means
 abbrev pub kind_of : plain.Schema → Name → Option ColumnKind
@@ -73,7 +72,8 @@ order_fault (Some kind.TextKind) test = fault_if (is_ordered test.cmp) (fault.Wr
 -- the constant is not of its column's kind
 abbrev pub constant_fault : Option ColumnKind → Test → Option CheckFault
 constant_fault None test = None
-constant_fault (Some k) test = fault_if (not (is_of_kind k test.value)) (fault.WrongType test.value_at)
+constant_fault (Some k) test =
+    fault_if (not (is_of_kind k test.value)) (fault.WrongType test.value_at)
 
 -- the faults of a test of a known table: at its column, at its comparison, at its constant
 abbrev pub test_faults : plain.Schema → Test → List (Option CheckFault)
@@ -104,11 +104,13 @@ point_fault timeless (Some point) = fault_if timeless (fault.NotValidTable point
 
 -- the version that ends a range is after the one that follows the last commit
 abbrev pub end_fault : ℕ → Stamp → Option CheckFault
-end_fault now to = fault_if (nat_lt (now + 1) (nat_abs to.value)) (fault.VersionAhead to.at (nat_abs to.value) now)
+end_fault now to =
+    fault_if (nat_lt (now + 1) (nat_abs to.value)) (fault.VersionAhead to.at (nat_abs to.value) now)
 
 -- no version is in the range
 abbrev pub versions_fault : Stamp → Stamp → Option CheckFault
-versions_fault from to = fault_if (not (nat_lt (nat_abs from.value) (nat_abs to.value))) (fault.EmptyRange from.at)
+versions_fault from to =
+    fault_if (not (nat_lt (nat_abs from.value) (nat_abs to.value))) (fault.EmptyRange from.at)
 
 -- no valid time is in the range
 abbrev pub moments_fault : Stamp → Stamp → Option CheckFault
@@ -119,9 +121,10 @@ abbrev pub over_faults : ℕ → Bool → Over → List (Option CheckFault)
 over_faults now timeless over.SystemAll = []
 over_faults now timeless (over.System from to) = versions_fault from to ∷ end_fault now to ∷ []
 over_faults now timeless (over.Valid pos from to as_of) =
-    fault_if timeless (fault.NotValidTable pos) ∷ moments_fault from to ∷ version_fault now as_of ∷ []
+    fault_if timeless (fault.NotValidTable pos) ∷ moments_fault from to ∷ version_fault now as_of
+    ∷ []
 
--- THE FAULTS OF A QUESTION, PLACE BY PLACE
+-- THE FAULTS OF A QUERY, PLACE BY PLACE
 
 -- of a SELECT at so many commits: at its items, its table, its predicate, VALID AT and its version
 abbrev pub select_faults : ℕ → Known → SelectForm → List (Option CheckFault)
@@ -140,9 +143,10 @@ number_fault (Some kind.TextKind) name = Some (fault.WrongType name.at)
 -- at the column that an aggregate works on
 abbrev pub measure_faults : plain.Schema → Option Name → List (Option CheckFault)
 measure_faults schema None = []
-measure_faults schema (Some name) = column_fault schema name ∷ number_fault (kind_of schema name) name ∷ []
+measure_faults schema (Some name) =
+    column_fault schema name ∷ number_fault (kind_of schema name) name ∷ []
 
--- at the column behind BY
+-- at the column after BY
 abbrev pub by_faults : plain.Schema → Option Name → List (Option CheckFault)
 by_faults schema None = []
 by_faults schema (Some name) = column_fault schema name ∷ []
@@ -156,20 +160,22 @@ agg_faults now table form =
     ++ where_known table (λ s. by_faults s form.by)
     ++ over_faults now (is_timeless table) form.over
 
--- the columns behind ON are both known and of two kinds
+-- the columns after ON are both known and of two kinds
 abbrev pub kinds_fault : Option ColumnKind → Option ColumnKind → ℕ → Option CheckFault
 kinds_fault None k at = None
 kinds_fault (Some j) None at = None
-kinds_fault (Some j) (Some k) at = fault_if (not (same_kinds (Some j) (Some k))) (fault.WrongType at)
+kinds_fault (Some j) (Some k) at =
+    fault_if (not (same_kinds (Some j) (Some k))) (fault.WrongType at)
 
--- at the columns behind ON
+-- at the columns after ON
 abbrev pub on_faults : Known → Known → JoinForm → List (Option CheckFault)
 on_faults left right form =
     where_known left (λ s. column_fault s form.left_on ∷ [])
     ++ where_known right (λ s. column_fault s form.right_on ∷ [])
-    ++ (kinds_fault (known_kind left form.left_on) (known_kind right form.right_on) form.right_on.at ∷ [])
+    ++ (kinds_fault (known_kind left form.left_on) (known_kind right form.right_on) form.right_on.at
+    ∷ [])
 
--- of a join: at its tables and their predicates, at the columns behind ON and its range
+-- of a join: at its tables and their predicates, at the columns after ON and its range
 abbrev pub join_faults : ℕ → Known → Known → JoinForm → List (Option CheckFault)
 join_faults now left right form =
     (table_fault left form.left ∷ [])
@@ -179,11 +185,12 @@ join_faults now left right form =
     ++ on_faults left right form
     ++ over_faults now (is_timeless left || is_timeless right) form.over
 
--- the faults at all places of a question
+-- the faults at all places of a query
 abbrev pub faults_of : ℕ → plain.Database → Query → List (Option CheckFault)
 faults_of now db (query.Select form) = select_faults now (table_named db form.table) form
 faults_of now db (query.Agg form) = agg_faults now (table_named db form.table) form
-faults_of now db (query.Join form) = join_faults now (table_named db form.left) (table_named db form.right) form
+faults_of now db (query.Join form) =
+    join_faults now (table_named db form.left) (table_named db form.right) form
 
 -- where there is a fault, it does not come before this one
 abbrev pub IsNotBefore : CheckFault → Option CheckFault → Type 0
@@ -198,7 +205,7 @@ pub record IsFirst (e : CheckFault) (faults : List (Option CheckFault)) : Type 0
 abbrev pub IsFaultless : List (Option CheckFault) → Type 0
 IsFaultless faults = AllByRecursion (λ f. f ≡ None) faults
 
--- QUESTIONS BY NUMBERS
+-- QUERIES BY NUMBERS
 
 -- the place of the column that a name means
 abbrev pub column_place : plain.Schema → Name → ℕ
@@ -206,7 +213,8 @@ column_place schema name = or_zero (column_of schema name.text)
 
 -- a test, with its column by its place
 abbrev pub typed_test_of : plain.Schema → Test → TypedTest
-typed_test_of schema test = record { column = column_place schema test.column; cmp = test.cmp; value = test.value }
+typed_test_of schema test =
+    record { column = column_place schema test.column; cmp = test.cmp; value = test.value }
 
 -- a predicate, with its columns by their places
 abbrev pub typed_pred_of : plain.Schema → Pred → TypedPred
@@ -221,71 +229,54 @@ span_of now (over.Valid pos from to as_of) = span.Valid (version_of now as_of) f
 -- a SELECT over a table
 abbrev pub select_by_numbers : ℕ → ℕ × plain.Schema → SelectForm → Typed
 select_by_numbers now table form =
-    typed.Select table.0 (typed_items_of table.1 form) (typed_pred_of table.1 form.pred) (option_map (λ p. p.value) form.valid_at) (version_of now form.as_of)
+    typed.Select table.0 (typed_items_of table.1 form) (typed_pred_of table.1 form.pred)
+    (option_map (λ p. p.value) form.valid_at) (version_of now form.as_of)
 
 -- an aggregate over a table
 abbrev pub agg_by_numbers : ℕ → ℕ × plain.Schema → AggForm → Typed
 agg_by_numbers now table form =
-    typed.Agg table.0 form.kind (option_map (column_place table.1) form.column) (option_map (column_place table.1) form.by) (typed_pred_of table.1 form.pred) (span_of now form.over)
+    typed.Agg table.0 form.kind (option_map (column_place table.1) form.column)
+    (option_map (column_place table.1) form.by) (typed_pred_of table.1 form.pred)
+    (span_of now form.over)
 
 -- a join of two tables
 abbrev pub join_by_numbers : ℕ → ℕ × plain.Schema → ℕ × plain.Schema → JoinForm → Typed
 join_by_numbers now left right form =
-    typed.Join left.0 (typed_pred_of left.1 form.left_pred) right.0 (typed_pred_of right.1 form.right_pred) (column_place left.1 form.left_on) (column_place right.1 form.right_on) (span_of now form.over)
+    typed.Join left.0 (typed_pred_of left.1 form.left_pred) right.0
+    (typed_pred_of right.1 form.right_pred) (column_place left.1 form.left_on)
+    (column_place right.1 form.right_on) (span_of now form.over)
 
 -- THE CHECK
 
--- the first fault, or the question by numbers; a name without a table has a fault
+-- the first fault, or the query by numbers; a name without a table has a fault
 abbrev pub fault_or : Option CheckFault → Option Typed → Name → Result Typed CheckFault
-fault_or (Some f) question name = Err f
-fault_or None (Some question) name = Ok question
+fault_or (Some f) typed name = Err f
+fault_or None (Some typed) name = Ok typed
 fault_or None None name = Err (fault.UnknownTable name.at)
 
 -- a SELECT at so many commits, over the table that its name means if it means one
 abbrev pub select_checked : ℕ → Known → SelectForm → Result Typed CheckFault
 select_checked now table form =
-    fault_or (first_of (select_faults now table form)) (option_map (λ t. select_by_numbers now t form) table) form.table
+    fault_or (first_of (select_faults now table form))
+    (option_map (λ t. select_by_numbers now t form) table) form.table
 
 -- an aggregate
 abbrev pub agg_checked : ℕ → Known → AggForm → Result Typed CheckFault
 agg_checked now table form =
-    fault_or (first_of (agg_faults now table form)) (option_map (λ t. agg_by_numbers now t form) table) form.table
+    fault_or (first_of (agg_faults now table form))
+    (option_map (λ t. agg_by_numbers now t form) table) form.table
 
 -- a join
 abbrev pub join_checked : ℕ → Known → Known → JoinForm → Result Typed CheckFault
 join_checked now left right form =
-    fault_or (first_of (join_faults now left right form)) (option_and_then (λ l. option_map (λ r. join_by_numbers now l r form) right) left) form.left
+    fault_or (first_of (join_faults now left right form))
+    (option_and_then (λ l. option_map (λ r. join_by_numbers now l r form) right) left) form.left
 
--- The question by numbers at so many commits, over these tables; or, among the faults at all of its places, the
--- one that stands furthest to the left, and of several at one place the one of the least number.
+-- The query by numbers at so many commits, over these tables; or, among the faults at all of its
+-- places, the one that stands furthest to the left, and of several at one place the one of the
+-- least number.
 abbrev pub checked : ℕ → plain.Database → Query → Result Typed CheckFault
 checked now db (query.Select form) = select_checked now (table_named db form.table) form
 checked now db (query.Agg form) = agg_checked now (table_named db form.table) form
-checked now db (query.Join form) = join_checked now (table_named db form.left) (table_named db form.right) form
-
--- WHAT A TEXT SPELLS
-
--- the version is not negative
-abbrev pub IsVersionNumber : Stamp → Type 0
-IsVersionNumber stamp = IsNonNegative stamp.value
-
--- the versions of a range are not negative
-abbrev pub HasVersionNumbers : Over → Type 0
-HasVersionNumbers over.SystemAll = Unit {0}
-HasVersionNumbers (over.System from to) = IsVersionNumber from × IsVersionNumber to
-HasVersionNumbers (over.Valid pos from to as_of) = ForSome as_of IsVersionNumber
-
--- the aggregate works on a column: each does but COUNT
-abbrev pub takes_column : AggKind → Bool
-takes_column agg.Count = false
-takes_column agg.Sum = true
-takes_column agg.Avg = true
-takes_column agg.Min = true
-takes_column agg.Max = true
-
--- A question as the language spells it: its versions are not negative, and an aggregate names a column exactly
--- where it works on one.
-abbrev pub IsQuestion : Query → Type 0
-IsQuestion (query.Select form) = ForSome form.as_of IsVersionNumber
-IsQuestion (query.Agg form) = (is_some form.column ≡ takes_column form.kind) × HasVersionNumbers form.over
-IsQuestion (query.Join form) = HasVersionNumbers form.over
+checked now db (query.Join form) =
+    join_checked now (table_named db form.left) (table_named db form.right) form

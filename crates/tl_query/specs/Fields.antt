@@ -1,11 +1,10 @@
 -- The fields of an answer.
-use Rattle.std.specs.Prelude.{ℤ, Bool, true, false, ◌&&◌, ◌==◌, List, map, Option, Some, None, if◌then◌else◌}
+use Rattle.std.specs.Prelude.{ℤ, List, map, Option, Some, None, if◌then◌else◌}
 use Rattle.std.specs.Ordering.{int_eq}
 use Rattle.tl_types.specs.declared.cells.Cell.{Cell}
 use Rattle.tl_types.specs.declared.cells.Cell.TheVariants as cell
 use Rattle.tl_types.specs.declared.answers.Field.{Field}
 use Rattle.tl_types.specs.declared.answers.Field.TheVariants as field
-use Rattle.tl_types.specs.Names.{same_bytes}
 use Rattle.tl_types.specs.History.{cell_at}
 use Rattle.tl_types.specs.Plain as plain
 use Rattle.tl_query.specs.declared.typed_queries.TypedItem.{TypedItem}

@@ -7,6 +7,7 @@ pub mod Grammar
 pub mod Joins
 pub mod Terminals
 pub mod Ordered
+pub mod Parsed
 pub mod Passing
 pub mod Printing
 pub mod Reading

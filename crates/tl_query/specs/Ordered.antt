@@ -9,10 +9,11 @@ use Rattle.tl_types.specs.declared.runs.Pair.{Pair}
 use Rattle.tl_types.specs.History.{cell_at, same_cell}
 use Rattle.tl_types.specs.Plain as plain
 
--- the item in the list, behind those at its front that come before it
+-- the item in the list, after the first of its items that come before it
 abbrev pub inserted : {X : Type 0} → (X → X → Bool) → X → List X → List X
 inserted comes_before x [] = x ∷ []
-inserted comes_before x (y ∷ ys) = if comes_before y x then y ∷ inserted comes_before x ys else x ∷ y ∷ ys
+inserted comes_before x (y ∷ ys) =
+    if comes_before y x then y ∷ inserted comes_before x ys else x ∷ y ∷ ys
 
 -- the items in order
 abbrev pub in_order : {X : Type 0} → (X → X → Bool) → List X → List X
@@ -27,13 +28,17 @@ cell_before (cell.Text s) (cell.Text t) = is_lt (slice_cmp nat_cmp s t)
 
 -- the values, with one more where it is not among them
 abbrev pub with_value : List Cell → Cell → List Cell
-with_value values x = if list_any (λ y. same_cell y x) values then values else inserted cell_before x values
+with_value values x =
+    if list_any (λ y. same_cell y x) values then values else inserted cell_before x values
 
 -- the values of a column in rows, in order, each once
 abbrev pub values_of : ℕ → List plain.Row → List Cell
 values_of column rows = fold with_value [] (filter_map (λ row. cell_at row.cells column) rows)
 
--- the first pair comes before the second: it begins before it, or at the same moment with a lesser left row, or with the
--- same left row and a lesser right row
+-- the first pair comes before the second: it begins before it, or at the same moment with a lesser
+-- left row, or with the same left row and a lesser right row
 abbrev pub pair_before : Pair → Pair → Bool
-pair_before p q = int_lt p.from q.from || int_eq p.from q.from && (nat_lt p.left q.left || (p.left == q.left) && nat_lt p.right q.right)
+pair_before p q =
+    int_lt p.from q.from
+    || int_eq p.from q.from
+    && (nat_lt p.left q.left || (p.left == q.left) && nat_lt p.right q.right)

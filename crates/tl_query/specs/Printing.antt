@@ -7,6 +7,7 @@ use Rattle.tl_types.specs.Plain as plain
 use Rattle.tl_types.specs.declared.cells.Cell.{Cell}
 use Rattle.tl_types.specs.declared.cells.Cell.TheVariants as cells
 use Rattle.tl_query.specs.declared.terminals.Terminal.{Terminal}
+use Rattle.tl_types.specs.declared.keywords.Keyword.TheVariants as words
 use Rattle.tl_query.specs.declared.terminals.Terminal.TheVariants as terminals
 use Rattle.tl_query.specs.declared.ast.Name.{Name}
 use Rattle.tl_query.specs.declared.ast.Stamp.{Stamp}
@@ -26,34 +27,39 @@ use Rattle.tl_query.specs.declared.ast.Query.TheVariants as queries
 use Rattle.tl_query.specs.declared.ast.Statement.{Statement}
 use Rattle.tl_query.specs.declared.ast.Statement.TheVariants as statements
 use Rattle.tl_query.specs.Terminals.{same_terminal, spelling}
-use Rattle.tl_query.specs.Grammar.{Part, said, said_at, named, version, moment, bound, constant, statement_parts}
+use Rattle.tl_query.specs.Grammar.{Part, terminal, terminal_at, identifier, version, moment, bound, constant, statement_parts}
 
 -- THE TEXT
 
 -- two quotes for one
-abbrev pub doubled : List ℕ → List ℕ
-doubled [] = []
-doubled (b ∷ bytes) = if b == 39 then 39 ∷ 39 ∷ doubled bytes else b ∷ doubled bytes
+abbrev pub double_quotes : List ℕ → List ℕ
+double_quotes [] = []
+double_quotes (b ∷ bytes) =
+    if b == 39 then 39 ∷ 39 ∷ double_quotes bytes else b ∷ double_quotes bytes
 
 -- a text constant
-abbrev pub quoted : List ℕ → List ℕ
-quoted text = 39 ∷ (doubled text ++ (39 ∷ []))
+abbrev pub text_constant : List ℕ → List ℕ
+text_constant text = 39 ∷ (double_quotes text ++ (39 ∷ []))
 
 -- a constant
 abbrev pub cell_text : Cell → List ℕ
 cell_text (cells.Int n) = signed_decimal n
-cell_text (cells.Text t) = quoted t
+cell_text (cells.Text t) = text_constant t
 
--- what is written of a part, and whether it is `(`, behind which no space stands, or `)` or `,`, before which
--- no space stands
+-- what is written of a part, and whether it is `(`, after which no space stands, or `)` or `,`,
+-- before which no space stands
 pub record Word : Type 0 where
   pub text : List ℕ
   pub opens : Bool
   pub closes : Bool
 
 -- a keyword or symbol
-abbrev pub fixed : Terminal → Word
-fixed m = record { text = spelling m; opens = same_terminal m terminals.Open; closes = same_terminal m terminals.Close || same_terminal m terminals.Comma }
+abbrev pub terminal_word : Terminal → Word
+terminal_word m = record {
+  text = spelling m;
+  opens = same_terminal m terminals.Open;
+  closes = same_terminal m terminals.Close || same_terminal m terminals.Comma;
+}
 
 -- anything else
 abbrev pub plain_word : List ℕ → Word
@@ -61,13 +67,15 @@ plain_word text = record { text = text; opens = false; closes = false }
 
 -- a bound: the last valid time is written FOREVER
 abbrev pub bound_word : ℤ → Word
-bound_word v = if int_eq v plain.forever then fixed terminals.Forever else plain_word (signed_decimal v)
+bound_word v =
+    if int_eq v plain.forever then terminal_word (terminals.Keyword words.Forever) else plain_word
+    (signed_decimal v)
 
 -- what is written of a part
 abbrev pub word_of : Part → Word
-word_of (said m) = fixed m
-word_of (said_at m at) = fixed m
-word_of (named n) = plain_word n.text
+word_of (terminal m) = terminal_word m
+word_of (terminal_at m at) = terminal_word m
+word_of (identifier n) = plain_word n.text
 word_of (version s) = plain_word (signed_decimal s.value)
 word_of (moment v) = plain_word (signed_decimal v)
 word_of (bound s) = bound_word s.value
@@ -82,7 +90,7 @@ pub record Written : Type 0 where
 abbrev pub gap : Bool → List ℕ
 gap tight = if tight then [] else 32 ∷ []
 
--- a word more: its text behind one space, or behind none
+-- a word more: its text after one space, or after none
 unfoldable pub put : Written → Word → Written
 put w q = record { bytes = w.bytes ++ (gap (w.tight || q.closes) ++ q.text); tight = q.opens }
 
@@ -95,8 +103,8 @@ write w (q ∷ parts) = write (put w (word_of q)) parts
 abbrev pub nothing : Written
 nothing = record { bytes = []; tight = true }
 
--- The text of a statement: its parts, with one space between two of them, but none behind `(`, before `)` and
--- before `,`.
+-- The text of a statement: its parts, with one space between two of them, but none after `(`,
+-- before `)` and before `,`.
 abbrev pub text_of : Statement → List ℕ
 text_of s = (write nothing (statement_parts s)).bytes
 
@@ -117,7 +125,14 @@ unplaced_item (items.ValidFrom at) = items.ValidFrom 0
 unplaced_item (items.ValidTo at) = items.ValidTo 0
 
 abbrev pub unplaced_test : Test → Test
-unplaced_test t = record { column = unplaced_name t.column; cmp = t.cmp; cmp_at = 0; value = t.value; value_at = 0 }
+unplaced_test t =
+    record {
+      column = unplaced_name t.column;
+      cmp = t.cmp;
+      cmp_at = 0;
+      value = t.value;
+      value_at = 0;
+    }
 
 abbrev pub unplaced_pred : Pred → Pred
 unplaced_pred p = record { any = map (λ tests. map unplaced_test tests) p.any }
@@ -128,16 +143,39 @@ unplaced_point v = record { pos = 0; value = v.value }
 abbrev pub unplaced_over : Over → Over
 unplaced_over overs.SystemAll = overs.SystemAll
 unplaced_over (overs.System from to) = overs.System (unplaced_stamp from) (unplaced_stamp to)
-unplaced_over (overs.Valid at from to as_of) = overs.Valid 0 (unplaced_stamp from) (unplaced_stamp to) (option_map unplaced_stamp as_of)
+unplaced_over (overs.Valid at from to as_of) =
+    overs.Valid 0 (unplaced_stamp from) (unplaced_stamp to) (option_map unplaced_stamp as_of)
 
 abbrev pub unplaced_create : CreateForm → CreateForm
-unplaced_create f = record { name = unplaced_name f.name; columns = map unplaced_column f.columns; key = unplaced_name f.key; valid = f.valid }
+unplaced_create f =
+    record {
+      name = unplaced_name f.name;
+      columns = map unplaced_column f.columns;
+      key = unplaced_name f.key;
+      valid = f.valid;
+    }
 
 abbrev pub unplaced_select : SelectForm → SelectForm
-unplaced_select f = record { all = f.all; items = map unplaced_item f.items; table = unplaced_name f.table; pred = unplaced_pred f.pred; valid_at = option_map unplaced_point f.valid_at; as_of = option_map unplaced_stamp f.as_of }
+unplaced_select f =
+    record {
+      all = f.all;
+      items = map unplaced_item f.items;
+      table = unplaced_name f.table;
+      pred = unplaced_pred f.pred;
+      valid_at = option_map unplaced_point f.valid_at;
+      as_of = option_map unplaced_stamp f.as_of;
+    }
 
 abbrev pub unplaced_agg : AggForm → AggForm
-unplaced_agg f = record { kind = f.kind; column = option_map unplaced_name f.column; table = unplaced_name f.table; pred = unplaced_pred f.pred; by = option_map unplaced_name f.by; over = unplaced_over f.over }
+unplaced_agg f =
+    record {
+      kind = f.kind;
+      column = option_map unplaced_name f.column;
+      table = unplaced_name f.table;
+      pred = unplaced_pred f.pred;
+      by = option_map unplaced_name f.by;
+      over = unplaced_over f.over;
+    }
 
 abbrev pub unplaced_join : JoinForm → JoinForm
 unplaced_join f = record {
@@ -151,10 +189,11 @@ unplaced_join f = record {
 }
 
 -- the statement with each offset 0: what it is but for its offsets
-abbrev pub unplaced : Statement → Statement
-unplaced (statements.Create f) = statements.Create (unplaced_create f)
-unplaced (statements.Put n) = statements.Put (unplaced_name n)
-unplaced (statements.Remove n) = statements.Remove (unplaced_name n)
-unplaced (statements.Ask (queries.Select f)) = statements.Ask (queries.Select (unplaced_select f))
-unplaced (statements.Ask (queries.Agg f)) = statements.Ask (queries.Agg (unplaced_agg f))
-unplaced (statements.Ask (queries.Join f)) = statements.Ask (queries.Join (unplaced_join f))
+abbrev pub without_offsets : Statement → Statement
+without_offsets (statements.Create f) = statements.Create (unplaced_create f)
+without_offsets (statements.Put n) = statements.Put (unplaced_name n)
+without_offsets (statements.Remove n) = statements.Remove (unplaced_name n)
+without_offsets (statements.Ask (queries.Select f)) =
+    statements.Ask (queries.Select (unplaced_select f))
+without_offsets (statements.Ask (queries.Agg f)) = statements.Ask (queries.Agg (unplaced_agg f))
+without_offsets (statements.Ask (queries.Join f)) = statements.Ask (queries.Join (unplaced_join f))

@@ -1,100 +1,47 @@
--- The fixed words and symbols of the language.
+-- The keywords and symbols of the language.
 use Rattle.std.specs.Prelude.{ℕ, Bool, ◌==◌, List, codes}
+use denote.Enum.Bare.{sameb}
+use Rattle.tl_types.specs.Names.{spelling_of}
+use Rattle.tl_types.specs.declared.keywords.Keyword.{Keyword}
+use Rattle.tl_types.specs.contracts.keywords.Keyword.{the_type}
 use Rattle.tl_query.specs.declared.terminals.Terminal.{Terminal}
-use Rattle.tl_query.specs.declared.terminals.Terminal.TheVariants.{Create, Table, Key, Valid, Int, Text, Put, Remove, Select, From, Where, And, Or, As, Of, At, Count, Sum, Avg, Min, Max, By, Over, System, All, To, Join, With, On, Forever, ValidFrom, ValidTo, Open, Close, Comma, Semicolon, Star, Equal, Unequal, Less, AtMost, Greater, AtLeast}
+use Rattle.tl_query.specs.declared.terminals.Terminal.TheVariants as terminals
 
--- the place of a mark among them
-abbrev pub place : Terminal → ℕ
-place Create = 0
-place Table = 1
-place Key = 2
-place Valid = 3
-place Int = 4
-place Text = 5
-place Put = 6
-place Remove = 7
-place Select = 8
-place From = 9
-place Where = 10
-place And = 11
-place Or = 12
-place As = 13
-place Of = 14
-place At = 15
-place Count = 16
-place Sum = 17
-place Avg = 18
-place Min = 19
-place Max = 20
-place By = 21
-place Over = 22
-place System = 23
-place All = 24
-place To = 25
-place Join = 26
-place With = 27
-place On = 28
-place Forever = 29
-place ValidFrom = 30
-place ValidTo = 31
-place Open = 32
-place Close = 33
-place Comma = 34
-place Semicolon = 35
-place Star = 36
-place Equal = 37
-place Unequal = 38
-place Less = 39
-place AtMost = 40
-place Greater = 41
-place AtLeast = 42
+-- two keywords are the same
+abbrev pub same_keyword : Keyword → Keyword → Bool
+same_keyword = sameb the_type
 
--- two marks are the same
+-- the place of a symbol among the symbols, from 1; a keyword has none
+abbrev pub symbol_place : Terminal → ℕ
+symbol_place (terminals.Keyword k) = 0
+symbol_place terminals.Open = 1
+symbol_place terminals.Close = 2
+symbol_place terminals.Comma = 3
+symbol_place terminals.Semicolon = 4
+symbol_place terminals.Star = 5
+symbol_place terminals.Equal = 6
+symbol_place terminals.Unequal = 7
+symbol_place terminals.Less = 8
+symbol_place terminals.AtMost = 9
+symbol_place terminals.Greater = 10
+symbol_place terminals.AtLeast = 11
+
+-- two terminals are the same
 abbrev pub same_terminal : Terminal → Terminal → Bool
-same_terminal a b = place a == place b
+same_terminal (terminals.Keyword j) (terminals.Keyword k) = same_keyword j k
+same_terminal a b = symbol_place a == symbol_place b
 
--- how a mark is spelled
+-- how a terminal is spelled
 unfoldable pub spelling : Terminal → List ℕ
-spelling Create = codes "CREATE"
-spelling Table = codes "TABLE"
-spelling Key = codes "KEY"
-spelling Valid = codes "VALID"
-spelling Int = codes "INT"
-spelling Text = codes "TEXT"
-spelling Put = codes "PUT"
-spelling Remove = codes "REMOVE"
-spelling Select = codes "SELECT"
-spelling From = codes "FROM"
-spelling Where = codes "WHERE"
-spelling And = codes "AND"
-spelling Or = codes "OR"
-spelling As = codes "AS"
-spelling Of = codes "OF"
-spelling At = codes "AT"
-spelling Count = codes "COUNT"
-spelling Sum = codes "SUM"
-spelling Avg = codes "AVG"
-spelling Min = codes "MIN"
-spelling Max = codes "MAX"
-spelling By = codes "BY"
-spelling Over = codes "OVER"
-spelling System = codes "SYSTEM"
-spelling All = codes "ALL"
-spelling To = codes "TO"
-spelling Join = codes "JOIN"
-spelling With = codes "WITH"
-spelling On = codes "ON"
-spelling Forever = codes "FOREVER"
-spelling ValidFrom = codes "valid_from"
-spelling ValidTo = codes "valid_to"
-spelling Open = codes "("
-spelling Close = codes ")"
-spelling Comma = codes ","
-spelling Semicolon = codes ";"
-spelling Star = codes "*"
-spelling Equal = codes "="
-spelling Unequal = codes "<>"
-spelling Less = codes "<"
-spelling AtMost = codes "<="
-spelling Greater = codes ">"
-spelling AtLeast = codes ">="
+spelling (terminals.Keyword k) = spelling_of k
+spelling terminals.Open = codes "("
+spelling terminals.Close = codes ")"
+spelling terminals.Comma = codes ","
+spelling terminals.Semicolon = codes ";"
+spelling terminals.Star = codes "*"
+spelling terminals.Equal = codes "="
+spelling terminals.Unequal = codes "<>"
+spelling terminals.Less = codes "<"
+spelling terminals.AtMost = codes "<="
+spelling terminals.Greater = codes ">"
+spelling terminals.AtLeast = codes ">="

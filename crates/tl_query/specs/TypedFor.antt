@@ -1,4 +1,5 @@
--- The checked questions that suit a database: what they name is there, and is used as its kind allows.
+-- The checked queries that suit a database: what they name is there, and is used as its kind
+-- allows.
 use Rattle.std.specs.Prelude.{ℕ, ◌+◌, Bool, true, false, ◌&&◌, ◌||◌, not, nat_le, nat_lt, int_lt, IsTrue, List, length, Option, Some, None, is_some, option_map, slice_get}
 use Rattle.std.specs.List.{list_all}
 use Rattle.tl_types.specs.declared.cells.Cell.{Cell}
@@ -60,9 +61,12 @@ is_ordered cmp.Le = true
 is_ordered cmp.Gt = true
 is_ordered cmp.Ge = true
 
--- the test compares a column with a constant of its kind, and by order only where the column holds numbers
+-- the test compares a column with a constant of its kind, and by order only where the column holds
+-- numbers
 abbrev pub is_typed_test : plain.Schema → TypedTest → Bool
-is_typed_test schema test = holds_cell (kind_at schema test.column) test.value && (not (is_ordered test.cmp) || is_int_kind (kind_at schema test.column))
+is_typed_test schema test =
+    holds_cell (kind_at schema test.column) test.value
+    && (not (is_ordered test.cmp) || is_int_kind (kind_at schema test.column))
 
 -- so are all tests of the predicate
 abbrev pub is_typed_pred : plain.Schema → TypedPred → Bool
@@ -76,8 +80,8 @@ is_typed_item schema item.ValidTo = schema.valid
 
 -- RANGES, AGGREGATES AND TABLES
 
--- the range has a moment: of versions, the last of which is no later than the last commit; or of valid times, at a
--- version no later than that, where rows have a valid period
+-- the range has a moment: of versions, the last of which is no later than the last commit; or of
+-- valid times, at a version no later than that, where rows have a valid period
 abbrev pub is_typed_span : ℕ → Bool → Span → Bool
 is_typed_span now valid (span.System from to) = nat_lt from to && nat_le to (now + 1)
 is_typed_span now valid (span.Valid version from to) = valid && nat_le version now && int_lt from to
@@ -105,37 +109,47 @@ is_typed_group schema (Some place) = has_column schema place
 abbrev pub schema_at : plain.Database → ℕ → Option plain.Schema
 schema_at db table = option_map (λ t. t.schema) (slice_get db.tables table)
 
--- QUESTIONS
+-- QUERIES
 
 -- a SELECT over a table of this schema, with so many commits
 abbrev pub is_typed_select : ℕ → List TypedItem → TypedPred → Bool → ℕ → Option plain.Schema → Bool
 is_typed_select now items pred valid_at version None = false
 is_typed_select now items pred valid_at version (Some schema) =
-    list_all (is_typed_item schema) items && is_typed_pred schema pred && (not valid_at || schema.valid) && nat_le version now
+    list_all (is_typed_item schema) items && is_typed_pred schema pred
+    && (not valid_at || schema.valid) && nat_le version now
 
 -- an aggregate over a table of this schema, with so many commits
-abbrev pub is_typed_agg : ℕ → AggKind → Option ℕ → Option ℕ → TypedPred → Span → Option plain.Schema → Bool
+abbrev pub is_typed_agg : ℕ → AggKind → Option ℕ → Option ℕ → TypedPred → Span → Option plain.Schema
+    → Bool
 is_typed_agg now kind column by pred span None = false
 is_typed_agg now kind column by pred span (Some schema) =
-    is_typed_aggregate schema kind column && is_typed_group schema by && is_typed_pred schema pred && is_typed_span now schema.valid span
+    is_typed_aggregate schema kind column && is_typed_group schema by && is_typed_pred schema pred
+    && is_typed_span now schema.valid span
 
 -- a join of tables of these schemas, with so many commits
-abbrev pub is_typed_join : ℕ → TypedPred → TypedPred → ℕ → ℕ → Span → Option plain.Schema → Option plain.Schema → Bool
+abbrev pub is_typed_join : ℕ → TypedPred → TypedPred → ℕ → ℕ → Span → Option plain.Schema
+    → Option plain.Schema → Bool
 is_typed_join now left_pred right_pred left_on right_on span None right = false
 is_typed_join now left_pred right_pred left_on right_on span (Some left) None = false
 is_typed_join now left_pred right_pred left_on right_on span (Some left) (Some right) =
-    is_typed_pred left left_pred && is_typed_pred right right_pred && same_kinds (kind_at left left_on) (kind_at right right_on) && is_typed_span now (left.valid && right.valid) span
+    is_typed_pred left left_pred && is_typed_pred right right_pred
+    && same_kinds (kind_at left left_on) (kind_at right right_on)
+    && is_typed_span now (left.valid && right.valid) span
 
--- the question suits the database
+-- the query suits the database
 abbrev pub is_typed_for : plain.Database → Typed → Bool
-is_typed_for db (typed.Select table items pred valid_at version) = is_typed_select db.version items pred (is_some valid_at) version (schema_at db table)
-is_typed_for db (typed.Agg table kind column by pred span) = is_typed_agg db.version kind column by pred span (schema_at db table)
+is_typed_for db (typed.Select table items pred valid_at version) =
+    is_typed_select db.version items pred (is_some valid_at) version (schema_at db table)
+is_typed_for db (typed.Agg table kind column by pred span) =
+    is_typed_agg db.version kind column by pred span (schema_at db table)
 is_typed_for db (typed.Join left left_pred right right_pred left_on right_on span) =
-    is_typed_join db.version left_pred right_pred left_on right_on span (schema_at db left) (schema_at db right)
+    is_typed_join db.version left_pred right_pred left_on right_on span (schema_at db left)
+    (schema_at db right)
 
--- the question suits the database: its tables and columns are there, its tests compare columns with constants of their
--- kind, and by order only numbers; an aggregate other than a count has a column of numbers, and a count has none; the
--- columns of a join hold the same; what asks for valid time asks tables whose rows have it; each range has a moment;
--- and no version is later than the last commit, which a range of versions may end right behind
+-- the query suits the database: its tables and columns are there, its tests compare columns with
+-- constants of their kind, and by order only numbers; an aggregate other than a count has a column
+-- of numbers, and a count has none; the columns of a join hold the same; what asks for valid time
+-- asks tables whose rows have it; each range has a moment; and no version is later than the last
+-- commit, which a range of versions may end right after
 abbrev pub IsTypedFor : plain.Database → Typed → Type 0
 IsTypedFor db query = IsTrue (is_typed_for db query)

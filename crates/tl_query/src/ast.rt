@@ -1,4 +1,5 @@
-//! What a statement says, as it is written. Offsets count bytes from the statement's first, which is 0.
+//! What a statement says, as it is written. Offsets count bytes from the statement's first, which
+//! is 0.
 use tl_types::{Cell, Cmp, ColumnKind, Seq, Text};
 
 /// The name of a table or a column, and where it stands.
@@ -26,15 +27,15 @@ pub enum Statement {
     Create(CreateForm),
     /// `PUT name`: puts the rows of the statement's block into the named table.
     Put(Name),
-    /// `REMOVE name`: ends the rows of the named table whose keys the statement's block lists, in a table with
-    /// valid periods for the periods beside the keys.
+    /// `REMOVE name`: ends the rows of the named table whose keys the statement's block lists, in a
+    /// table with valid periods for the periods beside the keys.
     Remove(Name),
     /// Asks for an answer.
     Ask(Query),
 }
 
-/// The making of a table: `CREATE TABLE name (columns) KEY key`, and `VALID` at its end where rows have a valid
-/// period.
+/// The making of a table: `CREATE TABLE name (columns) KEY key`, and `VALID` at its end where rows
+/// have a valid period.
 #[derive(Debug, Drop, PartialEq, Eq)]
 pub struct CreateForm {
     /// The table's name.
@@ -56,7 +57,7 @@ pub struct ColumnForm {
     pub kind: ColumnKind,
 }
 
-/// A question.
+/// A query.
 #[derive(Debug, Drop, PartialEq, Eq)]
 pub enum Query {
     /// Rows of one table.
@@ -78,9 +79,9 @@ pub enum Item {
     ValidTo(u32),
 }
 
-/// A question for rows: `SELECT` with `*` or one or more items, parted by commas, then `FROM table`, `WHERE`
-/// where rows are tested, `VALID AT number` where a valid time is given, and `AS OF version` where a version
-/// is given.
+/// A query for rows: `SELECT` with `*` or one or more items, separated by commas, then `FROM
+/// table`, `WHERE` where rows are tested, `VALID AT number` where a valid time is given, and `AS OF
+/// version` where a version is given.
 #[derive(Debug, Drop, PartialEq, Eq)]
 pub struct SelectForm {
     /// Whether `*` stands for the items; then `items` is empty.
@@ -97,7 +98,7 @@ pub struct SelectForm {
     pub as_of: Option<Stamp>,
 }
 
-/// A valid time behind `VALID AT`.
+/// A valid time after `VALID AT`.
 #[derive(Clone, Copy, Debug, PartialEq, Eq)]
 pub struct ValidPoint {
     /// The byte offset of `VALID`.
@@ -106,8 +107,8 @@ pub struct ValidPoint {
     pub value: i64,
 }
 
-/// A row passes where it passes all tests of one of these lists, or where there is no list: what follows
-/// `WHERE`.
+/// A row passes where it passes all tests of one of these lists, or where there is no list: what
+/// follows `WHERE`.
 #[derive(Debug, Drop, PartialEq, Eq)]
 pub struct Pred {
     /// The lists, joined by `OR`, of tests joined by `AND`.
@@ -144,8 +145,9 @@ pub enum AggKind {
     Max,
 }
 
-/// A question for an aggregate over time: `COUNT`, or another aggregate and its column, then `FROM table`,
-/// `WHERE` where rows are tested, `BY column` where they are parted into groups, and the range.
+/// A query for an aggregate over time: `COUNT`, or another aggregate and its column, then `FROM
+/// table`, `WHERE` where rows are tested, `BY column` where they are separated into groups, and the
+/// range.
 #[derive(Debug, Drop, PartialEq, Eq)]
 pub struct AggForm {
     /// The kind.
@@ -156,14 +158,14 @@ pub struct AggForm {
     pub table: Name,
     /// Which rows.
     pub pred: Pred,
-    /// The column whose values part the rows into groups.
+    /// The column whose values separate the rows into groups.
     pub by: Option<Name>,
     /// The range of time.
     pub over: Over,
 }
 
-/// A question for the pairs of rows of two tables that exist at one time: `JOIN table WITH table`, each with
-/// `WHERE` where its rows are tested, `ON column = column`, and the range.
+/// A query for the pairs of rows of two tables that exist at one time: `JOIN table WITH table`,
+/// each with `WHERE` where its rows are tested, `ON column = column`, and the range.
 #[derive(Debug, Drop, PartialEq, Eq)]
 pub struct JoinForm {
     /// The left table.
@@ -182,7 +184,7 @@ pub struct JoinForm {
     pub over: Over,
 }
 
-/// A range of time, behind `OVER`.
+/// A range of time, after `OVER`.
 #[derive(Clone, Copy, Debug, PartialEq, Eq)]
 pub enum Over {
     /// All versions: `SYSTEM ALL`.
@@ -194,7 +196,8 @@ pub enum Over {
         /// The version that ends the range.
         to: Stamp,
     },
-    /// The valid times from the first up to before the second, at a version: `VALID from TO to [AS OF version]`.
+    /// The valid times from the first up to before the second, at a version: `VALID from TO to [AS
+    /// OF version]`.
     Valid {
         /// The byte offset of `VALID`.
         pos: u32,

@@ -1,4 +1,4 @@
-//! Why a question or a new table does not fit the tables.
+//! Why a query or a new table does not fit the tables.
 ghost use Rattle.std.specs.Prelude.{◌≡◌};
 ghost use Rattle.tl_query.specs.declared.check_faults.CheckFault.TheVariants.{NoMemory};
 
@@ -46,7 +46,7 @@ pub enum CheckFault {
         /// The byte offset of the second.
         at: u32,
     },
-    /// Want of memory.
+    /// Out of memory.
     NoMemory,
 }
 

@@ -1,17 +1,38 @@
-//! Reading the clauses of a question, from left to right.
+//! Reading the clauses of a query, from left to right.
 ghost use Rattle.std.specs.Prelude.{◌≡◌, ◌<◌, ◌≤◌, length, Some, None, Ok, Err, IfOk, MatchOption};
+ghost use Rattle.tl_types.specs.declared.keywords.Keyword.TheVariants as words;
 ghost use Rattle.tl_query.specs.declared.terminals.Terminal.TheVariants as terminals;
-ghost use Rattle.tl_query.specs.Reading.{Gives, after, expect, take_at, peek_at, several, test_at, conj_at, where_at, valid_point_at, as_of_at, versions_at, system_at, moments_at, over_at, column_name_at, by_at, side_at, on_at};
+ghost use Rattle.tl_query.specs.Reading.{
+  Gives,
+  after,
+  expect,
+  take_at,
+  peek_at,
+  several,
+  test_at,
+  conj_at,
+  where_at,
+  valid_point_at,
+  as_of_at,
+  versions_at,
+  system_at,
+  moments_at,
+  over_at,
+  column_name_at,
+  by_at,
+  side_at,
+  on_at,
+};
 
 use crate::ast::{AggKind, Name, Over, Pred, Stamp, Test, ValidPoint};
 use crate::terminals::Terminal;
 use crate::token_parsers::{
-    Stop, after, bound_at, cmp_at, constant_at, expect, moment_at, name_at, valid_word,
-    valid_word_at, version_at,
+    Stop, after_keyword, bound_at, cmp_at, constant_at, expect, expect_keyword, moment_at, name_at,
+    valid_word, valid_word_at, version_at,
 };
 use crate::tokens::Placed;
 use std::alloc::Global;
-use tl_types::Seq;
+use tl_types::{Keyword, Seq};
 
 #[tactic(auto, unfolding(crate::specs::Reading::test_at))]
 fn test_at(tokens: &[Placed]) -> Result<(Test, &[Placed]), Stop>
@@ -30,32 +51,33 @@ fn test_at(tokens: &[Placed]) -> Result<(Test, &[Placed]), Stop>
     Ok((test, rest))
 }
 
-/// Tests, parted by `AND`.
+/// Tests, separated by `AND`.
 fn conj_at(alloc: Global, tokens: &[Placed]) -> Result<(Seq<Test>, &[Placed]), Stop>
     ensures { Gives (λ x. (x.0, x.1.now)) result (conj_at tokens.now) }
 {
     let (first, mut rest) = test_at(tokens)?;
     let mut tests = Vec::new(alloc);
     tests.push(first)?;
-    while let Some(next) = after(rest, Terminal::And) {
-        let (test, behind) = test_at(next)?;
+    while let Some(next) = after_keyword(rest, Keyword::And) {
+        let (test, left) = test_at(next)?;
         tests.push(test)?;
-        rest = behind;
+        rest = left;
     }
     Ok((Seq::from_vec(tests), rest))
 }
 
-/// Lists of tests, parted by `OR`.
+/// Lists of tests, separated by `OR`.
 fn any_at(alloc: Global, tokens: &[Placed]) -> Result<(Seq<Seq<Test>>, &[Placed]), Stop>
-    ensures { Gives (λ x. (x.0, x.1.now)) result (several terminals.Or conj_at tokens.now) }
+    ensures { Gives (λ x. (x.0, x.1.now)) result
+        (several (terminals.Keyword words.Or) conj_at tokens.now) }
 {
     let (first, mut rest) = conj_at(alloc, tokens)?;
     let mut any = Vec::new(alloc);
     any.push(first)?;
-    while let Some(next) = after(rest, Terminal::Or) {
-        let (tests, behind) = conj_at(alloc, next)?;
+    while let Some(next) = after_keyword(rest, Keyword::Or) {
+        let (tests, left) = conj_at(alloc, next)?;
         any.push(tests)?;
-        rest = behind;
+        rest = left;
     }
     Ok((Seq::from_vec(any), rest))
 }
@@ -65,7 +87,7 @@ fn any_at(alloc: Global, tokens: &[Placed]) -> Result<(Seq<Seq<Test>>, &[Placed]
 pub(crate) fn where_at(alloc: Global, tokens: &[Placed]) -> Result<(Pred, &[Placed]), Stop>
     ensures { Gives (λ x. (x.0, x.1.now)) result (where_at tokens.now) }
 {
-    let Some(rest) = after(tokens, Terminal::Where) else {
+    let Some(rest) = after_keyword(tokens, Keyword::Where) else {
         let any = Seq::new(alloc);
         return Ok((Pred { any }, tokens));
     };
@@ -73,7 +95,7 @@ pub(crate) fn where_at(alloc: Global, tokens: &[Placed]) -> Result<(Pred, &[Plac
     Ok((Pred { any }, rest))
 }
 
-/// The valid time behind `VALID AT`, where `VALID` comes.
+/// The valid time after `VALID AT`, where `VALID` comes.
 #[tactic(auto, unfolding(crate::specs::Reading::valid_point_at))]
 pub(crate) fn valid_point_at(tokens: &[Placed]) -> Result<(Option<ValidPoint>, &[Placed]), Stop>
     ensures { Gives (λ x. (x.0, x.1.now)) result (valid_point_at tokens.now) }
@@ -81,20 +103,20 @@ pub(crate) fn valid_point_at(tokens: &[Placed]) -> Result<(Option<ValidPoint>, &
     let Some((pos, rest)) = valid_word(tokens) else {
         return Ok((None, tokens));
     };
-    let rest = expect(rest, Terminal::At)?;
+    let rest = expect_keyword(rest, Keyword::At)?;
     let (value, rest) = moment_at(rest)?;
     Ok((Some(ValidPoint { pos, value }), rest))
 }
 
-/// The version behind `AS OF`, where `AS` comes.
+/// The version after `AS OF`, where `AS` comes.
 #[tactic(auto, unfolding(crate::specs::Reading::as_of_at))]
 pub(crate) fn as_of_at(tokens: &[Placed]) -> Result<(Option<Stamp>, &[Placed]), Stop>
     ensures { Gives (λ x. (x.0, x.1.now)) result (as_of_at tokens.now) }
 {
-    let Some(rest) = after(tokens, Terminal::As) else {
+    let Some(rest) = after_keyword(tokens, Keyword::As) else {
         return Ok((None, tokens));
     };
-    let rest = expect(rest, Terminal::Of)?;
+    let rest = expect_keyword(rest, Keyword::Of)?;
     let (version, rest) = version_at(rest)?;
     Ok((Some(version), rest))
 }
@@ -104,7 +126,7 @@ fn versions_at(tokens: &[Placed]) -> Result<(Over, &[Placed]), Stop>
     ensures { Gives (λ x. (x.0, x.1.now)) result (versions_at tokens.now) }
 {
     let (from, rest) = version_at(tokens)?;
-    let rest = expect(rest, Terminal::To)?;
+    let rest = expect_keyword(rest, Keyword::To)?;
     let (to, rest) = version_at(rest)?;
     Ok((Over::System { from, to }, rest))
 }
@@ -113,7 +135,7 @@ fn versions_at(tokens: &[Placed]) -> Result<(Over, &[Placed]), Stop>
 fn system_at(tokens: &[Placed]) -> Result<(Over, &[Placed]), Stop>
     ensures { Gives (λ x. (x.0, x.1.now)) result (system_at tokens.now) }
 {
-    match after(tokens, Terminal::All) {
+    match after_keyword(tokens, Keyword::All) {
         Some(rest) => Ok((Over::SystemAll, rest)),
         None => versions_at(tokens),
     }
@@ -125,7 +147,7 @@ fn moments_at(tokens: &[Placed]) -> Result<(Over, &[Placed]), Stop>
 {
     let (pos, rest) = valid_word_at(tokens)?;
     let (from, rest) = bound_at(rest)?;
-    let rest = expect(rest, Terminal::To)?;
+    let rest = expect_keyword(rest, Keyword::To)?;
     let (to, rest) = bound_at(rest)?;
     let (as_of, rest) = as_of_at(rest)?;
     let over = Over::Valid {
@@ -137,14 +159,14 @@ fn moments_at(tokens: &[Placed]) -> Result<(Over, &[Placed]), Stop>
     Ok((over, rest))
 }
 
-/// The range behind `OVER`, which has to come.
+/// The range after `OVER`, which has to come.
 #[tactic(auto, unfolding(crate::specs::Reading::over_at))]
 pub(crate) fn over_at(tokens: &[Placed]) -> Result<(Over, &[Placed]), Stop>
     ensures { Gives (λ x. (x.0, x.1.now)) result (over_at tokens.now) }
 {
-    let rest = expect(tokens, Terminal::Over)?;
-    match after(rest, Terminal::System) {
-        Some(behind) => system_at(behind),
+    let rest = expect_keyword(tokens, Keyword::Over)?;
+    match after_keyword(rest, Keyword::System) {
+        Some(left) => system_at(left),
         None => moments_at(rest),
     }
 }
@@ -169,7 +191,7 @@ pub(crate) fn column_name_at(
 pub(crate) fn by_at(tokens: &[Placed]) -> Result<(Option<Name>, &[Placed]), Stop>
     ensures { Gives (λ x. (x.0, x.1.now)) result (by_at tokens.now) }
 {
-    let Some(rest) = after(tokens, Terminal::By) else {
+    let Some(rest) = after_keyword(tokens, Keyword::By) else {
         return Ok((None, tokens));
     };
     let (name, rest) = name_at(rest)?;
@@ -186,12 +208,12 @@ pub(crate) fn side_at(alloc: Global, tokens: &[Placed]) -> Result<(Name, Pred, &
     Ok((table, pred, rest))
 }
 
-/// The two columns behind `ON`, which has to come.
+/// The two columns after `ON`, which has to come.
 #[tactic(auto, unfolding(crate::specs::Reading::on_at))]
 pub(crate) fn on_at(tokens: &[Placed]) -> Result<(Name, Name, &[Placed]), Stop>
     ensures { Gives (λ x. ((x.0, x.1), x.2.now)) result (on_at tokens.now) }
 {
-    let rest = expect(tokens, Terminal::On)?;
+    let rest = expect_keyword(tokens, Keyword::On)?;
     let (left, rest) = name_at(rest)?;
     let rest = expect(rest, Terminal::Equal)?;
     let (right, rest) = name_at(rest)?;

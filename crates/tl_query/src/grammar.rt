@@ -1,16 +1,49 @@
 //! Reading the tokens of a statement, from left to right.
-ghost use Rattle.std.specs.Prelude.{◌≡◌, ◌-◌, ◌<◌, ◌≤◌, length, Some, None, Ok, Err, IfOk, true, false};
-ghost use Rattle.tl_query.specs.Reading.{Gives, after, expect, take_at, column_at, columns_at, valid_at, create_at, put_at, remove_at, items_at, asked_at, parse_select, agg_at, join_at, statement_at};
+ghost use Rattle.std.specs.Prelude.{
+  ◌≡◌,
+  ◌-◌,
+  ◌<◌,
+  ◌≤◌,
+  length,
+  Some,
+  None,
+  Ok,
+  Err,
+  IfOk,
+  true,
+  false,
+};
+ghost use Rattle.tl_query.specs.Reading.{
+  Gives,
+  after,
+  expect,
+  take_at,
+  column_at,
+  columns_at,
+  valid_at,
+  create_at,
+  put_at,
+  remove_at,
+  items_at,
+  asked_at,
+  parse_select,
+  agg_at,
+  join_at,
+  statement_at,
+};
 
+use crate::ast::{AggForm, ColumnForm, CreateForm, Item, JoinForm, Query, SelectForm, Statement};
 use crate::clauses::{
     as_of_at, by_at, column_name_at, on_at, over_at, side_at, valid_point_at, where_at,
 };
-use crate::ast::{AggForm, ColumnForm, CreateForm, Item, JoinForm, Query, SelectForm, Statement};
 use crate::terminals::Terminal;
-use crate::token_parsers::{Stop, after, agg_kind_at, ended, expect, item_at, kind_at, name_at};
+use crate::token_parsers::{
+    Stop, after, after_keyword, agg_kind_at, expect, expect_keyword, item_at, kind_at, name_at,
+    statement_end,
+};
 use crate::tokens::Placed;
 use std::alloc::Global;
-use tl_types::Seq;
+use tl_types::{Keyword, Seq};
 
 /// How many columns a table can have.
 const MOST_COLUMNS: usize = 16;
@@ -35,9 +68,9 @@ fn columns_at(alloc: Global, tokens: &[Placed]) -> Result<(Seq<ColumnForm>, &[Pl
         let Some(next) = after(rest, Terminal::Comma) else {
             break;
         };
-        let (column, behind) = column_at(next)?;
+        let (column, left) = column_at(next)?;
         columns.push(column)?;
-        rest = behind;
+        rest = left;
     }
     Ok((Seq::from_vec(columns), rest))
 }
@@ -46,7 +79,7 @@ fn columns_at(alloc: Global, tokens: &[Placed]) -> Result<(Seq<ColumnForm>, &[Pl
 fn valid_at(tokens: &[Placed]) -> (bool, &[Placed])
     ensures { valid_at tokens.now ≡ Ok (result.0, result.1.now) }
 {
-    match after(tokens, Terminal::Valid) {
+    match after_keyword(tokens, Keyword::Valid) {
         Some(rest) => (true, rest),
         None => (false, tokens),
     }
@@ -56,15 +89,15 @@ fn valid_at(tokens: &[Placed]) -> (bool, &[Placed])
 fn create_at(alloc: Global, tokens: &[Placed]) -> Result<Statement, Stop>
     ensures { Gives (λ s. s) result (create_at tokens.now) }
 {
-    let rest = expect(tokens, Terminal::Table)?;
+    let rest = expect_keyword(tokens, Keyword::Table)?;
     let (name, rest) = name_at(rest)?;
     let rest = expect(rest, Terminal::Open)?;
     let (columns, rest) = columns_at(alloc, rest)?;
     let rest = expect(rest, Terminal::Close)?;
-    let rest = expect(rest, Terminal::Key)?;
+    let rest = expect_keyword(rest, Keyword::Key)?;
     let (key, rest) = name_at(rest)?;
     let (valid, rest) = valid_at(rest);
-    ended(
+    statement_end(
         Statement::Create(CreateForm {
             name,
             columns,
@@ -80,7 +113,7 @@ fn put_at(tokens: &[Placed]) -> Result<Statement, Stop>
     ensures { Gives (λ s. s) result (put_at tokens.now) }
 {
     let (name, rest) = name_at(tokens)?;
-    ended(Statement::Put(name), rest)
+    statement_end(Statement::Put(name), rest)
 }
 
 #[tactic(auto, unfolding(crate::specs::Reading::remove_at))]
@@ -88,7 +121,7 @@ fn remove_at(tokens: &[Placed]) -> Result<Statement, Stop>
     ensures { Gives (λ s. s) result (remove_at tokens.now) }
 {
     let (name, rest) = name_at(tokens)?;
-    ended(Statement::Remove(name), rest)
+    statement_end(Statement::Remove(name), rest)
 }
 
 fn items_at(alloc: Global, tokens: &[Placed]) -> Result<(Seq<Item>, &[Placed]), Stop>
@@ -98,9 +131,9 @@ fn items_at(alloc: Global, tokens: &[Placed]) -> Result<(Seq<Item>, &[Placed]), 
     let mut items = Vec::new(alloc);
     items.push(first)?;
     while let Some(next) = after(rest, Terminal::Comma) {
-        let (item, behind) = item_at(next)?;
+        let (item, left) = item_at(next)?;
         items.push(item)?;
-        rest = behind;
+        rest = left;
     }
     Ok((Seq::from_vec(items), rest))
 }
@@ -121,7 +154,7 @@ fn parse_select(alloc: Global, tokens: &[Placed]) -> Result<Statement, Stop>
     ensures { Gives (λ s. s) result (parse_select tokens.now) }
 {
     let (all, items, rest) = asked_at(alloc, tokens)?;
-    let rest = expect(rest, Terminal::From)?;
+    let rest = expect_keyword(rest, Keyword::From)?;
     let (table, rest) = name_at(rest)?;
     let (pred, rest) = where_at(alloc, rest)?;
     let (valid_at, rest) = valid_point_at(rest)?;
@@ -134,7 +167,7 @@ fn parse_select(alloc: Global, tokens: &[Placed]) -> Result<Statement, Stop>
         valid_at,
         as_of,
     };
-    ended(Statement::Ask(Query::Select(form)), rest)
+    statement_end(Statement::Ask(Query::Select(form)), rest)
 }
 
 #[tactic(auto, unfolding(crate::specs::Reading::agg_at))]
@@ -143,7 +176,7 @@ fn agg_at(alloc: Global, tokens: &[Placed]) -> Result<Statement, Stop>
 {
     let (kind, rest) = agg_kind_at(tokens)?;
     let (column, rest) = column_name_at(kind, rest)?;
-    let rest = expect(rest, Terminal::From)?;
+    let rest = expect_keyword(rest, Keyword::From)?;
     let (table, rest) = name_at(rest)?;
     let (pred, rest) = where_at(alloc, rest)?;
     let (by, rest) = by_at(rest)?;
@@ -156,7 +189,7 @@ fn agg_at(alloc: Global, tokens: &[Placed]) -> Result<Statement, Stop>
         by,
         over,
     };
-    ended(Statement::Ask(Query::Agg(form)), rest)
+    statement_end(Statement::Ask(Query::Agg(form)), rest)
 }
 
 #[tactic(auto, unfolding(crate::specs::Reading::join_at))]
@@ -164,7 +197,7 @@ fn join_at(alloc: Global, tokens: &[Placed]) -> Result<Statement, Stop>
     ensures { Gives (λ s. s) result (join_at tokens.now) }
 {
     let (left, left_pred, rest) = side_at(alloc, tokens)?;
-    let rest = expect(rest, Terminal::With)?;
+    let rest = expect_keyword(rest, Keyword::With)?;
     let (right, right_pred, rest) = side_at(alloc, rest)?;
     let (left_on, right_on, rest) = on_at(rest)?;
     let (over, rest) = over_at(rest)?;
@@ -177,7 +210,7 @@ fn join_at(alloc: Global, tokens: &[Placed]) -> Result<Statement, Stop>
         right_on,
         over,
     };
-    ended(Statement::Ask(Query::Join(form)), rest)
+    statement_end(Statement::Ask(Query::Join(form)), rest)
 }
 
 /// The statement that the tokens spell, or where reading it stops.
@@ -185,19 +218,19 @@ fn join_at(alloc: Global, tokens: &[Placed]) -> Result<Statement, Stop>
 pub(crate) fn statement_at(alloc: Global, tokens: &[Placed]) -> Result<Statement, Stop>
     ensures { Gives (λ s. s) result (statement_at tokens.now) }
 {
-    if let Some(rest) = after(tokens, Terminal::Create) {
+    if let Some(rest) = after_keyword(tokens, Keyword::Create) {
         return create_at(alloc, rest);
     }
-    if let Some(rest) = after(tokens, Terminal::Put) {
+    if let Some(rest) = after_keyword(tokens, Keyword::Put) {
         return put_at(rest);
     }
-    if let Some(rest) = after(tokens, Terminal::Remove) {
+    if let Some(rest) = after_keyword(tokens, Keyword::Remove) {
         return remove_at(rest);
     }
-    if let Some(rest) = after(tokens, Terminal::Select) {
+    if let Some(rest) = after_keyword(tokens, Keyword::Select) {
         return parse_select(alloc, rest);
     }
-    if let Some(rest) = after(tokens, Terminal::Join) {
+    if let Some(rest) = after_keyword(tokens, Keyword::Join) {
         return join_at(alloc, rest);
     }
     agg_at(alloc, tokens)

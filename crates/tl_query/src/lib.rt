@@ -1,25 +1,27 @@
-// The query language: its tokens, its statements, and the one statement or first fault that a text has.
+//! The query language: its tokens, its statements, and the one statement or first fault that a text
+//! has; a statement as a text again; and in specs/ what a query means: how it is checked, and what
+//! answers it.
 #![tactic(auto)]
 
+mod ast;
 mod check_faults;
 mod clauses;
 mod faults;
-mod ast;
-mod terminals;
+mod grammar;
 mod parsing;
-mod typed_queries;
 mod printing;
 mod scanning;
-mod grammar;
+mod terminals;
 mod token_parsers;
 mod tokens;
+mod typed_queries;
 
-pub use check_faults::CheckFault;
-pub use faults::TextFault;
 pub use ast::{
     AggForm, AggKind, ColumnForm, CreateForm, Item, JoinForm, Name, Over, Pred, Query, SelectForm,
     Stamp, Statement, Test, ValidPoint,
 };
+pub use check_faults::CheckFault;
+pub use faults::TextFault;
 pub use parsing::parse;
-pub use typed_queries::{AggPlan, JoinPlan, Span, Typed, TypedItem, TypedPred, TypedTest};
 pub use printing::print;
+pub use typed_queries::{AggPlan, JoinPlan, Span, Typed, TypedItem, TypedPred, TypedTest};

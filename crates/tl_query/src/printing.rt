@@ -1,13 +1,75 @@
 //! Writing a statement as a text.
-ghost use Rattle.std.specs.Prelude.{◌≡◌, ℕ, false, ◌≤◌, ◌∷◌, [], ◌++◌, ◌||◌, length, OnOk, IfOk, MatchOption, IfSome, Some, None};
+ghost use Rattle.std.specs.Prelude.{
+  ◌≡◌,
+  ℕ,
+  false,
+  ◌≤◌,
+  ◌∷◌,
+  [],
+  ◌++◌,
+  ◌||◌,
+  length,
+  OnOk,
+  IfOk,
+  MatchOption,
+  IfSome,
+  Some,
+  None,
+};
 ghost use Rattle.std.specs.Fmt.{signed_decimal};
 ghost use Rattle.tl_types.specs.declared.cells.Cell.TheVariants as cells;
+ghost use Rattle.tl_types.specs.declared.keywords.Keyword.TheVariants as words;
 ghost use Rattle.tl_query.specs.declared.terminals.Terminal.TheVariants as terminals;
 ghost use Rattle.tl_query.specs.declared.ast.Statement.{Statement};
 ghost use Rattle.tl_query.specs.declared.ast.Query.TheVariants as queries;
 ghost use Rattle.tl_query.specs.declared.ast.Statement.TheVariants as statements;
-ghost use Rattle.tl_query.specs.Grammar.{said, named, version, moment, bound, constant, kind_terminal, cmp_terminal, agg_terminal, item_part, item_parts, column_parts, valid_parts, test_parts, conj_parts, any_parts, where_parts, valid_at_parts, as_of_parts, column_name_parts, by_parts, over_parts, create_parts, asked_parts, select_parts, agg_parts, join_parts, behind_each, parted, statement_parts, IsParsed};
-ghost use Rattle.tl_query.specs.Printing.{Written, doubled, quoted, cell_text, gap, fixed, plain_word, bound_word, put, write, nothing, text_of};
+ghost use Rattle.tl_query.specs.Grammar.{
+  terminal,
+  identifier,
+  version,
+  moment,
+  bound,
+  constant,
+  kind_keyword,
+  cmp_terminal,
+  agg_keyword,
+  item_part,
+  item_parts,
+  column_parts,
+  valid_parts,
+  test_parts,
+  conj_parts,
+  any_parts,
+  where_parts,
+  valid_at_parts,
+  as_of_parts,
+  column_name_parts,
+  by_parts,
+  over_parts,
+  create_parts,
+  asked_parts,
+  select_parts,
+  agg_parts,
+  join_parts,
+  each_after,
+  separated,
+  statement_parts,
+};
+ghost use Rattle.tl_query.specs.Parsed.{IsParsed};
+ghost use Rattle.tl_query.specs.Printing.{
+  Written,
+  double_quotes,
+  text_constant,
+  cell_text,
+  gap,
+  terminal_word,
+  plain_word,
+  bound_word,
+  put,
+  write,
+  nothing,
+  text_of,
+};
 ghost use Rattle.tl_query.specs.Texts.{SpellsAgain};
 
 use crate::ast::{
@@ -17,9 +79,9 @@ use crate::ast::{
 use crate::terminals::{Terminal, same_terminal, spelling};
 use std::alloc::{AllocError, Global};
 use std::marker::Model;
-use tl_types::{Bytes, Cell, Cmp, ColumnKind, NoMemory, Seq};
+use tl_types::{Bytes, Cell, Cmp, ColumnKind, Keyword, NoMemory, Seq};
 
-/// What is written so far, and whether what follows stands behind it with no space.
+/// What is written so far, and whether what follows stands after it with no space.
 #[derive(Drop)]
 struct Printer {
     alloc: Global,
@@ -36,8 +98,8 @@ impl Model for Printer {
 }
 
 /// A text constant of these bytes.
-fn quoted(alloc: Global, text: &[u8]) -> Result<Vec<u8>, AllocError>
-    ensures { IfOk result (λ bytes. bytes.items ≡ quoted text.now) }
+fn text_constant(alloc: Global, text: &[u8]) -> Result<Vec<u8>, AllocError>
+    ensures { IfOk result (λ bytes. bytes.items ≡ text_constant text.now) }
 {
     let mut bytes = Vec::new(alloc);
     bytes.push(b'\'')?;
@@ -51,12 +113,12 @@ fn quoted(alloc: Global, text: &[u8]) -> Result<Vec<u8>, AllocError>
     Ok(bytes)
 }
 
-fn kind_terminal(kind: ColumnKind) -> Terminal
-    ensures { result ≡ kind_terminal kind }
+fn kind_keyword(kind: ColumnKind) -> Keyword
+    ensures { result ≡ kind_keyword kind }
 {
     match kind {
-        ColumnKind::IntKind => Terminal::Int,
-        ColumnKind::TextKind => Terminal::Text,
+        ColumnKind::IntKind => Keyword::Int,
+        ColumnKind::TextKind => Keyword::Text,
     }
 }
 
@@ -73,15 +135,15 @@ fn cmp_terminal(cmp: Cmp) -> Terminal
     }
 }
 
-fn agg_terminal(kind: AggKind) -> Terminal
-    ensures { result ≡ agg_terminal kind }
+fn agg_keyword(kind: AggKind) -> Keyword
+    ensures { result ≡ agg_keyword kind }
 {
     match kind {
-        AggKind::Count => Terminal::Count,
-        AggKind::Sum => Terminal::Sum,
-        AggKind::Avg => Terminal::Avg,
-        AggKind::Min => Terminal::Min,
-        AggKind::Max => Terminal::Max,
+        AggKind::Count => Keyword::Count,
+        AggKind::Sum => Keyword::Sum,
+        AggKind::Avg => Keyword::Avg,
+        AggKind::Min => Keyword::Min,
+        AggKind::Max => Keyword::Max,
     }
 }
 
@@ -98,7 +160,9 @@ impl Printer {
 
     /// A space, where the next part does not follow with none.
     fn space(&mut self, tight: bool) -> Result<(), AllocError>
-        ensures { OnOk result (self.new ≡ record self.old { bytes = self.old.bytes ++ gap (self.old.tight || tight) }) }
+        ensures { OnOk result (self.new ≡ record self.old {
+          bytes = self.old.bytes ++ gap (self.old.tight || tight);
+        }) }
     {
         if !(self.tight || tight) {
             self.bytes.push(b' ')?;
@@ -113,17 +177,28 @@ impl Printer {
         Ok(())
     }
 
+    /// A keyword or a symbol.
     #[tactic(auto, unfolding(crate::specs::Printing::put))]
-    fn mark(&mut self, mark: Terminal) -> Result<(), AllocError>
-        ensures { OnOk result (self.new ≡ put self.old (fixed mark)) }
+    fn terminal(&mut self, terminal: Terminal) -> Result<(), AllocError>
+        ensures { OnOk result (self.new ≡ put self.old (terminal_word terminal)) }
     {
-        self.space(same_terminal(mark, Terminal::Close) || same_terminal(mark, Terminal::Comma))?;
-        self.text(spelling(mark).as_bytes())?;
-        self.tight = same_terminal(mark, Terminal::Open);
+        let closes = same_terminal(terminal, Terminal::Close)
+            || same_terminal(terminal, Terminal::Comma);
+        self.space(closes)?;
+        self.text(spelling(terminal).as_bytes())?;
+        self.tight = same_terminal(terminal, Terminal::Open);
         Ok(())
     }
 
-    /// What is no mark.
+    /// A keyword.
+    fn keyword(&mut self, keyword: Keyword) -> Result<(), AllocError>
+        ensures { OnOk result (self.new
+            ≡ put self.old (terminal_word (terminals.Keyword keyword))) }
+    {
+        self.terminal(Terminal::Keyword(keyword))
+    }
+
+    /// What is no keyword and no symbol.
     #[tactic(auto, unfolding(crate::specs::Printing::put))]
     fn word(&mut self, text: &[u8]) -> Result<(), AllocError>
         ensures { OnOk result (self.new ≡ put self.old (plain_word text.now)) }
@@ -157,7 +232,7 @@ impl Printer {
         ensures { OnOk result (self.new ≡ put self.old (bound_word stamp.value)) }
     {
         if stamp.value == i64::MAX {
-            self.mark(Terminal::Forever)
+            self.keyword(Keyword::Forever)
         } else {
             self.number(stamp.value)
         }
@@ -169,7 +244,7 @@ impl Printer {
         match cell {
             Cell::Int(value) => self.number(*value),
             Cell::Text(text) => {
-                let text = quoted(self.alloc, text.as_bytes())?;
+                let text = text_constant(self.alloc, text.as_bytes())?;
                 self.word(text.as_slice())
             }
         }
@@ -179,15 +254,16 @@ impl Printer {
         ensures { OnOk result (self.new ≡ write self.old (column_parts column.now)) }
     {
         self.name(&column.name)?;
-        self.mark(kind_terminal(column.kind))?;
+        self.keyword(kind_keyword(column.kind))?;
         Ok(())
     }
 
     fn further_columns(&mut self, columns: &[ColumnForm]) -> Result<(), AllocError>
-        ensures { OnOk result (self.new ≡ write self.old (behind_each terminals.Comma column_parts columns.now)) }
+        ensures { OnOk result (self.new
+            ≡ write self.old (each_after terminals.Comma column_parts columns.now)) }
     {
         for column in columns {
-            self.mark(Terminal::Comma)?;
+            self.terminal(Terminal::Comma)?;
             self.column(column)?;
         }
         Ok(())
@@ -195,7 +271,8 @@ impl Printer {
 
     #[tactic(auto, using(crate::proofs::Writing::write_append))]
     fn columns(&mut self, columns: &[ColumnForm]) -> Result<(), AllocError>
-        ensures { OnOk result (self.new ≡ write self.old (parted terminals.Comma column_parts columns.now)) }
+        ensures { OnOk result (self.new
+            ≡ write self.old (separated terminals.Comma column_parts columns.now)) }
     {
         if let [column, rest @ ..] = columns {
             self.column(column)?;
@@ -208,7 +285,7 @@ impl Printer {
         ensures { OnOk result (self.new ≡ write self.old (valid_parts valid)) }
     {
         if valid {
-            self.mark(Terminal::Valid)?;
+            self.keyword(Keyword::Valid)?;
         }
         Ok(())
     }
@@ -217,13 +294,13 @@ impl Printer {
     fn create(&mut self, form: &CreateForm) -> Result<(), AllocError>
         ensures { OnOk result (self.new ≡ write self.old (create_parts form.now)) }
     {
-        self.mark(Terminal::Create)?;
-        self.mark(Terminal::Table)?;
+        self.keyword(Keyword::Create)?;
+        self.keyword(Keyword::Table)?;
         self.name(&form.name)?;
-        self.mark(Terminal::Open)?;
+        self.terminal(Terminal::Open)?;
         self.columns(form.columns.as_slice())?;
-        self.mark(Terminal::Close)?;
-        self.mark(Terminal::Key)?;
+        self.terminal(Terminal::Close)?;
+        self.keyword(Keyword::Key)?;
         self.name(&form.key)?;
         self.valid(form.valid)?;
         Ok(())
@@ -234,17 +311,18 @@ impl Printer {
     {
         match item {
             Item::Column(name) => self.name(name)?,
-            Item::ValidFrom(_) => self.mark(Terminal::ValidFrom)?,
-            Item::ValidTo(_) => self.mark(Terminal::ValidTo)?,
+            Item::ValidFrom(_) => self.keyword(Keyword::ValidFrom)?,
+            Item::ValidTo(_) => self.keyword(Keyword::ValidTo)?,
         }
         Ok(())
     }
 
     fn further_items(&mut self, items: &[Item]) -> Result<(), AllocError>
-        ensures { OnOk result (self.new ≡ write self.old (behind_each terminals.Comma item_parts items.now)) }
+        ensures { OnOk result (self.new
+            ≡ write self.old (each_after terminals.Comma item_parts items.now)) }
     {
         for item in items {
-            self.mark(Terminal::Comma)?;
+            self.terminal(Terminal::Comma)?;
             self.item(item)?;
         }
         Ok(())
@@ -252,7 +330,8 @@ impl Printer {
 
     #[tactic(auto, using(crate::proofs::Writing::write_append))]
     fn items(&mut self, items: &[Item]) -> Result<(), AllocError>
-        ensures { OnOk result (self.new ≡ write self.old (parted terminals.Comma item_parts items.now)) }
+        ensures { OnOk result (self.new
+            ≡ write self.old (separated terminals.Comma item_parts items.now)) }
     {
         if let [item, rest @ ..] = items {
             self.item(item)?;
@@ -265,7 +344,7 @@ impl Printer {
         ensures { OnOk result (self.new ≡ write self.old (asked_parts all items.now)) }
     {
         if all {
-            self.mark(Terminal::Star)?;
+            self.terminal(Terminal::Star)?;
         } else {
             self.items(items)?;
         }
@@ -276,16 +355,17 @@ impl Printer {
         ensures { OnOk result (self.new ≡ write self.old (test_parts test.now)) }
     {
         self.name(&test.column)?;
-        self.mark(cmp_terminal(test.cmp))?;
+        self.terminal(cmp_terminal(test.cmp))?;
         self.constant(&test.value)?;
         Ok(())
     }
 
     fn further_tests(&mut self, tests: &[Test]) -> Result<(), AllocError>
-        ensures { OnOk result (self.new ≡ write self.old (behind_each terminals.And test_parts tests.now)) }
+        ensures { OnOk result (self.new
+            ≡ write self.old (each_after (terminals.Keyword words.And) test_parts tests.now)) }
     {
         for test in tests {
-            self.mark(Terminal::And)?;
+            self.keyword(Keyword::And)?;
             self.test(test)?;
         }
         Ok(())
@@ -293,7 +373,8 @@ impl Printer {
 
     #[tactic(auto, using(crate::proofs::Writing::write_append))]
     fn tests(&mut self, tests: &[Test]) -> Result<(), AllocError>
-        ensures { OnOk result (self.new ≡ write self.old (parted terminals.And test_parts tests.now)) }
+        ensures { OnOk result (self.new
+            ≡ write self.old (separated (terminals.Keyword words.And) test_parts tests.now)) }
     {
         if let [test, rest @ ..] = tests {
             self.test(test)?;
@@ -303,17 +384,19 @@ impl Printer {
     }
 
     fn further_any(&mut self, any: &[Seq<Test>]) -> Result<(), AllocError>
-        ensures { OnOk result (self.new ≡ write self.old (behind_each terminals.Or conj_parts any.now)) }
+        ensures { OnOk result (self.new
+            ≡ write self.old (each_after (terminals.Keyword words.Or) conj_parts any.now)) }
     {
         for tests in any {
-            self.mark(Terminal::Or)?;
+            self.keyword(Keyword::Or)?;
             self.tests(tests.as_slice())?;
         }
         Ok(())
     }
 
     fn any(&mut self, any: &[Seq<Test>]) -> Result<(), AllocError>
-        ensures { OnOk result (self.new ≡ write self.old (parted terminals.Or conj_parts any.now)) }
+        ensures { OnOk result (self.new
+            ≡ write self.old (separated (terminals.Keyword words.Or) conj_parts any.now)) }
     {
         if let [tests, ..] = any {
             let (_, rest) = any.split_at(1);
@@ -327,7 +410,7 @@ impl Printer {
         ensures { OnOk result (self.new ≡ write self.old (where_parts pred.now)) }
     {
         if !pred.any.is_empty() {
-            self.mark(Terminal::Where)?;
+            self.keyword(Keyword::Where)?;
         }
         self.any(pred.any.as_slice())?;
         Ok(())
@@ -337,8 +420,8 @@ impl Printer {
         ensures { OnOk result (self.new ≡ write self.old (valid_at_parts point)) }
     {
         if let Some(point) = point {
-            self.mark(Terminal::Valid)?;
-            self.mark(Terminal::At)?;
+            self.keyword(Keyword::Valid)?;
+            self.keyword(Keyword::At)?;
             self.number(point.value)?;
         }
         Ok(())
@@ -348,8 +431,8 @@ impl Printer {
         ensures { OnOk result (self.new ≡ write self.old (as_of_parts stamp)) }
     {
         if let Some(stamp) = stamp {
-            self.mark(Terminal::As)?;
-            self.mark(Terminal::Of)?;
+            self.keyword(Keyword::As)?;
+            self.keyword(Keyword::Of)?;
             self.version(stamp)?;
         }
         Ok(())
@@ -359,9 +442,9 @@ impl Printer {
     fn select(&mut self, form: &SelectForm) -> Result<(), AllocError>
         ensures { OnOk result (self.new ≡ write self.old (select_parts form.now)) }
     {
-        self.mark(Terminal::Select)?;
+        self.keyword(Keyword::Select)?;
         self.asked(form.all, form.items.as_slice())?;
-        self.mark(Terminal::From)?;
+        self.keyword(Keyword::From)?;
         self.name(&form.table)?;
         self.where_tests(&form.pred)?;
         self.valid_at(form.valid_at)?;
@@ -382,7 +465,7 @@ impl Printer {
         ensures { OnOk result (self.new ≡ write self.old (by_parts column.now)) }
     {
         if let Some(name) = column {
-            self.mark(Terminal::By)?;
+            self.keyword(Keyword::By)?;
             self.name(name)?;
         }
         Ok(())
@@ -391,16 +474,16 @@ impl Printer {
     fn over(&mut self, over: Over) -> Result<(), AllocError>
         ensures { OnOk result (self.new ≡ write self.old (over_parts over)) }
     {
-        self.mark(Terminal::Over)?;
+        self.keyword(Keyword::Over)?;
         match over {
             Over::SystemAll => {
-                self.mark(Terminal::System)?;
-                self.mark(Terminal::All)?;
+                self.keyword(Keyword::System)?;
+                self.keyword(Keyword::All)?;
             }
             Over::System { from, to } => {
-                self.mark(Terminal::System)?;
+                self.keyword(Keyword::System)?;
                 self.version(from)?;
-                self.mark(Terminal::To)?;
+                self.keyword(Keyword::To)?;
                 self.version(to)?;
             }
             Over::Valid {
@@ -409,9 +492,9 @@ impl Printer {
                 to,
                 as_of,
             } => {
-                self.mark(Terminal::Valid)?;
+                self.keyword(Keyword::Valid)?;
                 self.bound(from)?;
-                self.mark(Terminal::To)?;
+                self.keyword(Keyword::To)?;
                 self.bound(to)?;
                 self.as_of(as_of)?;
             }
@@ -423,9 +506,9 @@ impl Printer {
     fn agg(&mut self, form: &AggForm) -> Result<(), AllocError>
         ensures { OnOk result (self.new ≡ write self.old (agg_parts form.now)) }
     {
-        self.mark(agg_terminal(form.kind))?;
+        self.keyword(agg_keyword(form.kind))?;
         self.column_name(&form.column)?;
-        self.mark(Terminal::From)?;
+        self.keyword(Keyword::From)?;
         self.name(&form.table)?;
         self.where_tests(&form.pred)?;
         self.by(&form.by)?;
@@ -437,15 +520,15 @@ impl Printer {
     fn join(&mut self, form: &JoinForm) -> Result<(), AllocError>
         ensures { OnOk result (self.new ≡ write self.old (join_parts form.now)) }
     {
-        self.mark(Terminal::Join)?;
+        self.keyword(Keyword::Join)?;
         self.name(&form.left)?;
         self.where_tests(&form.left_pred)?;
-        self.mark(Terminal::With)?;
+        self.keyword(Keyword::With)?;
         self.name(&form.right)?;
         self.where_tests(&form.right_pred)?;
-        self.mark(Terminal::On)?;
+        self.keyword(Keyword::On)?;
         self.name(&form.left_on)?;
-        self.mark(Terminal::Equal)?;
+        self.terminal(Terminal::Equal)?;
         self.name(&form.right_on)?;
         self.over(form.over)?;
         Ok(())
@@ -457,11 +540,11 @@ impl Printer {
         match statement {
             Statement::Create(form) => self.create(form)?,
             Statement::Put(name) => {
-                self.mark(Terminal::Put)?;
+                self.keyword(Keyword::Put)?;
                 self.name(name)?;
             }
             Statement::Remove(name) => {
-                self.mark(Terminal::Remove)?;
+                self.keyword(Keyword::Remove)?;
                 self.name(name)?;
             }
             Statement::Ask(Query::Select(form)) => self.select(form)?,
@@ -472,15 +555,16 @@ impl Printer {
     }
 }
 
-/// The text of a statement that some text spells, as each is that `parse` gives: its tokens with one space
-/// between two of them, but none behind `(`, before `)` and before `,`; numbers without leading zeros, the
-/// last valid time as a bound as `FOREVER`, a quote in a text constant twice, and no `;`. The error is want
-/// of memory.
+/// The text of a statement that some text spells, as each is that `parse` gives: its tokens with
+/// one space between two of them, but none after `(`, before `)` and before `,`; numbers without
+/// leading zeros, the last valid time as a bound as `FOREVER`, a quote in a text constant twice,
+/// and no `;`. The error is that memory ran out.
 pub fn print(alloc: Global, statement: &Statement) -> Result<Bytes, NoMemory>
     requires { IsParsed statement.now }
     // The bytes are the statement's text.
     ensures value { IfOk result (λ text. text ≡ text_of statement.now) }
-    // Where that text isn't too long, what `parse` gives for it is the statement but for its offsets.
+    // Where that text isn't too long, what `parse` gives for it is the statement but for its
+    // offsets.
     ensures again { IfOk result (λ text. length text ≤ 65536 → SpellsAgain text statement.now) }
 {
     let mut printer = Printer::new(alloc);

@@ -1,27 +1,67 @@
 //! Cutting a text into tokens.
-ghost use Rattle.std.specs.Prelude.{◌≡◌, ℕ, ◌+◌, ◌-◌, ◌^◌, ◌<◌, ◌≤◌, length, min, IfOk, IfSome, Some, None, Ok, Err, true, false, pos, neg_ℤ};
+ghost use Rattle.std.specs.Prelude.{
+  ◌≡◌,
+  ℕ,
+  ◌+◌,
+  ◌-◌,
+  ◌^◌,
+  ◌<◌,
+  ◌≤◌,
+  length,
+  min,
+  IfOk,
+  IfSome,
+  Some,
+  None,
+  Ok,
+  Err,
+  true,
+  false,
+  pos,
+  neg_ℤ,
+};
 ghost use Rattle.std.specs.List.{prefix_len};
 ghost use Rattle.std.specs.Str.{IsUtf8};
 ghost use Rattle.tl_types.specs.Names.{is_digit, continues_word};
-ghost use Rattle.tl_query.specs.Scanning.{is_blank, number_of, statement_terminal, table_terminal, clause_terminal, range_terminal, keyword_of, other_token, word_token, word_piece, number_piece, negative_piece, closing, single, text_token, quoted_piece, symbol, less_piece, greater_piece, symbol_piece, piece_of, placed, seen, scan};
+ghost use Rattle.tl_query.specs.Scanning.{
+  is_blank,
+  digits_value,
+  other_token,
+  word_token,
+  word_piece,
+  number_piece,
+  negative_piece,
+  closing_len,
+  single_quotes,
+  text_token,
+  quoted_piece,
+  symbol,
+  less_piece,
+  greater_piece,
+  symbol_piece,
+  piece_of,
+  placed_token,
+  tokens_seen,
+  scan,
+};
 
 use crate::faults::TextFault;
 use crate::terminals::Terminal;
 use crate::tokens::{Placed, Token};
 use std::alloc::{AllocError, Global};
-use tl_types::{Text, begins_word, continues_word, is_name};
+use tl_types::{Keyword, Text, begins_word, continues_word, is_name};
 
 /// How many bytes a text constant can have.
 const MOST_TEXT_BYTES: usize = 65535;
 
-/// The token at the front of some bytes.
+/// The token that some bytes begin with.
 #[derive(Debug, Drop)]
 pub(crate) struct Piece {
     /// The token.
     pub token: Token,
     /// How many bytes it has.
     pub len: usize,
-    /// Whether it is a word, a number or a text, of which no two may touch.
+    /// Whether it is a word, a number or a text, of which none may directly follow another.
     pub joins: bool,
 }
 
@@ -53,8 +93,8 @@ fn digit_count(bytes: &[u8]) -> usize
 }
 
 /// The number that the digits spell, or the greatest u64 where it is greater.
-fn number_of(digits: &[u8]) -> u64
-    ensures { result ≡ min (number_of digits.now) (2 ^ 64 - 1) }
+fn digits_value(digits: &[u8]) -> u64
+    ensures { result ≡ min (digits_value digits.now) (2 ^ 64 - 1) }
 {
     let mut number: u64 = 0;
     for digit in digits {
@@ -63,146 +103,6 @@ fn number_of(digits: &[u8]) -> u64
             .saturating_add(u64::from(digit.saturating_sub(b'0')));
     }
     number
-}
-
-#[tactic(auto, unfolding(crate::specs::Scanning::statement_terminal))]
-fn statement_terminal(word: &str) -> Option<Terminal>
-    ensures { result ≡ statement_terminal word.now }
-{
-    if word == "CREATE" {
-        return Some(Terminal::Create);
-    }
-    if word == "PUT" {
-        return Some(Terminal::Put);
-    }
-    if word == "REMOVE" {
-        return Some(Terminal::Remove);
-    }
-    if word == "SELECT" {
-        return Some(Terminal::Select);
-    }
-    if word == "COUNT" {
-        return Some(Terminal::Count);
-    }
-    if word == "SUM" {
-        return Some(Terminal::Sum);
-    }
-    if word == "AVG" {
-        return Some(Terminal::Avg);
-    }
-    if word == "MIN" {
-        return Some(Terminal::Min);
-    }
-    if word == "MAX" {
-        return Some(Terminal::Max);
-    }
-    if word == "JOIN" {
-        return Some(Terminal::Join);
-    }
-    None
-}
-
-#[tactic(auto, unfolding(crate::specs::Scanning::table_terminal))]
-fn table_terminal(word: &str) -> Option<Terminal>
-    ensures { result ≡ table_terminal word.now }
-{
-    if word == "TABLE" {
-        return Some(Terminal::Table);
-    }
-    if word == "KEY" {
-        return Some(Terminal::Key);
-    }
-    if word == "VALID" {
-        return Some(Terminal::Valid);
-    }
-    if word == "INT" {
-        return Some(Terminal::Int);
-    }
-    if word == "TEXT" {
-        return Some(Terminal::Text);
-    }
-    if word == "valid_from" {
-        return Some(Terminal::ValidFrom);
-    }
-    if word == "valid_to" {
-        return Some(Terminal::ValidTo);
-    }
-    None
-}
-
-#[tactic(auto, unfolding(crate::specs::Scanning::clause_terminal))]
-fn clause_terminal(word: &str) -> Option<Terminal>
-    ensures { result ≡ clause_terminal word.now }
-{
-    if word == "FROM" {
-        return Some(Terminal::From);
-    }
-    if word == "WHERE" {
-        return Some(Terminal::Where);
-    }
-    if word == "AND" {
-        return Some(Terminal::And);
-    }
-    if word == "OR" {
-        return Some(Terminal::Or);
-    }
-    if word == "AS" {
-        return Some(Terminal::As);
-    }
-    if word == "OF" {
-        return Some(Terminal::Of);
-    }
-    if word == "AT" {
-        return Some(Terminal::At);
-    }
-    if word == "BY" {
-        return Some(Terminal::By);
-    }
-    None
-}
-
-#[tactic(auto, unfolding(crate::specs::Scanning::range_terminal))]
-fn range_terminal(word: &str) -> Option<Terminal>
-    ensures { result ≡ range_terminal word.now }
-{
-    if word == "OVER" {
-        return Some(Terminal::Over);
-    }
-    if word == "SYSTEM" {
-        return Some(Terminal::System);
-    }
-    if word == "ALL" {
-        return Some(Terminal::All);
-    }
-    if word == "TO" {
-        return Some(Terminal::To);
-    }
-    if word == "WITH" {
-        return Some(Terminal::With);
-    }
-    if word == "ON" {
-        return Some(Terminal::On);
-    }
-    if word == "FOREVER" {
-        return Some(Terminal::Forever);
-    }
-    None
-}
-
-#[tactic(auto, unfolding(crate::specs::Scanning::keyword_of))]
-fn keyword_of(word: &str) -> Option<Terminal>
-    ensures { result ≡ keyword_of word.now }
-{
-    if let Some(mark) = statement_terminal(word) {
-        return Some(mark);
-    }
-    if let Some(mark) = table_terminal(word) {
-        return Some(mark);
-    }
-    if let Some(mark) = clause_terminal(word) {
-        return Some(mark);
-    }
-    range_terminal(word)
 }
 
 #[tactic(auto, unfolding(crate::specs::Scanning::other_token))]
@@ -219,8 +119,8 @@ fn other_token(alloc: Global, word: &str) -> Result<Token, AllocError>
 fn word_token(alloc: Global, word: &str) -> Result<Token, AllocError>
     ensures { IfOk result (λ token. token ≡ word_token word.now) }
 {
-    match keyword_of(word) {
-        Some(mark) => Ok(Token::Fixed(mark)),
+    match Keyword::of(word) {
+        Some(keyword) => Ok(Token::Fixed(Terminal::Keyword(keyword))),
         None => other_token(alloc, word),
     }
 }
@@ -253,7 +153,7 @@ fn number_piece(at: u32, bytes: &[u8]) -> Result<Piece, TextFault>
 {
     let len = digit_count(bytes);
     let (digits, _) = bytes.split_at(len);
-    let number = number_of(digits);
+    let number = digits_value(digits);
     if number >= 1 << 63 {
         return Err(TextFault::NumberTooLarge { at });
     }
@@ -284,7 +184,7 @@ fn negative_piece(at: u32, bytes: &[u8]) -> Result<Piece, TextFault>
         return Err(TextFault::BadByte { at });
     }
     let (digits, _) = bytes.split_at(count);
-    let number = number_of(digits);
+    let number = digits_value(digits);
     if number > 1 << 63 {
         return Err(TextFault::NumberTooLarge { at });
     }
@@ -295,8 +195,8 @@ fn negative_piece(at: u32, bytes: &[u8]) -> Result<Piece, TextFault>
 }
 
 /// How many bytes of a text constant follow its opening quote, with the quote that closes it.
-fn closing(bytes: &[u8]) -> Option<usize>
-    ensures { result ≡ closing false bytes.now }
+fn closing_len(bytes: &[u8]) -> Option<usize>
+    ensures { result ≡ closing_len false bytes.now }
 {
     let mut quoted = false;
     for (i, byte) in bytes.iter().enumerate() {
@@ -310,9 +210,9 @@ fn closing(bytes: &[u8]) -> Option<usize>
 }
 
 /// The bytes between the quotes of a text constant, with one quote for two.
-#[tactic(auto, unfolding(crate::specs::Scanning::single))]
-fn single(alloc: Global, bytes: &[u8]) -> Result<Vec<u8>, AllocError>
-    ensures { IfOk result (λ text. text.items ≡ single false bytes.now) }
+#[tactic(auto, unfolding(crate::specs::Scanning::single_quotes))]
+fn single_quotes(alloc: Global, bytes: &[u8]) -> Result<Vec<u8>, AllocError>
+    ensures { IfOk result (λ text. text.items ≡ single_quotes false bytes.now) }
 {
     let mut text = Vec::new(alloc);
     let mut kept = false;
@@ -349,21 +249,21 @@ fn quoted_piece(
     requires utf8 { IsUtf8 bytes.now }
     ensures { IfOk result (λ piece. piece ≡ quoted_piece at bytes.now) }
 {
-    let Some(count) = closing(bytes) else {
+    let Some(count) = closing_len(bytes) else {
         return Ok(Err(TextFault::OpenText { at }));
     };
     let (inside, _) = bytes.split_at(count.saturating_sub(1));
-    let text = single(alloc, inside)?;
+    let text = single_quotes(alloc, inside)?;
     let token = text_token(alloc, text.as_slice())?;
     let len = count + 1;
     let joins = true;
     Ok(Ok(Piece { token, len, joins }))
 }
 
-fn symbol(mark: Terminal, len: usize) -> Piece
-    ensures { result ≡ symbol mark len }
+fn symbol(terminal: Terminal, len: usize) -> Piece
+    ensures { result ≡ symbol terminal len }
 {
-    let token = Token::Fixed(mark);
+    let token = Token::Fixed(terminal);
     let joins = false;
     Piece { token, len, joins }
 }
@@ -404,14 +304,14 @@ fn symbol_piece(at: u32, first: u8, bytes: &[u8]) -> Result<Piece, TextFault>
     }
 }
 
-/// The token at the front of a text of at most 65,536 bytes, or its fault.
+/// The token that a text of at most 65,536 bytes begins with, or its fault.
 #[tactic(auto, unfolding(crate::specs::Scanning::piece_at))]
 fn piece_of(alloc: Global, at: u32, bytes: &[u8]) -> Result<Result<Piece, TextFault>, AllocError>
     requires short { length bytes.now < 2 ^ 32 }
     requires utf8 { IsUtf8 bytes.now }
     ensures { IfOk result (λ piece. piece ≡ piece_of at bytes.now) }
 {
-    let [first, behind @ ..] = bytes else {
+    let [first, others @ ..] = bytes else {
         return Ok(Err(TextFault::BadByte { at }));
     };
     if begins_word(*first) {
@@ -422,16 +322,16 @@ fn piece_of(alloc: Global, at: u32, bytes: &[u8]) -> Result<Result<Piece, TextFa
         return Ok(number_piece(at, bytes));
     }
     if *first == b'-' {
-        return Ok(negative_piece(at, behind));
+        return Ok(negative_piece(at, others));
     }
     if *first == b'\'' {
-        return quoted_piece(alloc, at, behind);
+        return quoted_piece(alloc, at, others);
     }
-    Ok(symbol_piece(at, *first, behind))
+    Ok(symbol_piece(at, *first, others))
 }
 
-fn placed(at: u32, joined: bool, piece: Piece) -> Placed
-    ensures { result ≡ placed at joined piece }
+fn placed_token(at: u32, joined: bool, piece: Piece) -> Placed
+    ensures { result ≡ placed_token at joined piece }
 {
     let Piece {
         token,
@@ -455,11 +355,11 @@ pub(crate) struct Scanned {
     pub fault: Option<TextFault>,
 }
 
-/// The tokens of a text of at most 65,536 bytes. The error is want of memory.
+/// The tokens of a text of at most 65,536 bytes. The error is that memory ran out.
 pub(crate) fn scan(alloc: Global, bytes: &[u8]) -> Result<Scanned, AllocError>
     requires short { length bytes.now ≤ 65536 }
     requires utf8 { IsUtf8 bytes.now }
-    ensures { IfOk result (λ read. seen read ≡ scan 0 false 0 bytes.now) }
+    ensures { IfOk result (λ read. tokens_seen read ≡ scan 0 false 0 bytes.now) }
 {
     let mut tokens = Vec::new(alloc);
     let mut rest = bytes;
@@ -480,7 +380,7 @@ pub(crate) fn scan(alloc: Global, bytes: &[u8]) -> Result<Scanned, AllocError>
             Ok(piece) => {
                 let len = piece.len;
                 let joins = piece.joins;
-                tokens.push(placed(at, joined, piece))?;
+                tokens.push(placed_token(at, joined, piece))?;
                 (_, rest) = rest.split_at(len);
                 at += len as u32;
                 joined = joins;

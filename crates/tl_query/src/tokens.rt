@@ -15,8 +15,8 @@ pub(crate) enum Token {
     Negative(i64),
     /// A text constant: the text that it stands for.
     Quoted(Text),
-    /// What can stand nowhere: a word too long for a name, a text too long for a cell, or a word, number or
-    /// text that directly follows one.
+    /// What can stand nowhere: a word too long for a name, a text too long for a cell, or a word,
+    /// number or text that directly follows one.
     Stray,
 }
 

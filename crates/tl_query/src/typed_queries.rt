@@ -1,4 +1,4 @@
-//! Checked questions, with tables and columns by number.
+//! Checked queries, with tables and columns by number.
 use crate::ast::AggKind;
 use tl_types::{Cell, Cmp, Seq};
 
@@ -52,7 +52,7 @@ pub enum Span {
     },
 }
 
-/// A checked question.
+/// A checked query.
 #[derive(Debug, Drop, PartialEq, Eq)]
 pub enum Typed {
     /// Rows of one table.
@@ -76,7 +76,7 @@ pub enum Typed {
         kind: AggKind,
         /// The column; none for a count.
         column: Option<u8>,
-        /// The column whose values part the rows into groups.
+        /// The column whose values separate the rows into groups.
         by: Option<u8>,
         /// Which rows.
         pred: TypedPred,
@@ -111,7 +111,7 @@ pub struct AggPlan {
     pub kind: AggKind,
     /// The column; none for a count.
     pub column: Option<u8>,
-    /// The column whose values part the rows into groups.
+    /// The column whose values separate the rows into groups.
     pub by: Option<u8>,
 }
 

@@ -1,6 +1,7 @@
 use Rattle.std.proofs.Common.{sym}
 use Rattle.tl_types.specs.History.{database_of}
-use Rattle.tl_check.proofs.TableLemmas.{table_found, named_found}
+use Rattle.tl_types.proofs.FoundTables.{table_found}
+use Rattle.tl_query.proofs.NamedTables.{named_found}
 use Rattle.tl_check.proofs.columns.table_named.Goals as goal
 
 pub schema-requires : goal.schema-requires

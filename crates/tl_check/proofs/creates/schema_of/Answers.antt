@@ -1,7 +1,7 @@
 use Rattle.std.proofs.Common.{rules}
-use Rattle.tl_check.proofs.CreateLemmas.{schema_made}
+use Rattle.tl_check.proofs.CreateLemmas.{schema_there_by}
 use Rattle.tl_check.proofs.creates.schema_of.Goals as goal
 
-pub made_schema-requires : goal.made_schema-requires
-made_schema-requires c =
-    schema_made c.args.form.now c.in_ok-clone.field-0 c.in_ok-columns.columns c.unwrap_or-key.result c.requires.named c.requires.right c.in_ok-clone.ensures.cases (search rules) (search rules)
+pub schema_with-requires : goal.schema_with-requires
+schema_with-requires c =
+    schema_there_by c.args.form.now c.in_ok-clone.field-0 c.in_ok-columns.columns c.unwrap_or-key.result c.requires.named c.requires.right c.in_ok-clone.ensures.cases (search rules) (search rules)

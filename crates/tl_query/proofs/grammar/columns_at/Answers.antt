@@ -22,7 +22,7 @@ loop-rest-preserved c =
     record {
       some = omega arith;
       few = omega arith;
-      read = rw e (c.loop-rest.invariant.read ∙ room_turn terminals.Comma column_at c.loop-rest.columns.items (16 - vec_len c.loop-rest.columns) (16 - vec_len c.push-in-loop-rest.new.self) c.loop-rest.rest.now c.in-Some.next.now c.in_ok-column.behind.now c.in_ok-column.column room c.in-Some.ensures.value c.in_ok-column.ensures);
+      read = rw e (c.loop-rest.invariant.read ∙ room_turn terminals.Comma column_at c.loop-rest.columns.items (16 - vec_len c.loop-rest.columns) (16 - vec_len c.push-in-loop-rest.new.self) c.loop-rest.rest.now c.in-Some.next.now c.in_ok-column.left.now c.in_ok-column.column room c.in-Some.ensures.value c.in_ok-column.ensures);
     }
 
 pub returns : goal.returns

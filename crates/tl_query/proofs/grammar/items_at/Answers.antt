@@ -2,28 +2,28 @@ use Rattle.std.proofs.Common.{◌≡◌, ◌≤◌, length, ◌∙◌, sym, ap, 
 use Rattle.std.proofs.lemmas.Grind.{common_steps}
 use Rattle.std.proofs.lemmas.Result.{err_from_is_err_and}
 use Rattle.tl_query.specs.declared.terminals.Terminal.TheVariants as terminals
-use Rattle.tl_query.specs.Reading.{several, take_at, item_of}
+use Rattle.tl_query.specs.Reading.{several, take_at, as_item}
 use Rattle.tl_query.proofs.Lists.{take_shrinks}
 use Rattle.tl_query.proofs.Lists.{shrunk}
 use Rattle.tl_query.proofs.Readers.{fails_through, further_turn, further_fails, further_ends, several_first, several_fails}
 use Rattle.tl_query.proofs.grammar.items_at.Goals as goal
 
 pub returns-in_err-first : goal.returns-in_err-first
-returns-in_err-first c = let p = err_from_is_err_and c.from_residual.result c.from_residual.ensures.1 in rw (p.1, p.2) (fails_through _ _ c.in_err-first.field-0.0 ((take_at item_of) c.args.tokens.now) (several terminals.Comma (take_at item_of) c.args.tokens.now) (λ o h. several_fails terminals.Comma (take_at item_of) _ o h) c.in_err-first.ensures)
+returns-in_err-first c = let p = err_from_is_err_and c.from_residual.result c.from_residual.ensures.1 in rw (p.1, p.2) (fails_through _ _ c.in_err-first.field-0.0 ((take_at as_item) c.args.tokens.now) (several terminals.Comma (take_at as_item) c.args.tokens.now) (λ o h. several_fails terminals.Comma (take_at as_item) _ o h) c.in_err-first.ensures)
 
 pub returns-in_err-item : goal.returns-in_err-item
-returns-in_err-item c = let p = err_from_is_err_and c.from_residual-in_err-item.result c.from_residual-in_err-item.ensures.1 in rw (p.1, p.2) (fails_through _ _ c.in_err-item.field-0.0 ((take_at item_of) c.in-Some.next.now) (several terminals.Comma (take_at item_of) c.args.tokens.now) (λ o h. c.loop-next.invariant ∙ further_fails terminals.Comma (take_at item_of) (take_shrinks item_of) c.loop-next.items.items c.loop-next.rest.now c.in-Some.next.now o c.in-Some.ensures.value h) c.in_err-item.ensures)
+returns-in_err-item c = let p = err_from_is_err_and c.from_residual-in_err-item.result c.from_residual-in_err-item.ensures.1 in rw (p.1, p.2) (fails_through _ _ c.in_err-item.field-0.0 ((take_at as_item) c.in-Some.next.now) (several terminals.Comma (take_at as_item) c.args.tokens.now) (λ o h. c.loop-next.invariant ∙ further_fails terminals.Comma (take_at as_item) (take_shrinks as_item) c.loop-next.items.items c.loop-next.rest.now c.in-Some.next.now o c.in-Some.ensures.value h) c.in_err-item.ensures)
 
 pub loop-next-init : goal.loop-next-init
-loop-next-init c = let e : c.push.new.self.items ≡ c.in_ok-first.first ∷ [] = grind (arith, common_steps) in rw e (several_first terminals.Comma (take_at item_of) c.args.tokens.now c.in_ok-first.rest.now c.in_ok-first.first c.in_ok-first.ensures)
+loop-next-init c = let e : c.push.new.self.items ≡ c.in_ok-first.first ∷ [] = grind (arith, common_steps) in rw e (several_first terminals.Comma (take_at as_item) c.args.tokens.now c.in_ok-first.rest.now c.in_ok-first.first c.in_ok-first.ensures)
 
 pub loop-next-preserved : goal.loop-next-preserved
-loop-next-preserved c = let e : c.push-in-Some.new.self.items ≡ c.loop-next.items.items ++ (c.in_ok-item.item ∷ []) = grind (arith, common_steps) in rw e (c.loop-next.invariant ∙ further_turn terminals.Comma (take_at item_of) (take_shrinks item_of) c.loop-next.items.items c.loop-next.rest.now c.in-Some.next.now c.in_ok-item.behind.now c.in_ok-item.item c.in-Some.ensures.value c.in_ok-item.ensures)
+loop-next-preserved c = let e : c.push-in-Some.new.self.items ≡ c.loop-next.items.items ++ (c.in_ok-item.item ∷ []) = grind (arith, common_steps) in rw e (c.loop-next.invariant ∙ further_turn terminals.Comma (take_at as_item) (take_shrinks as_item) c.loop-next.items.items c.loop-next.rest.now c.in-Some.next.now c.in_ok-item.left.now c.in_ok-item.item c.in-Some.ensures.value c.in_ok-item.ensures)
 
 pub returns : goal.returns
-returns c = c.loop-next.invariant ∙ further_ends terminals.Comma (take_at item_of) (take_shrinks item_of) c.loop-next.items.items c.loop-next.rest.now c.in_default.ensures.value ∙ ap (λ xs. Ok (xs, c.loop-next.rest.now)) (append-nil _ ∙ sym c.from_vec.ensures)
+returns c = c.loop-next.invariant ∙ further_ends terminals.Comma (take_at as_item) (take_shrinks as_item) c.loop-next.items.items c.loop-next.rest.now c.in_default.ensures.value ∙ ap (λ xs. Ok (xs, c.loop-next.rest.now)) (append-nil _ ∙ sym c.from_vec.ensures)
 
 pub loop-next-smaller : goal.loop-next-smaller
 loop-next-smaller c =
-    let few : length c.in_ok-item.behind.now ≤ length c.in-Some.next.now = shrunk (take_at item_of) (take_shrinks item_of) c.in-Some.next.now c.in_ok-item.behind.now c.in_ok-item.item c.in_ok-item.ensures in
+    let few : length c.in_ok-item.left.now ≤ length c.in-Some.next.now = shrunk (take_at as_item) (take_shrinks as_item) c.in-Some.next.now c.in_ok-item.left.now c.in_ok-item.item c.in_ok-item.ensures in
     omega (arith, c.in-Some.ensures.shorter)

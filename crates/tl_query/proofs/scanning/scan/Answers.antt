@@ -2,7 +2,7 @@ use Rattle.std.proofs.Common.{◌≡◌, ℕ, ◌∙◌, sym, ap, ◌<◌, lengt
 use Rattle.std.proofs.lemmas.Grind.{common_steps}
 use Rattle.std.proofs.lemmas.Bool.Decides.{nat_tests}
 use Rattle.tl_query.specs.declared.tokens.Placed.{Placed}
-use Rattle.tl_query.specs.Scanning.{is_blank, piece_of, placed}
+use Rattle.tl_query.specs.Scanning.{is_blank, piece_of, placed_token}
 use Rattle.tl_query.proofs.Turns.{blank_step, fault_step, piece_step, step_within, scan_done}
 use Rattle.tl_query.proofs.Utf8.{behind_piece, behind_byte}
 use Rattle.tl_query.proofs.scanning.scan.Goals as goal
@@ -51,7 +51,7 @@ tokens-preserved c =
     let within = step_within c.tokens.at c.tokens.rest.now c.in-Ok.piece some read in
     let rest = c.split_at-in-Ok.ensures.back in
     let left = behind_piece c.tokens.at c.tokens.rest.now c.in-Ok.piece some read c.tokens.invariant.utf8 in
-    let items : c.push.new.self.items ≡ c.tokens.tokens.items ++ (placed c.tokens.at c.tokens.joined c.in-Ok.piece ∷ []) = grind (arith, common_steps) in
+    let items : c.push.new.self.items ≡ c.tokens.tokens.items ++ (placed_token c.tokens.at c.tokens.joined c.in-Ok.piece ∷ []) = grind (arith, common_steps) in
     record {
       utf8 = rw rest left;
       place = let n = ap length rest in omega (arith, n, within.1, length-drop c.in-Ok.piece.len c.tokens.rest.now, c.tokens.invariant.place);

@@ -1,7 +1,7 @@
 use Rattle.std.proofs.Common.{◌≡◌, ◌∙◌, sym, ap, ◌≤◌, length, Some, arith}
 use Rattle.tl_query.proofs.Closing.{quote_turn, other_turn, done_turn, end_turn, closing_quoted, closing_open}
-use Rattle.tl_query.proofs.scanning.closing.Goals as goal
-use Rattle.tl_query.proofs.scanning.closing.Goals.{then-byte-eq39, else-byte-eq39+else-quoted}
+use Rattle.tl_query.proofs.scanning.closing_len.Goals as goal
+use Rattle.tl_query.proofs.scanning.closing_len.Goals.{then-byte-eq39, else-byte-eq39+else-quoted}
 
 pub returns-then-quoted : goal.returns-then-quoted
 returns-then-quoted c = sym (c.loop-i.invariant ∙ done_turn c.args.bytes.now c.loop-i.i c.loop-i.quoted c.loop-i-test.true c.if-byte-eq39.false c.if-quoted.true)

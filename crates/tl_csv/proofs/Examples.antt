@@ -1,6 +1,6 @@
--- Worked examples of the definitions, computed: a file as a spreadsheet writes it, and the first fault of headers
--- and records. The table is `p (id INT, name TEXT, pay INT) KEY id`.
-use Rattle.std.specs.Prelude.{◌≡◌, ℕ, ◌∷◌, [], List, None, Ok, Err, refl, codes, pos, neg_ℤ, false, true, Result, Some}
+-- Worked examples of the definitions, computed: a file as a spreadsheet writes it, and the first
+-- fault of headers and records. The table is `p (id INT, name TEXT, pay INT) KEY id`.
+use Rattle.std.specs.Prelude.{◌≡◌, ℕ, ◌∷◌, [], List, None, Ok, Err, refl, codes, map, pos, neg_ℤ, false, true, Result, Some}
 use Rattle.std.specs.Str.{is_utf8, chars}
 use Rattle.std.proofs.Math.Utf8.{encode}
 use Rattle.tl_types.specs.declared.cells.Cell.TheVariants as cell
@@ -12,7 +12,10 @@ use Rattle.tl_types.specs.Plain as plain
 use Rattle.tl_csv.specs.declared.faults.CsvFault.{CsvFault}
 use Rattle.tl_csv.specs.declared.faults.CsvFault.TheVariants as fault
 use Rattle.tl_csv.specs.declared.needs.BatchKind.TheVariants.{PutKind, RemoveKind}
-use Rattle.tl_csv.specs.Block.{rows_of, made, without_marks}
+use Rattle.tl_csv.specs.ByteOrderMarks.{past_byte_order_marks}
+use Rattle.tl_csv.specs.Faults.{◌>>=◌}
+use Rattle.tl_csv.specs.Block.{batch_with, rows_of}
+use Rattle.tl_csv.specs.Numbers.{integer_of}
 
 people : plain.Schema
 people = record {
@@ -125,7 +128,8 @@ no_beginning : rows_of standard_limits timed PutKind (timed_header ∷ (codes "2
 unfolding timed timed_header is_utf8 chars encode
 no_beginning = refl
 
--- the end of the period is not named: it is the fourth of what a row needs, and the third of what a removal needs
+-- the end of the period is not named: it is the fourth of what a row needs, and the third of what a
+-- removal needs
 no_end : rows_of standard_limits timed PutKind ((codes "k" ∷ codes "x" ∷ codes "valid_from" ∷ []) ∷ []) ≡ Err (fault.HeaderMissing 4)
 unfolding timed is_utf8 chars encode
 no_end = refl
@@ -139,10 +143,19 @@ other_column : rows_of standard_limits timed RemoveKind ((codes "k" ∷ codes "x
 unfolding timed is_utf8 chars encode
 other_column = refl
 
-removal : made timed RemoveKind (rows_of standard_limits timed RemoveKind ((codes "valid_to" ∷ codes "k" ∷ codes "valid_from" ∷ []) ∷ (codes "5" ∷ codes "1" ∷ codes "0" ∷ []) ∷ []))
+removal : (rows_of standard_limits timed RemoveKind ((codes "valid_to" ∷ codes "k" ∷ codes "valid_from" ∷ []) ∷ (codes "5" ∷ codes "1" ∷ codes "0" ∷ []) ∷ []) >>= λ rows. Ok (batch_with timed RemoveKind rows))
     ≡ Ok (batch.Remove (codes "q") (record { key = cell.Int (pos 1); period = Some (record { from = pos 0; to = pos 5 }) } ∷ []))
 unfolding timed is_utf8 chars encode
 removal = refl
 
-marks : without_marks (239 ∷ 187 ∷ 191 ∷ 239 ∷ 187 ∷ 191 ∷ codes "id") ≡ codes "id"
-marks = refl
+two_marks : past_byte_order_marks (239 ∷ 187 ∷ 191 ∷ 239 ∷ 187 ∷ 191 ∷ codes "id") ≡ codes "id"
+two_marks = refl
+
+-- the ends of 64 bits, a sign, and what is no integer
+integers : map integer_of (codes "-9223372036854775808" ∷ codes "9223372036854775807" ∷ codes "+7" ∷ codes "-0" ∷ [])
+    ≡ Some (neg_ℤ (pos 9223372036854775808)) ∷ Some (pos 9223372036854775807) ∷ Some (pos 7) ∷ Some (pos 0) ∷ []
+integers = refl
+
+no_integers : map integer_of ([] ∷ codes "+" ∷ codes " 1" ∷ codes "9223372036854775808" ∷ codes "-9223372036854775809" ∷ [])
+    ≡ None ∷ None ∷ None ∷ None ∷ None ∷ []
+no_integers = refl

@@ -5,14 +5,14 @@ use Rattle.std.proofs.lemmas.Str.{IsUtf8-from_is_utf8, is_utf8-from_IsUtf8}
 use Rattle.std.proofs.lemmas.Option.{slice_get_within}
 use Rattle.csv.specs.Records.{field_at}
 use Rattle.tl_csv.specs.declared.faults.CsvFault.{CsvFault}
-use Rattle.tl_csv.specs.Faults.{with_first, each_from, fault_of}
+use Rattle.tl_csv.specs.Faults.{with_first, each_from, IsUnlessMemory}
 
 -- these items, and then the others where there is no fault
 abbrev pub behind : {X : Type 0} → List X → Result (List X) CsvFault → Result (List X) CsvFault
 behind xs (Err e) = Err e
 behind xs (Ok ys) = Ok (xs ++ ys)
 
--- one more in front of the others
+-- one more before the others
 pub one_behind : {X : Type 0} (xs : List X) (y : X) (r : Result X CsvFault) (others all : Result (List X) CsvFault) → r ≡ Ok y → behind xs (with_first r others) ≡ all → behind (xs ++ y ∷ []) others ≡ all
 one_behind xs y (Err e) others all h g = absurd (cc)
 one_behind xs y (Ok z) (Err e) all h g = g
@@ -21,9 +21,12 @@ one_behind xs y (Ok z) (Ok zs) all h g =
     rw (append_assoc xs (y ∷ []) zs) (rw same at g)
 
 -- the fault of all where one has a fault
-pub fault_behind : {X : Type 0} (xs : List X) (e : CsvFault) (r : Result X CsvFault) (others all : Result (List X) CsvFault) → r ≡ Err e → behind xs (with_first r others) ≡ all → all ≡ Err e
-fault_behind xs e (Err d) others all h g = let same : d ≡ e = cc in rw (← same) (sym g)
-fault_behind xs e (Ok x) others all h g = absurd (cc)
+first_fault : {X : Type 0} (xs : List X) (e : CsvFault) (r : Result X CsvFault) (others all : Result (List X) CsvFault) → behind xs (with_first r others) ≡ all → r ≡ Err e → all ≡ Err e
+first_fault xs e (Err d) others all g h = let same : d ≡ e = cc in rw (← same) (sym g)
+first_fault xs e (Ok x) others all g h = absurd (cc)
+
+pub fault_behind : {X : Type 0} (xs : List X) (e : CsvFault) (r : Result X CsvFault) (others all : Result (List X) CsvFault) → IsUnlessMemory (Err e) r → behind xs (with_first r others) ≡ all → IsUnlessMemory (Err e) all
+fault_behind xs e r others all h g = λ memory. first_fault xs e r others all g (h memory)
 
 -- what is left from a place on begins with what stands there
 drop_suc : {X : Type 0} (xs : List X) (i : ℕ) (x : X) → slice_get xs i ≡ Some x → drop i xs ≡ x ∷ drop (suc i) xs
@@ -62,19 +65,13 @@ no_text bs h = by_test (is_utf8 bs) refl where
   by_test true e = absurd (h (IsUtf8-from_is_utf8 bs e))
   by_test false e = e
 
--- the fault of one, and else that of those behind it
-pub fault_first : {X : Type 0} (r : Result X CsvFault) (others : Result (List X) CsvFault) (e : CsvFault) → fault_of r ≡ Some e → fault_of (with_first r others) ≡ Some e
-fault_first (Err d) others e h = h
-fault_first (Ok x) others e h = absurd (cc)
-
-pub fault_later : {X : Type 0} (r : Result X CsvFault) (others : Result (List X) CsvFault) → fault_of r ≡ None → fault_of (with_first r others) ≡ fault_of others
-fault_later (Err d) others h = absurd (cc)
-fault_later (Ok x) (Err d) h = refl
-fault_later (Ok x) (Ok xs) h = refl
-
 -- one item more, and the others behind it
 pub each_step : {X Y : Type 0} (f : ℕ → X → Result Y CsvFault) (ys new : List Y) (y : Y) (x : X) (xs rest : List X) (all : Result (List Y) CsvFault)
     → xs ≡ x ∷ rest → f (length ys) x ≡ Ok y → new ≡ ys ++ y ∷ [] → behind ys (each_from f (length ys) xs) ≡ all → behind new (each_from f (length new) rest) ≡ all
 each_step f ys new y x xs rest all e r n h =
     let counted : length (ys ++ y ∷ []) ≡ length ys + 1 = length-append ys (y ∷ []) in
     rw (n, counted) (one_behind ys y (f (length ys) x) (each_from f (length ys + 1) rest) all r (rw e at h))
+
+pub ruleset behind_steps = (one_behind, fault_behind)
+
+pub ruleset at_places = (drop_at, drop_past, within)

@@ -1,33 +1,20 @@
 -- Names and their places.
-use Rattle.std.proofs.Common.{◌≡◌, ℕ, zero, suc, ◌+◌, ◌<◌, ◌≤◌, nat_lt, Bool, true, false, not, List, [], ◌∷◌, take, Option, Some, None, refl, ap, sym, ◌∙◌, arith}
-use Rattle.std.specs.List.{find, list_any, position_from}
-use Rattle.std.specs.Option.{option_map, option_or}
+use Rattle.std.proofs.Common.{◌≡◌, ℕ, zero, suc, ◌+◌, ◌<◌, ◌≤◌, nat_lt, Bool, true, false, not, List, [], ◌∷◌, take, Some, None, refl, ap, sym, ◌∙◌, arith}
+use Rattle.std.specs.List.{list_any, position_from}
+use Rattle.std.specs.Option.{option_map}
 use Rattle.std.specs.Str.{is_utf8}
 use Rattle.std.proofs.lemmas.Bool.Decides.{nat_tests}
 use Rattle.std.proofs.lemmas.Iterator.Adapters.{position_from-zero}
-use Rattle.std.proofs.lemmas.List.Folds.{find-append}
 use Rattle.tl_types.specs.Names.{same_bytes}
 use Rattle.tl_csv.specs.declared.faults.CsvFault.TheVariants as fault
-use Rattle.tl_csv.specs.declared.needs.Needed.{Needed}
-use Rattle.tl_csv.specs.declared.needs.Wanted.{Wanted}
-use Rattle.tl_csv.specs.Header.{kind_named, kind_needed, not_utf8, place_of, is_named}
+use Rattle.tl_csv.specs.Header.{not_utf8, place_of, is_named}
 
--- the first place, counted from the front
+-- the first place, counted from the start
 pub first_place : (name : List ℕ) (fields : List (List ℕ)) → position_from (λ field. same_bytes field name) 0 fields ≡ place_of name fields
 first_place name fields = sym (position_from-zero (λ field. same_bytes field name) fields)
 
 pub fault_place : (header : List (List ℕ)) → option_map (λ i. fault.NotUtf8 1 (i + 1)) (position_from (λ name. not (is_utf8 name)) 0 header) ≡ not_utf8 header
 fault_place header = ap (λ o. option_map (λ i. fault.NotUtf8 1 (i + 1)) o) (sym (position_from-zero (λ name. not (is_utf8 name)) header))
-
--- what the field with the name is, among two lists
-either : (a b : Option Wanted) → option_map (λ w. w.kind) (option_or a b) ≡ option_or (option_map (λ w. w.kind) a) (option_map (λ w. w.kind) b)
-either None b = refl
-either (Some w) b = refl
-
-pub kind_among : (needed : Needed) (name : List ℕ) → kind_needed needed name ≡ option_or (kind_named needed.columns name) (kind_named needed.times name)
-kind_among needed name =
-    ap (λ o. option_map (λ w. w.kind) o) (find-append (λ w. same_bytes w.name name) needed.columns needed.times)
-    ∙ either (find (λ w. same_bytes w.name name) needed.columns) (find (λ w. same_bytes w.name name) needed.times)
 
 -- a name stands before a place exactly where its first place is less
 past_none : (p : List ℕ → Bool) (n i : ℕ) (fields : List (List ℕ)) → position_from p n fields ≡ None → list_any p (take i fields) ≡ false
@@ -74,3 +61,5 @@ placed_before name fields i place h =
 
 pub unplaced_before : (name : List ℕ) (fields : List (List ℕ)) (i : ℕ) → place_of name fields ≡ None → is_named name (take i fields) ≡ false
 unplaced_before name fields i h = past_none (λ field. same_bytes field name) 0 i fields (first_place name fields ∙ h)
+
+pub ruleset before_place = (placed_before, unplaced_before)

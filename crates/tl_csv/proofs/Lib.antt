@@ -1,8 +1,11 @@
 pub mod NumberLemmas
 pub mod FaultLemmas
+pub mod NameLemmas
 pub mod HeaderLemmas
-pub mod ReadingLemmas
+pub mod LayoutLemmas
+pub mod RowLemmas
 pub mod FittingLemmas
+pub mod ReadingLemmas
 pub mod WritingLemmas
 pub mod SampleLemmas
 pub mod Examples

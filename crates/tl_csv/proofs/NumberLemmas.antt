@@ -8,7 +8,7 @@ use Rattle.std.proofs.lemmas.Str.Parse.{IsNumeralModel, numerals_by_value, tells
 use Rattle.std.proofs.lemmas.Bool.{ltb-true}
 use Rattle.std.proofs.lemmas.Bool.Decides.{nat_tests}
 use Rattle.std.proofs.lemmas.Grind.{common_steps}
-use Rattle.tl_csv.specs.Numbers.{are_digits, positive, negative, number_of}
+use Rattle.tl_csv.specs.Numbers.{are_digits, positive, negative, integer_of}
 
 own : IsNumeralModel (λ ds. all_ascii_digits ds ≡ true) (digits_value 10)
 own = numerals_by_value _ tells_all_ascii_digits
@@ -64,13 +64,13 @@ none_parsed (Ok x) h = absurd (omega (arith, h.0.1))
 none_parsed (Err e) h = refl
 
 -- what parsing a field as a number gives
-pub number_parsed : {E : Type 0} (bs : List ℕ) (r : Result ℤ E) → ParsesSigned w64 10 bs r → result_ok r ≡ number_of bs
-number_parsed [] r h = none_parsed r (parse_signed_plain own w64 [] r h (omega arith) (omega arith))
-number_parsed (b ∷ bs) r h = by_minus (b == 45) refl where
-  by_plus : (t : Bool) → (b == 43) ≡ t → (b == 45) ≡ false → result_ok r ≡ number_of (b ∷ bs)
+pub integer_parsed : {E : Type 0} (bs : List ℕ) (r : Result ℤ E) → ParsesSigned w64 10 bs r → result_ok r ≡ integer_of bs
+integer_parsed [] r h = none_parsed r (parse_signed_plain own w64 [] r h (omega arith) (omega arith))
+integer_parsed (b ∷ bs) r h = by_minus (b == 45) refl where
+  by_plus : (t : Bool) → (b == 43) ≡ t → (b == 45) ≡ false → result_ok r ≡ integer_of (b ∷ bs)
   by_plus true e m = rw (m, e) (parsed_positive bs r (parse_signed_plus own w64 (b ∷ bs) r h (eq_true b 43 e)))
   by_plus false e m = rw (m, e) (parsed_positive (b ∷ bs) r (parse_signed_plain own w64 (b ∷ bs) r h (eq_false b 43 e) (eq_false b 45 m)))
 
-  by_minus : (t : Bool) → (b == 45) ≡ t → result_ok r ≡ number_of (b ∷ bs)
+  by_minus : (t : Bool) → (b == 45) ≡ t → result_ok r ≡ integer_of (b ∷ bs)
   by_minus true e = rw e (parsed_negative bs r (parse_signed_minus own w64 (b ∷ bs) r h (eq_true b 45 e)))
   by_minus false e = by_plus (b == 43) refl e

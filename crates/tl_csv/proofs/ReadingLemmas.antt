@@ -11,10 +11,12 @@ use Rattle.csv.specs.declared.parser.State.TheVariants as st
 use Rattle.csv.specs.declared.parser.Terminator.{Terminator}
 use Rattle.csv.specs.declared.parser.Terminator.TheVariants as term
 use Rattle.csv.specs.declared.reader.Reader.{Reader}
-use Rattle.csv.specs.Reading.{Reached, took_first}
+use Rattle.csv.specs.Reading.{ExplainsRead, NotLengths, Reached, is_flexible, took_first}
+use Rattle.csv.specs.declared.error.ErrorKind.{ErrorKind}
+use Rattle.csv.specs.declared.error.ErrorKind.TheVariants as kind
 use Rattle.csv.proofs.ReadFacts.{rows-end, rows-more}
-use Rattle.tl_csv.specs.Block.{without_marks, is_mark}
-use Rattle.tl_csv.specs.Reading.{IsReading, left, records_on, unread}
+use Rattle.tl_csv.specs.ByteOrderMarks.{is_byte_order_mark, past_byte_order_marks}
+use Rattle.tl_csv.specs.Reading.{IsReading, records_left, records_on, bytes_unread}
 
 -- AFTER A RECORD
 
@@ -146,17 +148,18 @@ joined : (s s2 : State) (from to : Option (List ℕ)) (bytes rest : List ℕ) (f
 joined s s2 from to bytes rest fields p is is_rest same state same_rest h = rw (is, is_rest, same, ← state, ← same_rest) h
 
 -- a record that was read is the first of those that were left
-pub record_read : (a b : Bytes) (fields : List (List ℕ)) → IsReading a → ReadRecord bytes_left a b true fields → took_first b ≡ true → (left a ≡ fields ∷ left b) × IsReading b
+pub record_read : (a b : Bytes) (fields : List (List ℕ)) → IsReading a → ReadRecord bytes_left a b true fields → took_first b ≡ true → is_flexible b ≡ is_flexible a → (records_left a ≡ fields ∷ records_left b) × IsReading b
 unfolding Reached
-record_read a b fields reading r first =
-    let (bytes, is) = known_bytes (unread a) reading.known in
+record_read a b fields reading r first kept =
+    let (bytes, is) = known_bytes (bytes_unread a) reading.known in
     let (rest, is_rest, reached) = rows-more bytes_left a b fields default_config a.state bytes bytes [] reading.config is (refl, refl) r in
     let (p, next, same, (state, same_rest)) = reached_one a.state b.state bytes rest fields reached in
     let past = next_behind default_config a.state [] [] bytes p next in
     let all = first_record a.state bytes p reading.between next in (
-      joined a.state b.state (unread a) (unread b) bytes rest fields p is is_rest same state same_rest all,
+      joined a.state b.state (bytes_unread a) (bytes_unread b) bytes rest fields p is is_rest same state same_rest all,
       record {
         config = r.2 ∙ reading.config;
+        flexible = kept ∙ reading.flexible;
         trim = r.3 ∙ reading.trim;
         ready = inl first;
         between = rw (← state) past.between;
@@ -165,20 +168,32 @@ record_read a b fields reading r first =
     )
 
 -- where no record was read, none was left
-pub none_read : (a b : Bytes) (fields : List (List ℕ)) → IsReading a → ReadRecord bytes_left a b false fields → left a ≡ []
+pub none_read : (a b : Bytes) (fields : List (List ℕ)) → IsReading a → ReadRecord bytes_left a b false fields → records_left a ≡ []
 none_read a b fields reading r =
-    let (bytes, is) = known_bytes (unread a) reading.known in
+    let (bytes, is) = known_bytes (bytes_unread a) reading.known in
     rw is (no_record a.state bytes (rows-end bytes_left a b fields default_config bytes reading.config is r))
 
--- MARKS
+-- a reader that takes records of any length has no error of lengths
+no_lengths : (a b : Bytes) (e : ErrorKind) → is_flexible a ≡ true → ExplainsRead bytes_left a b false e → NotLengths e
+no_lengths a b (kind.UnequalLengths pos expected len) h w = absurd (let f : is_flexible a ≡ false = w.0 in cc)
+no_lengths a b (kind.Io e) h w = tt
+no_lengths a b (kind.Utf8 pos err) h w = tt
+no_lengths a b kind.OutOfMemory h w = tt
+no_lengths a b (kind.Serialize text) h w = tt
+no_lengths a b (kind.Deserialize pos err) h w = tt
+
+pub read_fails : (a b : Bytes) (e : ErrorKind) → IsReading a → ExplainsRead bytes_left a b false e → NotLengths e
+read_fails a b e reading w = no_lengths a b e reading.flexible w
+
+-- BYTE ORDER MARKS
 
 -- past its byte order marks a block begins with none
-pub no_mark : (bytes : List ℕ) → strip_bom (without_marks bytes) ≡ without_marks bytes
+pub no_mark : (bytes : List ℕ) → strip_bom (past_byte_order_marks bytes) ≡ past_byte_order_marks bytes
 unfolding strip_bom
 no_mark [] = refl
 no_mark (a ∷ []) = refl
 no_mark (a ∷ b ∷ []) = refl
-no_mark (a ∷ b ∷ c ∷ bytes) = by_test (is_mark a b c) refl (no_mark bytes) where
-  by_test : (t : Bool) → is_mark a b c ≡ t → strip_bom (without_marks bytes) ≡ without_marks bytes → strip_bom (without_marks (a ∷ b ∷ c ∷ bytes)) ≡ without_marks (a ∷ b ∷ c ∷ bytes)
+no_mark (a ∷ b ∷ c ∷ bytes) = by_test (is_byte_order_mark a b c) refl (no_mark bytes) where
+  by_test : (t : Bool) → is_byte_order_mark a b c ≡ t → strip_bom (past_byte_order_marks bytes) ≡ past_byte_order_marks bytes → strip_bom (past_byte_order_marks (a ∷ b ∷ c ∷ bytes)) ≡ past_byte_order_marks (a ∷ b ∷ c ∷ bytes)
   by_test true e more = rw e more
   by_test false e more = rw e (rw e refl)

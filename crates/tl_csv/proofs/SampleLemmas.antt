@@ -1,10 +1,10 @@
 -- Lines of the sample, one after the other.
 use Rattle.std.proofs.Common.{◌≡◌, ℕ, suc, ◌+◌, ◌-◌, ◌*◌, ◌%◌, ◌<◌, ◌≤◌, List, ◌++◌, refl, sym, ◌∙◌, append_assoc, arith}
 use Rattle.std.proofs.lemmas.List.{append-nil}
-use Rattle.tl_csv.specs.Sample.{drawn, id_of, value_of, line_text, lines_from}
+use Rattle.tl_csv.specs.Sample.{nth_number, id_of, value_of, line_text, lines_from}
 
 -- the number after one
-pub drawn_next : (start i : ℕ) → drawn start (i + 1) ≡ (1103515245 * drawn start i + 12345) % 2147483648
+pub drawn_next : (start i : ℕ) → nth_number start (i + 1) ≡ (1103515245 * nth_number start i + 12345) % 2147483648
 drawn_next start i = let e : i + 1 ≡ suc i = omega arith in rw e refl
 
 first_line : (start i n k : ℕ) → n ≡ suc k → lines_from start i n ≡ line_text (id_of i) (value_of start i) ++ lines_from start (i + 1) k

@@ -1,5 +1,5 @@
 -- The batch of a block, or its first fault.
-use Rattle.std.specs.Prelude.{ℕ, ◌≡◌, ◌≤◌, true, ◌+◌, ℤ, pos, Bool, ◌&&◌, nat_le, nat_lt, int_lt, ◌==◌, List, [], ◌∷◌, length, map, slice_get, Option, Some, None, is_some, Result, Ok, Err, if◌then◌else◌}
+use Rattle.std.specs.Prelude.{ℕ, ◌≡◌, ◌≤◌, true, ◌+◌, ℤ, pos, Bool, ◌&&◌, nat_le, nat_lt, int_lt, ◌==◌, List, [], ◌∷◌, length, map, get_or, Option, Some, None, is_some, Result, Ok, Err, if◌then◌else◌}
 use Rattle.std.specs.Bool.{beq}
 use Rattle.std.specs.Str.{is_utf8}
 use Rattle.std.specs.List.{list_all, zip}
@@ -20,22 +20,12 @@ use Rattle.tl_csv.specs.declared.needs.BatchKind.{BatchKind}
 use Rattle.tl_csv.specs.declared.needs.BatchKind.TheVariants.{PutKind, RemoveKind}
 use Rattle.tl_csv.specs.declared.needs.FieldKind.{FieldKind}
 use Rattle.tl_csv.specs.declared.needs.FieldKind.TheVariants as kinds
-use Rattle.tl_csv.specs.declared.headers.Placed.{Placed}
-use Rattle.tl_csv.specs.declared.headers.Layout.{Layout}
-use Rattle.tl_csv.specs.Numbers.{number_of, end_of}
-use Rattle.tl_csv.specs.Faults.{◌>>=◌, each_from, fault_of, unless}
-use Rattle.tl_csv.specs.Header.{columns_of, needed_of, layout_of}
-
--- the three bytes of a byte order mark
-abbrev pub is_mark : ℕ → ℕ → ℕ → Bool
-is_mark a b c = (a == 239) && (b == 187) && (c == 191)
-
--- the bytes past the byte order marks at their start
-abbrev pub without_marks : List ℕ → List ℕ
-without_marks [] = []
-without_marks (a ∷ []) = a ∷ []
-without_marks (a ∷ b ∷ []) = a ∷ b ∷ []
-without_marks (a ∷ b ∷ c ∷ bytes) = if is_mark a b c then without_marks bytes else a ∷ b ∷ c ∷ bytes
+use Rattle.tl_csv.specs.declared.layouts.PeriodPlaces.{PeriodPlaces}
+use Rattle.tl_csv.specs.ByteOrderMarks.{past_byte_order_marks}
+use Rattle.tl_csv.specs.Layouts.{Layout}
+use Rattle.tl_csv.specs.Numbers.{integer_of, end_of}
+use Rattle.tl_csv.specs.Faults.{◌>>=◌, each_from}
+use Rattle.tl_csv.specs.Header.{columns_of, layout_of}
 
 -- FIELDS
 
@@ -43,14 +33,21 @@ without_marks (a ∷ b ∷ c ∷ bytes) = if is_mark a b c then without_marks by
 abbrev pub int_cell : ℕ → ℕ → Option ℤ → Result Cell CsvFault
 int_cell rec i number = ok_or number (fault.NotInt rec (i + 1)) >>= λ z. Ok (cell.Int z)
 
+-- the cell of a text
+abbrev pub text_cell : Limits → ℕ → ℕ → List ℕ → Result Cell CsvFault
+text_cell limits rec i field =
+    if nat_lt limits.text (length field) then Err (fault.TextTooLong rec (i + 1))
+    else Ok (cell.Text field)
+
 -- the cell of the i-th field of a record, which is of this kind; an end of a period is a number
 abbrev pub cell_of : Limits → ℕ → ℕ → FieldKind → List ℕ → Result Cell CsvFault
-cell_of limits rec i kind field = if is_utf8 field then of_kind kind else Err (fault.NotUtf8 rec (i + 1)) where
-  of_kind : FieldKind → Result Cell CsvFault
-  of_kind kinds.From = int_cell rec i (number_of field)
-  of_kind kinds.To = int_cell rec i (end_of field)
-  of_kind (kinds.Cell IntKind) = int_cell rec i (number_of field)
-  of_kind (kinds.Cell TextKind) = if nat_lt limits.text (length field) then Err (fault.TextTooLong rec (i + 1)) else Ok (cell.Text field)
+cell_of limits rec i kind field =
+    if is_utf8 field then of_kind kind else Err (fault.NotUtf8 rec (i + 1)) where
+      of_kind : FieldKind → Result Cell CsvFault
+      of_kind kinds.From = int_cell rec i (integer_of field)
+      of_kind kinds.To = int_cell rec i (end_of field)
+      of_kind (kinds.Cell IntKind) = int_cell rec i (integer_of field)
+      of_kind (kinds.Cell TextKind) = text_cell limits rec i field
 
 -- RECORDS
 
@@ -58,54 +55,54 @@ cell_of limits rec i kind field = if is_utf8 field then of_kind kind else Err (f
 abbrev pub cell_at : Limits → ℕ → ℕ → FieldKind × List ℕ → Result Cell CsvFault
 cell_at limits rec i beside = cell_of limits rec i beside.0 beside.1
 
--- the first fault of the fields of a record, which are of these kinds
-abbrev pub fields_fault : Limits → ℕ → List FieldKind → List (List ℕ) → Option CsvFault
-fields_fault limits rec kinds fields = fault_of (each_from (cell_at limits rec) 0 (zip kinds fields))
-
--- the cell of a needed field: that of the field at its place
-abbrev pub picked : Limits → ℕ → List (List ℕ) → Placed → Result Cell CsvFault
-picked limits rec fields column =
-    ok_or (slice_get fields column.place) (fault.FieldCount rec) >>= λ field.
-    cell_of limits rec column.place column.kind field
-
 -- the period between two moments, of which the first must be less than the second
 abbrev pub period_between : ℕ → Cell → Cell → Result plain.Period CsvFault
-period_between rec (cell.Int from) (cell.Int to) = if int_lt from to then Ok (record { from = from; to = to }) else Err (fault.EmptyPeriod rec)
+period_between rec (cell.Int from) (cell.Int to) =
+    if int_lt from to then Ok (record { from = from; to = to }) else Err (fault.EmptyPeriod rec)
 period_between rec (cell.Int from) (cell.Text t) = Err (fault.EmptyPeriod rec)
 period_between rec (cell.Text s) to = Err (fault.EmptyPeriod rec)
 
--- the period of a record, where the table has valid time
-abbrev pub period_of : Limits → ℕ → List (List ℕ) → List Placed → Result (Option plain.Period) CsvFault
-period_of limits rec fields [] = Ok None
-period_of limits rec fields (from ∷ []) = Ok None
-period_of limits rec fields (from ∷ to ∷ more) =
-    picked limits rec fields from >>= λ first.
-    picked limits rec fields to >>= λ end.
-    period_between rec first end >>= λ period.
+-- the cell at a place of a record, where each place of a layout is that of a field
+abbrev pub cell_in : List Cell → ℕ → Cell
+cell_in cells place = get_or cells place (cell.Int (pos 0))
+
+-- the period of a record with these cells, where the table has valid time
+abbrev pub period_of : ℕ → List Cell → Option PeriodPlaces → Result (Option plain.Period) CsvFault
+period_of rec cells None = Ok None
+period_of rec cells (Some places) =
+    period_between rec (cell_in cells places.from) (cell_in cells places.to) >>= λ period.
     Ok (Some period)
 
--- the row of a record: it has as many fields as the header, none of them has a fault, the cells are those of the
--- columns in the order of the table, and the period is not empty
+-- the row of a record with these cells: those of the columns in the order of the table, and the
+-- period
+abbrev pub row_with : Layout → ℕ → List Cell → Result plain.Opened CsvFault
+row_with layout rec cells =
+    period_of rec cells layout.period >>= λ period.
+    Ok (record { cells = map (cell_in cells) layout.columns; period = period })
+
+-- the row of a record: it has as many fields as the header, each field gives a cell, and then the
+-- period is not empty
 abbrev pub row_of : Limits → Layout → ℕ → List (List ℕ) → Result plain.Opened CsvFault
 row_of limits layout rec fields =
     if length fields == length layout.kinds
-    then unless (fields_fault limits rec layout.kinds fields)
-    (each_from (λ n. picked limits rec fields) 0 layout.columns >>= λ cells.
-    period_of limits rec fields layout.times >>= λ period.
-    Ok (record { cells = cells; period = period }))
+    then each_from (cell_at limits rec) 0 (zip layout.kinds fields) >>= row_with layout rec
     else Err (fault.FieldCount rec)
 
 -- the row of the i-th record behind the header, which is not past the limit of records
 abbrev pub line_of : Limits → Layout → ℕ → List (List ℕ) → Result plain.Opened CsvFault
-line_of limits layout i fields = if nat_le limits.batch i then Err (fault.BatchTooLong (i + 2)) else row_of limits layout (i + 2) fields
+line_of limits layout i fields =
+    if nat_le limits.batch i then Err (fault.BatchTooLong (i + 2))
+    else row_of limits layout (i + 2) fields
 
 -- BATCHES
 
--- the rows of the records, of which the first is the header; where there is none, the first column is not named.
--- Those of a removal have the key as their one cell
-abbrev pub rows_of : Limits → plain.Schema → BatchKind → List (List (List ℕ)) → Result (List plain.Opened) CsvFault
+-- the rows of the records, of which the first is the header; where there is none, the first column
+-- is not named. Those of a removal have the key as their one cell
+abbrev pub rows_of : Limits → plain.Schema → BatchKind → List (List (List ℕ))
+    → Result (List plain.Opened) CsvFault
 rows_of limits schema kind [] = Err (fault.HeaderMissing 1)
-rows_of limits schema kind (header ∷ behind) = layout_of (needed_of schema kind) header >>= λ layout. each_from (line_of limits layout) 0 behind
+rows_of limits schema kind (header ∷ behind) =
+    layout_of schema kind header >>= λ layout. each_from (line_of limits layout) 0 behind
 
 -- the first cell; a row has one or more
 abbrev pub first_cell : List Cell → Cell
@@ -117,34 +114,46 @@ abbrev pub key_line : plain.Opened → KeyLine
 key_line row = record { key = first_cell row.cells; period = row.period }
 
 -- the batch of these rows
-abbrev pub made : plain.Schema → BatchKind → Result (List plain.Opened) CsvFault → Result Batch CsvFault
-made schema kind (Err e) = Err e
-made schema PutKind (Ok rows) = Ok (batch.Put schema.name rows)
-made schema RemoveKind (Ok rows) = Ok (batch.Remove schema.name (map key_line rows))
+abbrev pub batch_with : plain.Schema → BatchKind → List plain.Opened → Batch
+batch_with schema PutKind rows = batch.Put schema.name rows
+batch_with schema RemoveKind rows = batch.Remove schema.name (map key_line rows)
 
--- the batch of a block that is read as this kind, or its first fault, over the records that csv's default reader
--- gives for the block past its byte order marks
+-- the records of a block: those that csv's default reader gives for the block past its byte order
+-- marks
+abbrev pub records_of : List ℕ → List (List (List ℕ))
+records_of block = records default_config (past_byte_order_marks block)
+
+-- the batch of a block that is read as this kind, or its first fault
 abbrev pub batch_of : Limits → plain.Schema → BatchKind → List ℕ → Result Batch CsvFault
-batch_of limits schema kind block = made schema kind (rows_of limits schema kind (records default_config (without_marks block)))
+batch_of limits schema kind block =
+    rows_of limits schema kind (records_of block) >>= λ rows.
+    Ok (batch_with schema kind rows)
 
 -- WHAT A BATCH IS
 
 -- what the rows of a batch are: rows of their table, and not too many
-pub record AreRowsFor (limits : Limits) (schema : plain.Schema) (rows : List plain.Opened) : Type 0 where
+pub record AreRowsFor (limits : Limits) (schema : plain.Schema) (rows : List plain.Opened)
+    : Type 0 where
   pub matching : list_all (matches schema) rows ≡ true
   pub few : length rows ≤ limits.batch
 
--- the key is what the key's column holds, and there is a period exactly where the table has valid time
+-- the key is what the key's column holds, and there is a period exactly where the table has valid
+-- time
 abbrev pub is_key_for : plain.Schema → KeyLine → Bool
-is_key_for schema line = match_columns (columns_of schema RemoveKind) (line.key ∷ []) && beq schema.valid (is_some line.period)
+is_key_for schema line =
+    match_columns (columns_of schema RemoveKind) (line.key ∷ [])
+    && beq schema.valid (is_some line.period)
 
 -- what the lines of a removal are: keys of their table, and not too many
-pub record AreKeysFor (limits : Limits) (schema : plain.Schema) (lines : List KeyLine) : Type 0 where
+pub record AreKeysFor (limits : Limits) (schema : plain.Schema) (lines : List KeyLine)
+    : Type 0 where
   pub matching : list_all (is_key_for schema) lines ≡ true
   pub few : length lines ≤ limits.batch
 
 -- the batch is one of the kind for the table, and not too long
 abbrev pub IsBatchFor : Limits → plain.Schema → BatchKind → Batch → Type 0
 IsBatchFor limits schema kind (batch.Create s) = ⊥
-IsBatchFor limits schema kind (batch.Put name rows) = (kind ≡ PutKind) × (name ≡ schema.name) × AreRowsFor limits schema rows
-IsBatchFor limits schema kind (batch.Remove name lines) = (kind ≡ RemoveKind) × (name ≡ schema.name) × AreKeysFor limits schema lines
+IsBatchFor limits schema kind (batch.Put name rows) =
+    (kind ≡ PutKind) × (name ≡ schema.name) × AreRowsFor limits schema rows
+IsBatchFor limits schema kind (batch.Remove name lines) =
+    (kind ≡ RemoveKind) × (name ≡ schema.name) × AreKeysFor limits schema lines

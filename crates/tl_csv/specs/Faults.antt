@@ -1,6 +1,7 @@
 -- The first fault of several things in order.
-use Rattle.std.specs.Prelude.{ℕ, ◌+◌, List, [], ◌∷◌, Option, Some, None, Result, Ok, Err}
+use Rattle.std.specs.Prelude.{ℕ, ◌≡◌, ◌≢◌, ◌+◌, List, [], ◌∷◌, Option, Some, None, Result, Ok, Err}
 use Rattle.tl_csv.specs.declared.faults.CsvFault.{CsvFault}
+use Rattle.tl_csv.specs.declared.faults.CsvFault.TheVariants as fault
 
 infixl 10 ◌>>=◌
 -- what follows from a result, or its fault
@@ -13,18 +14,25 @@ abbrev pub unless : {X : Type 0} → Option CsvFault → Result X CsvFault → R
 unless None result = result
 unless (Some e) result = Err e
 
--- the fault of a result, where it is one
-abbrev pub fault_of : {X : Type 0} → Result X CsvFault → Option CsvFault
-fault_of (Err e) = Some e
-fault_of (Ok x) = None
-
--- what an item gives in front of what the others give, or the first fault
-abbrev pub with_first : {X : Type 0} → Result X CsvFault → Result (List X) CsvFault → Result (List X) CsvFault
+-- what an item gives before what the others give, or the first fault
+abbrev pub with_first : {X : Type 0} → Result X CsvFault → Result (List X) CsvFault
+    → Result (List X) CsvFault
 with_first (Err e) others = Err e
 with_first (Ok x) (Err e) = Err e
 with_first (Ok x) (Ok xs) = Ok (x ∷ xs)
 
 -- what each item gives with its number, the first of which is n, or the first fault
-abbrev pub each_from : {X Y : Type 0} → (ℕ → X → Result Y CsvFault) → ℕ → List X → Result (List Y) CsvFault
+abbrev pub each_from : {X Y : Type 0} → (ℕ → X → Result Y CsvFault) → ℕ → List X
+    → Result (List Y) CsvFault
 each_from f n [] = Ok []
 each_from f n (x ∷ xs) = with_first (f n x) (each_from f (n + 1) xs)
+
+-- a value that was written, where there was no error
+abbrev pub with_value : {X Y : Type 0} → X → Result Y CsvFault → Result X CsvFault
+with_value x (Ok y) = Ok x
+with_value x (Err e) = Err e
+
+-- the answer is the one that is meant, or memory ran out
+abbrev pub IsUnlessMemory : {X : Type 0} → Result X CsvFault → Result X CsvFault → Type 0
+IsUnlessMemory (Ok x) meant = meant ≡ Ok x
+IsUnlessMemory (Err e) meant = e ≢ fault.NoMemory → meant ≡ Err e

@@ -1,5 +1,7 @@
 pub mod Numbers
+pub mod ByteOrderMarks
 pub mod Faults
+pub mod Layouts
 pub mod Header
 pub mod Block
 pub mod Reading

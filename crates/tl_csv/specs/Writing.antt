@@ -5,8 +5,8 @@ use Rattle.csv.specs.Writing.{default_writer, fields_written, has_written, with_
 use Rattle.csv.specs.declared.writer.Writer.{Writer}
 
 -- what a writer over bytes has written
-abbrev pub written : Writer (Vec ℕ) → List ℕ
-written writer = (writer_under writer).items ++ writer_pending writer
+abbrev pub bytes_written : Writer (Vec ℕ) → List ℕ
+bytes_written writer = (writer_under writer).items ++ writer_pending writer
 
 -- the writer writes by the defaults, takes rows of any length, and stands between two rows
 pub record IsWriting (writer : Writer (Vec ℕ)) : Type 0 where

@@ -4,7 +4,7 @@ ghost use Rattle.std.specs.String.{string_bytes};
 ghost use Rattle.csv.specs.Records.{fields_of, partial_of};
 ghost use Rattle.csv.specs.Writing.{default_writer, row_text};
 ghost use Rattle.tl_csv.specs.Answers.{answer_row, answer_text, field_text};
-ghost use Rattle.tl_csv.specs.Writing.{written, IsWriting};
+ghost use Rattle.tl_csv.specs.Writing.{bytes_written, IsWriting};
 
 use csv::{ByteRecord, Writer, WriterBuilder};
 use std::alloc::{AllocError, Global};
@@ -24,7 +24,8 @@ fn field_text(alloc: Global, field: &Field) -> Result<String, AllocError>
 
 fn put_field(alloc: Global, row: &mut ByteRecord, field: &Field) -> Result<(), AllocError>
     requires { partial_of row.old ≡ [] }
-    ensures fields { OnOk result (fields_of row.new ≡ fields_of row.old ++ field_text field.now ∷ []) }
+    ensures fields { OnOk result
+        (fields_of row.new ≡ fields_of row.old ++ field_text field.now ∷ []) }
     ensures ended { OnOk result (partial_of row.new ≡ []) }
 {
     let text = field_text(alloc, field)?;
@@ -45,7 +46,7 @@ fn put_fields(alloc: Global, row: &mut ByteRecord, fields: &[Field]) -> Result<(
 
 // A writer of rows of any length.
 fn writer_of(alloc: Global) -> Writer<Vec<u8>>
-    ensures empty { written result ≡ [] }
+    ensures empty { bytes_written result ≡ [] }
     ensures writing { IsWriting result }
 {
     WriterBuilder::new()
@@ -55,7 +56,8 @@ fn writer_of(alloc: Global) -> Writer<Vec<u8>>
 
 fn write_row(writer: &mut Writer<Vec<u8>>, row: &ByteRecord) -> Result<(), AllocError>
     requires { IsWriting writer.old }
-    ensures row { OnOk result (written writer.new ≡ written writer.old ++ row_text default_writer (fields_of row.now)) }
+    ensures row { OnOk result (bytes_written writer.new
+        ≡ bytes_written writer.old ++ row_text default_writer (fields_of row.now)) }
     ensures writing { OnOk result (IsWriting writer.new) }
 {
     let Ok(()) = writer.write_byte_record(row) else {
@@ -64,8 +66,8 @@ fn write_row(writer: &mut Writer<Vec<u8>>, row: &ByteRecord) -> Result<(), Alloc
     Ok(())
 }
 
-fn finished(writer: Writer<Vec<u8>>) -> Result<Bytes, AllocError>
-    ensures { IfOk result (λ bytes. bytes ≡ written writer) }
+fn bytes_of(writer: Writer<Vec<u8>>) -> Result<Bytes, AllocError>
+    ensures { IfOk result (λ bytes. bytes ≡ bytes_written writer) }
 {
     match writer.into_inner() {
         Ok(text) => Ok(Bytes::from_vec(text)),
@@ -73,10 +75,10 @@ fn finished(writer: Writer<Vec<u8>>) -> Result<Bytes, AllocError>
     }
 }
 
-/// The rows of an answer as csv's default writer writes them: fields parted by commas, each row ended by LF, and
-/// a field in double quotes where it needs them. A number is written in decimal, a text as it is, a mean as its sum,
-/// `/` and its count, the value over no row as an empty field, and an end that does not come as FOREVER. The error
-/// is want of memory.
+/// The rows of an answer as csv's default writer writes them: fields separated by commas, each row
+/// ended by LF, and a field in double quotes where it needs them. A number is written in decimal, a
+/// text as it is, a mean as its sum, `/` and its count, the value over no row as an empty field,
+/// and an end that does not come as FOREVER. The error is `NoMemory`.
 pub fn answer_bytes(alloc: Global, answer: &Answer) -> Result<Bytes, NoMemory>
     ensures { IfOk result (λ bytes. bytes ≡ answer_text answer.now) }
 {
@@ -86,5 +88,5 @@ pub fn answer_bytes(alloc: Global, answer: &Answer) -> Result<Bytes, NoMemory>
         put_fields(alloc, &mut row, fields.as_slice())?;
         write_row(&mut writer, &row)?;
     }
-    finished(writer)
+    bytes_of(writer)
 }

@@ -1,13 +1,13 @@
 //! The cell of a field.
-ghost use Rattle.std.specs.Prelude.{◌≡◌, ◌≤◌, ◌<◌, ◌+◌, ◌^◌, IfOk, None, length};
-ghost use Rattle.tl_csv.specs.Faults.{fault_of};
+ghost use Rattle.std.specs.Prelude.{◌≡◌, ◌≤◌, ◌<◌, ◌+◌, ◌^◌};
+ghost use Rattle.tl_csv.specs.Faults.{IsUnlessMemory};
 ghost use Rattle.tl_csv.specs.Block.{cell_of, int_cell};
 
 use crate::faults::CsvFault;
 use crate::needs::FieldKind;
-use crate::numbers::{end_of, number_of};
+use crate::numbers::{end_of, integer_of};
 use crate::records::text_of;
-use std::alloc::{AllocError, Global};
+use std::alloc::Global;
 use tl_types::{Cell, ColumnKind, Limits, Text};
 
 fn int_cell(rec: u32, place: usize, number: Option<i64>) -> Result<Cell, CsvFault>
@@ -23,7 +23,8 @@ fn int_cell(rec: u32, place: usize, number: Option<i64>) -> Result<Cell, CsvFaul
     }
 }
 
-/// The cell of the field at a place (from 0) of a record, which is of this kind; an end of a period as a number.
+/// The cell of the field at a place (from 0) of a record, which is of this kind; an end of a period
+/// as a number. The error is the field's fault, or `NoMemory`.
 pub fn cell_of(
     alloc: Global,
     limits: &Limits,
@@ -31,48 +32,22 @@ pub fn cell_of(
     place: usize,
     kind: FieldKind,
     field: &[u8],
-) -> Result<Result<Cell, CsvFault>, AllocError>
+) -> Result<Cell, CsvFault>
     requires short { limits.now.text ≤ 65535 }
     requires within { place + 1 < 2 ^ 64 }
-    ensures { IfOk result (λ cell. cell ≡ cell_of limits.now rec place kind field.now) }
+    ensures { IsUnlessMemory result (cell_of limits.now rec place kind field.now) }
 {
     let column = place as u64 + 1;
     let Some(text) = text_of(field) else {
-        return Ok(Err(CsvFault::NotUtf8 { rec, column }));
+        return Err(CsvFault::NotUtf8 { rec, column });
     };
     match kind {
-        FieldKind::From => Ok(int_cell(rec, place, number_of(text))),
-        FieldKind::To => Ok(int_cell(rec, place, end_of(text))),
-        FieldKind::Cell(ColumnKind::IntKind) => Ok(int_cell(rec, place, number_of(text))),
+        FieldKind::From => int_cell(rec, place, integer_of(text)),
+        FieldKind::To => int_cell(rec, place, end_of(text)),
+        FieldKind::Cell(ColumnKind::IntKind) => int_cell(rec, place, integer_of(text)),
         FieldKind::Cell(ColumnKind::TextKind) if text.len() as u64 > limits.text => {
-            Ok(Err(CsvFault::TextTooLong { rec, column }))
+            Err(CsvFault::TextTooLong { rec, column })
         }
-        FieldKind::Cell(ColumnKind::TextKind) => Ok(Ok(Cell::Text(Text::new(alloc, text)?))),
-    }
-}
-
-/// The fault of the field at a place (from 0) of a record, which is of this kind, where it has one.
-pub fn field_fault(
-    limits: &Limits,
-    rec: u32,
-    place: usize,
-    kind: FieldKind,
-    field: &[u8],
-) -> Option<CsvFault>
-    requires { place + 1 < 2 ^ 64 }
-    ensures { result ≡ fault_of (cell_of limits.now rec place kind field.now) }
-{
-    let column = place as u64 + 1;
-    let Some(text) = text_of(field) else {
-        return Some(CsvFault::NotUtf8 { rec, column });
-    };
-    match kind {
-        FieldKind::From => int_cell(rec, place, number_of(text)).err(),
-        FieldKind::To => int_cell(rec, place, end_of(text)).err(),
-        FieldKind::Cell(ColumnKind::IntKind) => int_cell(rec, place, number_of(text)).err(),
-        FieldKind::Cell(ColumnKind::TextKind) if text.len() as u64 > limits.text => {
-            Some(CsvFault::TextTooLong { rec, column })
-        }
-        FieldKind::Cell(ColumnKind::TextKind) => None,
+        FieldKind::Cell(ColumnKind::TextKind) => Ok(Cell::Text(Text::new(alloc, text)?)),
     }
 }

@@ -1,35 +1,18 @@
 //! What the header of a block names.
-ghost use Rattle.std.specs.Prelude.{◌≡◌, ◌≤◌, ◌<◌, ◌+◌, ◌^◌, IfOk, IfSome, length, drop, take};
+ghost use Rattle.std.specs.Prelude.{◌≡◌, ◌≤◌, ◌<◌, ◌+◌, ◌^◌, OnOk, length, take, true};
 ghost use Rattle.csv.specs.Records.{fields_of};
-ghost use Rattle.tl_csv.specs.Faults.{each_from};
-ghost use Rattle.tl_csv.specs.Header.{kind_at, layout_of, not_utf8, place_of, placed_at, is_named};
+ghost use Rattle.tl_csv.specs.Faults.{IsUnlessMemory};
+ghost use Rattle.tl_types.specs.Facts.{are_distinct, names_of};
+ghost use Rattle.tl_csv.specs.Header.{columns_of, is_named, kind_at, kinds_of, layout_of, not_utf8};
+ghost use Rattle.tl_csv.specs.Header.{period_at, place_named, place_of, places_of};
 
 use crate::faults::CsvFault;
-use crate::needs::{FieldKind, Needed, Wanted, kind_needed};
+use crate::layouts::{Layout, PeriodPlaces};
+use crate::needs::{BatchKind, FieldKind, columns_of, kind_needed};
 use crate::records::{next_field, text_of};
 use csv::ByteRecord;
-use std::alloc::{AllocError, Global};
-use tl_types::Seq;
-
-/// A field that the batch needs, and its place in each record, from 0.
-#[derive(Clone, Copy, Debug, PartialEq, Eq)]
-pub struct Placed {
-    /// What the field is.
-    pub kind: FieldKind,
-    /// The place of the field.
-    pub place: usize,
-}
-
-/// How the records behind a header are laid out.
-#[derive(Debug, Drop, PartialEq, Eq)]
-pub struct Layout {
-    /// What each field of a record is, in the order of the header.
-    pub kinds: Seq<FieldKind>,
-    /// The columns whose cells the batch gives, in the order of the table.
-    pub columns: Seq<Placed>,
-    /// The two ends of a period, where the table has valid time.
-    pub times: Seq<Placed>,
-}
+use std::alloc::Global;
+use tl_types::{Column, Schema, Seq};
 
 #[tactic(auto, using(crate::proofs::HeaderLemmas::fault_place))]
 fn not_utf8(header: &ByteRecord) -> Option<CsvFault>
@@ -61,7 +44,7 @@ fn place_of(header: &ByteRecord, name: &[u8]) -> Option<usize>
 }
 
 // Whether the name stands before place `i` (from 0) of the header.
-#[tactic(auto, using(crate::proofs::HeaderLemmas::placed_before, crate::proofs::HeaderLemmas::unplaced_before))]
+#[tactic(auto, using(crate::proofs::HeaderLemmas::before_place))]
 fn is_named_before(header: &ByteRecord, i: usize, name: &[u8]) -> bool
     ensures { result ≡ is_named name.now (take i (fields_of header.now)) }
 {
@@ -72,106 +55,101 @@ fn is_named_before(header: &ByteRecord, i: usize, name: &[u8]) -> bool
 }
 
 fn kind_at(
-    needed: &Needed,
+    schema: &Schema,
+    kind: BatchKind,
     header: &ByteRecord,
     i: usize,
     name: &[u8],
 ) -> Result<FieldKind, CsvFault>
     requires { i + 1 < 2 ^ 64 }
-    ensures { result ≡ kind_at needed.now (fields_of header.now) i name.now }
+    ensures { result ≡ kind_at schema.now kind (fields_of header.now) i name.now }
 {
     let column = i as u64 + 1;
-    match kind_needed(needed, name) {
+    match kind_needed(schema, kind, name) {
         None => Err(CsvFault::HeaderName { column }),
         Some(_) if is_named_before(header, i, name) => Err(CsvFault::HeaderTwice { column }),
-        Some(kind) => Ok(kind),
+        Some(found) => Ok(found),
     }
 }
 
-#[tactic(auto, using(crate::proofs::FaultLemmas::one_behind, crate::proofs::FaultLemmas::fault_behind))]
+// What each field of the records is.
+#[tactic(auto, using(crate::proofs::FaultLemmas::behind_steps))]
 fn kinds_of(
     alloc: Global,
-    needed: &Needed,
+    schema: &Schema,
+    kind: BatchKind,
     header: &ByteRecord,
-) -> Result<Result<Seq<FieldKind>, CsvFault>, AllocError>
-    ensures { IfOk result (λ kinds. kinds ≡ each_from (kind_at needed.now (fields_of header.now)) 0 (fields_of header.now)) }
+) -> Result<Seq<FieldKind>, CsvFault>
+    ensures { IsUnlessMemory result (kinds_of schema.now kind (fields_of header.now)) }
 {
     let mut kinds = Seq::new(alloc);
     while let Some(name) = next_field(header, kinds.len()) {
-        match kind_at(needed, header, kinds.len(), name) {
-            Ok(kind) => kinds.push(kind)?,
-            Err(fault) => return Ok(Err(fault)),
-        }
+        kinds.push(kind_at(schema, kind, header, kinds.len(), name)?)?;
     }
-    Ok(Ok(kinds))
+    Ok(kinds)
 }
 
-fn placed_at(header: &ByteRecord, i: usize, wanted: &Wanted) -> Result<Placed, CsvFault>
+// Where the needed field with the name stands, before which `i` fields are needed.
+fn place_named(header: &ByteRecord, i: usize, name: &[u8]) -> Result<usize, CsvFault>
     requires { i + 1 < 2 ^ 64 }
-    ensures { result ≡ placed_at (fields_of header.now) i wanted.now }
+    ensures { result ≡ place_named (fields_of header.now) i name.now }
 {
-    match place_of(header, wanted.name.as_bytes()) {
+    match place_of(header, name) {
         None => Err(CsvFault::HeaderMissing {
             column: i as u64 + 1,
         }),
-        Some(place) => Ok(Placed {
-            kind: wanted.kind,
-            place,
-        }),
+        Some(place) => Ok(place),
     }
 }
 
-// The needed fields with their places, where `first` others come before them.
-#[tactic(auto, using(crate::proofs::FaultLemmas::one_behind, crate::proofs::FaultLemmas::fault_behind))]
-fn placed_of(
-    alloc: Global,
-    wanted: &[Wanted],
-    header: &ByteRecord,
-    first: usize,
-) -> Result<Result<Seq<Placed>, CsvFault>, AllocError>
-    requires { first ≤ 16 }
-    ensures placed { IfOk result (λ placed. placed ≡ each_from (placed_at (fields_of header.now)) first wanted.now) }
-    ensures number { IfOk result (λ placed. IfOk placed (λ ps. length ps ≡ length wanted.now)) }
+// Where the columns stand.
+#[tactic(auto, using(crate::proofs::FaultLemmas::behind_steps))]
+fn places_of(alloc: Global, columns: &[Column], header: &ByteRecord) -> Result<Seq<usize>, CsvFault>
+    ensures { IsUnlessMemory result (places_of (fields_of header.now) columns.now) }
 {
-    let mut placed = Seq::new(alloc);
-    let mut rest = wanted;
+    let mut places = Seq::new(alloc);
+    let mut rest = columns;
     'columns: while let [column, behind @ ..] = rest {
-        match placed_at(header, first + placed.len(), column) {
-            Ok(found) => placed.push(found)?,
-            Err(fault) => return Ok(Err(fault)),
-        }
+        places.push(place_named(header, places.len(), column.name.as_bytes())?)?;
         rest = behind;
     }
-    Ok(Ok(placed))
+    Ok(places)
 }
 
-/// The layout that a header gives the records behind it, or the header's first fault.
+// Where the ends of the period stand, before which `columns` fields are needed.
+fn period_at(
+    header: &ByteRecord,
+    columns: usize,
+    valid: bool,
+) -> Result<Option<PeriodPlaces>, CsvFault>
+    requires { columns ≤ 16 }
+    ensures { result ≡ period_at (fields_of header.now) columns valid }
+{
+    if !valid {
+        return Ok(None);
+    }
+    let from = place_named(header, columns, b"valid_from")?;
+    let to = place_named(header, columns + 1, b"valid_to")?;
+    Ok(Some(PeriodPlaces { from, to }))
+}
+
+/// The layout that a header gives the records behind it. The error is the header's first fault, or
+/// `NoMemory`.
 pub fn layout_of(
     alloc: Global,
-    needed: &Needed,
+    schema: &Schema,
+    kind: BatchKind,
     header: &ByteRecord,
-) -> Result<Result<Layout, CsvFault>, AllocError>
-    requires { length needed.now.columns ≤ 16 }
-    ensures layout { IfOk result (λ layout. layout ≡ layout_of needed.now (fields_of header.now)) }
-    ensures number { IfOk result (λ layout. IfOk layout (λ a. length a.columns ≡ length needed.now.columns)) }
+) -> Result<Layout, CsvFault>
+    ensures layout { IsUnlessMemory result (layout_of schema.now kind (fields_of header.now)) }
+    ensures some { OnOk result (1 ≤ length (columns_of schema.now kind)) }
+    ensures distinct { OnOk result (are_distinct (names_of (columns_of schema.now kind)) ≡ true) }
 {
     if let Some(fault) = not_utf8(header) {
-        return Ok(Err(fault));
+        return Err(fault);
     }
-    let kinds = match kinds_of(alloc, needed, header)? {
-        Ok(kinds) => kinds,
-        Err(fault) => return Ok(Err(fault)),
-    };
-    let columns = match placed_of(alloc, needed.columns.as_slice(), header, 0)? {
-        Ok(columns) => columns,
-        Err(fault) => return Ok(Err(fault)),
-    };
-    match placed_of(alloc, needed.times.as_slice(), header, columns.len())? {
-        Ok(times) => Ok(Ok(Layout {
-            kinds,
-            columns,
-            times,
-        })),
-        Err(fault) => Ok(Err(fault)),
-    }
+    let kinds = kinds_of(alloc, schema, kind, header)?;
+    let columns = places_of(alloc, columns_of(schema, kind), header)?;
+    let period = period_at(header, columns.len(), schema.valid())?;
+    Ok(Layout::new(kinds, columns, period))
 }

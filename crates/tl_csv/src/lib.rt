@@ -1,18 +1,20 @@
-// Blocks of CSV as batches: the records that csv's default reader gives for a block, without its byte order
-// marks, are a header and the rows or removals of a batch, or have a first fault. Answers are written as rows of
-// CSV.
+//! Blocks of CSV as batches: the records that csv's default reader gives for a block, without its
+//! byte order marks, are a header and the rows or removals of a batch, or have a first fault.
+//! Answers are written as rows of CSV.
 #![tactic(auto)]
 
 mod answers;
 mod batches;
+mod byte_order_marks;
 mod cells;
 mod faults;
 mod headers;
-mod marks;
+mod layouts;
 mod needs;
 mod numbers;
 mod reading;
 mod records;
+mod rows;
 mod samples;
 #[cfg(test)]
 mod tests;

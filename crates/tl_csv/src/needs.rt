@@ -1,14 +1,16 @@
-//! What a block has to name: the columns whose cells a batch gives, and the period of a table with valid time.
-ghost use Rattle.std.specs.Prelude.{◌≡◌, ◌≤◌, length, map, IfOk, None};
-ghost use Rattle.tl_csv.specs.Header.{columns_of, column_wanted, times_wanted, needed_of, kind_named, kind_needed};
+//! What a block has to name: the columns whose cells a batch gives, and behind them the two ends of
+//! a period in a table with valid time.
+ghost use Rattle.std.specs.Prelude.{◌≡◌, ◌≤◌, true, length};
+ghost use Rattle.tl_types.specs.Facts.{are_distinct, names_of};
+ghost use Rattle.tl_csv.specs.Header.{column_kind, columns_of, end_kind, kind_needed, period_kind};
 
-use std::alloc::{AllocError, Global};
-use tl_types::{Column, ColumnKind, Schema, Seq, Text};
+use tl_types::{Column, ColumnKind, Schema};
 
 /// What a block is read as.
 #[derive(Clone, Copy, Debug, PartialEq, Eq)]
 pub enum BatchKind {
-    /// Rows that take the place of the open rows of their keys, in a table with valid time for their periods alone.
+    /// Rows that take the place of the open rows of their keys, in a table with valid time for
+    /// their periods alone.
     PutKind,
     /// Keys whose open rows are closed, in a table with valid time for their periods alone.
     RemoveKind,
@@ -25,29 +27,13 @@ pub enum FieldKind {
     To,
 }
 
-/// A field that a batch needs.
-#[derive(Debug, Drop, PartialEq, Eq)]
-pub struct Wanted {
-    /// Its name in the header.
-    pub name: Text,
-    /// What it is.
-    pub kind: FieldKind,
-}
-
-/// The fields that a batch needs.
-#[derive(Debug, Drop, PartialEq, Eq)]
-pub struct Needed {
-    /// The columns, in the order of the table.
-    pub columns: Seq<Wanted>,
-    /// The two ends of a period, where the table has valid time.
-    pub times: Seq<Wanted>,
-}
-
-// The columns whose cells a batch gives: all, or the key alone.
-fn columns_of(schema: &Schema, kind: BatchKind) -> &[Column]
+/// The columns whose cells a batch gives: all, or the key alone.
+#[tactic(auto, using(crate::proofs::NameLemmas::distinct_names))]
+pub fn columns_of(schema: &Schema, kind: BatchKind) -> &[Column]
     ensures columns { result.now ≡ columns_of schema.now kind }
     ensures some { 1 ≤ length result.now }
     ensures few { length result.now ≤ 16 }
+    ensures distinct { are_distinct (names_of result.now) ≡ true }
 {
     match kind {
         BatchKind::PutKind => schema.columns(),
@@ -59,66 +45,41 @@ fn columns_of(schema: &Schema, kind: BatchKind) -> &[Column]
     }
 }
 
-fn columns_wanted(alloc: Global, columns: &[Column]) -> Result<Seq<Wanted>, AllocError>
-    ensures { IfOk result (λ wanted. wanted ≡ map column_wanted columns.now) }
+fn column_kind(columns: &[Column], name: &[u8]) -> Option<FieldKind>
+    ensures { result ≡ column_kind columns.now name.now }
 {
-    let mut wanted = Seq::new(alloc);
-    for column in columns {
-        wanted.push(Wanted {
-            name: column.name.clone()?,
-            kind: FieldKind::Cell(column.kind),
-        })?;
-    }
-    Ok(wanted)
-}
-
-fn times_wanted(alloc: Global, valid: bool) -> Result<Seq<Wanted>, AllocError>
-    ensures { IfOk result (λ wanted. wanted ≡ times_wanted valid) }
-{
-    let mut wanted = Seq::new(alloc);
-    if valid {
-        wanted.push(Wanted {
-            name: Text::new(alloc, "valid_from")?,
-            kind: FieldKind::From,
-        })?;
-        wanted.push(Wanted {
-            name: Text::new(alloc, "valid_to")?,
-            kind: FieldKind::To,
-        })?;
-    }
-    Ok(wanted)
-}
-
-/// The fields that a batch of this kind needs for a table of this schema.
-pub fn needed_of(alloc: Global, schema: &Schema, kind: BatchKind) -> Result<Needed, AllocError>
-    ensures needed { IfOk result (λ needed. needed ≡ needed_of schema.now kind) }
-    ensures some { 1 ≤ length (columns_of schema.now kind) }
-    ensures few { length (columns_of schema.now kind) ≤ 16 }
-    ensures number { IfOk result (λ needed. length needed.columns ≡ length (columns_of schema.now kind)) }
-{
-    Ok(Needed {
-        columns: columns_wanted(alloc, columns_of(schema, kind))?,
-        times: times_wanted(alloc, schema.valid())?,
-    })
-}
-
-fn kind_named(wanted: &[Wanted], name: &[u8]) -> Option<FieldKind>
-    ensures { result ≡ kind_named wanted.now name.now }
-{
-    match wanted {
+    match columns {
         [] => None,
-        [first, ..] if first.name.as_bytes() == name => Some(first.kind),
-        [_, rest @ ..] => kind_named(rest, name),
+        [first, ..] if first.name.as_bytes() == name => Some(FieldKind::Cell(first.kind)),
+        [_, rest @ ..] => column_kind(rest, name),
     }
 }
 
-/// What the field with the name is, where it is one that the batch needs.
-#[tactic(auto, using(crate::proofs::HeaderLemmas::kind_among))]
-pub fn kind_needed(needed: &Needed, name: &[u8]) -> Option<FieldKind>
-    ensures { result ≡ kind_needed needed.now name.now }
+fn end_kind(name: &[u8]) -> Option<FieldKind>
+    ensures { result ≡ end_kind name.now }
 {
-    match kind_named(needed.columns.as_slice(), name) {
-        Some(kind) => Some(kind),
-        None => kind_named(needed.times.as_slice(), name),
+    if b"valid_from".as_slice() == name {
+        return Some(FieldKind::From);
+    }
+    if b"valid_to".as_slice() == name {
+        return Some(FieldKind::To);
+    }
+    None
+}
+
+fn period_kind(valid: bool, name: &[u8]) -> Option<FieldKind>
+    ensures { result ≡ period_kind valid name.now }
+{
+    if valid { end_kind(name) } else { None }
+}
+
+/// What a field with the name is, where it is one that a batch of the kind needs for a table of the
+/// schema.
+pub fn kind_needed(schema: &Schema, kind: BatchKind, name: &[u8]) -> Option<FieldKind>
+    ensures { result ≡ kind_needed schema.now kind name.now }
+{
+    match column_kind(columns_of(schema, kind), name) {
+        Some(found) => Some(found),
+        None => period_kind(schema.valid(), name),
     }
 }

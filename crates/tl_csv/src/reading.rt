@@ -1,34 +1,42 @@
 //! The records of a block, one after the other.
-ghost use Rattle.std.specs.Prelude.{◌≡◌, ◌∷◌, [], true, false, IfOk, OnOk, Some};
+ghost use Rattle.std.specs.Prelude.{◌≡◌, ◌∷◌, [], true, false, IfOk};
 ghost use Rattle.csv.specs.Records.{fields_of};
-ghost use Rattle.csv.specs.Reading.{default_config, records};
-ghost use Rattle.tl_csv.specs.Block.{without_marks};
-ghost use Rattle.tl_csv.specs.Reading.{left, IsReading};
+ghost use Rattle.csv.specs.Reading.{error_kind, NotLengths};
+ghost use Rattle.tl_csv.specs.Block.{records_of};
+ghost use Rattle.tl_csv.specs.Reading.{records_left, IsReading};
 
-use crate::marks::without_marks;
-use csv::{ByteRecord, Reader, ReaderBuilder};
+use crate::byte_order_marks::past_byte_order_marks;
+use csv::{ByteRecord, Error, Reader, ReaderBuilder};
 use std::alloc::{AllocError, Global};
 
-/// A reader of the records of a block past its byte order marks.
+/// A reader of the records of a block past its byte order marks, which may be of any length.
 pub fn reader_of(alloc: Global, block: &[u8]) -> Reader<&[u8]>
-    ensures whole { left result ≡ records default_config (without_marks block.now) }
+    ensures whole { records_left result ≡ records_of block.now }
     ensures reading { IsReading result }
 {
     ReaderBuilder::new()
         .has_headers(false)
         .flexible(true)
-        .from_reader(alloc, without_marks(block))
+        .from_reader(alloc, past_byte_order_marks(block))
+}
+
+// What an error of a reader over bytes means that takes records of any length: out of memory.
+fn out_of_memory(_error: Error) -> AllocError
+    requires { NotLengths (error_kind _error) }
+{
+    AllocError
 }
 
 /// Reads the next record into `row`, and answers whether there was one.
 pub fn next_record(reader: &mut Reader<&[u8]>, row: &mut ByteRecord) -> Result<bool, AllocError>
     requires { IsReading reader.old }
-    ensures found { IfOk result (λ found. found ≡ true → left reader.old ≡ fields_of row.new ∷ left reader.new) }
-    ensures ended { IfOk result (λ found. found ≡ false → left reader.old ≡ []) }
+    ensures found { IfOk result (λ found. found ≡ true →
+        records_left reader.old ≡ fields_of row.new ∷ records_left reader.new) }
+    ensures ended { IfOk result (λ found. found ≡ false → records_left reader.old ≡ []) }
     ensures reading { IfOk result (λ found. found ≡ true → IsReading reader.new) }
 {
-    let Ok(found) = reader.read_byte_record(row) else {
-        return Err(AllocError);
-    };
-    Ok(found)
+    match reader.read_byte_record(row) {
+        Ok(found) => Ok(found),
+        Err(error) => Err(out_of_memory(error)),
+    }
 }

@@ -1,5 +1,6 @@
 //! The fields of a record.
-ghost use Rattle.std.specs.Prelude.{◌≡◌, ◌<◌, ◌+◌, ◌^◌, ◌∷◌, [], true, false, None, IfSome, length, drop, slice_get};
+ghost use Rattle.std.specs.Prelude.{◌≡◌, ◌<◌, ◌+◌, ◌^◌, ◌∷◌, [], true, false, None, IfSome, length};
+ghost use Rattle.std.specs.Prelude.{drop, slice_get};
 ghost use Rattle.std.specs.Option.{option_map};
 ghost use Rattle.std.specs.Str.{is_utf8};
 ghost use Rattle.csv.specs.Records.{fields_of};
@@ -15,9 +16,10 @@ pub fn field(row: &ByteRecord, place: usize) -> Option<&[u8]>
 }
 
 /// The same, and the fields from there on.
-#[tactic(auto, using(crate::proofs::FaultLemmas::drop_at, crate::proofs::FaultLemmas::drop_past, crate::proofs::FaultLemmas::within))]
+#[tactic(auto, using(crate::proofs::FaultLemmas::at_places))]
 pub fn next_field(row: &ByteRecord, place: usize) -> Option<&[u8]>
-    ensures found { IfSome result (λ f. drop place (fields_of row.now) ≡ f.now ∷ drop (place + 1) (fields_of row.now)) }
+    ensures found { IfSome result (λ f.
+        drop place (fields_of row.now) ≡ f.now ∷ drop (place + 1) (fields_of row.now)) }
     ensures past { result ≡ None → drop place (fields_of row.now) ≡ [] }
     ensures within { IfSome result (λ f. place < length (fields_of row.now)) }
     ensures counted { IfSome result (λ f. place + 1 < 2 ^ 64) }

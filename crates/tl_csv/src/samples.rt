@@ -1,7 +1,9 @@
-//! The blocks of the sample: as many lines as are asked for, with numbers of a linear congruential generator.
+//! The blocks of the sample: as many lines as are asked for, with numbers of a linear congruential
+//! generator.
 ghost use Rattle.std.specs.Prelude.{◌≡◌, ◌≤◌, ◌<◌, ◌+◌, ◌-◌, ◌++◌, ◌^◌, IfOk, OnOk, OnErr};
 ghost use Rattle.std.specs.String.{string_bytes};
-ghost use Rattle.tl_csv.specs.Sample.{block_end, block_of, drawn, id_of, line_text, lines_from};
+ghost use Rattle.tl_csv.specs.Sample.{block_end, block_of, nth_number, id_of, line_text};
+ghost use Rattle.tl_csv.specs.Sample.{lines_from};
 
 use std::alloc::{AllocError, Global};
 use std::marker::Model;
@@ -9,13 +11,13 @@ use tl_types::{Bytes, NoMemory};
 
 const LINES_OF_A_BLOCK: u32 = 10_000;
 
-// The numbers drawn so far, of which `last` is the last.
+// The numbers so far, of which `last` is the last.
 #[derive(Clone, Copy)]
 struct Draw {
     start: u64,
     count: u32,
     last: u32,
-    ghost right: { last ≡ drawn start count },
+    ghost right: { last ≡ nth_number start count },
 }
 
 impl Draw {
@@ -33,7 +35,7 @@ impl Draw {
     #[tactic(auto, using(crate::proofs::SampleLemmas::drawn_next))]
     fn next(&mut self) -> u32
         requires { self.old.count + 1 < 2 ^ 32 }
-        ensures value { result ≡ drawn self.old.start (self.old.count + 1) }
+        ensures value { result ≡ nth_number self.old.start (self.old.count + 1) }
         ensures count { self.new.count ≡ self.old.count + 1 }
         ensures start { self.new.start ≡ self.old.start }
     {
@@ -66,7 +68,8 @@ fn put_line(alloc: Global, out: &mut Vec<u8>, id: u32, value: u32) -> Result<(),
 #[tactic(auto, using(crate::proofs::SampleLemmas::one_line, crate::proofs::SampleLemmas::no_line))]
 fn put_lines(alloc: Global, out: &mut Vec<u8>, draw: &mut Draw, to: u32) -> Result<(), AllocError>
     requires { draw.old.count ≤ to }
-    ensures lines { OnOk result (out.new.items ≡ out.old.items ++ lines_from draw.old.start draw.old.count (to - draw.old.count)) }
+    ensures lines { OnOk result (out.new.items
+        ≡ out.old.items ++ lines_from draw.old.start draw.old.count (to - draw.old.count)) }
     ensures count { OnOk result (draw.new.count ≡ to) }
     ensures start { OnOk result (draw.new.start ≡ draw.old.start) }
 {
@@ -78,9 +81,10 @@ fn put_lines(alloc: Global, out: &mut Vec<u8>, draw: &mut Draw, to: u32) -> Resu
     Ok(())
 }
 
-/// A sample of lines `id,grp,val`, given in blocks of 10,000. `val` is the next number of the generator
-/// x -> (1103515245 x + 12345) mod 2^31, divided by 65,536, and `grp` is `val` mod 8. The ids of a block are in a
-/// row, and those of the next one begin 5,000 further on, so half of a full block has ids of the block before it.
+/// A sample of lines `id,grp,val`, given in blocks of 10,000. `val` is the next number of the
+/// generator x -> (1103515245 x + 12345) mod 2^31, divided by 65,536, and `grp` is `val` mod 8. The
+/// ids of a block are in a row, and those of the next one begin 5,000 further on, so half of a full
+/// block has ids of the block before it.
 #[derive(Drop)]
 pub struct Sample {
     lines: u32,
@@ -99,8 +103,8 @@ impl Model for Sample {
 }
 
 impl Sample {
-    /// A sample of `n` lines before its first block. The generator begins with `start` mod 2^31, and the
-    /// first line has the number after it.
+    /// A sample of `n` lines before its first block. The generator begins with `start` mod 2^31,
+    /// and the first line has the number after it.
     pub fn new(n: u32, start: u64) -> Sample
         ensures { result ≡ record { lines = n; start = start; given = 0 } }
     {
@@ -121,8 +125,8 @@ impl Sample {
             .min(self.lines)
     }
 
-    /// The next block: the header and up to 10,000 lines, each ended by LF. `None` exactly where all lines were
-    /// given. The error is want of memory, and leaves the sample as it was.
+    /// The next block: the header and up to 10,000 lines, each ended by LF. `None` exactly where
+    /// all lines were given. The error is `NoMemory`, and leaves the sample as it was.
     pub fn next_block(&mut self, alloc: Global) -> Result<Option<Bytes>, NoMemory>
         ensures block { IfOk result (λ block. block ≡ block_of self.old) }
         ensures given { OnOk result (self.new ≡ record self.old { given = block_end self.old }) }

@@ -1,11 +1,11 @@
 use Rattle.std.proofs.Common.{◌≡◌, take}
 use Rattle.std.specs.List.{flat_map}
 use Rattle.tl_csv.specs.Answers.{answer_row}
-use Rattle.tl_csv.specs.Writing.{written, IsWriting}
+use Rattle.tl_csv.specs.Writing.{bytes_written, IsWriting}
 use Rattle.tl_csv.proofs.answers.answer_bytes.Given as goal
 
 abbrev pub invariant-loop-fields : goal.invariant-loop-fields
 invariant-loop-fields l = record {
-  rows : written l.writer ≡ flat_map answer_row (take l.fields-index l.answer.rows);
+  rows : bytes_written l.writer ≡ flat_map answer_row (take l.fields-index l.answer.rows);
   writing : IsWriting l.writer;
 }

@@ -6,7 +6,9 @@ use Rattle.tl_csv.proofs.FaultLemmas.{behind}
 use Rattle.tl_csv.proofs.headers.kinds_of.Given as goal
 
 abbrev pub invariant-loop-name : goal.invariant-loop-name
-invariant-loop-name l = behind l.kinds (each_from (kind_at l.needed (fields_of l.header)) (length l.kinds) (drop (length l.kinds) (fields_of l.header))) ≡ each_from (kind_at l.needed (fields_of l.header)) 0 (fields_of l.header)
+invariant-loop-name l =
+    behind l.kinds (each_from (kind_at l.schema l.kind (fields_of l.header)) (length l.kinds) (drop (length l.kinds) (fields_of l.header)))
+    ≡ each_from (kind_at l.schema l.kind (fields_of l.header)) 0 (fields_of l.header)
 
 abbrev pub decreases-loop-name : goal.decreases-loop-name
 decreases-loop-name l = length (fields_of l.header) - length l.kinds

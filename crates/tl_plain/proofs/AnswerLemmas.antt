@@ -10,13 +10,13 @@ use Rattle.tl_query.specs.declared.ast.AggKind.{AggKind}
 use Rattle.tl_query.specs.declared.typed_queries.Span.{Span}
 use Rattle.tl_query.specs.declared.typed_queries.Span.TheVariants as span
 use Rattle.tl_query.specs.declared.typed_queries.TypedPred.{TypedPred}
-use Rattle.tl_query.specs.declared.typed_queries.TypedTest.{TypedTest}
-use Rattle.tl_query.specs.Passing.{passes, passes_all}
+use Rattle.tl_query.specs.Passing.{passes}
 use Rattle.tl_query.specs.Ordered.{values_of, in_order, pair_before}
 use Rattle.tl_query.specs.Aggregates.{passing_at, has_value, group_at, runs_in, group_runs, aggregate_runs}
 use Rattle.tl_query.specs.Joins.{times_of, pairs_of, joined_pairs}
-use Rattle.tl_plain.specs.Grouping.{counted, group_tests, runs_over_rows}
-use Rattle.tl_plain.proofs.Selecting.{filter_twice, and_true}
+use Rattle.tl_plain.specs.Choosing.{is_there, there_at}
+use Rattle.tl_plain.specs.Grouping.{group_rows, runs_over_rows}
+use Rattle.tl_plain.proofs.Selecting.{filter_twice}
 
 rows_bare : (p : plain.Row → Bool) (n : ℕ) (rows : List plain.Row) → map (λ r. r.1) (filter (λ r. p r.1) (enumerate_from n rows)) ≡ filter p rows
 rows_bare p n [] = refl
@@ -51,23 +51,31 @@ passing_is db table pred (span.Valid version from to) moment =
     let same = filter_agree (λ (row : plain.Row). is_visible version row && is_within moment row.period && passes pred row) (there pred (span.Valid version from to) moment) (λ row. ap (λ b. b && passes pred row) (valid_within version moment row)) rows in
     ap (λ rs. filter (passes pred) (map (λ (r : ℕ × plain.Row). r.1) rs)) seen ∙ ap (filter (passes pred)) bare ∙ both ∙ same
 
-counted_is : (pred : TypedPred) (group : List TypedTest) (span : Span) (rows : List plain.Row) (moment : ℤ) → counted pred group span rows moment ≡ filter (λ row. passes_all row group) (filter (there pred span moment) rows)
-counted_is pred group span rows moment = sym (filter_twice (there pred span moment) (λ row. passes_all row group) rows)
+and_turn : (a b : Bool) → (a && b) ≡ (b && a)
+and_turn true true = refl
+and_turn true false = refl
+and_turn false true = refl
+and_turn false false = refl
 
-all_counted : (db : plain.Database) (table : ℕ) (pred : TypedPred) (span : Span) (moment : ℤ) → counted pred [] span (rows_of db table) moment ≡ passing_at db table pred span moment
-all_counted db table pred span moment =
-    counted_is pred [] span (rows_of db table) moment ∙ filter_all (λ row. passes_all row []) (filter (there pred span moment) (rows_of db table)) (λ row. refl) ∙ sym (passing_is db table pred span moment)
+there_passing : (pred : TypedPred) (span : Span) (rows : List plain.Row) (moment : ℤ) → there_at span (filter (passes pred) rows) moment ≡ filter (there pred span moment) rows
+there_passing pred span rows moment = filter_twice (passes pred) (is_there span moment) rows ∙ filter_agree (λ (row : plain.Row). passes pred row && is_there span moment row) (there pred span moment) (λ row. and_turn (passes pred row) (is_there span moment row)) rows
 
-group_counted : (db : plain.Database) (table : ℕ) (pred : TypedPred) (span : Span) (by : ℕ) (value : Cell) (moment : ℤ) → counted pred (group_tests by value) span (rows_of db table) moment ≡ group_at db table pred span by value moment
-group_counted db table pred span by value moment =
-    counted_is pred (group_tests by value) span (rows_of db table) moment ∙ filter_agree (λ (row : plain.Row). passes_all row (group_tests by value)) (has_value by value) (λ row. and_true (has_value by value row)) (filter (there pred span moment) (rows_of db table)) ∙ ap (filter (has_value by value)) (sym (passing_is db table pred span moment))
+all_there : (db : plain.Database) (table : ℕ) (pred : TypedPred) (span : Span) (moment : ℤ) → there_at span (filter (passes pred) (rows_of db table)) moment ≡ passing_at db table pred span moment
+all_there db table pred span moment = there_passing pred span (rows_of db table) moment ∙ sym (passing_is db table pred span moment)
+
+filters_turn : (p q : plain.Row → Bool) (rows : List plain.Row) → filter p (filter q rows) ≡ filter q (filter p rows)
+filters_turn p q rows = filter_twice q p rows ∙ filter_agree (λ (row : plain.Row). q row && p row) (λ (row : plain.Row). p row && q row) (λ row. and_turn (q row) (p row)) rows ∙ sym (filter_twice p q rows)
+
+group_there : (db : plain.Database) (table : ℕ) (pred : TypedPred) (span : Span) (by : ℕ) (value : Cell) (moment : ℤ) → there_at span (group_rows pred by value (rows_of db table)) moment ≡ group_at db table pred span by value moment
+group_there db table pred span by value moment =
+    there_passing pred span (filter (has_value by value) (rows_of db table)) moment ∙ filters_turn (there pred span moment) (has_value by value) (rows_of db table) ∙ ap (filter (has_value by value)) (sym (passing_is db table pred span moment))
 
 -- the runs over the rows of a table are the runs over the database
 pub runs_plain : (db : plain.Database) (table : ℕ) (kind : AggKind) (column by : Option ℕ) (pred : TypedPred) (span : Span) → runs_over_rows kind column by pred span (rows_of db table) ≡ aggregate_runs db table kind column by pred span
 unfolding aggregate_runs
-runs_plain db table kind column None pred span = ap (runs_in kind column span) (fun_ext (all_counted db table pred span))
+runs_plain db table kind column None pred span = ap (runs_in kind column span) (fun_ext (all_there db table pred span))
 runs_plain db table kind column (Some by) pred span =
-    ap (λ g. flat_map g (values_of by (rows_of db table))) (fun_ext (λ value. ap (λ rows. group_runs kind column span rows value) (fun_ext (group_counted db table pred span by value))))
+    ap (λ g. flat_map g (values_of by (rows_of db table))) (fun_ext (λ value. ap (λ rows. group_runs kind column span rows value) (fun_ext (group_there db table pred span by value))))
 
 -- the pairs of the rows of two tables are those of the join over the database
 pub pairs_plain : (db : plain.Database) (left : ℕ) (left_pred : TypedPred) (right : ℕ) (right_pred : TypedPred) (left_on right_on : ℕ) (span : Span) → in_order pair_before (pairs_of left_pred right_pred left_on right_on span (rows_of db left) (rows_of db right)) ≡ joined_pairs db left left_pred right right_pred left_on right_on span

@@ -1,72 +1,78 @@
--- Folds over what the items of a list give, one item more at a time.
-use Rattle.std.proofs.Common.{◌≡◌, ℕ, zero, suc, ◌+◌, ◌<◌, ℤ, Bool, true, false, not, ◌==◌, List, [], ◌∷◌, ◌++◌, length, take, get_or, map, Option, Some, None, refl, sym, ap, ◌∙◌, arith, append_assoc}
-use Rattle.std.proofs.lemmas.List.{take_more, map-append, append-nil}
+-- The rows of an answer, and what is behind references, one item more at a time.
+use Rattle.std.proofs.Common.{◌≡◌, ℕ, zero, suc, ◌+◌, ◌<◌, ◌≤◌, ℤ, Bool, true, false, not, ◌==◌, cond, List, [], ◌∷◌, ◌++◌, length, take, get_or, map, Option, Some, None, refl, sym, ap, ◌∙◌, arith, append_assoc}
+use Rattle.std.proofs.lemmas.List.{take_more, take_all, map-append, append-nil, length-map}
 use Rattle.std.proofs.lemmas.List.Elements.{filter-append, filter_map-append}
-use Rattle.std.proofs.lemmas.List.Sums.{fold-append}
 use Rattle.std.proofs.lemmas.List.Concat.{flat_map-append}
-use Rattle.std.specs.List.{enumerate_from, filter, filter_map, flat_map, cons_option, fold}
+use Rattle.std.specs.Borrow.{Bor}
+use Rattle.std.specs.List.{filter, filter_map, flat_map, cons_option}
 use Rattle.tl_types.specs.declared.cells.Cell.{Cell}
 use Rattle.tl_types.specs.declared.answers.Field.{Field}
 use Rattle.tl_types.specs.declared.runs.Run.{Run}
 use Rattle.tl_types.specs.Plain as plain
-use Rattle.tl_types.specs.History.{cell_at}
-use Rattle.tl_query.specs.Ordered.{with_value, values_of}
 use Rattle.tl_query.specs.Aggregates.{in_group}
 use Rattle.tl_query.specs.Answers.{run_fields}
-use Rattle.tl_plain.specs.Grouping.{with_cell}
+use Rattle.tl_plain.specs.Choosing.{lent}
 
-read_more : {X : Type 0} (xs : List X) (i : ℕ) (x : X) → i < length xs → x ≡ get_or xs i x → take (i + 1) xs ≡ take i xs ++ x ∷ []
-read_more xs i x l is = take_more xs i x l ∙ ap (λ y. take i xs ++ y ∷ []) (sym is)
+-- WHAT IS BEHIND REFERENCES
 
--- the values of a column with those of one row more
-pub value_more : (column : ℕ) (rows : List plain.Row) (i : ℕ) (row : plain.Row) (old new : List Cell) → i < length rows → row ≡ get_or rows i row → old ≡ values_of column (take i rows) → new ≡ with_cell old (cell_at row.cells column) → new ≡ values_of column (take (i + 1) rows)
-value_more column rows i row old new l is was step =
-    let h : plain.Row → Option Cell = λ r. cell_at r.cells column in
-    let parts = filter_map-append h (take i rows) (row ∷ []) in
-    let whole = ap (λ rs. fold with_value [] (filter_map h rs)) (read_more rows i row l is) ∙ ap (fold with_value []) parts ∙ fold-append with_value [] (filter_map h (take i rows)) (filter_map h (row ∷ [])) in
-    step ∙ ap (λ vs. with_cell vs (h row)) was ∙ one (values_of column (take i rows)) (h row) ∙ sym whole where
-      one : (values : List Cell) (o : Option Cell) → with_cell values o ≡ fold with_value values (cons_option o [])
-      one values None = refl
-      one values (Some x) = refl
+-- one item more of a list
+pub taken_more : {X : Type 0} (xs : List X) (i : ℕ) (x : X) → i < length xs → x ≡ get_or xs i x → take (i + 1) xs ≡ take i xs ++ x ∷ []
+taken_more xs i x l is = take_more xs i x l ∙ ap (λ y. take i xs ++ y ∷ []) (sym is)
 
--- NUMBERED ITEMS
+pub behind_item : {X Y : Type 0} (f : X → Y) (xs : List X) (i : ℕ) (x : X) → i < length xs → x ≡ get_or xs i x → f x ≡ get_or (map f xs) i (f x)
+behind_item f [] i x h e = absurd (omega arith)
+behind_item f (y ∷ xs) zero x h e = ap f e
+behind_item f (y ∷ xs) (suc i) x h e = behind_item f xs i x (omega arith) e
 
-pub enumerated_more : {X : Type 0} (n : ℕ) (xs : List X) (i : ℕ) (x : X) → i < length xs → x ≡ get_or xs i x → enumerate_from n (take (i + 1) xs) ≡ enumerate_from n (take i xs) ++ (n + i, x) ∷ []
-enumerated_more n xs i x l is = ap (enumerate_from n) (read_more xs i x l is) ∙ pushed n (take i xs) x ∙ ap (λ m. enumerate_from n (take i xs) ++ (m, x) ∷ []) (number n xs i l) where
-  pushed : {X : Type 0} (n : ℕ) (xs : List X) (x : X) → enumerate_from n (xs ++ x ∷ []) ≡ enumerate_from n xs ++ (n + length xs, x) ∷ []
-  pushed n [] x = let e : n + 0 ≡ n = omega arith in rw e refl
-  pushed n (y ∷ xs) x =
-      let e : (n + 1) + length xs ≡ n + length (y ∷ xs) = omega arith in
-      ap (λ ys. (n, y) ∷ ys) (pushed (n + 1) xs x ∙ ap (λ m. enumerate_from (n + 1) xs ++ (m, x) ∷ []) e)
+pub behind_within : {X Y : Type 0} (f : X → Y) (xs : List X) (i : ℕ) → i < length xs → i < length (map f xs)
+behind_within f xs i h = let same = length-map xs f in omega arith
 
-  number : {X : Type 0} (n : ℕ) (xs : List X) (i : ℕ) → i < length xs → n + length (take i xs) ≡ n + i
-  number n xs i l = ap (λ m. n + m) (long xs i l) where
-    long : {X : Type 0} (xs : List X) (i : ℕ) → i < length xs → length (take i xs) ≡ i
-    long [] i l = absurd (omega arith)
-    long (x ∷ xs) zero l = refl
-    long (x ∷ xs) (suc i) l = ap suc (long xs i (omega arith))
+-- all rows that are lent
+pub lent_all : (rows : List (Bor plain.Row)) (i : ℕ) → length rows ≤ i → take i (lent rows) ≡ lent rows
+lent_all rows i h = let same = length-map rows (λ (r : Bor plain.Row). r.now) in take_all i (lent rows) (omega arith)
 
-pub fold_numbered_given : {X Y Z : Type 0} (f : Z → Y → Z) (h : ℕ × X → Option Y) (z old new : Z) (xs : List X) (i n : ℕ) (x : X) (y : Y) → i < length xs → x ≡ get_or xs i x → n ≡ i → h (n, x) ≡ Some y → old ≡ fold f z (filter_map h (enumerate_from 0 (take i xs))) → new ≡ f old y → new ≡ fold f z (filter_map h (enumerate_from 0 (take (i + 1) xs)))
-fold_numbered_given f h z old new xs i n x y l is at gives was step =
-    let here : (0 + i, x) ≡ (n, x) = ap (λ m. (m, x)) (omega arith) in
-    let one : filter_map h ((n, x) ∷ []) ≡ y ∷ [] = rw gives refl in
-    let parts = filter_map-append h (enumerate_from 0 (take i xs)) ((n, x) ∷ []) ∙ ap (λ ys. filter_map h (enumerate_from 0 (take i xs)) ++ ys) one in
-    let whole = ap (λ ys. fold f z (filter_map h ys)) (enumerated_more 0 xs i x l is ∙ ap (λ p. enumerate_from 0 (take i xs) ++ p ∷ []) here) ∙ ap (fold f z) parts ∙ fold-append f z (filter_map h (enumerate_from 0 (take i xs))) (y ∷ []) in
-    step ∙ ap (λ o. f o y) was ∙ sym whole
+filter_short : {X : Type 0} (p : X → Bool) (xs : List X) → length (filter p xs) ≤ length xs
+filter_short p [] = omega arith
+filter_short p (x ∷ xs) = by_test (p x) (filter_short p xs) where
+  by_test : (b : Bool) → length (filter p xs) ≤ length xs → length (cond b (x ∷ filter p xs) (filter p xs)) ≤ length (x ∷ xs)
+  by_test true h = omega arith
+  by_test false h = omega arith
 
-pub fold_numbered_left : {X Y Z : Type 0} (f : Z → Y → Z) (h : ℕ × X → Option Y) (z old : Z) (xs : List X) (i n : ℕ) (x : X) → i < length xs → x ≡ get_or xs i x → n ≡ i → h (n, x) ≡ None → old ≡ fold f z (filter_map h (enumerate_from 0 (take i xs))) → old ≡ fold f z (filter_map h (enumerate_from 0 (take (i + 1) xs)))
-fold_numbered_left f h z old xs i n x l is at gives was =
-    let here : (0 + i, x) ≡ (n, x) = ap (λ m. (m, x)) (omega arith) in
-    let none : filter_map h ((n, x) ∷ []) ≡ [] = rw gives refl in
-    let parts = filter_map-append h (enumerate_from 0 (take i xs)) ((n, x) ∷ []) ∙ ap (λ ys. filter_map h (enumerate_from 0 (take i xs)) ++ ys) none ∙ append-nil (filter_map h (enumerate_from 0 (take i xs))) in
-    was ∙ sym (ap (λ ys. fold f z (filter_map h ys)) (enumerated_more 0 xs i x l is ∙ ap (λ p. enumerate_from 0 (take i xs) ++ p ∷ []) here) ∙ ap (fold f z) parts)
+-- of few rows few pass, and few of those that have a value
+pub few_passing : (p : plain.Row → Bool) (refs : List (Bor plain.Row)) (rows : List plain.Row) (n : ℕ) → lent refs ≡ filter p rows → length rows < n → length refs < n
+few_passing p refs rows n is few =
+    let same = length-map refs (λ (r : Bor plain.Row). r.now) in
+    let whole = ap length is in
+    let short = filter_short p rows in
+    omega arith
 
-pub fold_numbered_many : {X Y Z : Type 0} (f : Z → Y → Z) (g : ℕ × X → List Y) (z old new : Z) (xs : List X) (i n : ℕ) (x : X) → i < length xs → x ≡ get_or xs i x → n ≡ i → old ≡ fold f z (flat_map g (enumerate_from 0 (take i xs))) → new ≡ fold f old (g (n, x)) → new ≡ fold f z (flat_map g (enumerate_from 0 (take (i + 1) xs)))
-fold_numbered_many f g z old new xs i n x l is at was step =
-    let here : (0 + i, x) ≡ (n, x) = ap (λ m. (m, x)) (omega arith) in
-    let parts = flat_map-append g (enumerate_from 0 (take i xs)) ((n, x) ∷ []) ∙ ap (λ ys. flat_map g (enumerate_from 0 (take i xs)) ++ ys) (append-nil (g (n, x))) in
-    let whole = ap (λ ys. fold f z (flat_map g ys)) (enumerated_more 0 xs i x l is ∙ ap (λ p. enumerate_from 0 (take i xs) ++ p ∷ []) here) ∙ ap (fold f z) parts ∙ fold-append f z (flat_map g (enumerate_from 0 (take i xs))) (g (n, x)) in
-    step ∙ ap (λ o. fold f o (g (n, x))) was ∙ sym whole
+pub few_of_group : (p q : plain.Row → Bool) (refs : List (Bor plain.Row)) (rows : List plain.Row) (n : ℕ) → lent refs ≡ filter p (filter q rows) → length rows < n → length refs < n
+few_of_group p q refs rows n is few =
+    let short = filter_short q rows in
+    few_passing p refs (filter q rows) n is (omega arith)
+
+-- what is behind one item more
+pub behind_more : {X Y : Type 0} (f : X → Y) (xs : List X) (i : ℕ) (x : X) → i < length xs → x ≡ get_or xs i x → take (i + 1) (map f xs) ≡ take i (map f xs) ++ f x ∷ []
+behind_more f xs i x h e = taken_more (map f xs) i (f x) (behind_within f xs i h) (behind_item f xs i x h e)
+
+-- a list of which one item more was taken up, and one of which it was passed over
+pub item_taken : {X Y Z : Type 0} (f : X → Y) (h : Z → Option Y) (out new : List X) (zs more : List Z) (x : X) (z : Z) → new ≡ out ++ x ∷ [] → more ≡ zs ++ z ∷ [] → Some (f x) ≡ h z → map f out ≡ filter_map h zs → map f new ≡ filter_map h more
+item_taken f h out new zs more x z step grown gives was =
+    ap (map f) step ∙ map-append f out (x ∷ []) ∙ ap (λ ys. ys ++ f x ∷ []) was ∙ ap (λ o. filter_map h zs ++ cons_option o []) gives ∙ sym (ap (filter_map h) grown ∙ filter_map-append h zs (z ∷ []))
+
+pub item_passed : {X Y Z : Type 0} (f : X → Y) (h : Z → Option Y) (out : List X) (zs more : List Z) (z : Z) → more ≡ zs ++ z ∷ [] → None ≡ h z → map f out ≡ filter_map h zs → map f out ≡ filter_map h more
+item_passed f h out zs more z grown gives was =
+    was ∙ sym (append-nil (filter_map h zs)) ∙ ap (λ o. filter_map h zs ++ cons_option o []) gives ∙ sym (ap (filter_map h) grown ∙ filter_map-append h zs (z ∷ []))
+
+pub row_taken : {X Y : Type 0} (f : X → Y) (p : Y → Bool) (out new : List X) (ys more : List Y) (x : X) (y : Y) → new ≡ out ++ x ∷ [] → more ≡ ys ++ y ∷ [] → f x ≡ y → p y ≡ true → map f out ≡ filter p ys → map f new ≡ filter p more
+row_taken f p out new ys more x y step grown is passes was =
+    let one : filter p (y ∷ []) ≡ y ∷ [] = rw passes refl in
+    ap (map f) step ∙ map-append f out (x ∷ []) ∙ ap (λ us. us ++ f x ∷ []) was ∙ ap (λ v. filter p ys ++ v ∷ []) is ∙ sym (ap (filter p) grown ∙ filter-append p ys (y ∷ []) ∙ ap (λ us. filter p ys ++ us) one)
+
+pub row_passed : {X Y : Type 0} (f : X → Y) (p : Y → Bool) (out : List X) (ys more : List Y) (y : Y) → more ≡ ys ++ y ∷ [] → p y ≡ false → map f out ≡ filter p ys → map f out ≡ filter p more
+row_passed f p out ys more y grown fails was =
+    let none : filter p (y ∷ []) ≡ [] = rw fails refl in
+    was ∙ sym (append-nil (filter p ys)) ∙ ap (λ us. filter p ys ++ us) (sym none) ∙ sym (ap (filter p) grown ∙ filter-append p ys (y ∷ []))
 
 -- ROWS OF GROUPS
 
@@ -98,8 +104,22 @@ run_left rows value runs run moment test start old at says false_is was =
     let whole = run_more rows value runs run ∙ ap (λ ys. group_fields rows value runs ++ ys) none ∙ append-nil (group_fields rows value runs) in
     was ∙ ap (λ ys. start ++ ys) (sym whole)
 
-pub map_flat_more : {X Y Z : Type 0} (f : Y → Z) (g : X → List Y) (xs : List X) (i : ℕ) (x : X) (out new : List Z) → i < length xs → x ≡ get_or xs i x → out ≡ map f (flat_map g (take i xs)) → new ≡ out ++ map f (g x) → new ≡ map f (flat_map g (take (i + 1) xs))
-map_flat_more f g xs i x out new l is was step =
-    let parts = flat_map-append g (take i xs) (x ∷ []) ∙ ap (λ ys. flat_map g (take i xs) ++ ys) (append-nil (g x)) in
-    let whole = ap (λ ys. map f (flat_map g ys)) (read_more xs i x l is) ∙ ap (map f) parts ∙ map-append f (flat_map g (take i xs)) (g x) in
-    step ∙ ap (λ o. o ++ map f (g x)) was ∙ sym whole
+-- the answer with that of one group more
+pub group_more : {V X Y Z : Type 0} (key : V → X) (f : Y → Z) (g : X → List Y) (vs : List V) (v : V) (out new : List Z) → new ≡ out ++ map f (g (key v)) → out ≡ map f (flat_map g (map key vs)) → new ≡ map f (flat_map g (map key (vs ++ v ∷ [])))
+group_more key f g vs v out new step was =
+    let parts = ap (flat_map g) (map-append key vs (v ∷ [])) ∙ flat_map-append g (map key vs) (key v ∷ []) ∙ ap (λ ys. flat_map g (map key vs) ++ ys) (append-nil (g (key v))) in
+    step ∙ ap (λ o. o ++ map f (g (key v))) was ∙ sym (map-append f (flat_map g (map key vs)) (g (key v))) ∙ ap (map f) (sym parts)
+
+-- pairs of one row more
+pub pairs_taken : {X Y : Type 0} (h : X → List Y) (out new : List Y) (xs more : List X) (x : X) → new ≡ out ++ h x → more ≡ xs ++ x ∷ [] → out ≡ flat_map h xs → new ≡ flat_map h more
+pairs_taken h out new xs more x step grown was =
+    step ∙ ap (λ o. o ++ h x) was ∙ sym (ap (flat_map h) grown ∙ flat_map-append h xs (x ∷ []) ∙ ap (λ ys. flat_map h xs ++ ys) (append-nil (h x)))
+
+-- pairs that one item more gives, behind those that were there
+pub pair_taken : {Y Z : Type 0} (h : Z → Option Y) (start out new : List Y) (zs more : List Z) (z : Z) (y : Y) → new ≡ out ++ y ∷ [] → more ≡ zs ++ z ∷ [] → Some y ≡ h z → out ≡ start ++ filter_map h zs → new ≡ start ++ filter_map h more
+pair_taken h start out new zs more z y step grown gives was =
+    step ∙ ap (λ o. o ++ y ∷ []) was ∙ append_assoc start (filter_map h zs) (y ∷ []) ∙ ap (λ o. start ++ (filter_map h zs ++ cons_option o [])) gives ∙ sym (ap (λ ws. start ++ filter_map h ws) grown ∙ ap (λ ys. start ++ ys) (filter_map-append h zs (z ∷ [])))
+
+pub pair_passed : {Y Z : Type 0} (h : Z → Option Y) (start out : List Y) (zs more : List Z) (z : Z) → more ≡ zs ++ z ∷ [] → None ≡ h z → out ≡ start ++ filter_map h zs → out ≡ start ++ filter_map h more
+pair_passed h start out zs more z grown gives was =
+    was ∙ ap (λ ys. start ++ ys) (sym (append-nil (filter_map h zs)) ∙ ap (λ o. filter_map h zs ++ cons_option o []) gives ∙ sym (ap (filter_map h) grown ∙ filter_map-append h zs (z ∷ [])))

@@ -1,6 +1,6 @@
--- Collecting the numbers of the rows that are counted, one row more at a time.
+-- Counting the rows that are there, and collecting their numbers, one row more at a time.
 use Rattle.std.proofs.Common.{◌≡◌, ℕ, ◌+◌, ◌<◌, Bool, true, false, cond, List, [], ◌∷◌, ◌++◌, length, take, get_or, Option, Some, None, refl, sym, ap, ◌∙◌}
-use Rattle.std.proofs.lemmas.List.{append-nil}
+use Rattle.std.proofs.lemmas.List.{append-nil, length_push}
 use Rattle.std.proofs.lemmas.List.Elements.{filter_more, filter_map-append}
 use Rattle.std.specs.List.{filter, filter_map, cons_option}
 
@@ -22,3 +22,15 @@ number_kept h p xs i x y out new l is given step was =
 pub number_left : {X Y : Type 0} (h : X → Option Y) (p : X → Bool) (xs : List X) (i : ℕ) (x : X) (out : List Y) → i < length xs → x ≡ get_or xs i x → None ≡ cond (p x) (h x) None → out ≡ filter_map h (filter p (take i xs)) → out ≡ filter_map h (filter p (take (i + 1) xs))
 number_left h p xs i x out l is given was =
     was ∙ sym (append-nil (filter_map h (filter p (take i xs)))) ∙ ap (λ o. filter_map h (filter p (take i xs)) ++ cons_option o []) given ∙ sym (more h p xs i x l is)
+
+-- the number of those that pass, with one that passes and one that does not
+pub count_kept : {X : Type 0} (p : X → Bool) (xs : List X) (i : ℕ) (x : X) (n m : ℕ) → i < length xs → x ≡ get_or xs i x → p x ≡ true → m ≡ n + 1 → n ≡ length (filter p (take i xs)) → m ≡ length (filter p (take (i + 1) xs))
+count_kept p xs i x n m l is passes step was =
+    let one : cond (p (get_or xs i x)) (get_or xs i x ∷ []) [] ≡ get_or xs i x ∷ [] = rw (ap p (sym is) ∙ passes) refl in
+    let grown = ap length (filter_more p xs i x l ∙ ap (λ ys. filter p (take i xs) ++ ys) one) ∙ length_push (filter p (take i xs)) (get_or xs i x) in
+    step ∙ ap (λ k. k + 1) was ∙ sym grown
+
+pub count_left : {X : Type 0} (p : X → Bool) (xs : List X) (i : ℕ) (x : X) (n : ℕ) → i < length xs → x ≡ get_or xs i x → p x ≡ false → n ≡ length (filter p (take i xs)) → n ≡ length (filter p (take (i + 1) xs))
+count_left p xs i x n l is fails was =
+    let none : cond (p (get_or xs i x)) (get_or xs i x ∷ []) [] ≡ [] = rw (ap p (sym is) ∙ fails) refl in
+    was ∙ sym (ap length (filter_more p xs i x l ∙ ap (λ ys. filter p (take i xs) ++ ys) none ∙ append-nil (filter p (take i xs))))

@@ -1,9 +1,8 @@
 -- Ending rows by their ids, one id more at a time.
 use Rattle.std.proofs.Common.{◌≡◌, ℕ, zero, suc, ◌+◌, ◌<◌, ◌≤◌, Bool, true, false, ◌||◌, nat_eq, cond, List, [], ◌∷◌, ◌++◌, length, map, get_or, set, All, refl, sym, ap, ◌∙◌, subst, arith}
 use Rattle.std.proofs.lemmas.Bool.Decides.{nat_tests}
-use Rattle.std.proofs.lemmas.List.Sums.{AllPass-from_list_all}
-use Rattle.std.specs.List.{enumerate_from, list_all}
-use Rattle.tl_types.specs.History.{new_row, row_after, has_id, is_open_at}
+use Rattle.std.specs.List.{enumerate_from}
+use Rattle.tl_types.specs.History.{new_row, row_after, has_id}
 use Rattle.tl_types.specs.Plain as plain
 
 -- the rows from an id on, ended where their ids are among these
@@ -85,14 +84,6 @@ ends_front version ids rows more small =
     let parts = ends-append version ids 0 rows more in
     let kept = ends_past version ids (0 + length rows) more (length rows) small (omega arith) in
     cc
-
-pub open_within : (rows : List plain.Row) (id : ℕ) → is_open_at rows id ≡ true → id < length rows
-open_within [] id h = absurd (cc)
-open_within (r ∷ rows) zero h = omega arith
-open_within (r ∷ rows) (suc id) h = let l = open_within rows id h in omega arith
-
-pub open_ids_within : (rows : List plain.Row) (ids : List ℕ) → list_all (is_open_at rows) ids ≡ true → All (λ id. id < length rows) ids
-open_ids_within rows ids h = λ k d l. open_within rows (get_or ids k d) (AllPass-from_list_all (is_open_at rows) ids h k d l)
 
 -- closed rows and new rows stand in one list before the closed ones end
 pub change_is : (version : ℕ) (ids closes : List ℕ) (rows grown new opened : List plain.Row) (opens given : List plain.Opened) → new ≡ map (row_after version ids) (enumerate_from 0 grown) → grown ≡ rows ++ opened → opened ≡ map (new_row version) given → given ≡ opens → ids ≡ closes → All (λ id. id < length rows) closes → new ≡ map (row_after version closes) (enumerate_from 0 rows) ++ map (new_row version) opens

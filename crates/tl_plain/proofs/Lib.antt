@@ -1,11 +1,16 @@
 pub mod AnswerLemmas
+pub mod CellLemmas
 pub mod CollectLemmas
 pub mod CountLemmas
 pub mod Ending
+pub mod KeyLemmas
+pub mod PairLemmas
 pub mod Places
-pub mod PlacingLemmas
 pub mod RunLemmas
+pub mod Searching
 pub mod Selecting
+pub mod Sorting
 pub mod TimeLemmas
+pub mod ValueLemmas
 pub mod Worked
 pub mod WorkedAnswers

@@ -1,27 +1,18 @@
 -- A table at its place among the others.
-use Rattle.std.proofs.Common.{◌≡◌, ℕ, zero, suc, ◌+◌, ◌<◌, ◌≤◌, ◌^◌, Bool, true, false, cond, leb, List, [], ◌∷◌, ◌++◌, length, map, length-append, get_or, set, All, ◌&&◌, Some, option_map, refl, sym, ap, arith, slice_get}
-use Rattle.std.specs.List.{position_from, list_all}
-use Rattle.tl_types.specs.History.{at_place, matches, is_open_at, is_open, has_name, fits_table, row_after, new_row, with_ids}
+use Rattle.std.proofs.Common.{◌≡◌, ℕ, zero, suc, ◌+◌, ◌<◌, ◌≤◌, ◌^◌, true, false, leb, List, [], ◌∷◌, ◌++◌, length, map, length-append, get_or, set, All, ◌&&◌, Some, refl, sym, ap, ◌∙◌, arith, slice_get}
+use Rattle.std.specs.List.{list_all}
+use Rattle.tl_types.specs.History.{at_place, matches, is_open_at, is_open, fits_table, row_after, new_row, with_ids}
 use Rattle.tl_types.specs.Limits.{standard_limits}
 use Rattle.std.proofs.lemmas.List.{length-map}
 use Rattle.std.proofs.lemmas.List.FromFn.{length-enumerate_from}
 use borrow.Author.Tests.{leb-true}
-use Rattle.tl_types.specs.Resolving.{find_from}
 use Rattle.tl_types.specs.declared.limits.Limits.{Limits}
 use Rattle.tl_types.specs.Plain as plain
-use Rattle.tl_plain.proofs.Ending.{open_ids_within}
+use Rattle.tl_types.proofs.Lists.{and_left, and_right, at_place-set, open_ids_within}
 
-pub at_place-set : {X : Type 0} → (xs : List X) (i j : ℕ) (f : X → X) (x y : X) → i < length xs → j ≡ i → x ≡ get_or xs j x → y ≡ f x → set xs j y ≡ at_place i f xs
-at_place-set xs i j f x y h k e g = rw k (placed xs i f x y h (rw k at e) g) where
-  placed : {X : Type 0} → (xs : List X) (i : ℕ) (f : X → X) (x y : X) → i < length xs → x ≡ get_or xs i x → y ≡ f x → set xs i y ≡ at_place i f xs
-  placed [] i f x y h e g = absurd (omega arith)
-  placed (w ∷ xs) zero f x y h e g = cc
-  placed (w ∷ xs) (suc i) f x y h e g = ap (λ ws. w ∷ ws) (placed xs i f x y (omega arith) e g)
-
-pub length-at_place : {X : Type 0} → (i : ℕ) (f : X → X) (xs : List X) → length (at_place i f xs) ≡ length xs
-length-at_place i f [] = refl
-length-at_place zero f (x ∷ xs) = refl
-length-at_place (suc i) f (x ∷ xs) = ap suc (length-at_place i f xs)
+-- the table at a place, changed
+pub placed_at : {X : Type 0} → (xs : List X) (i j : ℕ) (f : X → X) (x y : X) → i < length xs → j ≡ i → x ≡ get_or xs j x → y ≡ f x → set xs j y ≡ at_place i f xs
+placed_at xs i j f x y h k e g = sym (at_place-set xs i f x h ∙ ap (λ z. set xs i (f z)) (ap (λ n. get_or xs n x) (sym k) ∙ sym e) ∙ ap (set xs i) (sym g) ∙ ap (λ n. set xs n y) (sym k))
 
 pub is_open_at-within : (rows : List plain.Row) (id : ℕ) (row : plain.Row) → id < length rows → row ≡ get_or rows id row → is_open_at rows id ≡ is_open row
 is_open_at-within [] id row h e = absurd (omega arith)
@@ -32,20 +23,6 @@ pub is_open_at-past : (rows : List plain.Row) (id : ℕ) → length rows ≤ id 
 is_open_at-past [] id h = refl
 is_open_at-past (r ∷ rows) zero h = absurd (omega arith)
 is_open_at-past (r ∷ rows) (suc id) h = is_open_at-past rows id (omega arith)
-
-pub find_from-number : (n : ℕ) (name : List ℕ) (tables : List plain.Table) → option_map (λ found. found.0) (find_from n name tables) ≡ position_from (has_name name) n tables
-find_from-number n name [] = refl
-find_from-number n name (t ∷ ts) =
-    let later = find_from-number (n + 1) name ts in
-    elim (has_name name t) as (λ b. option_map (λ found. found.0) (cond b (Some (n, t)) (find_from (n + 1) name ts)) ≡ cond b (Some n) (position_from (has_name name) (n + 1) ts)) [ true ↦ refl | false ↦ later ]
-
-pub and_left : (a b : Bool) → (a && b) ≡ true → a ≡ true
-and_left true b h = refl
-and_left false b h = h
-
-pub and_right : (a b : Bool) → (a && b) ≡ true → b ≡ true
-and_right true b h = h
-and_right false b h = absurd cc
 
 pub closes_within : (limits : Limits) (change : plain.Change) (table : plain.Table) (rows : List plain.Row) → fits_table limits change (Some table) ≡ true → rows ≡ table.rows → All (λ id. id < length rows) change.closes
 closes_within limits change table rows h e = rw e (open_ids_within table.rows change.closes (and_left _ _ (and_left _ _ h)))
@@ -63,7 +40,5 @@ pub table_within : (limits : Limits) (change : plain.Change) (tables : List plai
 table_within limits change [] i h = absurd cc
 table_within limits change (t ∷ ts) zero h = omega arith
 table_within limits change (t ∷ ts) (suc i) h = let later = table_within limits change ts i h in omega arith
-
-pub ruleset numbers = (find_from-number)
 
 pub ruleset open_places = (is_open_at-within, is_open_at-past)

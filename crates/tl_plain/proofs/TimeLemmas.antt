@@ -1,17 +1,13 @@
 -- When rows are there: between two moments at which nothing begins or ends, the same rows are.
-use Rattle.std.proofs.Common.{◌≡◌, ℕ, ◌+◌, ◌<◌, ℤ, ◌≤ℤ◌, ◌<ℤ◌, int_le, int_lt, Bool, true, false, ◌&&◌, List, [], ◌∷◌, length, take, get_or, Some, None, All, inl, inr, refl, ap, subst, arith}
+use Rattle.std.proofs.Common.{◌≡◌, ℕ, ◌+◌, ◌<◌, ℤ, ◌≤ℤ◌, ◌<ℤ◌, int_le, int_lt, Bool, true, false, List, [], ◌∷◌, length, take, get_or, Some, None, All, inl, inr, refl, subst, arith}
 use Rattle.std.proofs.lemmas.List.Elements.{All-more, All-weaker, All-head, All-tail}
 use Rattle.std.proofs.lemmas.Int.{ints}
 use Rattle.std.specs.List.{filter}
 use Rattle.tl_types.specs.History.{is_within}
 use Rattle.tl_types.specs.Plain as plain
 use Rattle.tl_query.specs.declared.typed_queries.Span.{Span}
-use Rattle.tl_query.specs.declared.typed_queries.TypedPred.{TypedPred}
-use Rattle.tl_query.specs.declared.typed_queries.TypedTest.{TypedTest}
-use Rattle.tl_query.specs.Passing.{passes, passes_all}
 use Rattle.tl_query.specs.Joins.{times_of}
-use Rattle.tl_plain.specs.Choosing.{IsClear, IsQuiet, is_counted}
-use Rattle.tl_plain.specs.Grouping.{counted}
+use Rattle.tl_plain.specs.Choosing.{IsClear, IsQuiet, is_there, there_at}
 
 pub le_test : (a b : ℤ) → a ≤ℤ b → int_le a b ≡ true
 le_test a b h = grind (arith, ints)
@@ -61,7 +57,7 @@ filter_same p q (x ∷ xs) h =
     let later = filter_same p q xs (All-tail (λ y. p y ≡ q y) x xs h) in
     rw (here, later) refl
 
--- the same rows are counted at each moment before the next change
-pub counted_same : (pred : TypedPred) (group : List TypedTest) (span : Span) (rows : List plain.Row) (at next : ℤ) → All (IsQuiet span at next) rows → (moment : ℤ) → at ≤ℤ moment → moment <ℤ next → counted pred group span rows moment ≡ counted pred group span rows at
-counted_same pred group span rows at next quiet moment after before =
-    filter_same (is_counted pred group span moment) (is_counted pred group span at) rows (All-weaker (IsQuiet span at next) (λ row. is_counted pred group span moment row ≡ is_counted pred group span at row) (λ row q. ap (λ b. b && passes pred row && passes_all row group) (q moment after before)) rows quiet)
+-- the same rows are there at each moment before the next change
+pub there_same : (span : Span) (rows : List plain.Row) (at next : ℤ) → All (IsQuiet span at next) rows → (moment : ℤ) → at ≤ℤ moment → moment <ℤ next → there_at span rows moment ≡ there_at span rows at
+there_same span rows at next quiet moment after before =
+    filter_same (is_there span moment) (is_there span at) rows (All-weaker (IsQuiet span at next) (λ row. is_there span moment row ≡ is_there span at row) (λ row q. q moment after before) rows quiet)

@@ -1,5 +1,6 @@
 pub mod Choosing
-pub mod Chosen
 pub mod Counted
 pub mod Grouping
+pub mod Keyed
+pub mod Pairing
 pub mod Stretching

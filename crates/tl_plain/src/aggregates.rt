@@ -1,21 +1,27 @@
-//! Answers to questions for aggregates over time.
-ghost use Rattle.std.specs.Prelude.{◌≡◌, ◌++◌, ◌<◌, ◌^◌, ◌==◌, not, length, map, IfOk, OnOk};
-ghost use Rattle.std.specs.List.{flat_map};
+//! Answers to queries for aggregates over time.
+ghost use Rattle.std.specs.Prelude.{◌≡◌, ◌++◌, ◌<◌, ◌^◌, ◌==◌, ℕ, List, not, length, map, IfOk, OnOk};
+ghost use Rattle.std.specs.List.{filter, flat_map};
+ghost use Rattle.std.specs.List.Sorted.{IsSortedBy};
+ghost use Rattle.tl_types.specs.Plain as plain;
 ghost use Rattle.tl_query.specs.Fields.{cell_field};
 ghost use Rattle.tl_query.specs.Ordered.{values_of};
-ghost use Rattle.tl_query.specs.Aggregates.{in_group, with_rows};
+ghost use Rattle.tl_query.specs.Passing.{passes};
+ghost use Rattle.tl_query.specs.Aggregates.{in_group, with_rows, runs_in, group_runs};
 ghost use Rattle.tl_query.specs.Answers.{group_fields, run_fields};
-ghost use Rattle.tl_plain.specs.Chosen.{chosen};
-ghost use Rattle.tl_plain.specs.Grouping.{runs_of_group, runs_over_rows};
+ghost use Rattle.tl_plain.specs.Choosing.{lent, there_at};
+ghost use Rattle.tl_plain.specs.Grouping.{group_rows, runs_of_group, runs_over_rows};
+ghost use Rattle.tl_plain.specs.Keyed.{key_before, AreByKey};
 
-use crate::counting::{Choice, count};
+use crate::counting::count;
 use crate::fields::moment_field;
+use crate::keyed_rows::{KeyedRow, rows_by_key, rows_with_key};
+use crate::passing::{passing_keyed, passing_rows};
 use crate::rows::Row;
 use crate::stretches::runs_in;
 use crate::values::values_of;
 use std::alloc::Global;
-use tl_query::{AggPlan, Span, TypedPred, TypedTest};
-use tl_types::{Cell, Cmp, Field, NoMemory, Run, Seq};
+use tl_query::{AggPlan, Span, TypedPred};
+use tl_types::{Cell, Field, NoMemory, Run, Seq};
 
 fn into_field(cell: Cell) -> Field
     ensures { result ≡ cell_field cell }
@@ -63,10 +69,10 @@ fn all_fields(alloc: Global, runs: Vec<Run>) -> Result<Vec<Seq<Field>>, NoMemory
     Ok(answer)
 }
 
-fn has_row(choice: &Choice, rows: &[Row], moment: i64) -> bool
-    ensures { result ≡ not (length (chosen choice.now rows.now moment) == 0) }
+fn has_row(span: Span, rows: &[&Row], moment: i64) -> bool
+    ensures { result ≡ not (length (there_at span (lent rows.now) moment) == 0) }
 {
-    count(choice, rows, moment) != 0
+    count(span, rows, moment) != 0
 }
 
 fn in_group(value: &Cell, run: Run) -> Result<Run, NoMemory>
@@ -80,72 +86,104 @@ fn in_group(value: &Cell, run: Run) -> Result<Run, NoMemory>
     })
 }
 
-/// Appends the runs of a group that have a row. The error is want of memory.
+/// Appends the runs of a group that have a row. The error is out of memory.
 fn add_runs(
     alloc: Global,
     answer: &mut Vec<Seq<Field>>,
     runs: Vec<Run>,
     value: &Cell,
-    choice: &Choice,
-    rows: &[Row],
+    span: Span,
+    rows: &[&Row],
 ) -> Result<(), NoMemory>
-    ensures { OnOk result (answer.new.items ≡ answer.old.items ++ map run_fields (map (in_group value.now) (with_rows (chosen choice.now rows.now) runs.items))) }
+    ensures { OnOk result (answer.new.items ≡ answer.old.items ++
+        map run_fields (map (in_group value.now)
+        (with_rows (there_at span (lent rows.now)) runs.items))) }
 {
     for run in runs {
-        if has_row(choice, rows, run.from) {
+        if has_row(span, rows, run.from) {
             answer.push(run_fields(alloc, in_group(value, run)?)?)?;
         }
     }
     Ok(())
 }
 
-/// Appends the answer for one value of the grouping column, over those of all rows that have it. The error is want
-/// of memory.
+/// Appends the answer for one value of the grouping column, over the rows of its group. The error
+/// is out of memory.
 fn add_group(
     alloc: Global,
     answer: &mut Vec<Seq<Field>>,
     plan: AggPlan,
-    all: &Choice,
-    rows: &[Row],
-    by: u8,
+    span: Span,
+    rows: &[&Row],
     value: &Cell,
 ) -> Result<(), NoMemory>
     requires { length rows.now < 2 ^ 32 }
-    ensures { OnOk result (answer.new.items ≡ answer.old.items ++ map run_fields (runs_of_group plan.kind plan.column all.now.pred.now all.now.span rows.now by value.now)) }
+    ensures { OnOk result (answer.new.items ≡ answer.old.items ++
+        map run_fields (group_runs plan.kind plan.column span
+        (there_at span (lent rows.now)) value.now)) }
 {
-    let group = [TypedTest {
-        column: by,
-        cmp: Cmp::Eq,
-        value: value.clone()?,
-    }];
-    let choice = Choice {
-        pred: all.pred,
-        group: &group,
-        span: all.span,
-    };
-    let runs = runs_in(alloc, plan, &choice, rows)?;
-    add_runs(alloc, answer, runs, value, &choice, rows)
+    let runs = runs_in(alloc, plan, span, rows)?;
+    add_runs(alloc, answer, runs, value, span, rows)
 }
 
+/// The rows that have the value and pass, in order. The error is out of memory.
+fn group_rows<'a>(
+    alloc: Global,
+    pred: &TypedPred,
+    by_key: &[KeyedRow<'a>],
+    value: &Cell,
+) -> Result<Vec<&'a Row>, NoMemory>
+    requires { IsSortedBy key_before by_key.now }
+    ensures { (by : ℕ) (rows : List plain.Row) → AreByKey by rows by_key.now →
+        IfOk result (λ group. lent group.items ≡ group_rows pred.now by value.now rows) }
+{
+    let group = passing_keyed(alloc, pred, rows_with_key(by_key, value))?;
+    Ok(group)
+}
+
+/// The answer for each value of a column, in order. The error is out of memory.
 fn groups(
     alloc: Global,
     plan: AggPlan,
-    all: &Choice,
+    pred: &TypedPred,
+    span: Span,
     rows: &[Row],
     by: u8,
 ) -> Result<Vec<Seq<Field>>, NoMemory>
     requires { length rows.now < 2 ^ 32 }
-    ensures { IfOk result (λ answer. answer.items ≡ map run_fields (flat_map (runs_of_group plan.kind plan.column all.now.pred.now all.now.span rows.now by) (values_of by rows.now))) }
+    ensures { IfOk result (λ answer. answer.items ≡
+        map run_fields (flat_map (runs_of_group plan.kind plan.column pred.now span rows.now by)
+        (values_of by rows.now))) }
 {
     let values = values_of(alloc, by, rows)?;
+    let by_key = rows_by_key(alloc, by, rows)?;
     let mut answer = Vec::new(alloc);
-    for value in &values {
-        add_group(alloc, &mut answer, plan, all, rows, by, value)?;
+    for value in values {
+        let group = group_rows(alloc, pred, by_key.as_slice(), value)?;
+        add_group(alloc, &mut answer, plan, span, group.as_slice(), value)?;
     }
     Ok(answer)
 }
 
-/// The answer to a question for an aggregate over time. The error is want of memory.
+/// The answer over all rows. The error is out of memory.
+fn ungrouped(
+    alloc: Global,
+    plan: AggPlan,
+    pred: &TypedPred,
+    span: Span,
+    rows: &[Row],
+) -> Result<Vec<Seq<Field>>, NoMemory>
+    requires { length rows.now < 2 ^ 32 }
+    ensures { IfOk result (λ answer. answer.items ≡
+        map run_fields (runs_in plan.kind plan.column span
+        (there_at span (filter (passes pred.now) rows.now)))) }
+{
+    let passing = passing_rows(alloc, pred, rows)?;
+    let runs = runs_in(alloc, plan, span, passing.as_slice())?;
+    all_fields(alloc, runs)
+}
+
+/// The answer to a query for an aggregate over time. The error is out of memory.
 pub(crate) fn aggregate(
     alloc: Global,
     plan: AggPlan,
@@ -154,15 +192,11 @@ pub(crate) fn aggregate(
     rows: &[Row],
 ) -> Result<Vec<Seq<Field>>, NoMemory>
     requires { length rows.now < 2 ^ 32 }
-    ensures { IfOk result (λ answer. answer.items ≡ map run_fields (runs_over_rows plan.kind plan.column plan.by pred.now span rows.now)) }
+    ensures { IfOk result (λ answer. answer.items ≡
+        map run_fields (runs_over_rows plan.kind plan.column plan.by pred.now span rows.now)) }
 {
-    let all = Choice {
-        pred,
-        group: &[],
-        span,
-    };
     match plan.by {
-        Some(by) => groups(alloc, plan, &all, rows, by),
-        None => all_fields(alloc, runs_in(alloc, plan, &all, rows)?),
+        Some(by) => groups(alloc, plan, pred, span, rows, by),
+        None => ungrouped(alloc, plan, pred, span, rows),
     }
 }

@@ -1,4 +1,4 @@
-//! What a question is answered with.
+//! What a query is answered with.
 ghost use Rattle.std.specs.Prelude.{◌≡◌, IfOk};
 ghost use Rattle.tl_query.specs.Answers.{answer_of};
 
@@ -8,16 +8,11 @@ use crate::joins::{Sides, join_rows};
 use crate::selects::select;
 use std::alloc::Global;
 use tl_query::{AggPlan, Typed};
-use tl_types::{Answer, NoMemory, Seq};
+use tl_types::{Answer, Field, NoMemory, Seq};
 
-/// The answer to a question over these tables. A SELECT gives its items of each row that stands at its version, is
-/// valid at its valid time where it has one, and passes, in order of id. An aggregate gives the maximal runs of its
-/// value over its range, for each value of its grouping column in order where it has one, and there those that have a
-/// row. A join gives the pairs of rows that pass, have equal cells, and hold at one time of its range, in order of
-/// their first moments, left ids and right ids. A table that is not there has no rows, and what a row lacks is an
-/// empty field. The error is want of memory.
-pub fn answer_plain(alloc: Global, tables: &Tables, query: &Typed) -> Result<Answer, NoMemory>
-    ensures { IfOk result (λ answer. answer.rows ≡ answer_of tables.now query.now) }
+/// The rows of the answer to a query. The error is out of memory.
+fn answer_rows(alloc: Global, tables: &Tables, query: &Typed) -> Result<Vec<Seq<Field>>, NoMemory>
+    ensures { IfOk result (λ rows. rows.items ≡ answer_of tables.now query.now) }
 {
     let rows = match query {
         Typed::Select {
@@ -71,6 +66,20 @@ pub fn answer_plain(alloc: Global, tables: &Tables, query: &Typed) -> Result<Ans
             join_rows(alloc, &sides)?
         }
     };
+    Ok(rows)
+}
+
+/// The answer to a query over these tables. A SELECT gives its items of each row that stands at its
+/// version, is valid at its valid time where it has one, and passes, in order of id. An aggregate
+/// gives the maximal runs of its value over its range, for each value of its grouping column in
+/// order where it has one, and there those that have a row. A join gives the pairs of rows that
+/// pass, have equal cells, and hold at one time of its range, in order of their first moments, left
+/// ids and right ids. A table that is not there has no rows, and what a row lacks is an empty
+/// field. The error is out of memory.
+pub fn answer_plain(alloc: Global, tables: &Tables, query: &Typed) -> Result<Answer, NoMemory>
+    ensures { IfOk result (λ answer. answer.rows ≡ answer_of tables.now query.now) }
+{
+    let rows = answer_rows(alloc, tables, query)?;
     Ok(Answer {
         rows: Seq::from_vec(rows),
     })

@@ -4,14 +4,13 @@ ghost use Rattle.tl_types.specs.History.{fits_table, table_after, new_table, has
 ghost use Rattle.tl_types.specs.Limits.{standard_limits};
 ghost use Rattle.tl_types.specs.Plain as plain;
 
-use crate::fitting;
-use crate::rows::{self, Row};
+use crate::rows::{self, Row, all_open};
 use std::alloc::Global;
 use std::marker::Model;
-use tl_types::{Change, Limits, NoMemory, Schema};
+use tl_types::{Change, Limits, NoMemory, Schema, all_match};
 
-/// A table: its schema, the version before which its past is forgotten, and its rows, each at the place that
-/// is its id. It has fewer than 2^32 rows.
+/// A table: its schema, the version before which its past is forgotten, and its rows, each at the
+/// place that is its id. It has fewer than 2^32 rows.
 #[derive(Debug, Drop)]
 pub(crate) struct Table {
     schema: Schema,
@@ -42,13 +41,6 @@ impl Table {
         }
     }
 
-    /// The schema.
-    pub fn schema(&self) -> &Schema
-        ensures { result.now ≡ self.now.schema }
-    {
-        &self.schema
-    }
-
     /// The rows, in order of id.
     pub fn rows(&self) -> &[Row]
         ensures value { result.now ≡ self.now.rows }
@@ -64,17 +56,17 @@ impl Table {
         self.schema.name().as_str() == name
     }
 
-    /// Whether a change fits the table: it closes open rows only, opens rows that match the schema, and leaves
-    /// few enough rows.
+    /// Whether a change fits the table: it closes open rows only, opens rows that match the schema,
+    /// and leaves few enough rows.
     pub fn fits(&self, change: &Change, limits: &Limits) -> bool
         ensures { result ≡ fits_table limits.now change.now (Some self.now) }
     {
-        fitting::all_open(self.rows.as_slice(), change.closes())
-            && fitting::all_match(&self.schema, change.opens())
+        all_open(self.rows.as_slice(), change.closes())
+            && all_match(&self.schema, change.opens())
             && self.rows.len() as u64 + change.opens().len() as u64 <= limits.rows
     }
 
-    /// Applies the change of a version. The error is want of memory, and leaves the table as it was.
+    /// Applies the change of a version. The error is out of memory, and leaves the table as it was.
     pub fn change(&mut self, alloc: Global, version: u32, change: &Change) -> Result<(), NoMemory>
         requires { IsTrue (fits_table standard_limits change.now (Some self.old)) }
         ensures ok { OnOk result (self.new ≡ table_after version change.now self.old) }

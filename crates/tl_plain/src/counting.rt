@@ -4,32 +4,13 @@ ghost use Rattle.std.specs.List.{fold};
 ghost use Rattle.std.specs.Int.{int_min, int_max};
 ghost use Rattle.tl_query.specs.Aggregates.{number_of, number_at, numbers_of, total_of, sum_field, average_field, least_field, greatest_field, aggregate_of};
 ghost use Rattle.tl_plain.specs.Counted.{numbers_field};
-ghost use Rattle.tl_plain.specs.Chosen.{counts, chosen};
+ghost use Rattle.tl_plain.specs.Choosing.{lent, is_there, there_at};
 
-use crate::passing::{passes, passes_all};
 use crate::rows::Row;
 use crate::times::is_there;
 use std::alloc::Global;
-use tl_query::{AggKind, AggPlan, Span, TypedPred, TypedTest};
+use tl_query::{AggKind, AggPlan, Span};
 use tl_types::{Cell, Field, NoMemory};
-
-/// Which rows are counted: those that pass the predicate, and all tests of the group.
-#[derive(Clone, Copy)]
-pub(crate) struct Choice<'a> {
-    /// The predicate.
-    pub pred: &'a TypedPred,
-    /// What the rows of the group pass, nothing where there is no group.
-    pub group: &'a [TypedTest],
-    /// The range of time.
-    pub span: Span,
-}
-
-/// Whether a row is there at a moment, and is chosen.
-pub(crate) fn is_counted(choice: &Choice, moment: i64, row: &Row) -> bool
-    ensures { result ≡ counts choice.now moment row.now }
-{
-    is_there(choice.span, moment, row) && passes(choice.pred, row) && passes_all(row, choice.group)
-}
 
 fn number_of(cell: &Cell) -> Option<i64>
     ensures { result ≡ number_of (Some cell.now) }
@@ -58,39 +39,44 @@ fn number_at(column: Option<u8>, row: &Row) -> Option<i64>
     }
 }
 
-/// The number of rows that are counted at a moment.
-pub(crate) fn count(choice: &Choice, rows: &[Row], moment: i64) -> usize
-    ensures { result ≡ length (chosen choice.now rows.now moment) }
+/// The number of rows that are there at a moment.
+pub(crate) fn count(span: Span, rows: &[&Row], moment: i64) -> usize
+    ensures { result ≡ length (there_at span (lent rows.now) moment) }
 {
-    rows.iter()
-        .filter(|row| is_counted(choice, moment, row))
-        .count()
+    let mut count = 0;
+    for row in rows {
+        if is_there(span, moment, row) {
+            count += 1;
+        }
+    }
+    count
 }
 
-fn counted_number(choice: &Choice, moment: i64, column: Option<u8>, row: &Row) -> Option<i64>
-    ensures { result ≡ (if counts choice.now moment row.now then number_at column row.now else None) }
+fn number_there(span: Span, moment: i64, column: Option<u8>, row: &Row) -> Option<i64>
+    ensures { result ≡ (if is_there span moment row.now then number_at column row.now else None) }
 {
-    if is_counted(choice, moment, row) {
+    if is_there(span, moment, row) {
         number_at(column, row)
     } else {
         None
     }
 }
 
-/// The numbers of the rows that are counted at a moment.
+/// The numbers of the rows that are there at a moment. The error is out of memory.
 fn numbers(
     alloc: Global,
-    choice: &Choice,
-    rows: &[Row],
+    span: Span,
+    rows: &[&Row],
     column: Option<u8>,
     moment: i64,
 ) -> Result<Vec<i64>, NoMemory>
     ensures few { IfOk result (λ numbers. length numbers.items ≤ length rows.now) }
-    ensures ok { IfOk result (λ numbers. numbers.items ≡ numbers_of column (chosen choice.now rows.now moment)) }
+    ensures ok { IfOk result (λ numbers. numbers.items ≡
+        numbers_of column (there_at span (lent rows.now) moment)) }
 {
     let mut numbers = Vec::new(alloc);
     for row in rows {
-        if let Some(number) = counted_number(choice, moment, column, row) {
+        if let Some(number) = number_there(span, moment, column, row) {
             numbers.push(number)?;
         }
     }
@@ -184,20 +170,21 @@ fn numbers_field(kind: AggKind, numbers: &[i64]) -> Field
     }
 }
 
-/// The value of an aggregate over the rows that are counted at a moment. The error is want of memory.
+/// The value of an aggregate over the rows that are there at a moment. The error is out of memory.
 pub(crate) fn value_at(
     alloc: Global,
     plan: AggPlan,
-    choice: &Choice,
-    rows: &[Row],
+    span: Span,
+    rows: &[&Row],
     moment: i64,
 ) -> Result<Field, NoMemory>
     requires { length rows.now < 2 ^ 32 }
-    ensures { IfOk result (λ field. field ≡ aggregate_of plan.kind plan.column (chosen choice.now rows.now moment)) }
+    ensures { IfOk result (λ field. field ≡
+        aggregate_of plan.kind plan.column (there_at span (lent rows.now) moment)) }
 {
     if plan.kind == AggKind::Count {
-        return Ok(Field::Number(count(choice, rows, moment) as i128));
+        return Ok(Field::Number(count(span, rows, moment) as i128));
     }
-    let numbers = numbers(alloc, choice, rows, plan.column, moment)?;
+    let numbers = numbers(alloc, span, rows, plan.column, moment)?;
     Ok(numbers_field(plan.kind, numbers.as_slice()))
 }

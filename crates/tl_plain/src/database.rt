@@ -10,7 +10,7 @@ use crate::contents::Table;
 use crate::rows::Row;
 use std::alloc::Global;
 use std::marker::Model;
-use tl_types::{Body, Commit, Limits, NoMemory, Schema};
+use tl_types::{Body, Commit, Limits, NoMemory};
 
 /// The number of commits so far, and the tables after them, of which there are at most 64.
 #[derive(Debug, Drop)]
@@ -56,27 +56,8 @@ impl Tables {
         self.tables.len() as u16
     }
 
-    /// The number of the table with a name, from 0. `None` exactly where no table has the name.
-    #[tactic(auto, using(crate::proofs::Places::numbers))]
-    pub fn find(&self, name: &str) -> Option<u16>
-        ensures { result ≡ option_map (λ found. found.0) (find_table name.now self.now.tables) }
-    {
-        match place_of(self.tables.as_slice(), name) {
-            Some(number) => Some(number as u16),
-            None => None,
-        }
-    }
-
-    /// The schema of the table with a number.
-    pub fn schema(&self, table: u16) -> &Schema
-        requires { table < length self.now.tables }
-        ensures { Some result.now ≡ option_map (λ t. t.schema) (slice_get self.now.tables table) }
-    {
-        self.tables[table as usize].schema()
-    }
-
-    /// The rows of the table with a number, in order of id, ended ones included; none where there is no such
-    /// table. There are fewer than 2^32.
+    /// The rows of the table with a number, in order of id, ended ones included; none where there
+    /// is no such table. There are fewer than 2^32.
     pub fn rows(&self, table: u16) -> &[Row]
         ensures value { result.now ≡ rows_of self.now table }
         ensures few { length result.now < 2 ^ 32 }
@@ -87,9 +68,9 @@ impl Tables {
         }
     }
 
-    /// Whether a commit fits: fewer commits than the limits allow are there; a new table has a new name, and
-    /// there is room for it; a change names a table, closes open rows only, opens rows that match the schema,
-    /// and leaves few enough rows.
+    /// Whether a commit fits: fewer commits than the limits allow are there; a new table has a new
+    /// name, and there is room for it; a change names a table, closes open rows only, opens rows
+    /// that match the schema, and leaves few enough rows.
     pub fn fits(&self, commit: &Commit, limits: &Limits) -> bool
         ensures { result ≡ fits limits.now self.now commit.now }
     {
@@ -97,7 +78,7 @@ impl Tables {
             && fits_body(self.tables.as_slice(), &commit.body, limits)
     }
 
-    /// Applies a commit that fits. The error is want of memory, and leaves the tables as they were.
+    /// Applies a commit that fits. The error is out of memory, and leaves the tables as they were.
     pub fn apply(&mut self, alloc: Global, commit: &Commit) -> Result<(), NoMemory>
         requires { IsTrue (fits standard_limits self.old commit.now) }
         ensures ok { OnOk result (self.new ≡ after_commit self.old commit.now) }
@@ -108,13 +89,6 @@ impl Tables {
         self.version = version;
         Ok(())
     }
-}
-
-fn place_of(tables: &[Table], name: &str) -> Option<usize>
-    ensures first { result ≡ position_from (has_name name.now) 0 tables.now }
-    ensures within { IfSome result (λ number. number < length tables.now) }
-{
-    tables.iter().position(|table| table.has_name(name))
 }
 
 fn is_named(tables: &[Table], name: &str) -> bool

@@ -8,7 +8,7 @@ use std::alloc::Global;
 use tl_query::TypedItem;
 use tl_types::{Cell, Field, NoMemory, Period, Seq};
 
-/// A cell as a field. The error is want of memory.
+/// A cell as a field. The error is out of memory.
 pub(crate) fn cell_field(cell: &Cell) -> Result<Field, NoMemory>
     ensures { IfOk result (λ field. field ≡ cell_field cell.now) }
 {
@@ -67,7 +67,7 @@ fn item_field(row: &Row, item: TypedItem) -> Result<Field, NoMemory>
     }
 }
 
-/// A row as the list of its items. The error is want of memory.
+/// A row as the list of its items. The error is out of memory.
 pub(crate) fn row_fields(
     alloc: Global,
     items: &[TypedItem],
@@ -82,7 +82,7 @@ pub(crate) fn row_fields(
     Ok(Seq::from_vec(fields))
 }
 
-/// Appends cells as fields. The error is want of memory.
+/// Appends cells as fields. The error is out of memory.
 pub(crate) fn add_cells(fields: &mut Vec<Field>, cells: &[Cell]) -> Result<(), NoMemory>
     ensures { OnOk result (fields.new.items ≡ fields.old.items ++ map cell_field cells.now) }
 {

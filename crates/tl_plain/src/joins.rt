@@ -1,26 +1,27 @@
-//! Answers to questions for the pairs of rows that hold at one time.
-ghost use Rattle.std.specs.Prelude.{◌≡◌, ◌++◌, ◌≤◌, ◌<◌, ◌^◌, length, map, insert, IfOk, OnOk};
+//! Answers to querys for the pairs of rows that hold at one time.
+ghost use Rattle.std.specs.Prelude.{◌≡◌, ◌++◌, ◌<◌, ◌^◌, ℕ, length, map, IfOk, OnOk};
 ghost use Rattle.std.specs.List.{filter_map};
 ghost use Rattle.tl_types.specs.History.{with_ids, cell_at};
 ghost use Rattle.tl_query.specs.Fields.{cell_field};
 ghost use Rattle.tl_types.specs.Resolving.{same_key};
-ghost use Rattle.tl_query.specs.Ordered.{pair_before, inserted};
 ghost use Rattle.tl_query.specs.Joins.{pair_from, common_pair};
 ghost use Rattle.tl_query.specs.Answers.{cells_with};
-ghost use Rattle.tl_plain.specs.Chosen.{match_sides, pair_on, pairs_on, with_pairs, fields_on};
+ghost use Rattle.tl_plain.specs.Keyed.{row_with_id, AreByKey};
+ghost use Rattle.tl_plain.specs.Pairing.{match_sides, pair_on, pairs_by_row, pairs_on, fields_on};
 
 use crate::fields::{add_cells, moment_field};
+use crate::keyed_rows::{KeyedRow, rows_by_key, rows_with_key, same_cell};
 use crate::passing::passes;
 use crate::rows::Row;
 use crate::stretches::{span_end, span_start};
 use crate::times::{Times, times_of};
-use crate::values::same_cell;
+use crate::values::cell_in;
 use std::alloc::Global;
 use tl_query::{Span, TypedPred};
 use tl_types::{Field, NoMemory, Pair, Seq};
 
-/// What is joined: the rows of two tables, the predicates that they pass, the columns in which their cells are
-/// equal, and the range of time.
+/// What is joined: the rows of two tables, the predicates that they pass, the columns in which
+/// their cells are equal, and the range of time.
 #[derive(Clone, Copy)]
 pub(crate) struct Sides<'a> {
     /// The left table's rows.
@@ -77,7 +78,8 @@ fn common_pair(
 }
 
 fn same_key(left: &Row, left_on: u8, right: &Row, right_on: u8) -> bool
-    ensures { result ≡ same_key (cell_at left.now.cells left_on) (cell_at right.now.cells right_on) }
+    ensures { result ≡
+        same_key (cell_at left.now.cells left_on) (cell_at right.now.cells right_on) }
 {
     match left.cells().get(left_on as usize) {
         None => false,
@@ -108,62 +110,72 @@ fn pair_of(sides: &Sides, left_id: u32, left: &Row, right_id: u32, right: &Row) 
     }
 }
 
-fn pair_before(first: &Pair, second: &Pair) -> bool
-    ensures { result ≡ pair_before first.now second.now }
+/// The right rows that have the left row's cell, in order of id.
+fn matching_rows<'a, 'b>(
+    sides: &Sides,
+    left: &Row,
+    by_key: &'b [KeyedRow<'a>],
+) -> &'b [KeyedRow<'a>]
+    requires { AreByKey sides.now.right_on sides.now.rights.now by_key.now }
+    ensures { (id : ℕ) →
+        filter_map (pair_on sides.now (id, left.now)) (map row_with_id result.now) ≡
+        filter_map (pair_on sides.now (id, left.now)) (with_ids sides.now.rights.now) }
 {
-    first.from < second.from
-        || first.from == second.from
-            && (first.left < second.left || first.left == second.left && first.right < second.right)
-}
-
-/// The place behind the pairs at the front that come before this one.
-fn place_for(pairs: &[Pair], pair: &Pair) -> usize
-    ensures within { result ≤ length pairs.now }
-    ensures place { insert pairs.now result pair.now ≡ inserted pair_before pair.now pairs.now }
-{
-    let mut place = 0;
-    while place < pairs.len() && pair_before(&pairs[place], pair) {
-        place += 1;
+    match cell_in(sides.left_on, left) {
+        Some(key) => rows_with_key(by_key, key),
+        None => &[],
     }
-    place
 }
 
-fn insert_pair(pairs: &mut Vec<Pair>, pair: Pair) -> Result<(), NoMemory>
-    ensures { OnOk result (pairs.new.items ≡ inserted pair_before pair pairs.old.items) }
+/// Appends the pairs of one left row. The error is out of memory.
+fn add_pairs(
+    pairs: &mut Vec<Pair>,
+    sides: &Sides,
+    left_id: u32,
+    left: &Row,
+    rights: &[KeyedRow],
+) -> Result<(), NoMemory>
+    ensures { OnOk result (pairs.new.items ≡ pairs.old.items ++
+        filter_map (pair_on sides.now (left_id, left.now)) (map row_with_id rights.now)) }
 {
-    let place = place_for(pairs.as_slice(), &pair);
-    pairs.insert(place, pair)?;
-    Ok(())
-}
-
-/// Puts the pairs of one left row in their places. The error is want of memory.
-fn add_pairs(pairs: &mut Vec<Pair>, sides: &Sides, left_id: u32, left: &Row) -> Result<(), NoMemory>
-    requires { length sides.now.rights.now < 2 ^ 32 }
-    ensures { OnOk result (pairs.new.items ≡ with_pairs pairs.old.items (filter_map (pair_on sides.now (left_id, left.now)) (with_ids sides.now.rights.now))) }
-{
-    for (right_id, right) in sides.rights.iter().enumerate() {
-        if let Some(pair) = pair_of(sides, left_id, left, right_id as u32, right) {
-            insert_pair(pairs, pair)?;
+    for right in rights {
+        if let Some(pair) = pair_of(sides, left_id, left, right.id, right.row) {
+            pairs.push(pair)?;
         }
     }
     Ok(())
 }
 
+/// The pairs of all rows, left row by left row. The error is out of memory.
+fn pairs_by_row(alloc: Global, sides: &Sides) -> Result<Vec<Pair>, NoMemory>
+    requires lefts { length sides.now.lefts.now < 2 ^ 32 }
+    requires rights { length sides.now.rights.now < 2 ^ 32 }
+    ensures { IfOk result (λ pairs. pairs.items ≡ pairs_by_row sides.now) }
+{
+    let by_key = rows_by_key(alloc, sides.right_on, sides.rights)?;
+    let mut pairs = Vec::new(alloc);
+    for (left_id, left) in sides.lefts.iter().enumerate() {
+        let rights = matching_rows(sides, left, by_key.as_slice());
+        add_pairs(&mut pairs, sides, left_id as u32, left, rights)?;
+    }
+    Ok(pairs)
+}
+
+/// The pairs of all rows, in order. The error is out of memory.
 fn joined_pairs(alloc: Global, sides: &Sides) -> Result<Vec<Pair>, NoMemory>
     requires lefts { length sides.now.lefts.now < 2 ^ 32 }
     requires rights { length sides.now.rights.now < 2 ^ 32 }
     ensures { IfOk result (λ pairs. pairs.items ≡ pairs_on sides.now) }
 {
-    let mut pairs = Vec::new(alloc);
-    for (left_id, left) in sides.lefts.iter().enumerate() {
-        add_pairs(&mut pairs, sides, left_id as u32, left)?;
-    }
+    let mut pairs = pairs_by_row(alloc, sides)?;
+    pairs.sort_by_key(|pair| (pair.from, pair.left, pair.right))?;
     Ok(pairs)
 }
 
-/// Appends the cells of the row with an id. The error is want of memory.
+/// Appends the cells of the row with an id. The error is out of memory.
 fn add_row(fields: &mut Vec<Field>, rows: &[Row], id: u32) -> Result<(), NoMemory>
-    ensures { OnOk result (fields.new.items ≡ fields.old.items ++ map cell_field (cells_with rows.now id)) }
+    ensures { OnOk result (fields.new.items ≡ fields.old.items ++
+        map cell_field (cells_with rows.now id)) }
 {
     if (id as usize) < rows.len() {
         add_cells(fields, rows[id as usize].cells())?;
@@ -182,11 +194,12 @@ fn pair_fields(alloc: Global, sides: &Sides, pair: Pair) -> Result<Seq<Field>, N
     Ok(Seq::from_vec(fields))
 }
 
-/// The answer to a question for pairs of rows. The error is want of memory.
+/// The answer to a query for pairs of rows. The error is out of memory.
 pub(crate) fn join_rows(alloc: Global, sides: &Sides) -> Result<Vec<Seq<Field>>, NoMemory>
     requires lefts { length sides.now.lefts.now < 2 ^ 32 }
     requires rights { length sides.now.rights.now < 2 ^ 32 }
-    ensures { IfOk result (λ answer. answer.items ≡ map (fields_on sides.now) (pairs_on sides.now)) }
+    ensures { IfOk result (λ answer.
+        answer.items ≡ map (fields_on sides.now) (pairs_on sides.now)) }
 {
     let pairs = joined_pairs(alloc, sides)?;
     let mut answer = Vec::with_capacity(alloc, pairs.len())?;

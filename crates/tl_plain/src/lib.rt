@@ -1,6 +1,6 @@
-// The tables of a history as plain lists of rows: what a commit makes of them, and whether it fits. It is the
-// slow and plain counterpart of the engine's store, and answers questions over its rows; its clauses are the
-// definitions themselves.
+//! The tables of a history as plain lists of rows: what a commit makes of them, and whether it
+//! fits. It is the plain counterpart of the engine's store, and answers queries over its rows; its
+//! clauses are the definitions themselves.
 #![tactic(auto)]
 
 mod aggregates;
@@ -9,8 +9,8 @@ mod contents;
 mod counting;
 mod database;
 mod fields;
-mod fitting;
 mod joins;
+mod keyed_rows;
 mod passing;
 mod rows;
 mod selects;

@@ -1,11 +1,14 @@
 //! Whether a row passes a predicate.
-ghost use Rattle.std.specs.Prelude.{◌≡◌};
-ghost use Rattle.std.specs.List.{list_any};
+ghost use Rattle.std.specs.Prelude.{◌≡◌, IfOk, map};
+ghost use Rattle.std.specs.List.{filter, list_any};
 ghost use Rattle.tl_query.specs.Passing.{compare_numbers, compare_texts, compare_cells, passes_test, passes_all, passes};
+ghost use Rattle.tl_plain.specs.Choosing.{lent};
 
+use crate::keyed_rows::KeyedRow;
 use crate::rows::Row;
+use std::alloc::Global;
 use tl_query::{TypedPred, TypedTest};
-use tl_types::{Cell, Cmp, Text};
+use tl_types::{Cell, Cmp, NoMemory, Text};
 
 fn compare_numbers(cmp: Cmp, first: i64, second: i64) -> bool
     ensures { result ≡ compare_numbers cmp first second }
@@ -58,8 +61,7 @@ fn passes_test(row: &Row, test: &TypedTest) -> bool
     }
 }
 
-/// Whether a row passes all of the tests.
-pub(crate) fn passes_all(row: &Row, tests: &[TypedTest]) -> bool
+fn passes_all(row: &Row, tests: &[TypedTest]) -> bool
     ensures { result ≡ passes_all row.now tests.now }
 {
     tests.iter().all(|test| passes_test(row, test))
@@ -79,4 +81,39 @@ pub(crate) fn passes(pred: &TypedPred, row: &Row) -> bool
     ensures { result ≡ passes pred.now row.now }
 {
     pred.any.is_empty() || passes_any(row, pred)
+}
+
+/// The rows that pass, in order. The error is out of memory.
+pub(crate) fn passing_rows<'a>(
+    alloc: Global,
+    pred: &TypedPred,
+    rows: &'a [Row],
+) -> Result<Vec<&'a Row>, NoMemory>
+    ensures { IfOk result (λ passing. lent passing.items ≡ filter (passes pred.now) rows.now) }
+{
+    let mut passing = Vec::new(alloc);
+    for row in rows {
+        if passes(pred, row) {
+            passing.push(row)?;
+        }
+    }
+    Ok(passing)
+}
+
+/// Of rows with their keys those that pass, in order. The error is out of memory.
+pub(crate) fn passing_keyed<'a>(
+    alloc: Global,
+    pred: &TypedPred,
+    rows: &[KeyedRow<'a>],
+) -> Result<Vec<&'a Row>, NoMemory>
+    ensures { IfOk result (λ passing. lent passing.items ≡
+        filter (passes pred.now) (map (λ k. k.row.now) rows.now)) }
+{
+    let mut passing = Vec::new(alloc);
+    for keyed in rows {
+        if passes(pred, keyed.row) {
+            passing.push(keyed.row)?;
+        }
+    }
+    Ok(passing)
 }

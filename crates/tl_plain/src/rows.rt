@@ -1,13 +1,15 @@
 //! Rows.
 ghost use Rattle.std.specs.Prelude.{◌≡◌, ◌<◌, ◌++◌, IfOk, OnOk, OnErr, length, map, All};
-ghost use Rattle.tl_types.specs.History.{new_row, row_after, with_ids, is_open, is_visible};
+ghost use Rattle.std.specs.List.{list_all};
+ghost use Rattle.tl_types.specs.History.{new_row, row_after, with_ids, is_open, is_open_at, is_visible};
 ghost use Rattle.tl_types.specs.Plain as plain;
 
 use std::alloc::Global;
 use std::marker::Model;
 use tl_types::{Cell, Change, NoMemory, OPEN, Opened, Period, Seq};
 
-/// A row of a table: its cells, its valid period where the table has them, and the versions at which it stands.
+/// A row of a table: its cells, its valid period where the table has them, and the versions at
+/// which it stands.
 #[derive(Debug, Drop, PartialEq, Eq)]
 pub struct Row {
     cells: Seq<Cell>,
@@ -23,7 +25,8 @@ impl Model for Row {
 
     ghost view = { λ r. record { cells = r.cells; period = r.period; from = r.from; to = r.to } };
 
-    ghost inverse = { λ r. record { cells = r.cells; period = r.period; from = r.from; to = r.to } };
+    ghost inverse = { λ r.
+        record { cells = r.cells; period = r.period; from = r.from; to = r.to } };
 }
 
 impl Row {
@@ -77,7 +80,7 @@ impl Row {
     }
 }
 
-/// The row that begins at a version as a commit opens it. The error is want of memory.
+/// The row that begins at a version as a commit opens it. The error is out of memory.
 fn begin(alloc: Global, version: u32, opened: &Opened) -> Result<Row, NoMemory>
     ensures { IfOk result (λ r. r ≡ new_row version opened.now) }
 {
@@ -89,7 +92,7 @@ fn begin(alloc: Global, version: u32, opened: &Opened) -> Result<Row, NoMemory>
     })
 }
 
-/// The rows that begin at a version, in order. The error is want of memory.
+/// The rows that begin at a version, in order. The error is out of memory.
 fn begin_all(alloc: Global, version: u32, opens: &[Opened]) -> Result<Vec<Row>, NoMemory>
     ensures { IfOk result (λ rows. rows.items ≡ map (new_row version) opens.now) }
 {
@@ -110,8 +113,8 @@ fn end_all(rows: &mut Vec<Row>, version: u32, ids: &[u32])
     }
 }
 
-/// Applies the change of a version to the rows of its table, which have the closed ids. The error is want of
-/// memory, and leaves the rows as they were.
+/// Applies the change of a version to the rows of its table, which have the closed ids. The error
+/// is out of memory, and leaves the rows as they were.
 pub(crate) fn change_all(
     alloc: Global,
     version: u32,
@@ -119,11 +122,27 @@ pub(crate) fn change_all(
     rows: &mut Vec<Row>,
 ) -> Result<(), NoMemory>
     requires { All (λ id. id < length rows.old.items) change.now.closes }
-    ensures ok { OnOk result (rows.new.items ≡ map (row_after version change.now.closes) (with_ids rows.old.items) ++ map (new_row version) change.now.opens) }
+    ensures ok { OnOk result (rows.new.items ≡
+        map (row_after version change.now.closes) (with_ids rows.old.items) ++
+        map (new_row version) change.now.opens) }
     ensures err { OnErr result (rows.new.items ≡ rows.old.items) }
 {
     let mut opened = begin_all(alloc, version, change.opens())?;
     rows.append(&mut opened)?;
     end_all(rows, version, change.closes());
     Ok(())
+}
+
+#[tactic(auto, using(crate::proofs::Places::open_places))]
+fn is_open_at(rows: &[Row], id: u32) -> bool
+    ensures { result ≡ is_open_at rows.now id }
+{
+    (id as usize) < rows.len() && rows[id as usize].is_open()
+}
+
+/// Whether each id is that of a current row.
+pub(crate) fn all_open(rows: &[Row], ids: &[u32]) -> bool
+    ensures { result ≡ list_all (is_open_at rows.now) ids.now }
+{
+    ids.iter().all(|id| is_open_at(rows, *id))
 }

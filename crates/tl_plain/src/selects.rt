@@ -36,8 +36,8 @@ fn is_selected(pred: &TypedPred, valid_at: Option<i64>, version: u32, row: &Row)
     row.is_visible(version) && is_valid_at(valid_at, row) && passes(pred, row)
 }
 
-/// Of the rows that stand at the version, are valid at the moment where one is given, and pass the predicate,
-/// in order, each item. The error is want of memory.
+/// Of the rows that stand at the version, are valid at the moment where one is given, and pass the
+/// predicate, in order, each item. The error is out of memory.
 pub(crate) fn select(
     alloc: Global,
     rows: &[Row],
@@ -46,7 +46,8 @@ pub(crate) fn select(
     valid_at: Option<i64>,
     version: u32,
 ) -> Result<Vec<Seq<Field>>, NoMemory>
-    ensures { IfOk result (λ answer. answer.items ≡ map (row_fields items.now) (filter (is_selected pred.now valid_at version) rows.now)) }
+    ensures { IfOk result (λ answer. answer.items ≡
+        map (row_fields items.now) (filter (is_selected pred.now valid_at version) rows.now)) }
 {
     let mut answer = Vec::new(alloc);
     for row in rows {

@@ -3,10 +3,10 @@ ghost use Rattle.std.specs.Prelude.{◌≡◌, ◌<◌, ◌^◌, length, IfOk, O
 ghost use Rattle.tl_types.specs.Runs.{same_field};
 ghost use Rattle.tl_types.specs.Runs.{add_stretch};
 ghost use Rattle.tl_query.specs.Aggregates.{span_start, span_end, runs_in};
-ghost use Rattle.tl_plain.specs.Chosen.{chosen};
+ghost use Rattle.tl_plain.specs.Choosing.{lent, there_at};
 ghost use Rattle.tl_plain.specs.Stretching.{ends_with_value};
 
-use crate::counting::{Choice, value_at};
+use crate::counting::value_at;
 use crate::rows::Row;
 use crate::times::next_change;
 use std::alloc::Global;
@@ -28,8 +28,8 @@ fn ends_with_value(runs: &[Run], value: &Field) -> bool
     }
 }
 
-/// Appends a stretch of time: the last run goes on where it has the same value, else a run begins. The error
-/// is want of memory.
+/// Appends a stretch of time: the last run goes on where it has the same value, else a run begins.
+/// The error is out of memory.
 fn add_stretch(runs: &mut Vec<Run>, stretch: Run) -> Result<(), NoMemory>
     ensures { OnOk result (runs.new.items ≡ add_stretch runs.old.items stretch) }
 {
@@ -70,23 +70,25 @@ pub(crate) fn span_end(span: Span) -> i64
     }
 }
 
-/// The runs of an aggregate over the rows that are counted at each moment of the range. It looks at the
-/// aggregate at the first moment and where a row begins or ends, and nowhere else. The error is want of memory.
+/// The runs of an aggregate over the rows that are there at each moment of the range. It looks at
+/// the aggregate at the first moment and where a row begins or ends, and nowhere else. The error is
+/// out of memory.
 pub(crate) fn runs_in(
     alloc: Global,
     plan: AggPlan,
-    choice: &Choice,
-    rows: &[Row],
+    span: Span,
+    rows: &[&Row],
 ) -> Result<Vec<Run>, NoMemory>
     requires { length rows.now < 2 ^ 32 }
-    ensures { IfOk result (λ runs. runs.items ≡ runs_in plan.kind plan.column choice.now.span (chosen choice.now rows.now)) }
+    ensures { IfOk result (λ runs. runs.items ≡
+        runs_in plan.kind plan.column span (there_at span (lent rows.now))) }
 {
-    let end = span_end(choice.span);
-    let mut at = span_start(choice.span);
+    let end = span_end(span);
+    let mut at = span_start(span);
     let mut runs = Vec::new(alloc);
     while at < end {
-        let next = next_change(choice.span, rows, at, end);
-        let value = value_at(alloc, plan, choice, rows, at)?;
+        let next = next_change(span, rows, at, end);
+        let value = value_at(alloc, plan, span, rows, at)?;
         let stretch = Run {
             group: None,
             from: at,

@@ -1,8 +1,8 @@
 //! When rows hold in the time of a range.
 ghost use Rattle.std.specs.Prelude.{◌≡◌, ◌<ℤ◌, ◌≤ℤ◌, None, All, if◌then◌else◌};
-ghost use Rattle.tl_types.specs.History.{is_within, is_visible};
+ghost use Rattle.tl_types.specs.History.{is_visible};
 ghost use Rattle.tl_query.specs.Joins.{times_of};
-ghost use Rattle.tl_plain.specs.Choosing.{IsClear, IsQuiet};
+ghost use Rattle.tl_plain.specs.Choosing.{lent, is_there, IsClear, IsQuiet};
 
 use crate::rows::Row;
 use std::marker::Model;
@@ -41,8 +41,8 @@ impl Times {
     }
 }
 
-/// The times of a row in a range's time: the versions at which it stands, or its valid period where it stands
-/// at the range's version.
+/// The times of a row in a range's time: the versions at which it stands, or its valid period where
+/// it stands at the range's version.
 pub(crate) fn times_of(span: Span, row: &Row) -> Option<Times>
     ensures { result ≡ times_of span row.now }
 {
@@ -76,7 +76,7 @@ fn valid_times(version: u32, row: &Row) -> Option<Times>
 
 /// Whether a row is there at a moment of a range's time.
 pub(crate) fn is_there(span: Span, moment: i64, row: &Row) -> bool
-    ensures { result ≡ is_within moment (times_of span row.now) }
+    ensures { result ≡ is_there span moment row.now }
 {
     match times_of(span, row) {
         Some(times) => times.from() <= moment && moment < times.to(),
@@ -112,11 +112,11 @@ fn quiet_until(span: Span, row: &Row, at: i64, next: i64) -> i64
 }
 
 /// The next moment after `at`, the end at most, at which a row begins or ends.
-pub(crate) fn next_change(span: Span, rows: &[Row], at: i64, end: i64) -> i64
+pub(crate) fn next_change(span: Span, rows: &[&Row], at: i64, end: i64) -> i64
     requires { at <ℤ end }
     ensures after { at <ℤ result }
     ensures within { result ≤ℤ end }
-    ensures quiet { All (IsQuiet span at result) rows.now }
+    ensures quiet { All (IsQuiet span at result) (lent rows.now) }
 {
     let mut next = end;
     for row in rows {

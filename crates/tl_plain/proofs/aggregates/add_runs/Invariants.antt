@@ -2,8 +2,8 @@ use Rattle.std.proofs.Common.{◌≡◌, ◌++◌, ◌==◌, not, length, map}
 use Rattle.std.specs.List.{filter}
 use Rattle.tl_query.specs.Aggregates.{in_group}
 use Rattle.tl_query.specs.Answers.{run_fields}
-use Rattle.tl_plain.specs.Grouping.{counted}
+use Rattle.tl_plain.specs.Choosing.{lent, there_at}
 use Rattle.tl_plain.proofs.aggregates.add_runs.Given as goal
 
 abbrev pub invariant-loop-run : goal.invariant-loop-run
-invariant-loop-run l = l.answer.items ≡ l.initial.answer.items ++ map run_fields (map (in_group l.value) (filter (λ run. not (length (counted l.choice.pred.now l.choice.group.now l.choice.span l.rows run.from) == 0)) l.yielded))
+invariant-loop-run l = l.answer.items ≡ l.initial.answer.items ++ map run_fields (map (in_group l.value) (filter (λ run. not (length (there_at l.span (lent l.rows) run.from) == 0)) l.yielded))

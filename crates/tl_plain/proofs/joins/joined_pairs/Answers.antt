@@ -1,8 +1,12 @@
-use Rattle.std.proofs.Common.{◌<◌, length, refl, arith}
-use Rattle.tl_plain.proofs.CollectLemmas.{fold_numbered_many}
+use Rattle.std.proofs.Common.{rules}
+use Rattle.std.proofs.lemmas.List.Sorted.{answers_always}
+use Rattle.tl_types.specs.declared.runs.Pair.{Pair}
+use Rattle.tl_plain.proofs.PairLemmas.{pairs_sorted}
 use Rattle.tl_plain.proofs.joins.joined_pairs.Goals as goal
 
-pub loop-left_id-preserved : goal.loop-left_id-preserved
-loop-left_id-preserved c =
-    let here : c.loop-left_id.left_id < length c.args.sides.now.lefts.now = omega arith in
-    fold_numbered_many _ _ _ c.loop-left_id.pairs.items c.add_pairs.new.pairs.items c.args.sides.now.lefts.now c.loop-left_id.left_id c.loop-left_id.left_id c.left-item.result here c.left-item.is refl c.loop-left_id.invariant c.in_ok-add_pairs.ensures
+pub returns : goal.returns
+returns c =
+    let sides = c.args.sides.now in
+    pairs_sorted sides.left_pred.now sides.right_pred.now sides.left_on sides.right_on sides.span sides.lefts.now sides.rights.now c.in_ok-pairs.pairs.items c.sort_by_key.new.self.items c.in_ok-pairs.ensures
+    (c.in_ok-sort_by_key.ensures.sorted (λ (p : Pair). (p.from, p.left, p.right)) (answers_always _ _ _ (λ f a r g h. search rules)))
+    (c.sort_by_key.ensures.stable (λ (p : Pair). (p.from, p.left, p.right)) (answers_always _ _ _ (λ f a r g h. search rules)))

@@ -1,9 +1,11 @@
 use Rattle.std.proofs.Common.{◌≤ℤ◌, ◌<◌, All, length, take, sym, arith, rules, w64, SFits}
 use mir.Val.{to_z, of_z}
 use Rattle.std.proofs.lemmas.Int.{ints, to_z-of_z}
-use Rattle.std.proofs.lemmas.List.{take_all}
 use Rattle.std.proofs.lemmas.List.Elements.{All-same}
-use Rattle.tl_plain.specs.Choosing.{IsQuiet}
+use Rattle.std.specs.Borrow.{Bor}
+use Rattle.tl_types.specs.Plain as plain
+use Rattle.tl_plain.specs.Choosing.{IsQuiet, lent}
+use Rattle.tl_plain.proofs.CollectLemmas.{behind_item, behind_within, lent_all}
 use Rattle.tl_plain.proofs.TimeLemmas.{more_quiet}
 use Rattle.tl_plain.proofs.times.next_change.Goals as goal
 
@@ -21,7 +23,7 @@ loop-row-preserved c =
     record {
       after = rw same made.after;
       within = omega (arith, ints);
-      quiet = more_quiet c.args.span c.args.rows.now c.loop-row.row-index c.row-item.result at next less here c.row-item.is sooner was.quiet (λ moment after before. made.quiet moment after (rw same at before));
+      quiet = more_quiet c.args.span (lent c.args.rows.now) c.loop-row.row-index c.row-item.result.now at next less (behind_within (λ (r : Bor plain.Row). r.now) c.args.rows.now c.loop-row.row-index here) (behind_item (λ (r : Bor plain.Row). r.now) c.args.rows.now c.loop-row.row-index c.row-item.result here c.row-item.is) sooner was.quiet (λ moment after before. made.quiet moment after (rw same at before));
     }
 
 pub returns-clause-quiet : goal.returns-clause-quiet
@@ -29,6 +31,6 @@ returns-clause-quiet c =
     let at = to_z w64 (of_z w64 c.args.at) in
     let next = to_z w64 c.loop-row.next-bits in
     let at_is = to_z-of_z w64 c.args.at c.ranges.at in
-    let all = take_all c.loop-row.row-index c.args.rows.now c.loop-row-test.false in
-    let quiet : All (IsQuiet c.args.span at next) c.args.rows.now = All-same (IsQuiet c.args.span at next) c.args.rows.now (take c.loop-row.row-index c.args.rows.now) (sym all) c.loop-row.invariant.quiet in
+    let all = lent_all c.args.rows.now c.loop-row.row-index c.loop-row-test.false in
+    let quiet : All (IsQuiet c.args.span at next) (lent c.args.rows.now) = All-same (IsQuiet c.args.span at next) (lent c.args.rows.now) (take c.loop-row.row-index (lent c.args.rows.now)) (sym all) c.loop-row.invariant.quiet in
     rw at_is at quiet

@@ -1,8 +1,14 @@
-use Rattle.std.proofs.Common.{◌<◌, length, arith}
-use Rattle.tl_plain.proofs.CollectLemmas.{value_more}
+use Rattle.std.proofs.Common.{[], fold, ap, ◌∙◌}
+use Rattle.std.specs.Borrow.{Bor}
+use Rattle.std.proofs.lemmas.List.Filters.{dedup_is}
+use Rattle.tl_types.specs.declared.cells.Cell.{Cell}
+use Rattle.tl_types.specs.contracts.cells.CellPartialEq.TheImpl as same
+use Rattle.tl_query.specs.Ordered.{with_value}
+use Rattle.tl_plain.proofs.CellLemmas.{eq_is}
+use Rattle.tl_plain.proofs.ValueLemmas.{values_left}
 use Rattle.tl_plain.proofs.values.values_of.Goals as goal
 
-pub loop-row-preserved : goal.loop-row-preserved
-loop-row-preserved c =
-    let here : c.loop-row.row-index < length c.args.rows.now = omega arith in
-    value_more c.args.column c.args.rows.now c.loop-row.row-index c.row-item.result c.loop-row.values.items c.add_cell.new.values.items here c.row-item.is c.loop-row.invariant c.in_ok-add_cell.ensures
+pub returns : goal.returns
+returns c =
+    let left = dedup_is (λ (x y : Bor Cell). same.eq-value.it x.now y.now) c.sort.new.self.items c.dedup.new.self.items c.dedup.ensures.filtered in
+    values_left (λ (x : Bor Cell). x.now) (λ x y. same.eq-value.it x.now y.now) (λ x y. eq_is x.now y.now) c.in_ok-values.values.items c.sort.new.self.items c.dedup.new.self.items c.sort.ensures.permutation c.in_ok-sort.ensures.sorted left ∙ ap (fold with_value []) c.in_ok-values.ensures

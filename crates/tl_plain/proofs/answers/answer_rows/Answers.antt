@@ -1,0 +1,28 @@
+use Rattle.std.proofs.Common.{◌≡◌, map, ap, ap₂, ◌∙◌}
+use Rattle.tl_types.specs.History.{rows_of}
+use Rattle.tl_query.specs.Ordered.{in_order, pair_before}
+use Rattle.tl_query.specs.Joins.{pairs_of}
+use Rattle.tl_query.specs.Answers.{run_fields, pair_fields}
+use Rattle.tl_plain.specs.Grouping.{runs_over_rows}
+use Rattle.tl_plain.proofs.Selecting.{selected_plain}
+use Rattle.tl_plain.proofs.AnswerLemmas.{runs_plain, pairs_plain}
+use Rattle.tl_plain.proofs.answers.answer_rows.Goals as goal
+use Rattle.tl_plain.proofs.answers.answer_rows.Goals.{in-Select+in_ok-rows-in-Select, in-Agg+in_ok-rows-in-Agg, in-Join+in_ok-rows-in-Join}
+
+pub returns : goal.returns
+returns c =
+    elim c.match-query.branch [
+      | in-Select+in_ok-rows-in-Select w ↦
+          let same = selected_plain c.args.tables.now w.in-Select.table w.in-Select.items w.in-Select.pred w.in-Select.valid_at w.in-Select.version in
+          rw w.in-Select.is (cc (same, w.in_ok-rows-in-Select.ensures, w.rows-is, w.rows.ensures.value, w.as_slice.ensures))
+      | in-Agg+in_ok-rows-in-Agg w ↦
+          let made : c.match-query.rows.items ≡ map run_fields (runs_over_rows w.in-Agg.kind w.in-Agg.column w.in-Agg.by w.in-Agg.pred w.in-Agg.span w.rows-in-Agg.result.now) = cc (w.rows-is, w.in_ok-rows-in-Agg.ensures) in
+          let rows = ap (λ rs. map run_fields (runs_over_rows w.in-Agg.kind w.in-Agg.column w.in-Agg.by w.in-Agg.pred w.in-Agg.span rs)) w.rows-in-Agg.ensures.value in
+          let same = ap (map run_fields) (runs_plain c.args.tables.now w.in-Agg.table w.in-Agg.kind w.in-Agg.column w.in-Agg.by w.in-Agg.pred w.in-Agg.span) in
+          rw w.in-Agg.is (made ∙ rows ∙ same)
+      | in-Join+in_ok-rows-in-Join w ↦
+          let made : c.match-query.rows.items ≡ map (pair_fields w.rows-in-Join.result.now w.rows-in-Join-2.result.now) (in_order pair_before (pairs_of w.in-Join.left_pred w.in-Join.right_pred w.in-Join.left_on w.in-Join.right_on w.in-Join.span w.rows-in-Join.result.now w.rows-in-Join-2.result.now)) = cc (w.rows-is, w.in_ok-rows-in-Join.ensures) in
+          let rows = ap₂ (λ ls rs. map (pair_fields ls rs) (in_order pair_before (pairs_of w.in-Join.left_pred w.in-Join.right_pred w.in-Join.left_on w.in-Join.right_on w.in-Join.span ls rs))) w.rows-in-Join.ensures.value w.rows-in-Join-2.ensures.value in
+          let same = ap (map (pair_fields (rows_of c.args.tables.now w.in-Join.left) (rows_of c.args.tables.now w.in-Join.right))) (pairs_plain c.args.tables.now w.in-Join.left w.in-Join.left_pred w.in-Join.right w.in-Join.right_pred w.in-Join.left_on w.in-Join.right_on w.in-Join.span) in
+          rw w.in-Join.is (made ∙ rows ∙ same)
+    ]

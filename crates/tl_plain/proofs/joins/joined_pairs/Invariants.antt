@@ -1,9 +1,0 @@
-use Rattle.std.proofs.Common.{◌≡◌, [], take, fold}
-use Rattle.std.specs.List.{enumerate_from, filter_map, flat_map}
-use Rattle.tl_types.specs.History.{with_ids}
-use Rattle.tl_query.specs.Ordered.{pair_before, inserted}
-use Rattle.tl_query.specs.Joins.{pair_of}
-use Rattle.tl_plain.proofs.joins.joined_pairs.Given as goal
-
-abbrev pub invariant-loop-left_id : goal.invariant-loop-left_id
-invariant-loop-left_id l = l.pairs.items ≡ fold (λ ys x. inserted pair_before x ys) [] (flat_map (λ r. filter_map (pair_of l.sides.left_pred.now l.sides.right_pred.now l.sides.left_on l.sides.right_on l.sides.span r) (with_ids l.sides.rights.now)) (enumerate_from 0 (take l.left_id l.sides.lefts.now)))

@@ -8,7 +8,7 @@ use Rattle.tl_types.specs.Plain as plain
 use Rattle.tl_types.specs.Facts.{AscendFrom}
 use Rattle.tl_types.specs.History.{is_open, has_id}
 use Rattle.tl_types.specs.Resolving.{WorkingRow, BatchLine, open_rows, working_list, ids_of, new_rows, change_of}
-use Rattle.tl_batch.specs.Pieces.{cuts, periods_with, is_met, met_ids, over, row_pieces, old_pieces, put_pieces}
+use Rattle.tl_batch.specs.Pieces.{cuts, periods_with, is_affected, affected_ids, over, row_pieces, old_pieces, put_pieces}
 use Rattle.tl_batch.proofs.Rows.{filter_map-flat_map, rows_left, puts_left, worked_by_rows, fresh, rows_left-old, fresh-ids, fresh-rows, puts_left-ids, puts_left-rows}
 
 -- the open rows, from an id on
@@ -23,10 +23,10 @@ abbrev pub open_ids : ℕ → List plain.Row → List ℕ
 open_ids n [] = []
 open_ids n (r ∷ rows) = cond (is_open r) (n ∷ open_ids (n + 1) rows) (open_ids (n + 1) rows)
 
--- the ids of those that no line meets
+-- the ids of those that no line affects
 abbrev pub kept_ids : plain.Schema → List BatchLine → ℕ → List plain.Row → List ℕ
 kept_ids schema lines n [] = []
-kept_ids schema lines n (r ∷ rows) = cond (is_open r) (cond (is_met schema lines r) (kept_ids schema lines (n + 1) rows) (n ∷ kept_ids schema lines (n + 1) rows)) (kept_ids schema lines (n + 1) rows)
+kept_ids schema lines n (r ∷ rows) = cond (is_open r) (cond (is_affected schema lines r) (kept_ids schema lines (n + 1) rows) (n ∷ kept_ids schema lines (n + 1) rows)) (kept_ids schema lines (n + 1) rows)
 
 abbrev listed : ℕ → List plain.Row → List (ℕ × plain.Row)
 listed n rows = filter (λ s. is_open s.1) (enumerate_from n rows)
@@ -38,8 +38,8 @@ open_from-ids n (r ∷ rows) = split (is_open r) (open_from-ids (n + 1) rows) wh
   split true later = ap (λ ids. n ∷ ids) later
   split false later = later
 
-old-ids : (schema : plain.Schema) (lines : List BatchLine) (n : ℕ) (r : plain.Row) → ids_of (rows_left schema lines (old n r)) ≡ cond (is_met schema lines r) [] (n ∷ [])
-old-ids schema lines n r = ap ids_of (rows_left-old schema lines n r.cells r.period) ∙ split (is_met schema lines r) where
+old-ids : (schema : plain.Schema) (lines : List BatchLine) (n : ℕ) (r : plain.Row) → ids_of (rows_left schema lines (old n r)) ≡ cond (is_affected schema lines r) [] (n ∷ [])
+old-ids schema lines n r = ap ids_of (rows_left-old schema lines n r.cells r.period) ∙ split (is_affected schema lines r) where
   pieces : List (Option plain.Period)
   pieces = cuts schema.valid (periods_with (slice_get r.cells schema.key) lines) r.period
 
@@ -47,8 +47,8 @@ old-ids schema lines n r = ap ids_of (rows_left-old schema lines n r.cells r.per
   split true = fresh-ids r.cells pieces
   split false = refl
 
-old-rows : (schema : plain.Schema) (lines : List BatchLine) (n : ℕ) (r : plain.Row) → new_rows (rows_left schema lines (old n r)) ≡ cond (is_met schema lines r) (row_pieces schema lines r.cells r.period) []
-old-rows schema lines n r = ap new_rows (rows_left-old schema lines n r.cells r.period) ∙ split (is_met schema lines r) where
+old-rows : (schema : plain.Schema) (lines : List BatchLine) (n : ℕ) (r : plain.Row) → new_rows (rows_left schema lines (old n r)) ≡ cond (is_affected schema lines r) (row_pieces schema lines r.cells r.period) []
+old-rows schema lines n r = ap new_rows (rows_left-old schema lines n r.cells r.period) ∙ split (is_affected schema lines r) where
   pieces : List (Option plain.Period)
   pieces = cuts schema.valid (periods_with (slice_get r.cells schema.key) lines) r.period
 
@@ -67,8 +67,8 @@ left-ids schema lines n (r ∷ rows) = split (is_open r) (left-ids schema lines 
   both false = refl
 
   split : (b : Bool) → flat_map (λ h. ids_of (rows_left schema lines h)) (open_from (n + 1) rows) ≡ rest
-      → flat_map (λ h. ids_of (rows_left schema lines h)) (map (λ s. old s.0 s.1) (cond b ((n, r) ∷ listed (n + 1) rows) (listed (n + 1) rows))) ≡ cond b (cond (is_met schema lines r) rest (n ∷ rest)) rest
-  split true later = ap (λ ids. ids ++ flat_map (λ h. ids_of (rows_left schema lines h)) (open_from (n + 1) rows)) (old-ids schema lines n r) ∙ (ap (λ ids. cond (is_met schema lines r) [] (n ∷ []) ++ ids) later ∙ both (is_met schema lines r))
+      → flat_map (λ h. ids_of (rows_left schema lines h)) (map (λ s. old s.0 s.1) (cond b ((n, r) ∷ listed (n + 1) rows) (listed (n + 1) rows))) ≡ cond b (cond (is_affected schema lines r) rest (n ∷ rest)) rest
+  split true later = ap (λ ids. ids ++ flat_map (λ h. ids_of (rows_left schema lines h)) (open_from (n + 1) rows)) (old-ids schema lines n r) ∙ (ap (λ ids. cond (is_affected schema lines r) [] (n ∷ []) ++ ids) later ∙ both (is_affected schema lines r))
   split false later = later
 
 left-rows : (schema : plain.Schema) (lines : List BatchLine) (n : ℕ) (rows : List plain.Row) → flat_map (λ h. new_rows (rows_left schema lines h)) (open_from n rows) ≡ old_pieces schema lines rows
@@ -85,13 +85,13 @@ left-rows schema lines n (r ∷ rows) = split (is_open r) (left-rows schema line
   both false = refl
 
   split : (b : Bool) → flat_map (λ h. new_rows (rows_left schema lines h)) (open_from (n + 1) rows) ≡ rest
-      → flat_map (λ h. new_rows (rows_left schema lines h)) (map (λ s. old s.0 s.1) (cond b ((n, r) ∷ listed (n + 1) rows) (listed (n + 1) rows))) ≡ cond (b && is_met schema lines r) (pieces ++ rest) rest
-  split true later = ap (λ os. os ++ flat_map (λ h. new_rows (rows_left schema lines h)) (open_from (n + 1) rows)) (old-rows schema lines n r) ∙ (ap (λ os. cond (is_met schema lines r) pieces [] ++ os) later ∙ both (is_met schema lines r))
+      → flat_map (λ h. new_rows (rows_left schema lines h)) (map (λ s. old s.0 s.1) (cond b ((n, r) ∷ listed (n + 1) rows) (listed (n + 1) rows))) ≡ cond (b && is_affected schema lines r) (pieces ++ rest) rest
+  split true later = ap (λ os. os ++ flat_map (λ h. new_rows (rows_left schema lines h)) (open_from (n + 1) rows)) (old-rows schema lines n r) ∙ (ap (λ os. cond (is_affected schema lines r) pieces [] ++ os) later ∙ both (is_affected schema lines r))
   split false later = later
 
 kept_before : (schema : plain.Schema) (lines : List BatchLine) (n : ℕ) (rows : List plain.Row) (m : ℕ) → m < n → has_id (kept_ids schema lines n rows) m ≡ false
 kept_before schema lines n [] m h = refl
-kept_before schema lines n (r ∷ rows) m h = split (is_open r) (is_met schema lines r) (kept_before schema lines (n + 1) rows m (omega arith)) where
+kept_before schema lines n (r ∷ rows) m h = split (is_open r) (is_affected schema lines r) (kept_before schema lines (n + 1) rows m (omega arith)) where
   rest : List ℕ
   rest = kept_ids schema lines (n + 1) rows
 
@@ -125,16 +125,16 @@ closed_here true false n kept rest closed gone past e =
     ap (λ v. cond (not (v || has_id kept n)) (n ∷ filter (λ id. not (has_id (n ∷ kept) id)) rest) (filter (λ id. not (has_id (n ∷ kept) id)) rest)) same ∙ (past ∙ e)
 closed_here false b n kept rest closed gone past e = e
 
-closed_ids : (schema : plain.Schema) (lines : List BatchLine) (n : ℕ) (rows : List plain.Row) → filter (λ id. not (has_id (kept_ids schema lines n rows) id)) (open_ids n rows) ≡ met_ids schema lines n rows
+closed_ids : (schema : plain.Schema) (lines : List BatchLine) (n : ℕ) (rows : List plain.Row) → filter (λ id. not (has_id (kept_ids schema lines n rows) id)) (open_ids n rows) ≡ affected_ids schema lines n rows
 closed_ids schema lines n [] = refl
 closed_ids schema lines n (r ∷ rows) =
     let kept : List ℕ = kept_ids schema lines (n + 1) rows in
-    closed_here (is_open r) (is_met schema lines r) n kept (open_ids (n + 1) rows) (met_ids schema lines (n + 1) rows) (kept_before schema lines (n + 1) rows n (omega arith)) (filter_past n kept (n + 1) rows (omega arith)) (closed_ids schema lines (n + 1) rows)
+    closed_here (is_open r) (is_affected schema lines r) n kept (open_ids (n + 1) rows) (affected_ids schema lines (n + 1) rows) (kept_before schema lines (n + 1) rows n (omega arith)) (filter_past n kept (n + 1) rows (omega arith)) (closed_ids schema lines (n + 1) rows)
 
--- the change that the lines make: it closes the current rows that a line meets, and opens what is left of them and
+-- the change that the lines make: it closes the current rows that a line affects, and opens what is left of them and
 -- then what is left of the rows put
-pub change_by_rows : (number : ℕ) (t : plain.Table) (lines : List BatchLine) → change_of number t lines ≡ record { table = number; closes = met_ids t.schema lines 0 t.rows; opens = old_pieces t.schema lines t.rows ++ put_pieces t.schema lines }
-change_by_rows number t lines = ap (λ cs. made cs (new_rows (working_list t lines))) closes ∙ ap (made (met_ids t.schema lines 0 t.rows)) opens where
+pub change_by_rows : (number : ℕ) (t : plain.Table) (lines : List BatchLine) → change_of number t lines ≡ record { table = number; closes = affected_ids t.schema lines 0 t.rows; opens = old_pieces t.schema lines t.rows ++ put_pieces t.schema lines }
+change_by_rows number t lines = ap (λ cs. made cs (new_rows (working_list t lines))) closes ∙ ap (made (affected_ids t.schema lines 0 t.rows)) opens where
   made : List ℕ → List plain.Opened → plain.Change
   made cs os = record { table = number; closes = cs; opens = os }
 
@@ -154,22 +154,22 @@ change_by_rows number t lines = ap (λ cs. made cs (new_rows (working_list t lin
       ∙ (append-nil (ids_of (flat_map (rows_left t.schema lines) (open_from 0 t.rows)))
       ∙ (filter_map-flat_map (λ h. h.id) (rows_left t.schema lines) (open_from 0 t.rows) ∙ left-ids t.schema lines 0 t.rows))))
 
-  closes : filter (λ id. not (has_id (ids_of (working_list t lines)) id)) (ids_of (open_rows t)) ≡ met_ids t.schema lines 0 t.rows
+  closes : filter (λ id. not (has_id (ids_of (working_list t lines)) id)) (ids_of (open_rows t)) ≡ affected_ids t.schema lines 0 t.rows
   closes = ap (λ ids. filter (λ id. not (has_id ids id)) (ids_of (open_rows t))) kept ∙ (ap (λ ids. filter (λ id. not (has_id (kept_ids t.schema lines 0 t.rows) id)) ids) (open_from-ids 0 t.rows) ∙ closed_ids t.schema lines 0 t.rows)
 
 -- ASCENDING LISTS
 
 -- the ids that are closed ascend
-pub met_ids-ascend : (schema : plain.Schema) (lines : List BatchLine) (n : ℕ) (rows : List plain.Row) → AscendFrom n (met_ids schema lines n rows)
-met_ids-ascend schema lines n [] = tt
-met_ids-ascend schema lines n (r ∷ rows) = split (is_open r && is_met schema lines r) (met_ids-ascend schema lines (n + 1) rows) where
+pub affected_ids-ascend : (schema : plain.Schema) (lines : List BatchLine) (n : ℕ) (rows : List plain.Row) → AscendFrom n (affected_ids schema lines n rows)
+affected_ids-ascend schema lines n [] = tt
+affected_ids-ascend schema lines n (r ∷ rows) = split (is_open r && is_affected schema lines r) (affected_ids-ascend schema lines (n + 1) rows) where
   lower : (low high : ℕ) (ids : List ℕ) → low ≤ high → AscendFrom high ids → AscendFrom low ids
   lower low high [] h all = tt
   lower low high (id ∷ ids) h all = (let l = all.0 in omega arith, all.1)
 
-  split : (b : Bool) → AscendFrom (n + 1) (met_ids schema lines (n + 1) rows) → AscendFrom n (cond b (n ∷ met_ids schema lines (n + 1) rows) (met_ids schema lines (n + 1) rows))
+  split : (b : Bool) → AscendFrom (n + 1) (affected_ids schema lines (n + 1) rows) → AscendFrom n (cond b (n ∷ affected_ids schema lines (n + 1) rows) (affected_ids schema lines (n + 1) rows))
   split true later = (let h : n ≤ n = omega arith in h, later)
-  split false later = lower n (n + 1) (met_ids schema lines (n + 1) rows) (omega arith) later
+  split false later = lower n (n + 1) (affected_ids schema lines (n + 1) rows) (omega arith) later
 
 ascend_past : (low : ℕ) (ids : List ℕ) (n : ℕ) → AscendFrom low ids → n < low → has_id ids n ≡ false
 ascend_past low [] n all h = refl

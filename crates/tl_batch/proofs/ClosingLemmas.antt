@@ -1,4 +1,4 @@
--- The spots of the rows that a change closes.
+-- The keys and ids of the rows that a change closes.
 use Rattle.std.proofs.Common.{◌≡◌, ℕ, ◌+◌, ◌<◌, Bool, true, false, ◌&&◌, ◌||◌, nat_eq, List, [], ◌∷◌, ◌++◌, length, take, get_or, slice_get, Option, Some, None, refl, sym, ap, ◌∙◌, arith}
 use Rattle.std.proofs.lemmas.Bool.Decides.{nat_tests}
 use Rattle.std.proofs.lemmas.List.{take_more}
@@ -8,10 +8,11 @@ use Rattle.tl_types.specs.Plain as plain
 use Rattle.tl_types.specs.History.{has_id, same_cell}
 use Rattle.tl_types.specs.Resolving.{same_key}
 use Rattle.tl_store.specs.Reading.{cell_of_row}
-use Rattle.tl_batch.specs.declared.spots.Spot.{Spot}
-use Rattle.tl_batch.specs.Spots.{has_spot}
+use Rattle.std.specs.Cmp.{nat_eq_equiv}
+use Rattle.tl_batch.specs.declared.following.KeyedRow.{KeyedRow}
+use Rattle.tl_batch.specs.ClosedRows.{has_keyed}
 use Rattle.tl_batch.specs.Standing.{has_key}
-use Rattle.tl_batch.proofs.SpotLemmas.{same_cell-sym, nat_eq-sym}
+use Rattle.tl_batch.proofs.KeyIndexLemmas.{cell_sym}
 
 -- the cell that was read is the row's key
 pub key_of_row : (place : ℕ) (row : Option plain.Row) (key x : Cell) → Some key ≡ cell_of_row place row → has_key place x row ≡ same_cell key x
@@ -19,16 +20,16 @@ key_of_row place None key x e = absurd (cc)
 key_of_row place (Some r) key x e = ap (λ c. same_key c (Some x)) (sym e)
 
 -- a closed row more
-pub closing_more : (place i id : ℕ) (closes : List ℕ) (rows : List plain.Row) (key : Cell) (before after : List Spot) → i < length closes → id ≡ get_or closes i 0 → Some key ≡ cell_of_row place (slice_get rows id)
+pub closing_more : (place i id : ℕ) (closes : List ℕ) (rows : List plain.Row) (key : Cell) (before after : List KeyedRow) → i < length closes → id ≡ get_or closes i 0 → Some key ≡ cell_of_row place (slice_get rows id)
     → after ≡ before ++ record { key = key; id = id } ∷ []
-    → ((x : Cell) (n : ℕ) → has_spot before x n ≡ (has_id (take i closes) n && has_key place x (slice_get rows n)))
-    → (x : Cell) (n : ℕ) → has_spot after x n ≡ (has_id (take (i + 1) closes) n && has_key place x (slice_get rows n))
+    → ((x : Cell) (n : ℕ) → has_keyed before x n ≡ (has_id (take i closes) n && has_key place x (slice_get rows n)))
+    → (x : Cell) (n : ℕ) → has_keyed after x n ≡ (has_id (take (i + 1) closes) n && has_key place x (slice_get rows n))
 closing_more place i id closes rows key before after h at cell made e x n =
-    let spots : has_spot after x n ≡ (has_spot before x n || ((same_cell x key && nat_eq n id) || false)) = ap (λ ss. has_spot ss x n) made ∙ list_any-append (λ (s : Spot). same_cell x s.key && nat_eq n s.id) before (record { key = key; id = id } ∷ []) in
+    let both : has_keyed after x n ≡ (has_keyed before x n || ((same_cell x key && nat_eq n id) || false)) = ap (λ ss. has_keyed ss x n) made ∙ list_any-append (λ (s : KeyedRow). same_cell x s.key && nat_eq n s.id) before (record { key = key; id = id } ∷ []) in
     let front : take (i + 1) closes ≡ take i closes ++ id ∷ [] = take_more closes i 0 h ∙ ap (λ m. take i closes ++ m ∷ []) (sym at) in
     let ids : has_id (take (i + 1) closes) n ≡ (has_id (take i closes) n || (nat_eq id n || false)) = ap (λ is. has_id is n) front ∙ list_any-append (λ m. nat_eq m n) (take i closes) (id ∷ []) in
-    spots ∙ (ap (λ v. v || ((same_cell x key && nat_eq n id) || false)) (e x n)
-    ∙ (ap (λ v. (has_id (take i closes) n && has_key place x (slice_get rows n)) || ((same_cell x key && v) || false)) (nat_eq-sym n id)
+    both ∙ (ap (λ v. v || ((same_cell x key && nat_eq n id) || false)) (e x n)
+    ∙ (ap (λ v. (has_id (take i closes) n && has_key place x (slice_get rows n)) || ((same_cell x key && v) || false)) (nat_eq_equiv.symm n id)
     ∙ (here (nat_eq id n) refl ∙ ap (λ v. v && has_key place x (slice_get rows n)) (sym ids)))) where
       table : (a k : Bool) → ((a && k) || ((k && true) || false)) ≡ ((a || (true || false)) && k)
       table true true = refl
@@ -50,5 +51,5 @@ closing_more place i id closes rows key before after h at cell made e x n =
       here false f = apart (has_id (take i closes) n) (has_key place x (slice_get rows n)) (same_cell x key)
       here true f =
           let same : id ≡ n = grind (arith, nat_tests) in
-          let is : has_key place x (slice_get rows n) ≡ same_cell x key = ap (λ m. has_key place x (slice_get rows m)) (sym same) ∙ (key_of_row place (slice_get rows id) key x cell ∙ same_cell-sym key x) in
+          let is : has_key place x (slice_get rows n) ≡ same_cell x key = ap (λ m. has_key place x (slice_get rows m)) (sym same) ∙ (key_of_row place (slice_get rows id) key x cell ∙ cell_sym key x) in
           ap (λ v. (has_id (take i closes) n && has_key place x (slice_get rows n)) || ((v && true) || false)) (sym is) ∙ table (has_id (take i closes) n) (has_key place x (slice_get rows n))

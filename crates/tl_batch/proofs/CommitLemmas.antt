@@ -4,7 +4,7 @@ use Rattle.std.specs.Option.{option_map, IfSome}
 use Rattle.std.specs.Result.{IfOk, IfErr}
 use Rattle.std.specs.List.{list_any, list_all, All}
 use Rattle.std.specs.Bool.{beq, OnTrue}
-use Rattle.std.proofs.lemmas.Bool.{cond-true, cond-false, le-leb, lt-leb, lt-ltb, and_parts, and_from}
+use Rattle.std.proofs.lemmas.Bool.{and_parts, and_from}
 use Rattle.std.proofs.lemmas.Bool.Decides.{nat_tests}
 use Rattle.std.proofs.lemmas.Option.{slice_get_within}
 use Rattle.std.proofs.lemmas.List.Folds.{list_any-append}
@@ -12,27 +12,24 @@ use Rattle.std.proofs.lemmas.List.Sums.{AllPass-from_list_all}
 use Rattle.tl_types.specs.declared.cells.Cell.{Cell}
 use Rattle.tl_types.specs.declared.commits.Commit.{Commit}
 use Rattle.tl_types.specs.declared.commits.Body.TheVariants as body
-use Rattle.tl_types.specs.declared.batches.Batch.TheVariants as batch
 use Rattle.tl_types.specs.declared.batches.BatchFault.{BatchFault}
 use Rattle.tl_types.specs.declared.batches.BatchFault.TheVariants as fault
-use Rattle.tl_types.specs.declared.batches.KeyLine.{KeyLine}
 use Rattle.tl_types.specs.declared.limits.Limits.{Limits}
 use Rattle.tl_types.specs.Plain as plain
 use Rattle.tl_types.specs.Facts.{AscendFrom}
 use Rattle.tl_types.specs.History.{is_open, has_name, matches, match_columns, fits, fits_body, fits_table, rows_of}
-use Rattle.tl_types.specs.Resolving.{BatchLine, same_key, open_rows, line_fault, put_lines, removal_lines, find_from, find_table, resolved, resolved_change}
-use Rattle.tl_batch.specs.declared.spots.Spot.{Spot}
-use Rattle.tl_batch.specs.declared.strokes.Stroke.{Stroke}
+use Rattle.tl_types.specs.Resolving.{BatchLine, same_key, open_rows, line_fault, put_lines, removal_lines, find_from, find_table, resolved_change}
+use Rattle.tl_types.specs.declared.batches.KeyLine.{KeyLine}
 use Rattle.tl_batch.specs.Faults.{fault_from}
-use Rattle.tl_batch.specs.Made.{change_by, unless_fault, made_by, committed, rows_fit_found, AreWithin}
-use Rattle.tl_batch.specs.Pieces.{is_met, met_ids, old_pieces, put_pieces}
-use Rattle.tl_batch.specs.Spots.{has_spot}
-use Rattle.tl_batch.specs.Standing.{IsTable, StandFor, is_open_with, table_has, rows_match, spots_at}
-use Rattle.tl_batch.specs.Strokes.{said_of, said_by, said_by_row}
-use Rattle.tl_batch.proofs.ChangeLemmas.{met_ids-ascend}
-use Rattle.tl_batch.proofs.FollowLemmas.{spot_at, cells_number}
-use Rattle.tl_batch.proofs.MeetingLemmas.{known-rows}
-use Rattle.tl_batch.proofs.ResolvedLemmas.{change-late, change-fault, change-full, change-made, change-fits}
+use Rattle.tl_batch.specs.Made.{change_by, unless_fault, made_by, change_made, committed, rows_fit_found, AreWithin, IsMade}
+use Rattle.tl_batch.specs.Pieces.{is_affected, affected_ids, old_pieces, put_pieces}
+use Rattle.tl_batch.specs.declared.changing.RowChanges.{RowChanges}
+use Rattle.tl_batch.specs.KeyIndex.{IdsByKey, has_row}
+use Rattle.tl_batch.specs.Standing.{StandFor, table_has, rows_match}
+use Rattle.tl_batch.specs.Lines.{lines_of, line_of_row}
+use Rattle.tl_batch.proofs.ChangeLemmas.{affected_ids-ascend}
+use Rattle.tl_batch.proofs.FollowLemmas.{index_there, cells_number}
+use Rattle.tl_batch.proofs.ResolvedLemmas.{change-fault, change-full, change-made, change-fits}
 
 -- A NEW TABLE
 
@@ -44,30 +41,8 @@ found_is n name (t ∷ tables) = split (has_name name t) (found_is (n + 1) name 
   split true later = refl
   split false later = later
 
-pub create-exists : (limits : Limits) (db : plain.Database) (author : ℕ) (schema : plain.Schema) → list_any (has_name schema.name) db.tables ≡ true
-    → Err fault.TableExists ≡ resolved limits db author (batch.Create schema)
-create-exists limits db author schema named = sym (cond-true _ _ _ named)
-
-pub create-tables : (limits : Limits) (db : plain.Database) (author : ℕ) (schema : plain.Schema) → list_any (has_name schema.name) db.tables ≡ false
-    → limits.tables ≤ length db.tables → Err fault.TablesFull ≡ resolved limits db author (batch.Create schema)
-create-tables limits db author schema named full = sym (cond-false _ _ _ named ∙ cond-true _ _ _ (le-leb _ _ full))
-
-pub create-versions : (limits : Limits) (db : plain.Database) (author : ℕ) (schema : plain.Schema) → list_any (has_name schema.name) db.tables ≡ false
-    → length db.tables < limits.tables → limits.versions ≤ db.version → Err fault.VersionsFull ≡ resolved limits db author (batch.Create schema)
-create-versions limits db author schema named room full = sym (cond-false _ _ _ named ∙ (cond-false _ _ _ (lt-leb _ _ room) ∙ cond-true _ _ _ (le-leb _ _ full)))
-
 abbrev pub created : ℕ → plain.Schema → Commit
 created author schema = record { author = author; body = body.Create schema }
-
-pub create-made : (limits : Limits) (db : plain.Database) (author : ℕ) (schema : plain.Schema) → list_any (has_name schema.name) db.tables ≡ false
-    → length db.tables < limits.tables → db.version < limits.versions → Ok (created author schema) ≡ resolved limits db author (batch.Create schema)
-create-made limits db author schema named room next = sym (cond-false _ _ _ named ∙ (cond-false _ _ _ (lt-leb _ _ room) ∙ cond-false _ _ _ (lt-leb _ _ next)))
-
-pub create-fits : (limits : Limits) (db : plain.Database) (author : ℕ) (schema : plain.Schema) → list_any (has_name schema.name) db.tables ≡ false
-    → length db.tables < limits.tables → db.version < limits.versions → fits limits db (created author schema) ≡ true
-create-fits limits db author schema named room next =
-    and_from (nat_lt db.version limits.versions) (not (list_any (has_name schema.name) db.tables) && nat_lt (length db.tables) limits.tables) (lt-ltb _ _ next)
-    (and_from (not (list_any (has_name schema.name) db.tables)) (nat_lt (length db.tables) limits.tables) (ap not named) (lt-ltb _ _ room))
 
 -- A TABLE FOUND BY NAME
 
@@ -119,16 +94,6 @@ none_named : (o : Option (ℕ × plain.Table)) → option_map (λ found. found.0
 none_named None h = refl
 none_named (Some x) h = absurd (cc)
 
--- no table has the name
-pub change-unknown : (limits : Limits) (db : plain.Database) (author : ℕ) (name : List ℕ) (lines : plain.Schema → List BatchLine) → option_map (λ found. found.0) (find_table name db.tables) ≡ None
-    → resolved_change limits db author (find_table name db.tables) lines ≡ Err fault.UnknownTable
-change-unknown limits db author name lines h = ap (λ o. resolved_change limits db author o lines) (none_named (find_table name db.tables) h)
-
--- no version is left
-pub named-late : (limits : Limits) (db : plain.Database) (author number : ℕ) (name : List ℕ) (lines : plain.Schema → List BatchLine) → IsNamed db name number → limits.versions ≤ db.version
-    → resolved_change limits db author (find_table name db.tables) lines ≡ Err fault.VersionsFull
-named-late limits db author number name lines n full = ap (λ o. resolved_change limits db author o lines) n.named ∙ change-late limits db author number n.table lines full
-
 if_at : (P : plain.Table → Type 0) (o : Option plain.Table) (t : plain.Table) → o ≡ Some t → P t → IfSome o P
 if_at P None t e p = tt
 if_at P (Some u) t e p = let same : t ≡ u = cc in subst P same p
@@ -157,43 +122,20 @@ named-match db name number lines n m = if_at (λ t. list_all (matches t.schema) 
 
 -- THE TABLE THAT KEYS STAND FOR
 
-known_at : (keys : List (List Spot)) (db : plain.Database) (number : ℕ) (schema : plain.Schema) → StandFor keys db → (o : Option plain.Table) → slice_get db.tables number ≡ o → Some schema ≡ option_map (λ t. t.schema) o → IsTable db number schema
-known_at keys db number schema s None at e = absurd (cc)
-known_at keys db number schema s (Some t) at e = let same : schema ≡ t.schema = cc in record { table = t; at = at; same = same; matching = sym (ap rows_match at) ∙ s.matching number }
-
-pub table_known : (keys : List (List Spot)) (db : plain.Database) (number : ℕ) (schema : plain.Schema) → StandFor keys db → Some schema ≡ option_map (λ t. t.schema) (slice_get db.tables number) → IsTable db number schema
-table_known keys db number schema s e = known_at keys db number schema s (slice_get db.tables number) refl e
-
-pub stand_at : (keys : List (List Spot)) (db : plain.Database) (number : ℕ) (schema : plain.Schema) (spots : List Spot) → StandFor keys db → IsTable db number schema → number < length db.tables → spots ≡ get_or keys number spots
-    → (x : Cell) (n : ℕ) → has_spot spots x n ≡ is_open_with schema.key x (slice_get (rows_of db number) n)
-stand_at keys db number schema spots s k within is x n =
+pub ids_there : (keys : List IdsByKey) (db : plain.Database) (number : ℕ) (index : IdsByKey) → StandFor keys db → number < length db.tables → index ≡ get_or keys number index → (x : Cell) (n : ℕ) → has_row index x n ≡ table_has (slice_get db.tables number) x n
+ids_there keys db number index s within is x n =
     let tables = s.tables in
-    let here : spots_at keys number ≡ spots = spot_at keys number spots (omega arith) is in
-    sym (ap (λ ss. has_spot ss x n) here) ∙ (s.spots number x n ∙ (ap (λ o. table_has o x n) k.at
-    ∙ (ap (λ (c : plain.Schema). is_open_with c.key x (slice_get k.table.rows n)) (sym k.same) ∙ ap (λ rs. is_open_with schema.key x (slice_get rs n)) (sym (known-rows db number schema k)))))
+    sym (ap (λ i. has_row i x n) (index_there keys number index (omega arith) is)) ∙ s.ids number x n
 
-pub known-within : (db : plain.Database) (number : ℕ) (schema : plain.Schema) → IsTable db number schema → number < length db.tables
-known-within db number schema k = slice_get_within db.tables number k.table k.at
+-- what is made at the table that was found
+pub made_at : (tables : List plain.Table) (number limit : ℕ) (removes : Bool) (t : plain.Table) (lines : plain.Schema → List BatchLine) (made : Result plain.Change BatchFault) → Some t ≡ slice_get tables number → made ≡ made_by limit number removes t.schema t.rows (lines t.schema)
+    → Some made ≡ option_map (λ u. made_by limit number removes u.schema u.rows (lines u.schema)) (slice_get tables number)
+made_at tables number limit removes t lines made at e = ap Some e ∙ ap (option_map (λ (u : plain.Table). made_by limit number removes u.schema u.rows (lines u.schema))) at
 
--- what is made at a table
-pub made_at : (db : plain.Database) (number : ℕ) (schema : plain.Schema) (k : IsTable db number schema) (limit : ℕ) (removes : Bool) (lines : plain.Schema → List BatchLine) (made : Result plain.Change BatchFault) → made ≡ made_by limit number removes schema (rows_of db number) (lines schema)
-    → Some made ≡ option_map (λ t. made_by limit number removes t.schema t.rows (lines t.schema)) (slice_get db.tables number)
-made_at db number schema k limit removes lines made e =
-    ap Some (e ∙ (ap (λ rs. made_by limit number removes schema rs (lines schema)) (known-rows db number schema k) ∙ ap (λ c. made_by limit number removes c k.table.rows (lines c)) k.same))
-    ∙ sym (ap (option_map (λ (t : plain.Table). made_by limit number removes t.schema t.rows (lines t.schema))) k.at)
+pub some_match : (tables : List plain.Table) (number : ℕ) (t : plain.Table) (lines : List plain.Opened) → Some t ≡ slice_get tables number → IfSome (slice_get tables number) (λ u. list_all (matches u.schema) lines ≡ true) → list_all (matches t.schema) lines ≡ true
+some_match tables number t lines at all = subst (λ (o : Option plain.Table). IfSome o (λ u. list_all (matches u.schema) lines ≡ true)) (sym at) all
 
 -- CHANGES
-
--- rows that match have a key
-pub rows-untimed : (schema : plain.Schema) (lines : List plain.Opened) → list_all (matches schema) lines ≡ true → schema.valid ≡ false → All (λ o. o.period ≡ None) lines
-rows-untimed schema lines m untimed = λ k d l.
-    let row : plain.Opened = get_or lines k d in
-    let this : matches schema row ≡ true = AllPass-from_list_all (matches schema) lines m k d l in
-    let timed : beq schema.valid (is_some row.period) ≡ true = (and_parts (match_columns schema.columns row.cells) (beq schema.valid (is_some row.period)) this).1 in
-    none row.period (ap (λ v. beq v (is_some row.period)) (sym untimed) ∙ timed) where
-      none : (p : Option plain.Period) → beq false (is_some p) ≡ true → p ≡ None
-      none None e = refl
-      none (Some q) e = absurd (cc)
 
 pub rows-keyed : (schema : plain.Schema) (place : ℕ) (lines : List plain.Opened) → place ≡ schema.key → schema.key < length schema.columns → list_all (matches schema) lines ≡ true → All (λ o. place < length o.cells) lines
 rows-keyed schema place lines e among m = λ k d l.
@@ -206,62 +148,58 @@ map_number : {A B : Type 0} (f : A → B) (xs : List A) → length (map f xs) �
 map_number f [] = refl
 map_number f (x ∷ xs) = ap suc (map_number f xs)
 
-pub rows-number : (strokes : List Stroke) (place : ℕ) (lines : List plain.Opened) → said_by strokes ≡ map (said_by_row place) lines → length strokes ≡ length lines
-rows-number strokes place lines e = sym (map_number said_of strokes) ∙ (ap length e ∙ map_number (said_by_row place) lines)
+pub rows-few : (rows : List plain.Row) (n : ℕ) → n ≡ length rows → n ≤ 16777216 → length rows ≤ 16777216
+rows-few rows n e h = omega arith
 
-pub keys-number : (strokes : List Stroke) (lines : List KeyLine) → said_by strokes ≡ removal_lines lines → length strokes ≡ length lines
-keys-number strokes lines e = sym (map_number said_of strokes) ∙ (ap length e ∙ keys_length lines) where
-  keys_length : (ks : List KeyLine) → length (removal_lines ks) ≡ length ks
-  keys_length [] = refl
-  keys_length (k ∷ ks) = ap suc (keys_length ks)
-
--- a list has no more ids that are met than rows
-pub met-few : (schema : plain.Schema) (lines : List BatchLine) (n : ℕ) (rows : List plain.Row) → length (met_ids schema lines n rows) ≤ length rows
-met-few schema lines n [] = omega arith
-met-few schema lines n (r ∷ rows) = split (is_open r && is_met schema lines r) (met-few schema lines (n + 1) rows) where
-  split : (b : Bool) → length (met_ids schema lines (n + 1) rows) ≤ length rows → length (cond b (n ∷ met_ids schema lines (n + 1) rows) (met_ids schema lines (n + 1) rows)) ≤ suc (length rows)
+-- a list has no more ids that are affected than rows
+pub affected-few : (schema : plain.Schema) (lines : List BatchLine) (n : ℕ) (rows : List plain.Row) → length (affected_ids schema lines n rows) ≤ length rows
+affected-few schema lines n [] = omega arith
+affected-few schema lines n (r ∷ rows) = split (is_open r && is_affected schema lines r) (affected-few schema lines (n + 1) rows) where
+  split : (b : Bool) → length (affected_ids schema lines (n + 1) rows) ≤ length rows → length (cond b (n ∷ affected_ids schema lines (n + 1) rows) (affected_ids schema lines (n + 1) rows)) ≤ suc (length rows)
   split true later = omega arith
   split false later = omega arith
 
-pub closes-ascend : (schema : plain.Schema) (lines : List BatchLine) (rows : List plain.Row) (closes : List ℕ) → closes ≡ met_ids schema lines 0 rows → AscendFrom 0 closes
-closes-ascend schema lines rows closes e = subst (AscendFrom 0) (sym e) (met_ids-ascend schema lines 0 rows)
+pub closes-ascend : (schema : plain.Schema) (lines : List BatchLine) (rows : List plain.Row) (closes : List ℕ) → closes ≡ affected_ids schema lines 0 rows → AscendFrom 0 closes
+closes-ascend schema lines rows closes e = subst (AscendFrom 0) (sym e) (affected_ids-ascend schema lines 0 rows)
 
-pub closes-few : (schema : plain.Schema) (lines : List BatchLine) (rows : List plain.Row) (closes : List ℕ) → closes ≡ met_ids schema lines 0 rows → length closes ≤ length rows
-closes-few schema lines rows closes e = let h = met-few schema lines 0 rows in let f = ap length e in omega arith
+pub closes-few : (schema : plain.Schema) (lines : List BatchLine) (rows : List plain.Row) (closes : List ℕ) → closes ≡ affected_ids schema lines 0 rows → length closes ≤ length rows
+closes-few schema lines rows closes e = let h = affected-few schema lines 0 rows in let f = ap length e in omega arith
 
 -- the first fault of rows that are put reads the keys of the lines alone
 fault-rows : (schema : plain.Schema) (rows : List plain.Row) (rec : ℕ) (some more : List BatchLine) (lines : List plain.Opened) → ((k : Option Cell) → list_any (λ e. same_key e.key k) some ≡ list_any (λ e. same_key e.key k) more)
-    → fault_from schema false rows rec some (map (said_by_row schema.key) lines) ≡ fault_from schema false rows rec more (put_lines schema lines)
+    → fault_from schema false rows rec some (map (line_of_row schema.key) lines) ≡ fault_from schema false rows rec more (put_lines schema lines)
 fault-rows schema rows rec some more [] same = refl
 fault-rows schema rows rec some more (o ∷ lines) same =
     let key : Option Cell = slice_get o.cells schema.key in
-    let one : BatchLine = said_by_row schema.key o in
+    let one : BatchLine = line_of_row schema.key o in
     let other : BatchLine = record { key = key; period = o.period; puts = Some o } in
     let any : Option Cell → BatchLine → Bool = λ k e. same_key e.key k in
     let later = fault-rows schema rows (rec + 1) (some ++ one ∷ []) (more ++ other ∷ []) lines
     (λ k. list_any-append (any k) some (one ∷ []) ∙ (ap (λ b. b || (same_key key k || false)) (same k) ∙ sym (list_any-append (any k) more (other ∷ [])))) in
-    ap (λ b. cond (not schema.valid && b) (Some (fault.KeyTwice rec)) (fault_from schema false rows (rec + 1) (some ++ one ∷ []) (map (said_by_row schema.key) lines))) (same key)
+    ap (λ b. cond (not schema.valid && b) (Some (fault.KeyTwice rec)) (fault_from schema false rows (rec + 1) (some ++ one ∷ []) (map (line_of_row schema.key) lines))) (same key)
     ∙ ap (λ f. cond (not schema.valid && list_any (any key) more) (Some (fault.KeyTwice rec)) f) later
 
-pub rows-first : (schema : plain.Schema) (rows : List plain.Row) (strokes given : List Stroke) (lines : List plain.Opened) (place : ℕ) (found : Option BatchFault) → place ≡ schema.key → given ≡ strokes → said_by strokes ≡ map (said_by_row place) lines
-    → found ≡ fault_from schema false rows 2 [] (said_by given) → found ≡ fault_from schema false rows 2 [] (put_lines schema lines)
+pub rows-first : (schema : plain.Schema) (rows : List plain.Row) (strokes given : List KeyLine) (lines : List plain.Opened) (place : ℕ) (found : Option BatchFault) → place ≡ schema.key → given ≡ strokes → lines_of strokes ≡ map (line_of_row place) lines
+    → found ≡ fault_from schema false rows 2 [] (lines_of given) → found ≡ fault_from schema false rows 2 [] (put_lines schema lines)
 rows-first schema rows strokes given lines place found at same e f =
-    f ∙ (ap (λ ss. fault_from schema false rows 2 [] (said_by ss)) same ∙ (ap (fault_from schema false rows 2 []) (e ∙ ap (λ p. map (said_by_row p) lines) at) ∙ fault-rows schema rows 2 [] [] lines (λ k. refl)))
+    f ∙ (ap (λ ss. fault_from schema false rows 2 [] (lines_of ss)) same ∙ (ap (fault_from schema false rows 2 []) (e ∙ ap (λ p. map (line_of_row p) lines) at) ∙ fault-rows schema rows 2 [] [] lines (λ k. refl)))
 
--- a fault is what is made
-pub made-fault : (limit number : ℕ) (removes : Bool) (schema : plain.Schema) (rows : List plain.Row) (lines : List BatchLine) (found : Option BatchFault) (f : BatchFault) → found ≡ fault_from schema removes rows 2 [] lines → found ≡ Some f
-    → Err f ≡ made_by limit number removes schema rows lines
-made-fault limit number removes schema rows lines found f e is = ap (unless_fault limit (length rows) (change_by number schema rows lines)) (sym is ∙ e)
+-- what was made of lines, and the change of it
+pub made-change : (limit number : ℕ) (removes : Bool) (schema : plain.Schema) (rows : List plain.Row) (lines : List BatchLine) (made : Result RowChanges BatchFault) (change : Result plain.Change BatchFault) → IsMade removes schema rows lines made
+    → change ≡ change_made limit number (length rows) made → change ≡ made_by limit number removes schema rows lines
+made-change limit number removes schema rows lines (Err f) change is e = e ∙ sym (ap (unless_fault limit (length rows) (change_by number schema rows lines)) is)
+made-change limit number removes schema rows lines (Ok c) change is e =
+    e ∙ (ap (λ cs. unless_fault limit (length rows) (record { table = number; closes = cs; opens = c.opens.items }) None) is.1
+    ∙ (ap (λ os. unless_fault limit (length rows) (record { table = number; closes = affected_ids schema lines 0 rows; opens = os }) None) is.2
+    ∙ ap (unless_fault limit (length rows) (change_by number schema rows lines)) (sym is.0)))
 
--- no fault, and the change
-pub made-change : (limit number : ℕ) (removes : Bool) (schema : plain.Schema) (rows : List plain.Row) (lines : List BatchLine) (found : Option BatchFault) (count : ℕ) (closes : List ℕ) (opens : List plain.Opened) (made : Result plain.Change BatchFault)
-    → found ≡ fault_from schema removes rows 2 [] lines → found ≡ None → count ≡ length rows → closes ≡ met_ids schema lines 0 rows → opens ≡ old_pieces schema lines rows ++ put_pieces schema lines
-    → made ≡ unless_fault limit count (record { table = number; closes = closes; opens = opens }) None → made ≡ made_by limit number removes schema rows lines
-made-change limit number removes schema rows lines found count closes opens made e none number_of_rows c o is =
-    is ∙ (ap (λ n. unless_fault limit n (record { table = number; closes = closes; opens = opens }) None) number_of_rows
-    ∙ (ap (λ cs. unless_fault limit (length rows) (record { table = number; closes = cs; opens = opens }) None) c
-    ∙ (ap (λ os. unless_fault limit (length rows) (record { table = number; closes = met_ids schema lines 0 rows; opens = os }) None) o
-    ∙ ap (unless_fault limit (length rows) (change_by number schema rows lines)) (sym none ∙ e))))
+pub made-ascend : (removes : Bool) (schema : plain.Schema) (rows : List plain.Row) (lines : List BatchLine) (made : Result RowChanges BatchFault) → IsMade removes schema rows lines made → IfOk made (λ c. AscendFrom 0 c.closes)
+made-ascend removes schema rows lines (Err f) is = tt
+made-ascend removes schema rows lines (Ok c) is = closes-ascend schema lines rows c.closes is.1
+
+pub made-few : (removes : Bool) (schema : plain.Schema) (rows : List plain.Row) (lines : List BatchLine) (made : Result RowChanges BatchFault) → IsMade removes schema rows lines made → length rows ≤ 16777216 → IfOk made (λ c. length c.closes < 4294967296)
+made-few removes schema rows lines (Err f) is few = tt
+made-few removes schema rows lines (Ok c) is few = let h = closes-few schema lines rows c.closes is.1 in omega arith
 
 puts-nothing : (schema : plain.Schema) (lines : List KeyLine) → put_pieces schema (removal_lines lines) ≡ []
 puts-nothing schema [] = refl
@@ -315,7 +253,7 @@ made-fits limits db author number t lines at next rows puts None c e = by_room (
       let same : c ≡ record { author = author; body = body.Change (change_by number t.schema t.rows lines) } = cc in
       ap (fits limits db) same ∙ change-fits limits db author number t lines at next rows puts few
 
-pub named-fits : (keys : List (List Spot)) (limits : Limits) (db : plain.Database) (author number : ℕ) (name : List ℕ) (removes : Bool) (lines : plain.Schema → List BatchLine) (made : Result plain.Change BatchFault) → StandFor keys db → (n : IsNamed db name number) → db.version < limits.versions
+pub named-fits : (keys : List IdsByKey) (limits : Limits) (db : plain.Database) (author number : ℕ) (name : List ℕ) (removes : Bool) (lines : plain.Schema → List BatchLine) (made : Result plain.Change BatchFault) → StandFor keys db → (n : IsNamed db name number) → db.version < limits.versions
     → list_all (matches n.table.schema) (put_pieces n.table.schema (lines n.table.schema)) ≡ true
     → Some made ≡ option_map (λ t. made_by limits.rows number removes t.schema t.rows (lines t.schema)) (slice_get db.tables number)
     → (r : Result Commit BatchFault) → r ≡ committed author made → IfOk r (λ c. fits limits db c ≡ true)

@@ -13,7 +13,7 @@ use Rattle.std.proofs.lemmas.Int.{ints, clamps}
 use Rattle.std.proofs.lemmas.List.Folds.{list_any-append}
 use Rattle.tl_types.specs.Plain as plain
 use Rattle.tl_batch.specs.Pieces.{part, cuts}
-use Rattle.tl_batch.specs.Covers.{is_between, is_in, is_covered, Full, Beyond, before_all, touching, gaps, walk}
+use Rattle.tl_batch.specs.Covers.{is_between, is_in, is_covered, Full, Beyond, before_all, joining, gaps, walk}
 use Rattle.tl_batch.proofs.GapLemmas.{lt_true, lt_false, part_holds, through, Apart, join, cuts_are}
 
 -- THE STRETCH OF TWO THAT TOUCH
@@ -59,10 +59,10 @@ union t from to start end h k =
 
 -- TAKING AWAY A STRETCH THAT TOUCHES
 
-pub touching_is : (from to : ℤ) (stretches : List (ℤ × ℤ)) (s : ℤ × ℤ) → touching from to stretches ≡ Some s → (from ≤ℤ s.0) × (s.1 ≤ℤ to)
+pub touching_is : (from to : ℤ) (stretches : List (ℤ × ℤ)) (s : ℤ × ℤ) → joining from to stretches ≡ Some s → (from ≤ℤ s.0) × (s.1 ≤ℤ to)
 touching_is from to [] s e = absurd (cc)
 touching_is from to (r ∷ stretches) s e = by (int_lt r.0 from) (int_lt to r.1) refl refl e (touching_is from to stretches s) where
-  by : (a b : Bool) → int_lt r.0 from ≡ a → int_lt to r.1 ≡ b → cond a (touching from to stretches) (cond b None (Some r)) ≡ Some s → (touching from to stretches ≡ Some s → (from ≤ℤ s.0) × (s.1 ≤ℤ to)) → (from ≤ℤ s.0) × (s.1 ≤ℤ to)
+  by : (a b : Bool) → int_lt r.0 from ≡ a → int_lt to r.1 ≡ b → cond a (joining from to stretches) (cond b None (Some r)) ≡ Some s → (joining from to stretches ≡ Some s → (from ≤ℤ s.0) × (s.1 ≤ℤ to)) → (from ≤ℤ s.0) × (s.1 ≤ℤ to)
   by true b f g e later = later e
   by false true f g e later = absurd (cc)
   by false false f g e later = let same : r ≡ s = cc in subst (λ (q : ℤ × ℤ). (from ≤ℤ q.0) × (q.1 ≤ℤ to)) same (omega (arith, ints), omega (arith, ints))
@@ -77,14 +77,14 @@ nearer : (low next : ℤ) (stretches : List (ℤ × ℤ)) → low ≤ℤ next �
 nearer low next [] h all = tt
 nearer low next (s ∷ stretches) h all = ((let l = all.0 in omega (arith, ints)), all.1, all.2)
 
-pub removed_beyond : (from to low : ℤ) (stretches : List (ℤ × ℤ)) (s : ℤ × ℤ) → touching from to stretches ≡ Some s → Beyond low stretches → Beyond low (remove_entry (is_at (int_cmp s.0)) stretches)
+pub removed_beyond : (from to low : ℤ) (stretches : List (ℤ × ℤ)) (s : ℤ × ℤ) → joining from to stretches ≡ Some s → Beyond low stretches → Beyond low (remove_entry (is_at (int_cmp s.0)) stretches)
 removed_beyond from to low [] s e all = tt
 removed_beyond from to low (r ∷ stretches) s e all = by (int_lt r.0 from) (int_lt to r.1) refl refl e (removed_beyond from to r.0 stretches s) where
   Goal : Type 0
   Goal = Beyond low (cond (is_at (int_cmp s.0) r.0) stretches (r ∷ remove_entry (is_at (int_cmp s.0)) stretches))
 
-  by : (a b : Bool) → int_lt r.0 from ≡ a → int_lt to r.1 ≡ b → cond a (touching from to stretches) (cond b None (Some r)) ≡ Some s
-      → (touching from to stretches ≡ Some s → Beyond r.0 stretches → Beyond r.0 (remove_entry (is_at (int_cmp s.0)) stretches)) → Goal
+  by : (a b : Bool) → int_lt r.0 from ≡ a → int_lt to r.1 ≡ b → cond a (joining from to stretches) (cond b None (Some r)) ≡ Some s
+      → (joining from to stretches ≡ Some s → Beyond r.0 stretches → Beyond r.0 (remove_entry (is_at (int_cmp s.0)) stretches)) → Goal
   by true b f g e later =
       let h = (touching_is from to stretches s e).0 in
       subst (λ t. Beyond low (cond t stretches (r ∷ remove_entry (is_at (int_cmp s.0)) stretches))) (sym (at_other s.0 r.0 (omega (arith, ints)))) (all.0, all.1, later e all.2)
@@ -107,7 +107,7 @@ or_assoc true b c = refl
 or_assoc false b c = refl
 
 -- the moments stay: what is taken away joins the stretch that it touches
-pub removed_covers : (t from to low : ℤ) (stretches : List (ℤ × ℤ)) (s : ℤ × ℤ) → touching from to stretches ≡ Some s → Beyond low stretches
+pub removed_covers : (t from to low : ℤ) (stretches : List (ℤ × ℤ)) (s : ℤ × ℤ) → joining from to stretches ≡ Some s → Beyond low stretches
     → (is_covered t stretches || is_between t from to) ≡ (is_covered t (remove_entry (is_at (int_cmp s.0)) stretches) || is_between t (int_min from s.1) (int_max to s.0))
 removed_covers t from to low [] s e all = absurd (cc)
 removed_covers t from to low (r ∷ stretches) s e all = by (int_lt r.0 from) (int_lt to r.1) refl refl e (removed_covers t from to r.0 stretches s) where
@@ -117,8 +117,8 @@ removed_covers t from to low (r ∷ stretches) s e all = by (int_lt r.0 from) (i
   rest : List (ℤ × ℤ)
   rest = remove_entry (is_at (int_cmp s.0)) stretches
 
-  by : (a b : Bool) → int_lt r.0 from ≡ a → int_lt to r.1 ≡ b → cond a (touching from to stretches) (cond b None (Some r)) ≡ Some s
-      → (touching from to stretches ≡ Some s → Beyond r.0 stretches → (is_covered t stretches || is_between t from to) ≡ (is_covered t rest || wide))
+  by : (a b : Bool) → int_lt r.0 from ≡ a → int_lt to r.1 ≡ b → cond a (joining from to stretches) (cond b None (Some r)) ≡ Some s
+      → (joining from to stretches ≡ Some s → Beyond r.0 stretches → (is_covered t stretches || is_between t from to) ≡ (is_covered t rest || wide))
       → ((is_between t r.1 r.0 || is_covered t stretches) || is_between t from to) ≡ (is_covered t (cond (is_at (int_cmp s.0) r.0) stretches (r ∷ rest)) || wide)
   by true b f g e later =
       let h = (touching_is from to stretches s e).0 in
@@ -146,11 +146,11 @@ less a b h = ap (λ t. cond t Less (cond (int_lt b a) Greater Equal)) (lt_true a
 greater : (a b : ℤ) → b <ℤ a → int_cmp a b ≡ Greater
 greater a b h = ap (λ t. cond t Less (cond (int_lt b a) Greater Equal)) (lt_false a b (omega (arith, ints))) ∙ ap (λ t. cond t Greater Equal) (lt_true b a h)
 
-pub inserted_beyond : (from to low : ℤ) (stretches : List (ℤ × ℤ)) → touching from to stretches ≡ None → low <ℤ from → from <ℤ to → Beyond low stretches → Beyond low (insert_entry int_cmp stretches to from)
+pub inserted_beyond : (from to low : ℤ) (stretches : List (ℤ × ℤ)) → joining from to stretches ≡ None → low <ℤ from → from <ℤ to → Beyond low stretches → Beyond low (insert_entry int_cmp stretches to from)
 inserted_beyond from to low [] e h k all = (h, k, tt)
 inserted_beyond from to low (r ∷ stretches) e h k all = by (int_lt r.0 from) (int_lt to r.1) refl refl e (inserted_beyond from to r.0 stretches) where
-  by : (a b : Bool) → int_lt r.0 from ≡ a → int_lt to r.1 ≡ b → cond a (touching from to stretches) (cond b None (Some r)) ≡ None
-      → (touching from to stretches ≡ None → r.0 <ℤ from → from <ℤ to → Beyond r.0 stretches → Beyond r.0 (insert_entry int_cmp stretches to from)) → Beyond low (put_at (int_cmp to r.0) from to r stretches)
+  by : (a b : Bool) → int_lt r.0 from ≡ a → int_lt to r.1 ≡ b → cond a (joining from to stretches) (cond b None (Some r)) ≡ None
+      → (joining from to stretches ≡ None → r.0 <ℤ from → from <ℤ to → Beyond r.0 stretches → Beyond r.0 (insert_entry int_cmp stretches to from)) → Beyond low (put_at (int_cmp to r.0) from to r stretches)
   by true b f g e later = subst (λ o. Beyond low (put_at o from to r stretches)) (sym (greater to r.0 (omega (arith, ints)))) (all.0, all.1, later e (omega (arith, ints)) k all.2)
   by false true f g e later =
       let m = all.1 in
@@ -162,11 +162,11 @@ or_other true true c = refl
 or_other true false c = refl
 or_other false b c = refl
 
-pub inserted_covers : (t from to low : ℤ) (stretches : List (ℤ × ℤ)) → touching from to stretches ≡ None → from <ℤ to → Beyond low stretches → is_covered t (insert_entry int_cmp stretches to from) ≡ (is_between t from to || is_covered t stretches)
+pub inserted_covers : (t from to low : ℤ) (stretches : List (ℤ × ℤ)) → joining from to stretches ≡ None → from <ℤ to → Beyond low stretches → is_covered t (insert_entry int_cmp stretches to from) ≡ (is_between t from to || is_covered t stretches)
 inserted_covers t from to low [] e k all = refl
 inserted_covers t from to low (r ∷ stretches) e k all = by (int_lt r.0 from) (int_lt to r.1) refl refl e (inserted_covers t from to r.0 stretches) where
-  by : (a b : Bool) → int_lt r.0 from ≡ a → int_lt to r.1 ≡ b → cond a (touching from to stretches) (cond b None (Some r)) ≡ None
-      → (touching from to stretches ≡ None → from <ℤ to → Beyond r.0 stretches → is_covered t (insert_entry int_cmp stretches to from) ≡ (is_between t from to || is_covered t stretches))
+  by : (a b : Bool) → int_lt r.0 from ≡ a → int_lt to r.1 ≡ b → cond a (joining from to stretches) (cond b None (Some r)) ≡ None
+      → (joining from to stretches ≡ None → from <ℤ to → Beyond r.0 stretches → is_covered t (insert_entry int_cmp stretches to from) ≡ (is_between t from to || is_covered t stretches))
       → is_covered t (put_at (int_cmp to r.0) from to r stretches) ≡ (is_between t from to || (is_between t r.1 r.0 || is_covered t stretches))
   by true b f g e later =
       ap (λ o. is_covered t (put_at o from to r stretches)) (greater to r.0 (omega (arith, ints)))
@@ -298,38 +298,38 @@ ends_from from end = by (int_lt from end) (int_lt end from) refl refl where
   by false true e f = refl
   by false false e f = refl
 
-pub touching_near : (from to : ℤ) (stretches : List (ℤ × ℤ)) → touching from to stretches ≡ near to (entries_between int_cmp (Included from) Unbounded stretches)
+pub touching_near : (from to : ℤ) (stretches : List (ℤ × ℤ)) → joining from to stretches ≡ near to (entries_between int_cmp (Included from) Unbounded stretches)
 touching_near from to [] = refl
 touching_near from to (s ∷ stretches) = by (int_lt s.0 from) (ends_from from s.0) (touching_near from to stretches) where
   rest : List (ℤ × ℤ)
   rest = entries_between int_cmp (Included from) Unbounded stretches
 
-  by : (b : Bool) → range_contains int_cmp (Included from) Unbounded s.0 ≡ not b → touching from to stretches ≡ near to rest
-      → cond b (touching from to stretches) (cond (int_lt to s.1) None (Some s)) ≡ near to (cond (range_contains int_cmp (Included from) Unbounded s.0) (s ∷ rest) rest)
+  by : (b : Bool) → range_contains int_cmp (Included from) Unbounded s.0 ≡ not b → joining from to stretches ≡ near to rest
+      → cond b (joining from to stretches) (cond (int_lt to s.1) None (Some s)) ≡ near to (cond (range_contains int_cmp (Included from) Unbounded s.0) (s ∷ rest) rest)
   by true e later = later ∙ ap (λ c. near to (cond c (s ∷ rest) rest)) (sym e)
   by false e later = ap (λ c. near to (cond c (s ∷ rest) rest)) (sym e)
 
-pub near_none : (from to : ℤ) (stretches range : List (ℤ × ℤ)) → range ≡ entries_between int_cmp (Included from) Unbounded stretches → range ≡ [] → None ≡ touching from to stretches
+pub near_none : (from to : ℤ) (stretches range : List (ℤ × ℤ)) → range ≡ entries_between int_cmp (Included from) Unbounded stretches → range ≡ [] → None ≡ joining from to stretches
 near_none from to stretches range is none = sym (touching_near from to stretches ∙ ap (near to) (sym is ∙ none))
 
-pub near_some : (from to : ℤ) (stretches range rest : List (ℤ × ℤ)) (end start first second : ℤ) → range ≡ entries_between int_cmp (Included from) Unbounded stretches → range ≡ (first, second) ∷ rest → end ≡ first → start ≡ second → start ≤ℤ to → Some (end, start) ≡ touching from to stretches
+pub near_some : (from to : ℤ) (stretches range rest : List (ℤ × ℤ)) (end start first second : ℤ) → range ≡ entries_between int_cmp (Included from) Unbounded stretches → range ≡ (first, second) ∷ rest → end ≡ first → start ≡ second → start ≤ℤ to → Some (end, start) ≡ joining from to stretches
 near_some from to stretches range rest end start first second is some e f h =
     let early : int_lt to start ≡ false = lt_false to start h in
     sym (touching_near from to stretches ∙ (ap (near to) (sym is ∙ (some ∙ (ap (λ z. (z, second) ∷ rest) (sym e) ∙ ap (λ z. (end, z) ∷ rest) (sym f)))) ∙ ap (λ b. cond b None (Some (end, start))) early))
 
-pub near_past : (from to : ℤ) (stretches range rest : List (ℤ × ℤ)) (start first second : ℤ) → range ≡ entries_between int_cmp (Included from) Unbounded stretches → range ≡ (first, second) ∷ rest → start ≡ second → to <ℤ start → None ≡ touching from to stretches
+pub near_past : (from to : ℤ) (stretches range rest : List (ℤ × ℤ)) (start first second : ℤ) → range ≡ entries_between int_cmp (Included from) Unbounded stretches → range ≡ (first, second) ∷ rest → start ≡ second → to <ℤ start → None ≡ joining from to stretches
 near_past from to stretches range rest start first second is some f h =
     let late : int_lt to start ≡ true = lt_true to start h in
     sym (touching_near from to stretches ∙ (ap (near to) (sym is ∙ (some ∙ ap (λ z. (first, z) ∷ rest) (sym f))) ∙ ap (λ b. cond b None (Some (first, start))) late))
 
 -- one is fewer
-pub removed_fewer : (from to : ℤ) (stretches : List (ℤ × ℤ)) (s : ℤ × ℤ) → touching from to stretches ≡ Some s → length (remove_entry (is_at (int_cmp s.0)) stretches) < length stretches
+pub removed_fewer : (from to : ℤ) (stretches : List (ℤ × ℤ)) (s : ℤ × ℤ) → joining from to stretches ≡ Some s → length (remove_entry (is_at (int_cmp s.0)) stretches) < length stretches
 removed_fewer from to [] s e = absurd (cc)
 removed_fewer from to (r ∷ stretches) s e = by (int_lt r.0 from) (int_lt to r.1) refl refl e (removed_fewer from to stretches s) where
   rest : List (ℤ × ℤ)
   rest = remove_entry (is_at (int_cmp s.0)) stretches
 
-  by : (a b : Bool) → int_lt r.0 from ≡ a → int_lt to r.1 ≡ b → cond a (touching from to stretches) (cond b None (Some r)) ≡ Some s → (touching from to stretches ≡ Some s → length rest < length stretches)
+  by : (a b : Bool) → int_lt r.0 from ≡ a → int_lt to r.1 ≡ b → cond a (joining from to stretches) (cond b None (Some r)) ≡ Some s → (joining from to stretches ≡ Some s → length rest < length stretches)
       → length (cond (is_at (int_cmp s.0) r.0) stretches (r ∷ rest)) < length (r ∷ stretches)
   by true b f g e later =
       let h = (touching_is from to stretches s e).0 in
@@ -347,7 +347,7 @@ widened : (from to start end : ℤ) → from <ℤ to → int_min from start <ℤ
 widened from to start end h = omega (arith, ints, clamps)
 
 -- a stretch more is swallowed
-pub swallow_more : (from to end start low high at : ℤ) (stretches after : List (ℤ × ℤ)) (held : ℤ → Bool) → touching from to stretches ≡ Some (end, start) → at ≡ end → after ≡ remove_entry (is_at (int_cmp at)) stretches → low ≡ int_min from start → high ≡ int_max to end
+pub swallow_more : (from to end start low high at : ℤ) (stretches after : List (ℤ × ℤ)) (held : ℤ → Bool) → joining from to stretches ≡ Some (end, start) → at ≡ end → after ≡ remove_entry (is_at (int_cmp at)) stretches → low ≡ int_min from start → high ≡ int_max to end
     → Beyond before_all stretches → from <ℤ to → ((t : ℤ) → (is_covered t stretches || is_between t from to) ≡ held t)
     → Beyond before_all after × (low <ℤ high) × ((t : ℤ) → (is_covered t after || is_between t low high) ≡ held t)
 swallow_more from to end start low high at stretches after held found same made least most all h covers =
@@ -360,7 +360,7 @@ swallow_more from to end start low high at stretches after held found same made 
           ∙ (sym (removed_covers t from to before_all stretches (end, start) found all) ∙ covers t)))),
     )
 
-pub swallow_fewer : (from to end start at : ℤ) (stretches after : List (ℤ × ℤ)) → touching from to stretches ≡ Some (end, start) → at ≡ end → after ≡ remove_entry (is_at (int_cmp at)) stretches → length after < length stretches
+pub swallow_fewer : (from to end start at : ℤ) (stretches after : List (ℤ × ℤ)) → joining from to stretches ≡ Some (end, start) → at ≡ end → after ≡ remove_entry (is_at (int_cmp at)) stretches → length after < length stretches
 swallow_fewer from to end start at stretches after found same made =
     subst (λ ss. length ss < length stretches) (sym (made ∙ ap (λ z. remove_entry (is_at (int_cmp z)) stretches) same)) (removed_fewer from to stretches (end, start) found)
 
@@ -368,11 +368,11 @@ pub after_all : (z : ℤ) → FitsSigned w64 z → before_all <ℤ z
 after_all (pos n) f = omega (arith, ints)
 after_all (negsuc n) f = let h = f.sfits in omega (arith, ints)
 
-pub put_beyond : (from to low high : ℤ) (stretches after : List (ℤ × ℤ)) → touching from to stretches ≡ None → before_all <ℤ from → from <ℤ to → Beyond before_all stretches → low ≡ from → high ≡ to → after ≡ insert_entry int_cmp stretches high low → Beyond before_all after
+pub put_beyond : (from to low high : ℤ) (stretches after : List (ℤ × ℤ)) → joining from to stretches ≡ None → before_all <ℤ from → from <ℤ to → Beyond before_all stretches → low ≡ from → high ≡ to → after ≡ insert_entry int_cmp stretches high low → Beyond before_all after
 put_beyond from to low high stretches after alone h k all e f made =
     subst (Beyond before_all) (sym (made ∙ (ap (λ z. insert_entry int_cmp stretches z low) f ∙ ap (insert_entry int_cmp stretches to) e))) (inserted_beyond from to before_all stretches alone h k all)
 
-pub put_covers : (t from to low high : ℤ) (stretches after : List (ℤ × ℤ)) → touching from to stretches ≡ None → from <ℤ to → Beyond before_all stretches → low ≡ from → high ≡ to → after ≡ insert_entry int_cmp stretches high low → is_covered t after ≡ (is_between t from to || is_covered t stretches)
+pub put_covers : (t from to low high : ℤ) (stretches after : List (ℤ × ℤ)) → joining from to stretches ≡ None → from <ℤ to → Beyond before_all stretches → low ≡ from → high ≡ to → after ≡ insert_entry int_cmp stretches high low → is_covered t after ≡ (is_between t from to || is_covered t stretches)
 put_covers t from to low high stretches after alone k all e f made =
     ap (is_covered t) (made ∙ (ap (λ z. insert_entry int_cmp stretches z low) f ∙ ap (insert_entry int_cmp stretches to) e)) ∙ inserted_covers t from to before_all stretches alone k all
 

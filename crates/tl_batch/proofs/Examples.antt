@@ -1,4 +1,4 @@
--- Worked batches, computed: keys met twice and rows that are not there, remainders, and the ends of valid time.
+-- Worked batches, computed: keys affected twice and rows that are not there, remainders, and the ends of valid time.
 use Rattle.std.proofs.Common.{◌≡◌, ℕ, ℤ, pos, negsuc, true, false, List, [], ◌∷◌, Some, None, Ok, Err, refl, codes}
 use Rattle.tl_types.specs.declared.cells.Cell.TheVariants as cell
 use Rattle.tl_types.specs.declared.cells.ColumnKind.TheVariants.{IntKind}
@@ -49,7 +49,7 @@ key_twice_removed = refl
 pub no_row : resolved standard_limits emp_2 7 (batch.Remove (codes "emp") (key 9 ∷ [])) ≡ Err (fault.NoRow 2)
 no_row = refl
 
--- at one line the key that was met comes first, but an earlier line's fault before it
+-- at one line the key that was affected comes first, but an earlier line's fault before it
 pub earlier_line : resolved standard_limits emp_2 7 (batch.Remove (codes "emp") (key 9 ∷ key 9 ∷ [])) ≡ Err (fault.NoRow 2)
 earlier_line = refl
 
@@ -133,7 +133,7 @@ put_over = refl
 pub put_over_put : resolved standard_limits timed_2 7 (of_q (part 1 6 10 30 ∷ part 1 7 20 25 ∷ [])) ≡ Ok (change (0 ∷ []) (part 1 5 0 10 ∷ part 1 5 30 100 ∷ part 1 6 10 20 ∷ part 1 6 25 30 ∷ part 1 7 20 25 ∷ []))
 put_over_put = refl
 
--- the same period again takes the place of all that it meets
+-- the same period again takes the place of all that it affects
 pub put_same : resolved standard_limits timed_2 7 (of_q (part 1 6 0 100 ∷ part 1 7 0 100 ∷ [])) ≡ Ok (change (0 ∷ []) (part 1 7 0 100 ∷ []))
 put_same = refl
 

@@ -9,7 +9,7 @@ use Rattle.tl_types.specs.declared.batches.KeyLine.{KeyLine}
 use Rattle.tl_types.specs.Plain as plain
 use Rattle.tl_types.specs.History.{is_open}
 use Rattle.tl_types.specs.Resolving.{WorkingRow, BatchLine, same_key, affects, after_line, open_rows, line_fault, put_lines, removal_lines}
-use Rattle.tl_batch.specs.Pieces.{meets, cuts, periods_with}
+use Rattle.tl_batch.specs.Pieces.{affects_period, cuts, periods_with}
 use Rattle.tl_batch.specs.Faults.{is_touched, fault_from}
 use Rattle.tl_batch.proofs.Rows.{rows_left, puts_left, worked_by_rows, fresh, rows_left-old}
 use Rattle.tl_batch.proofs.ChangeLemmas.{open_from}
@@ -22,28 +22,28 @@ any_flat : {A B : Type 0} (test : B → Bool) (f : A → List B) (xs : List A) �
 any_flat test f [] = refl
 any_flat test f (x ∷ xs) = list_any-append test (f x) (flat_map f xs) ∙ ap (λ b. list_any test (f x) || b) (any_flat test f xs)
 
--- what no line meets is left whole
-pub whole_left : (valid : Bool) (lines : List (Option plain.Period)) (p : Option plain.Period) → list_any (λ line. meets valid line p) lines ≡ false → cuts valid lines p ≡ p ∷ []
+-- what no line affects is left whole
+pub whole_left : (valid : Bool) (lines : List (Option plain.Period)) (p : Option plain.Period) → list_any (λ line. affects_period valid line p) lines ≡ false → cuts valid lines p ≡ p ∷ []
 whole_left valid [] p e = refl
-whole_left valid (line ∷ lines) p e = by_test (meets valid line p) refl e (whole_left valid lines p) where
-  by_test : (b : Bool) → meets valid line p ≡ b → (b || list_any (λ l. meets valid l p) lines) ≡ false → (list_any (λ l. meets valid l p) lines ≡ false → cuts valid lines p ≡ p ∷ [])
+whole_left valid (line ∷ lines) p e = by_test (affects_period valid line p) refl e (whole_left valid lines p) where
+  by_test : (b : Bool) → affects_period valid line p ≡ b → (b || list_any (λ l. affects_period valid l p) lines) ≡ false → (list_any (λ l. affects_period valid l p) lines ≡ false → cuts valid lines p ≡ p ∷ [])
       → cuts valid (line ∷ lines) p ≡ p ∷ []
   by_test true f g later = absurd (cc)
   by_test false f g later = ap (λ b. flat_map (cuts valid lines) (cond b (rest line p) (p ∷ []))) f ∙ (append-nil (cuts valid lines p) ∙ later g) where
     rest : Option plain.Period → Option plain.Period → List (Option plain.Period)
     rest = Rattle.tl_batch.specs.Pieces.rest_of
 
-fresh_touched : (schema : plain.Schema) (said : BatchLine) (cells : List Cell) (ps : List (Option plain.Period)) → list_any (affects schema said) (map (fresh cells) ps) ≡ (same_key (slice_get cells schema.key) said.key && list_any (λ p. meets schema.valid said.period p) ps)
+fresh_touched : (schema : plain.Schema) (said : BatchLine) (cells : List Cell) (ps : List (Option plain.Period)) → list_any (affects schema said) (map (fresh cells) ps) ≡ (same_key (slice_get cells schema.key) said.key && list_any (λ p. affects_period schema.valid said.period p) ps)
 fresh_touched schema said cells [] = sym (and_false (same_key (slice_get cells schema.key) said.key))
-fresh_touched schema said cells (p ∷ ps) = ap (λ b. affects schema said (fresh cells p) || b) (fresh_touched schema said cells ps) ∙ table (same_key (slice_get cells schema.key) said.key) (meets schema.valid said.period p) (list_any (λ q. meets schema.valid said.period q) ps) where
+fresh_touched schema said cells (p ∷ ps) = ap (λ b. affects schema said (fresh cells p) || b) (fresh_touched schema said cells ps) ∙ table (same_key (slice_get cells schema.key) said.key) (affects_period schema.valid said.period p) (list_any (λ q. affects_period schema.valid said.period q) ps) where
   table : (a b c : Bool) → ((a && b) || (a && c)) ≡ (a && (b || c))
   table true b c = refl
   table false b c = refl
 
 old_touched : (schema : plain.Schema) (earlier : List BatchLine) (said : BatchLine) (n : ℕ) (r : plain.Row)
     → list_any (affects schema said) (rows_left schema earlier (record { id = Some n; row = record { cells = r.cells; period = r.period } }))
-    ≡ (same_key (slice_get r.cells schema.key) said.key && list_any (λ p. meets schema.valid said.period p) (cuts schema.valid (periods_with (slice_get r.cells schema.key) earlier) r.period))
-old_touched schema earlier said n r = ap (list_any (affects schema said)) (rows_left-old schema earlier n r.cells r.period) ∙ by_test (list_any (λ line. meets schema.valid line r.period) lines) refl where
+    ≡ (same_key (slice_get r.cells schema.key) said.key && list_any (λ p. affects_period schema.valid said.period p) (cuts schema.valid (periods_with (slice_get r.cells schema.key) earlier) r.period))
+old_touched schema earlier said n r = ap (list_any (affects schema said)) (rows_left-old schema earlier n r.cells r.period) ∙ by_test (list_any (λ line. affects_period schema.valid line r.period) lines) refl where
   lines : List (Option plain.Period)
   lines = periods_with (slice_get r.cells schema.key) earlier
 
@@ -54,10 +54,10 @@ old_touched schema earlier said n r = ap (list_any (affects schema said)) (rows_
   none true b = refl
   none false b = refl
 
-  by_test : (b : Bool) → list_any (λ line. meets schema.valid line r.period) lines ≡ b
-      → list_any (affects schema said) (cond b (map (fresh r.cells) (cuts schema.valid lines r.period)) (record { id = Some n; row = record { cells = r.cells; period = r.period } } ∷ [])) ≡ (same && list_any (λ p. meets schema.valid said.period p) (cuts schema.valid lines r.period))
+  by_test : (b : Bool) → list_any (λ line. affects_period schema.valid line r.period) lines ≡ b
+      → list_any (affects schema said) (cond b (map (fresh r.cells) (cuts schema.valid lines r.period)) (record { id = Some n; row = record { cells = r.cells; period = r.period } } ∷ [])) ≡ (same && list_any (λ p. affects_period schema.valid said.period p) (cuts schema.valid lines r.period))
   by_test true e = fresh_touched schema said r.cells (cuts schema.valid lines r.period)
-  by_test false e = none same (meets schema.valid said.period r.period) ∙ ap (λ ps. same && list_any (λ p. meets schema.valid said.period p) ps) (sym (whole_left schema.valid lines r.period e))
+  by_test false e = none same (affects_period schema.valid said.period r.period) ∙ ap (λ ps. same && list_any (λ p. affects_period schema.valid said.period p) ps) (sym (whole_left schema.valid lines r.period e))
 
 rows_touched : (schema : plain.Schema) (earlier : List BatchLine) (said : BatchLine) (n : ℕ) (rows : List plain.Row) → list_any (λ h. list_any (affects schema said) (rows_left schema earlier h)) (open_from n rows) ≡ list_any (is_touched schema earlier said) rows
 rows_touched schema earlier said n [] = refl
@@ -72,13 +72,9 @@ rows_touched schema earlier said n (r ∷ rows) = split (is_open r) (rows_touche
   any h = list_any (affects schema said) (rows_left schema earlier h)
 
   split : (b : Bool) → list_any any (map old rest) ≡ list_any (is_touched schema earlier said) rows
-      → list_any any (map old (cond b ((n, r) ∷ rest) rest)) ≡ ((b && (same_key (slice_get r.cells schema.key) said.key && list_any (λ p. meets schema.valid said.period p) (cuts schema.valid (periods_with (slice_get r.cells schema.key) earlier) r.period))) || list_any (is_touched schema earlier said) rows)
-  split true later = ap (λ b. b || list_any any (map old rest)) (old_touched schema earlier said n r) ∙ ap (λ b. (same_key (slice_get r.cells schema.key) said.key && list_any (λ p. meets schema.valid said.period p) (cuts schema.valid (periods_with (slice_get r.cells schema.key) earlier) r.period)) || b) later
+      → list_any any (map old (cond b ((n, r) ∷ rest) rest)) ≡ ((b && (same_key (slice_get r.cells schema.key) said.key && list_any (λ p. affects_period schema.valid said.period p) (cuts schema.valid (periods_with (slice_get r.cells schema.key) earlier) r.period))) || list_any (is_touched schema earlier said) rows)
+  split true later = ap (λ b. b || list_any any (map old rest)) (old_touched schema earlier said n r) ∙ ap (λ b. (same_key (slice_get r.cells schema.key) said.key && list_any (λ p. affects_period schema.valid said.period p) (cuts schema.valid (periods_with (slice_get r.cells schema.key) earlier) r.period)) || b) later
   split false later = later
-
--- no line puts a row
-abbrev NoPuts : List BatchLine → Type 0
-NoPuts lines = (schema : plain.Schema) → puts_left schema lines ≡ []
 
 -- a line that removes touches what the definition says
 pub working_touched : (t : plain.Table) (earlier : List BatchLine) (said : BatchLine) → puts_left t.schema earlier ≡ [] → list_any (affects t.schema said) (fold (after_line t.schema) (open_rows t) earlier) ≡ list_any (is_touched t.schema earlier said) t.rows

@@ -1,6 +1,6 @@
 -- What a commit makes of the open rows of each key.
-use Rattle.std.proofs.Common.{◌≡◌, ℕ, zero, suc, ◌+◌, ◌<◌, ◌≤◌, Bool, true, false, ◌&&◌, ◌||◌, not, cond, nat_eq, nat_le, List, [], ◌∷◌, ◌++◌, length, get_or, slice_get, slice_set, length-append, length-set, option_map, Option, Some, None, is_some, map, refl, sym, ap, ◌∙◌, arith, unwrap_or}
-use Rattle.std.specs.List.{list_all, enumerate_from, fold}
+use Rattle.std.proofs.Common.{subst, ◌≡◌, ℕ, zero, suc, ◌+◌, ◌<◌, ◌≤◌, Bool, true, false, ◌&&◌, ◌||◌, not, cond, nat_eq, nat_le, List, [], ◌∷◌, ◌++◌, length, get_or, slice_get, slice_set, length-append, length-set, option_map, Option, Some, None, is_some, map, refl, sym, ap, ◌∙◌, arith, unwrap_or}
+use Rattle.std.specs.List.{list_all, enumerate_from}
 use Rattle.std.specs.Bool.{beq}
 use Rattle.std.proofs.lemmas.Bool.{and_parts, and_from}
 use Rattle.std.proofs.lemmas.Bool.Decides.{nat_tests}
@@ -12,15 +12,16 @@ use Rattle.std.proofs.lemmas.Option.{slice_get_within, slice_get_past, slice_get
 use Rattle.tl_types.specs.declared.cells.Cell.{Cell}
 use Rattle.tl_types.specs.declared.schemas.Column.{Column}
 use Rattle.tl_types.specs.Limits.{standard_limits}
-use Rattle.tl_types.specs.declared.commits.Commit.{Commit}
+use Rattle.tl_types.specs.declared.commits.Body.{Body}
 use Rattle.tl_types.specs.declared.commits.Body.TheVariants as body
 use Rattle.tl_types.specs.Plain as plain
-use Rattle.tl_types.specs.History.{is_open, open_end, with_ids, row_after, new_row, new_table, table_after, at_place, after_body, after_commit, nothing, database_of, matches, match_columns, is_of_kind, rows_of, is_open_at, fits_table, fits_body, has_id}
+use Rattle.tl_types.specs.History.{is_open, open_end, with_ids, row_after, new_row, new_table, table_after, at_place, after_body, after_commit, nothing, matches, match_columns, is_of_kind, rows_of, is_open_at, fits_table, fits_body, has_id}
 use Rattle.tl_types.specs.Resolving.{same_key}
-use Rattle.tl_batch.specs.declared.spots.Spot.{Spot}
-use Rattle.tl_batch.specs.Spots.{has_spot}
-use Rattle.tl_batch.specs.Standing.{opens_with, has_key, is_open_with, table_has, rows_match, spots_at, StandFor}
-use Rattle.tl_batch.proofs.SpotLemmas.{opens_from}
+use Rattle.tl_batch.specs.declared.following.KeyedRow.{KeyedRow}
+use Rattle.tl_batch.specs.ClosedRows.{has_keyed}
+use Rattle.tl_batch.specs.KeyIndex.{IdsByKey, has_row, no_ids}
+use Rattle.tl_batch.specs.Standing.{opens_with, has_key, is_open_with, table_has, rows_match, index_at, StandFor}
+use Rattle.tl_batch.proofs.IndexedRows.{opens_from}
 
 -- ONE TABLE
 
@@ -103,19 +104,19 @@ joint true true false w f g = refl
 joint true false false true f g = absurd (let e : false ≡ true = f refl in cc)
 joint true false false false f g = refl
 
--- the spots of a table after a change that fits
-new_after : (version : ℕ) (change : plain.Change) (t : plain.Table) (old closing new : List Spot) → nat_eq version open_end ≡ false → list_all (is_open_at t.rows) change.closes ≡ true
-    → ((x : Cell) (n : ℕ) → has_spot old x n ≡ is_open_with t.schema.key x (slice_get t.rows n))
-    → ((x : Cell) (n : ℕ) → has_spot closing x n ≡ (has_id change.closes n && has_key t.schema.key x (slice_get t.rows n)))
-    → ((x : Cell) (n : ℕ) → has_spot new x n ≡ (not (has_spot closing x n) && (opens_with t.schema.key (length t.rows) change.opens x n || has_spot old x n)))
-    → (x : Cell) (n : ℕ) → has_spot new x n ≡ is_open_with t.schema.key x (slice_get (table_after version change t).rows n)
+-- the index of a table after a change that fits
+new_after : (version : ℕ) (change : plain.Change) (t : plain.Table) (old : IdsByKey) (closing : List KeyedRow) (new : IdsByKey) → nat_eq version open_end ≡ false → list_all (is_open_at t.rows) change.closes ≡ true
+    → ((x : Cell) (n : ℕ) → has_row old x n ≡ is_open_with t.schema.key x (slice_get t.rows n))
+    → ((x : Cell) (n : ℕ) → has_keyed closing x n ≡ (has_id change.closes n && has_key t.schema.key x (slice_get t.rows n)))
+    → ((x : Cell) (n : ℕ) → has_row new x n ≡ (not (has_keyed closing x n) && (opens_with t.schema.key (length t.rows) change.opens x n || has_row old x n)))
+    → (x : Cell) (n : ℕ) → has_row new x n ≡ is_open_with t.schema.key x (slice_get (table_after version change t).rows n)
 new_after version change t old closing new apart current was gone left x n =
     let key : ℕ = t.schema.key in
     let opened : Bool = opens_with key (length t.rows) change.opens x n in
     let row : Option plain.Row = slice_get t.rows n in
     let late : has_id change.closes n ≡ true → opened ≡ false = λ e. opens_from key (length t.rows) change.opens x n (closed_within t.rows change.closes n current e) in
     left x n
-    ∙ (ap (λ v. not v && (opened || has_spot old x n)) (gone x n)
+    ∙ (ap (λ v. not v && (opened || has_row old x n)) (gone x n)
     ∙ (ap (λ v. not (has_id change.closes n && has_key key x row) && (opened || v)) (was x n)
     ∙ (joint (has_id change.closes n) (has_key key x row) opened (is_open_with key x row) (has_with key x row) late
     ∙ sym (rows_after_all key version change.closes t.rows change.opens x n apart))))
@@ -150,23 +151,14 @@ match_after version change t opened all = all_joined (λ r. matches t.schema (re
 
 -- THE TABLES
 
-pub one_more_commit : (commits : List Commit) (c : Commit) → database_of (commits ++ c ∷ []) ≡ after_commit (database_of commits) c
-one_more_commit commits c = more nothing commits where
-  more : (db : plain.Database) (cs : List Commit) → fold after_commit db (cs ++ c ∷ []) ≡ after_commit (fold after_commit db cs) c
-  more db [] = refl
-  more db (d ∷ cs) = more (after_commit db d) cs
-
-no_keys : (x : Cell) (id : ℕ) → has_spot [] x id ≡ false
-no_keys x id = refl
-
 -- no table
 pub stands_empty : StandFor [] nothing
-stands_empty = record { tables = refl; spots = λ table x id. refl; matching = λ table. refl }
+stands_empty = record { tables = refl; ids = λ table x id. refl; matching = λ table. refl }
 
 -- a table more
-table_more : (keys : List (List Spot)) (fresh : List Spot) (tables : List plain.Table) (schema : plain.Schema) → length keys ≡ length tables → ((x : Cell) (n : ℕ) → has_spot fresh x n ≡ false)
-    → ((t : ℕ) (x : Cell) (id : ℕ) → has_spot (spots_at keys t) x id ≡ table_has (slice_get tables t) x id)
-    → (t : ℕ) (x : Cell) (id : ℕ) → has_spot (spots_at (keys ++ fresh ∷ []) t) x id ≡ table_has (slice_get (tables ++ new_table schema ∷ []) t) x id
+table_more : (keys : List IdsByKey) (fresh : IdsByKey) (tables : List plain.Table) (schema : plain.Schema) → length keys ≡ length tables → ((x : Cell) (n : ℕ) → has_row fresh x n ≡ false)
+    → ((t : ℕ) (x : Cell) (id : ℕ) → has_row (index_at keys t) x id ≡ table_has (slice_get tables t) x id)
+    → (t : ℕ) (x : Cell) (id : ℕ) → has_row (index_at (keys ++ fresh ∷ []) t) x id ≡ table_has (slice_get (tables ++ new_table schema ∷ []) t) x id
 table_more [] fresh [] schema same none old zero x id = none x id
 table_more [] fresh [] schema same none old (suc t) x id = refl
 table_more [] fresh (s ∷ tables) schema same none old t x id = absurd (omega (arith, same))
@@ -180,26 +172,33 @@ match_more [] schema old (suc t) = refl
 match_more (s ∷ tables) schema old zero = old zero
 match_more (s ∷ tables) schema old (suc t) = match_more tables schema (λ u. old (suc u)) t
 
-pub stands_created : (keys : List (List Spot)) (fresh : List Spot) (db : plain.Database) (author : ℕ) (schema : plain.Schema) → StandFor keys db → ((x : Cell) (n : ℕ) → has_spot fresh x n ≡ false)
+pub stands_created : (keys : List IdsByKey) (fresh : IdsByKey) (db : plain.Database) (author : ℕ) (schema : plain.Schema) → StandFor keys db → ((x : Cell) (n : ℕ) → has_row fresh x n ≡ false)
     → StandFor (keys ++ fresh ∷ []) (after_commit db (record { author = author; body = body.Create schema }))
 stands_created keys fresh db author schema old none = record {
   tables = length-append keys (fresh ∷ []) ∙ (ap (λ n. n + 1) old.tables ∙ sym (length-append db.tables (new_table schema ∷ [])));
-  spots = table_more keys fresh db.tables schema old.tables none old.spots;
+  ids = table_more keys fresh db.tables schema old.tables none old.ids;
   matching = match_more db.tables schema old.matching;
 }
 
+pub stands_more : (keys new : List IdsByKey) (fresh : IdsByKey) (db : plain.Database) (schema : plain.Schema) (b : Body) → StandFor keys db → fresh ≡ no_ids → new ≡ keys ++ fresh ∷ [] → b ≡ body.Create schema
+    → StandFor new (record { version = db.version + 1; tables = after_body (db.version + 1) b db.tables })
+stands_more keys new fresh db schema b old none made is =
+    subst (λ (q : Body). StandFor new (record { version = db.version + 1; tables = after_body (db.version + 1) q db.tables })) (sym is)
+    (subst (λ (ks : List IdsByKey). StandFor ks (record { version = db.version + 1; tables = after_body (db.version + 1) (body.Create schema) db.tables })) (sym made)
+    (stands_created keys fresh db 0 schema old (λ x n. ap (λ (ids : IdsByKey). has_row ids x n) none)))
+
 -- a table changed
-table_changed : (keys : List (List Spot)) (at : ℕ) (spots : List Spot) (tables : List plain.Table) (f : plain.Table → plain.Table) → length keys ≡ length tables
-    → ((t : plain.Table) → slice_get tables at ≡ Some t → (x : Cell) (n : ℕ) → has_spot spots x n ≡ table_has (Some (f t)) x n)
-    → ((t : ℕ) (x : Cell) (id : ℕ) → has_spot (spots_at keys t) x id ≡ table_has (slice_get tables t) x id)
-    → (t : ℕ) (x : Cell) (id : ℕ) → has_spot (spots_at (slice_set keys at spots) t) x id ≡ table_has (slice_get (at_place at f tables) t) x id
-table_changed [] at spots [] f same here old t x id = refl
-table_changed [] at spots (s ∷ tables) f same here old t x id = absurd (omega (arith, same))
-table_changed (k ∷ keys) at spots [] f same here old t x id = absurd (omega (arith, same))
-table_changed (k ∷ keys) zero spots (s ∷ tables) f same here old zero x id = here s refl x id
-table_changed (k ∷ keys) zero spots (s ∷ tables) f same here old (suc t) x id = old (suc t) x id
-table_changed (k ∷ keys) (suc at) spots (s ∷ tables) f same here old zero x id = old zero x id
-table_changed (k ∷ keys) (suc at) spots (s ∷ tables) f same here old (suc t) x id = table_changed keys at spots tables f (omega (arith, same)) here (λ u y n. old (suc u) y n) t x id
+table_changed : (keys : List IdsByKey) (at : ℕ) (index : IdsByKey) (tables : List plain.Table) (f : plain.Table → plain.Table) → length keys ≡ length tables
+    → ((t : plain.Table) → slice_get tables at ≡ Some t → (x : Cell) (n : ℕ) → has_row index x n ≡ table_has (Some (f t)) x n)
+    → ((t : ℕ) (x : Cell) (id : ℕ) → has_row (index_at keys t) x id ≡ table_has (slice_get tables t) x id)
+    → (t : ℕ) (x : Cell) (id : ℕ) → has_row (index_at (slice_set keys at index) t) x id ≡ table_has (slice_get (at_place at f tables) t) x id
+table_changed [] at index [] f same here old t x id = refl
+table_changed [] at index (s ∷ tables) f same here old t x id = absurd (omega (arith, same))
+table_changed (k ∷ keys) at index [] f same here old t x id = absurd (omega (arith, same))
+table_changed (k ∷ keys) zero index (s ∷ tables) f same here old zero x id = here s refl x id
+table_changed (k ∷ keys) zero index (s ∷ tables) f same here old (suc t) x id = old (suc t) x id
+table_changed (k ∷ keys) (suc at) index (s ∷ tables) f same here old zero x id = old zero x id
+table_changed (k ∷ keys) (suc at) index (s ∷ tables) f same here old (suc t) x id = table_changed keys at index tables f (omega (arith, same)) here (λ u y n. old (suc u) y n) t x id
 
 place_length : (at : ℕ) (tables : List plain.Table) (f : plain.Table → plain.Table) → length (at_place at f tables) ≡ length tables
 place_length at [] f = refl
@@ -215,19 +214,19 @@ match_changed (suc at) (s ∷ tables) f here old zero = old zero
 match_changed (suc at) (s ∷ tables) f here old (suc t) = match_changed at tables f here (λ u. old (suc u)) t
 
 -- the keys after a change of a table that is there
-pub stands_changed : (keys new : List (List Spot)) (spots : List Spot) (db : plain.Database) (author : ℕ) (change : plain.Change) (t : plain.Table) → StandFor keys db
-    → slice_get db.tables change.table ≡ Some t → list_all (matches t.schema) change.opens ≡ true → new ≡ slice_set keys change.table spots
-    → ((x : Cell) (n : ℕ) → has_spot spots x n ≡ is_open_with t.schema.key x (slice_get (table_after (db.version + 1) change t).rows n))
+pub stands_changed : (keys new : List IdsByKey) (index : IdsByKey) (db : plain.Database) (author : ℕ) (change : plain.Change) (t : plain.Table) → StandFor keys db
+    → slice_get db.tables change.table ≡ Some t → list_all (matches t.schema) change.opens ≡ true → new ≡ slice_set keys change.table index
+    → ((x : Cell) (n : ℕ) → has_row index x n ≡ is_open_with t.schema.key x (slice_get (table_after (db.version + 1) change t).rows n))
     → StandFor new (after_commit db (record { author = author; body = body.Change change }))
-stands_changed keys new spots db author change t old found opened made here = record {
-  tables = ap length made ∙ (length-set keys change.table spots ∙ (old.tables ∙ sym (place_length change.table db.tables (table_after (db.version + 1) change))));
-  spots = λ u x n. ap (λ ks. has_spot (spots_at ks u) x n) made ∙ table_changed keys change.table spots db.tables (table_after (db.version + 1) change) old.tables one old.spots u x n;
+stands_changed keys new index db author change t old found opened made here = record {
+  tables = ap length made ∙ (length-set keys change.table index ∙ (old.tables ∙ sym (place_length change.table db.tables (table_after (db.version + 1) change))));
+  ids = λ u x n. ap (λ ks. has_row (index_at ks u) x n) made ∙ table_changed keys change.table index db.tables (table_after (db.version + 1) change) old.tables one old.ids u x n;
   matching = match_changed change.table db.tables (table_after (db.version + 1) change) matched old.matching;
 } where
   only : (s : plain.Table) → slice_get db.tables change.table ≡ Some s → s ≡ t
   only s e = ap (λ (o : Option plain.Table). unwrap_or o t) (sym e ∙ found)
 
-  one : (s : plain.Table) → slice_get db.tables change.table ≡ Some s → (x : Cell) (n : ℕ) → has_spot spots x n ≡ table_has (Some (table_after (db.version + 1) change s)) x n
+  one : (s : plain.Table) → slice_get db.tables change.table ≡ Some s → (x : Cell) (n : ℕ) → has_row index x n ≡ table_has (Some (table_after (db.version + 1) change s)) x n
   one s e x n = here x n ∙ ap (λ q. table_has (Some (table_after (db.version + 1) change q)) x n) (sym (only s e))
 
   matched : (s : plain.Table) → slice_get db.tables change.table ≡ Some s → rows_match (Some (table_after (db.version + 1) change s)) ≡ true
@@ -293,51 +292,51 @@ fitting-keyed db change f schema place e h among = λ k d l.
     let columns = ap (λ (s : plain.Schema). length s.columns) same in
     omega arith
 
--- the spots that stand at a place
-pub spot_at : (keys : List (List Spot)) (n : ℕ) (spots : List Spot) → n < length keys → spots ≡ get_or keys n spots → spots_at keys n ≡ spots
-spot_at keys n spots h e = ap (λ (o : Option (List Spot)). unwrap_or o []) (slice_get_read keys (length keys) n spots refl h e)
+-- the index that stand at a place
+pub index_there : (keys : List IdsByKey) (n : ℕ) (index : IdsByKey) → n < length keys → index ≡ get_or keys n index → index_at keys n ≡ index
+index_there keys n index h e = ap (λ (o : Option IdsByKey). unwrap_or o no_ids) (slice_get_read keys (length keys) n index refl h e)
 
 -- what they were before the change
-pub fitting-spots : (keys : List (List Spot)) (db : plain.Database) (change : plain.Change) (f : Fitting db change) (spots : List Spot) → StandFor keys db → spots ≡ get_or keys change.table spots
-    → (x : Cell) (n : ℕ) → has_spot spots x n ≡ is_open_with f.table.schema.key x (slice_get f.table.rows n)
-fitting-spots keys db change f spots old is x n =
+pub fitting-index : (keys : List IdsByKey) (db : plain.Database) (change : plain.Change) (f : Fitting db change) (index : IdsByKey) → StandFor keys db → index ≡ get_or keys change.table index
+    → (x : Cell) (n : ℕ) → has_row index x n ≡ is_open_with f.table.schema.key x (slice_get f.table.rows n)
+fitting-index keys db change f index old is x n =
     let within = fitting-within db change f in
     let same = old.tables in
-    let here : spots_at keys change.table ≡ spots = spot_at keys change.table spots (omega arith) is in
-    ap (λ ss. has_spot ss x n) (sym here) ∙ (old.spots change.table x n ∙ ap (λ o. table_has o x n) f.at)
+    let here : index_at keys change.table ≡ index = index_there keys change.table index (omega arith) is in
+    ap (λ ss. has_row ss x n) (sym here) ∙ (old.ids change.table x n ∙ ap (λ o. table_has o x n) f.at)
 
-pub fitting-below : (keys : List (List Spot)) (db : plain.Database) (change : plain.Change) (f : Fitting db change) (spots : List Spot) (first : ℕ) → StandFor keys db → spots ≡ get_or keys change.table spots → first ≡ length (rows_of db change.table)
-    → (x : Cell) (n : ℕ) → first ≤ n → has_spot spots x n ≡ false
-fitting-below keys db change f spots first old is number x n h =
+pub fitting-below : (keys : List IdsByKey) (db : plain.Database) (change : plain.Change) (f : Fitting db change) (index : IdsByKey) (first : ℕ) → StandFor keys db → index ≡ get_or keys change.table index → first ≡ length (rows_of db change.table)
+    → (x : Cell) (n : ℕ) → first ≤ n → has_row index x n ≡ false
+fitting-below keys db change f index first old is number x n h =
     let rows = ap length (fitting-rows db change f) in
-    fitting-spots keys db change f spots old is x n ∙ ap (is_open_with f.table.schema.key x) (slice_get_past f.table.rows n (omega arith))
+    fitting-index keys db change f index old is x n ∙ ap (is_open_with f.table.schema.key x) (slice_get_past f.table.rows n (omega arith))
 
 -- the keys after the change
-pub fitting-after : (keys : List (List Spot)) (db : plain.Database) (change : plain.Change) (f : Fitting db change) (spots closing new : List Spot) (place first : ℕ) → StandFor keys db → db.version < 16777215 → spots ≡ get_or keys change.table spots
+pub fitting-after : (keys : List IdsByKey) (db : plain.Database) (change : plain.Change) (f : Fitting db change) (index : IdsByKey) (closing : List KeyedRow) (new : IdsByKey) (place first : ℕ) → StandFor keys db → db.version < 16777215 → index ≡ get_or keys change.table index
     → first ≡ length (rows_of db change.table) → place ≡ f.table.schema.key
-    → ((x : Cell) (n : ℕ) → has_spot closing x n ≡ (has_id change.closes n && has_key place x (slice_get (rows_of db change.table) n)))
-    → ((x : Cell) (n : ℕ) → has_spot new x n ≡ (not (has_spot closing x n) && (opens_with place first change.opens x n || has_spot spots x n)))
+    → ((x : Cell) (n : ℕ) → has_keyed closing x n ≡ (has_id change.closes n && has_key place x (slice_get (rows_of db change.table) n)))
+    → ((x : Cell) (n : ℕ) → has_row new x n ≡ (not (has_keyed closing x n) && (opens_with place first change.opens x n || has_row index x n)))
     → StandFor (slice_set keys change.table new) (record { version = db.version + 1; tables = after_body (db.version + 1) (body.Change change) db.tables })
-fitting-after keys db change f spots closing new place first old version is number at gone left =
+fitting-after keys db change f index closing new place first old version is number at gone left =
     stands_changed keys (slice_set keys change.table new) new db 0 change f.table old f.at f.opened refl (λ x n.
-    new_after (db.version + 1) change f.table spots closing new apart f.current (fitting-spots keys db change f spots old is)
+    new_after (db.version + 1) change f.table index closing new apart f.current (fitting-index keys db change f index old is)
     (λ y m. gone y m ∙ (ap (λ p. has_id change.closes m && has_key p y (slice_get (rows_of db change.table) m)) at ∙ ap (λ rs. has_id change.closes m && has_key f.table.schema.key y (slice_get rs m)) rows))
-    (λ y m. left y m ∙ (ap (λ p. not (has_spot closing y m) && (opens_with p first change.opens y m || has_spot spots y m)) at ∙ ap (λ q. not (has_spot closing y m) && (opens_with f.table.schema.key q change.opens y m || has_spot spots y m)) (number ∙ ap length rows))) x n) where
+    (λ y m. left y m ∙ (ap (λ p. not (has_keyed closing y m) && (opens_with p first change.opens y m || has_row index y m)) at ∙ ap (λ q. not (has_keyed closing y m) && (opens_with f.table.schema.key q change.opens y m || has_row index y m)) (number ∙ ap length rows))) x n) where
       rows : rows_of db change.table ≡ f.table.rows
       rows = fitting-rows db change f
 
       apart : nat_eq (db.version + 1) open_end ≡ false
       apart = grind (arith, nat_tests)
 
--- spots that are the same
-pub stands_same : (keys : List (List Spot)) (db : plain.Database) (at : ℕ) (spots new : List Spot) → StandFor keys db → at < length keys → spots ≡ get_or keys at spots → ((x : Cell) (n : ℕ) → has_spot new x n ≡ has_spot spots x n)
+-- index that are the same
+pub stands_same : (keys : List IdsByKey) (db : plain.Database) (at : ℕ) (index new : IdsByKey) → StandFor keys db → at < length keys → index ≡ get_or keys at index → ((x : Cell) (n : ℕ) → has_row new x n ≡ has_row index x n)
     → StandFor (slice_set keys at new) db
-stands_same keys db at spots new old within is same = record {
+stands_same keys db at index new old within is same = record {
   tables = length-set keys at new ∙ old.tables;
-  spots = λ t x n. set_same keys at new (λ y m. same y m ∙ ap (λ ss. has_spot ss y m) (sym (spot_at keys at spots within is))) t x n ∙ old.spots t x n;
+  ids = λ t x n. set_same keys at new (λ y m. same y m ∙ ap (λ ss. has_row ss y m) (sym (index_there keys at index within is))) t x n ∙ old.ids t x n;
   matching = old.matching;
 } where
-  set_same : (keys : List (List Spot)) (at : ℕ) (new : List Spot) → ((x : Cell) (n : ℕ) → has_spot new x n ≡ has_spot (spots_at keys at) x n) → (t : ℕ) (x : Cell) (n : ℕ) → has_spot (spots_at (slice_set keys at new) t) x n ≡ has_spot (spots_at keys t) x n
+  set_same : (keys : List IdsByKey) (at : ℕ) (new : IdsByKey) → ((x : Cell) (n : ℕ) → has_row new x n ≡ has_row (index_at keys at) x n) → (t : ℕ) (x : Cell) (n : ℕ) → has_row (index_at (slice_set keys at new) t) x n ≡ has_row (index_at keys t) x n
   set_same [] at new e t x n = refl
   set_same (k ∷ keys) zero new e zero x n = e x n
   set_same (k ∷ keys) zero new e (suc t) x n = refl

@@ -11,12 +11,13 @@ use Rattle.tl_types.specs.contracts.cells.CellOrd.TheImpl as cells
 use Rattle.tl_types.specs.Plain as plain
 use Rattle.tl_types.specs.History.{same_cell}
 use Rattle.tl_types.specs.Resolving.{BatchLine, same_key}
-use Rattle.tl_batch.specs.declared.strokes.Stroke.{Stroke}
+use Rattle.tl_types.specs.declared.batches.KeyLine.{KeyLine}
 use Rattle.tl_batch.specs.Pieces.{cuts, periods_with}
 use Rattle.tl_batch.specs.Covers.{Full, HoldLines, cover_at, is_between, is_covered, is_in, stretches_or}
-use Rattle.tl_batch.specs.Strokes.{said_of, said_by}
-use Rattle.tl_batch.proofs.SpotLemmas.{cell_order, same_cell-sym}
-use Rattle.tl_batch.proofs.TouchLemmas.{cell_congr}
+use Rattle.tl_batch.specs.Lines.{line_of, lines_of}
+use Rattle.tl_batch.proofs.CellLemmas.{cell_order}
+use Rattle.tl_batch.proofs.KeyIndexLemmas.{cell_sym}
+use Rattle.tl_batch.proofs.AdjacentLemmas.{cell_congr}
 
 -- LOOKING UP A KEY
 
@@ -37,7 +38,7 @@ pub changed_at : (key copy : Cell) (w : Option (List (ℤ × ℤ))) (entries new
     → ((q : Cell) → lookup (is_at (cells.cmp-value.it q)) new ≡ cond (is_at (cells.cmp-value.it copy) q) w (lookup (is_at (cells.cmp-value.it q)) entries)) → entries ≡ all
     → (x : Cell) → cover_at x new ≡ cond (same_cell x key) (stretches_or w) (cover_at x all)
 changed_at key copy w entries new all same update view x =
-    ap stretches_or (sym (found x new) ∙ (update x ∙ (ap (λ b. cond b w (lookup (is_at (cells.cmp-value.it x)) entries)) (cell_order copy x ∙ (same_cell-sym copy x ∙ ap (same_cell x) same)) ∙ ap (λ o. cond (same_cell x key) w o) (found x entries ∙ ap (lookup (same_cell x)) view))))
+    ap stretches_or (sym (found x new) ∙ (update x ∙ (ap (λ b. cond b w (lookup (is_at (cells.cmp-value.it x)) entries)) (cell_order copy x ∙ (cell_sym copy x ∙ ap (same_cell x) same)) ∙ ap (λ o. cond (same_cell x key) w o) (found x entries ∙ ap (lookup (same_cell x)) view))))
     ∙ split (same_cell x key) where
       split : (b : Bool) → stretches_or (cond b w (lookup (same_cell x) all)) ≡ cond b (stretches_or w) (cover_at x all)
       split true = refl
@@ -119,10 +120,10 @@ hold_behind before after lines key period puts h adds full = record {
   one_any t false = refl
 
 -- a line of a loop over lines
-pub stroke_held : (before after : List (Cell × List (ℤ × ℤ))) (strokes : List Stroke) (i : ℕ) (s : Stroke) → i < length strokes → s ≡ get_or strokes i s → HoldLines before (said_by (take i strokes)) → Adds s.key s.period before after → Full (s.period ∷ [])
-    → HoldLines after (said_by (take (i + 1) strokes))
+pub stroke_held : (before after : List (Cell × List (ℤ × ℤ))) (strokes : List KeyLine) (i : ℕ) (s : KeyLine) → i < length strokes → s ≡ get_or strokes i s → HoldLines before (lines_of (take i strokes)) → Adds s.key s.period before after → Full (s.period ∷ [])
+    → HoldLines after (lines_of (take (i + 1) strokes))
 stroke_held before after strokes i s h at held adds full =
-    subst (HoldLines after) (sym (ap said_by (take_more strokes i s h ∙ ap (λ q. take i strokes ++ q ∷ []) (sym at)) ∙ map-append said_of (take i strokes) (s ∷ []))) (hold_behind before after (said_by (take i strokes)) s.key s.period None held adds full)
+    subst (HoldLines after) (sym (ap lines_of (take_more strokes i s h ∙ ap (λ q. take i strokes ++ q ∷ []) (sym at)) ∙ map-append line_of (take i strokes) (s ∷ []))) (hold_behind before after (lines_of (take i strokes)) s.key s.period None held adds full)
 
 -- PERIODS THAT MAY BE NONE
 

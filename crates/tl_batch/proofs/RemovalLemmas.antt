@@ -1,11 +1,8 @@
 -- Lines that remove rows of a table with valid time: what they touch, by the periods of the current rows of their keys.
-use Rattle.std.proofs.Common.{◌≡◌, ℕ, ℤ, zero, suc, ◌+◌, ◌<◌, ◌≤◌, Bool, true, false, ◌&&◌, ◌||◌, not, cond, nat_le, List, [], ◌∷◌, ◌++◌, length, map, take, get_or, slice_get, Option, Some, None, option_map, subst, refl, sym, ap, ◌∙◌, arith, ◌⊎◌, inl, inr}
+use Rattle.std.proofs.Common.{◌≡◌, ℕ, ℤ, zero, suc, ◌+◌, ◌<◌, ◌≤◌, Bool, true, false, ◌&&◌, ◌||◌, not, cond, List, [], ◌∷◌, ◌++◌, length, map, take, get_or, slice_get, Option, Some, None, option_map, subst, refl, sym, ap, ◌∙◌, arith}
 use Rattle.std.specs.List.{list_any}
-use Rattle.std.proofs.lemmas.Bool.{cases_lt}
-use Rattle.std.proofs.lemmas.Bool.Decides.{nat_tests}
 use Rattle.std.proofs.lemmas.List.{take_more, map-append}
 use Rattle.std.proofs.lemmas.List.Folds.{list_any-append}
-use Rattle.std.proofs.lemmas.Option.{slice_get_past}
 use Rattle.tl_types.specs.declared.cells.Cell.{Cell}
 use Rattle.tl_types.specs.declared.batches.BatchFault.TheVariants as fault
 use Rattle.std.specs.Cmp.{int_eq_equiv}
@@ -15,23 +12,22 @@ use Rattle.tl_types.specs.Plain as plain
 use Rattle.tl_types.specs.Facts.{AscendFrom}
 use Rattle.tl_types.specs.History.{is_open, has_id, same_cell}
 use Rattle.tl_types.specs.Resolving.{BatchLine, same_key}
-use Rattle.tl_batch.specs.declared.spots.Spot.{Spot}
-use Rattle.tl_batch.specs.declared.strokes.Stroke.{Stroke}
-use Rattle.tl_batch.specs.Spots.{has_spot}
+use Rattle.tl_types.specs.declared.batches.KeyLine.{KeyLine}
 use Rattle.tl_batch.specs.Standing.{is_open_with}
-use Rattle.tl_batch.specs.Strokes.{said_of, said_by}
-use Rattle.tl_batch.specs.Pieces.{meets, cuts, periods_with}
-use Rattle.tl_batch.specs.Covers.{Full, HoldLines, cover_at, is_covered, is_in, has_cell, is_said}
+use Rattle.tl_batch.specs.Lines.{line_of, lines_of}
+use Rattle.tl_batch.specs.Pieces.{affects_period, cuts, periods_with}
+use Rattle.tl_batch.specs.Covers.{Full, HoldLines, cover_at, is_covered, is_in, is_said}
+use Rattle.tl_batch.specs.Untimed.{has_cell}
 use Rattle.tl_batch.specs.Faults.{HoldRows, fault_of, is_touched, period_of, open_periods}
 use Rattle.tl_batch.proofs.HoldLemmas.{full_both}
-use Rattle.tl_batch.proofs.TouchLemmas.{cell_congr, key_congr, periods-same, key_ids, key_ascend, key_holds}
+use Rattle.tl_batch.proofs.AdjacentLemmas.{cell_congr, key_congr, periods-same, key_ids, key_ascend, key_holds}
 use Rattle.tl_batch.proofs.ChangeLemmas.{ascend_same}
 use Rattle.tl_batch.proofs.KeyLemmas.{said_more}
-use Rattle.tl_batch.proofs.SpotLemmas.{same_cell-sym}
-use Rattle.tl_batch.proofs.SwapLemmas.{meets_left}
+use Rattle.tl_batch.proofs.KeyIndexLemmas.{cell_sym}
+use Rattle.tl_batch.proofs.SwapLemmas.{affects_rest}
 
--- a line touches a row where it meets what earlier lines left of the periods of the rows of its key
-pub open_touched : (schema : plain.Schema) (earlier : List BatchLine) (s : Stroke) (rows : List plain.Row) → schema.valid ≡ true → meets_left s.period (periods_with (Some s.key) earlier) (open_periods schema.key s.key rows) ≡ list_any (is_touched schema earlier (said_of s)) rows
+-- a line touches a row where it affects what earlier lines left of the periods of the rows of its key
+pub open_touched : (schema : plain.Schema) (earlier : List BatchLine) (s : KeyLine) (rows : List plain.Row) → schema.valid ≡ true → affects_rest s.period (periods_with (Some s.key) earlier) (open_periods schema.key s.key rows) ≡ list_any (is_touched schema earlier (line_of s)) rows
 open_touched schema earlier s [] valid = refl
 open_touched schema earlier s (r ∷ rows) valid = by_key (is_open r) (same_key key (Some s.key)) refl (open_touched schema earlier s rows valid) where
   key : Option Cell
@@ -43,11 +39,11 @@ open_touched schema earlier s (r ∷ rows) valid = by_key (is_open r) (same_key 
   rest : List (Option plain.Period)
   rest = open_periods schema.key s.key rows
 
-  by_key : (o k : Bool) → same_key key (Some s.key) ≡ k → meets_left s.period own rest ≡ list_any (is_touched schema earlier (said_of s)) rows
-      → meets_left s.period own (cond (o && k) (r.period ∷ rest) rest) ≡ ((o && (k && list_any (λ p. meets schema.valid s.period p) (cuts schema.valid (periods_with key earlier) r.period))) || list_any (is_touched schema earlier (said_of s)) rows)
+  by_key : (o k : Bool) → same_key key (Some s.key) ≡ k → affects_rest s.period own rest ≡ list_any (is_touched schema earlier (line_of s)) rows
+      → affects_rest s.period own (cond (o && k) (r.period ∷ rest) rest) ≡ ((o && (k && list_any (λ p. affects_period schema.valid s.period p) (cuts schema.valid (periods_with key earlier) r.period))) || list_any (is_touched schema earlier (line_of s)) rows)
   by_key true true g later =
-      ap (λ b. b || meets_left s.period own rest) (ap (λ v. list_any (λ q. meets v s.period q) (cuts v own r.period)) (sym valid) ∙ ap (λ ps. list_any (λ q. meets schema.valid s.period q) (cuts schema.valid ps r.period)) (sym (periods-same key s.key earlier g)))
-      ∙ ap (λ b. list_any (λ p. meets schema.valid s.period p) (cuts schema.valid (periods_with key earlier) r.period) || b) later
+      ap (λ b. b || affects_rest s.period own rest) (ap (λ v. list_any (λ q. affects_period v s.period q) (cuts v own r.period)) (sym valid) ∙ ap (λ ps. list_any (λ q. affects_period schema.valid s.period q) (cuts schema.valid ps r.period)) (sym (periods-same key s.key earlier g)))
+      ∙ ap (λ b. list_any (λ p. affects_period schema.valid s.period p) (cuts schema.valid (periods_with key earlier) r.period) || b) later
   by_key true false g later = later
   by_key false k g later = later
 
@@ -63,17 +59,23 @@ id_periods place x all n (r ∷ rows) stands = split (is_open r && same_key (sli
   split false later = later
 
 -- the periods of the rows of a key, by their ids
-pub key_periods : (place : ℕ) (x : Cell) (rows : List plain.Row) (spots : List Spot) (ids given : List ℕ) → length rows < 4294967296 → ((y : Cell) (n : ℕ) → has_spot spots y n ≡ is_open_with place y (slice_get rows n))
-    → AscendFrom 0 ids → ((n : ℕ) → n < 4294967296 → has_id ids n ≡ (nat_le 0 n && has_spot spots x n)) → ((n : ℕ) → 4294967296 ≤ n → has_id ids n ≡ false) → given ≡ ids
-    → map (λ id. period_of (slice_get rows id)) given ≡ open_periods place x rows
-key_periods place x rows spots ids given few stand ascend members small same =
-    ap (map (λ id. period_of (slice_get rows id))) (same ∙ ascend_same 0 ids (key_ids place x 0 rows) ascend (key_ascend place x 0 rows) equal) ∙ id_periods place x rows 0 rows (λ i. ap (slice_get rows) (let e : 0 + i ≡ i = omega arith in e)) where
-      of_key : (n : ℕ) → (n < 4294967296) ⊎ (4294967296 ≤ n) → has_id ids n ≡ is_open_with place x (slice_get rows n)
-      of_key n (inl l) = let low : nat_le 0 n ≡ true = grind (arith, nat_tests) in members n l ∙ (ap (λ v. v && has_spot spots x n) low ∙ stand x n)
-      of_key n (inr l) = small n l ∙ ap (is_open_with place x) (sym (slice_get_past rows n (omega arith)))
-
+pub key_periods : (place : ℕ) (x : Cell) (rows : List plain.Row) (ids : List ℕ) → AscendFrom 0 ids → ((n : ℕ) → has_id ids n ≡ is_open_with place x (slice_get rows n)) → map (λ id. period_of (slice_get rows id)) ids ≡ open_periods place x rows
+key_periods place x rows ids ascend members =
+    ap (map (λ id. period_of (slice_get rows id))) (ascend_same 0 ids (key_ids place x 0 rows) ascend (key_ascend place x 0 rows) equal) ∙ id_periods place x rows 0 rows (λ i. ap (slice_get rows) (let e : 0 + i ≡ i = omega arith in e)) where
       equal : (n : ℕ) → has_id ids n ≡ has_id (key_ids place x 0 rows) n
-      equal n = of_key n (cases_lt n 4294967296) ∙ (sym (key_holds place x 0 rows n) ∙ (let q : 0 + n ≡ n = omega arith in ap (has_id (key_ids place x 0 rows)) q))
+      equal n = members n ∙ (sym (key_holds place x 0 rows n) ∙ (let q : 0 + n ≡ n = omega arith in ap (has_id (key_ids place x 0 rows)) q))
+
+pub whole_periods : (place : ℕ) (x : Cell) (rows : List plain.Row) (ids given : List ℕ) (i : ℕ) → given ≡ ids → length given ≤ i → AscendFrom 0 ids → ((n : ℕ) → has_id ids n ≡ is_open_with place x (slice_get rows n)) → map (λ id. period_of (slice_get rows id)) (take i given) ≡ open_periods place x rows
+whole_periods place x rows ids given i same h ascend members = ap (map (λ id. period_of (slice_get rows id))) (whole given i h ∙ same) ∙ key_periods place x rows ids ascend members where
+  whole : (xs : List ℕ) (i : ℕ) → length xs ≤ i → take i xs ≡ xs
+  whole [] zero h = refl
+  whole [] (suc i) h = refl
+  whole (x ∷ xs) zero h = absurd (omega arith)
+  whole (x ∷ xs) (suc i) h = ap (λ ys. x ∷ ys) (whole xs i (omega arith))
+
+pub held_all : (key : Cell) (ps all : List (Option plain.Period)) (start now : List (Cell × List (ℤ × ℤ))) → ps ≡ all → ((x : Cell) (t : ℤ) → is_covered t (cover_at x now) ≡ ((same_cell x key && list_any (is_in t) ps) || is_covered t (cover_at x start)))
+    → (x : Cell) (t : ℤ) → is_covered t (cover_at x now) ≡ ((same_cell x key && list_any (is_in t) all) || is_covered t (cover_at x start))
+held_all key ps all start now same e x t = e x t ∙ ap (λ qs. (same_cell x key && list_any (is_in t) qs) || is_covered t (cover_at x start)) same
 
 -- a row more
 one_more : (rows : List plain.Row) (ids : List ℕ) (i id : ℕ) (whole : Option plain.Period) → i < length ids → id ≡ get_or ids i 0 → Some whole ≡ option_map (λ (r : plain.Row). r.period) (slice_get rows id)
@@ -110,16 +112,16 @@ same_open place x y (r ∷ rows) e =
     ap (λ b. cond (is_open r && b) (r.period ∷ open_periods place y rows) (open_periods place y rows)) (of_key (slice_get r.cells place)) ∙ ap (λ ps. cond (is_open r && same_key (slice_get r.cells place) (Some x)) (r.period ∷ ps) ps) (same_open place x y rows e) where
       of_key : (k : Option Cell) → same_key k (Some y) ≡ same_key k (Some x)
       of_key None = refl
-      of_key (Some z) = same_cell-sym z y ∙ (sym (cell_congr x y z e) ∙ same_cell-sym x z)
+      of_key (Some z) = cell_sym z y ∙ (sym (cell_congr x y z e) ∙ cell_sym x z)
 
-pub fresh_rows : (place : ℕ) (rows : List plain.Row) (strokes : List Stroke) (i : ℕ) (s : Stroke) (ps : List (Option plain.Period)) (before after : List (Cell × List (ℤ × ℤ))) → i < length strokes → s ≡ get_or strokes i s → ps ≡ open_periods place s.key rows
-    → HoldRows place before (said_by (take i strokes)) rows
-    → ((x : Cell) (t : ℤ) → is_covered t (cover_at x after) ≡ ((same_cell x s.key && list_any (is_in t) ps) || is_covered t (cover_at x before))) → Full ps → HoldRows place after (said_by (take (i + 1) strokes)) rows
+pub fresh_rows : (place : ℕ) (rows : List plain.Row) (strokes : List KeyLine) (i : ℕ) (s : KeyLine) (ps : List (Option plain.Period)) (before after : List (Cell × List (ℤ × ℤ))) → i < length strokes → s ≡ get_or strokes i s → ps ≡ open_periods place s.key rows
+    → HoldRows place before (lines_of (take i strokes)) rows
+    → ((x : Cell) (t : ℤ) → is_covered t (cover_at x after) ≡ ((same_cell x s.key && list_any (is_in t) ps) || is_covered t (cover_at x before))) → Full ps → HoldRows place after (lines_of (take (i + 1) strokes)) rows
 fresh_rows place rows strokes i s ps before after h at made held adds full = record {
-  full = λ x e. all_full x (same_cell x s.key) refl (is_said (Some x) (said_by (take i strokes))) refl (sym (said_more (Some x) strokes i s h at) ∙ e);
+  full = λ x e. all_full x (same_cell x s.key) refl (is_said (Some x) (lines_of (take i strokes))) refl (sym (said_more (Some x) strokes i s h at) ∙ e);
   same = λ x t. adds x t ∙ (ap (λ b. (same_cell x s.key && list_any (is_in t) ps) || b) (held.same x t) ∙ (by_key x t (same_cell x s.key) refl ∙ ap (λ b. b && list_any (is_in t) (open_periods place x rows)) (sym (said_more (Some x) strokes i s h at))));
 } where
-  all_full : (x : Cell) (k : Bool) → same_cell x s.key ≡ k → (a : Bool) → is_said (Some x) (said_by (take i strokes)) ≡ a → (is_said (Some x) (said_by (take i strokes)) || same_cell x s.key) ≡ true → Full (open_periods place x rows)
+  all_full : (x : Cell) (k : Bool) → same_cell x s.key ≡ k → (a : Bool) → is_said (Some x) (lines_of (take i strokes)) ≡ a → (is_said (Some x) (lines_of (take i strokes)) || same_cell x s.key) ≡ true → Full (open_periods place x rows)
   all_full x true g a f e = subst Full (made ∙ same_open place x s.key rows g) full
   all_full x false g true f e = held.full x f
   all_full x false g false f e = absurd (let bad : false ≡ true = sym (ap (λ b. b || same_cell x s.key) f ∙ g) ∙ e in cc)
@@ -135,22 +137,22 @@ fresh_rows place rows strokes i s ps before after h at made held adds full = rec
   other false p = refl
 
   by_key : (x : Cell) (t : ℤ) (k : Bool) → same_cell x s.key ≡ k
-      → ((same_cell x s.key && list_any (is_in t) ps) || (is_said (Some x) (said_by (take i strokes)) && list_any (is_in t) (open_periods place x rows))) ≡ ((is_said (Some x) (said_by (take i strokes)) || same_cell x s.key) && list_any (is_in t) (open_periods place x rows))
+      → ((same_cell x s.key && list_any (is_in t) ps) || (is_said (Some x) (lines_of (take i strokes)) && list_any (is_in t) (open_periods place x rows))) ≡ ((is_said (Some x) (lines_of (take i strokes)) || same_cell x s.key) && list_any (is_in t) (open_periods place x rows))
   by_key x t true g =
-      ap (λ b. (b && list_any (is_in t) ps) || (is_said (Some x) (said_by (take i strokes)) && list_any (is_in t) (open_periods place x rows))) g
-      ∙ (ap (λ qs. list_any (is_in t) qs || (is_said (Some x) (said_by (take i strokes)) && list_any (is_in t) (open_periods place x rows))) (made ∙ same_open place x s.key rows g)
-      ∙ (table (is_said (Some x) (said_by (take i strokes))) (list_any (is_in t) (open_periods place x rows)) ∙ ap (λ b. (is_said (Some x) (said_by (take i strokes)) || b) && list_any (is_in t) (open_periods place x rows)) (sym g)))
+      ap (λ b. (b && list_any (is_in t) ps) || (is_said (Some x) (lines_of (take i strokes)) && list_any (is_in t) (open_periods place x rows))) g
+      ∙ (ap (λ qs. list_any (is_in t) qs || (is_said (Some x) (lines_of (take i strokes)) && list_any (is_in t) (open_periods place x rows))) (made ∙ same_open place x s.key rows g)
+      ∙ (table (is_said (Some x) (lines_of (take i strokes))) (list_any (is_in t) (open_periods place x rows)) ∙ ap (λ b. (is_said (Some x) (lines_of (take i strokes)) || b) && list_any (is_in t) (open_periods place x rows)) (sym g)))
   by_key x t false g =
-      ap (λ b. (b && list_any (is_in t) ps) || (is_said (Some x) (said_by (take i strokes)) && list_any (is_in t) (open_periods place x rows))) g
-      ∙ (other (is_said (Some x) (said_by (take i strokes))) (list_any (is_in t) (open_periods place x rows)) ∙ ap (λ b. (is_said (Some x) (said_by (take i strokes)) || b) && list_any (is_in t) (open_periods place x rows)) (sym g))
+      ap (λ b. (b && list_any (is_in t) ps) || (is_said (Some x) (lines_of (take i strokes)) && list_any (is_in t) (open_periods place x rows))) g
+      ∙ (other (is_said (Some x) (lines_of (take i strokes))) (list_any (is_in t) (open_periods place x rows)) ∙ ap (λ b. (is_said (Some x) (lines_of (take i strokes)) || b) && list_any (is_in t) (open_periods place x rows)) (sym g))
 
-pub known_rows : (place : ℕ) (rows : List plain.Row) (strokes : List Stroke) (i : ℕ) (s : Stroke) (seen : List Cell) (fresh : Bool) (covers : List (Cell × List (ℤ × ℤ))) → i < length strokes → s ≡ get_or strokes i s → fresh ≡ not (has_cell seen s.key) → fresh ≡ false
-    → ((x : Cell) → has_cell seen x ≡ is_said (Some x) (said_by (take i strokes))) → HoldRows place covers (said_by (take i strokes)) rows → HoldRows place covers (said_by (take (i + 1) strokes)) rows
+pub known_rows : (place : ℕ) (rows : List plain.Row) (strokes : List KeyLine) (i : ℕ) (s : KeyLine) (seen : List Cell) (fresh : Bool) (covers : List (Cell × List (ℤ × ℤ))) → i < length strokes → s ≡ get_or strokes i s → fresh ≡ not (has_cell seen s.key) → fresh ≡ false
+    → ((x : Cell) → has_cell seen x ≡ is_said (Some x) (lines_of (take i strokes))) → HoldRows place covers (lines_of (take i strokes)) rows → HoldRows place covers (lines_of (take (i + 1) strokes)) rows
 known_rows place rows strokes i s seen fresh covers h at new gone e held = record {
   full = λ x f. held.full x (sym (more x) ∙ f);
   same = λ x t. held.same x t ∙ ap (λ b. b && list_any (is_in t) (open_periods place x rows)) (sym (more x));
 } where
-  has : is_said (Some s.key) (said_by (take i strokes)) ≡ true
+  has : is_said (Some s.key) (lines_of (take i strokes)) ≡ true
   has = sym (e s.key) ∙ turn (has_cell seen s.key) (sym new ∙ gone) where
     turn : (b : Bool) → not b ≡ false → b ≡ true
     turn true g = refl
@@ -164,14 +166,11 @@ known_rows place rows strokes i s seen fresh covers h at new gone e held = recor
   or_none true = refl
   or_none false = refl
 
-  more : (x : Cell) → is_said (Some x) (said_by (take (i + 1) strokes)) ≡ is_said (Some x) (said_by (take i strokes))
+  more : (x : Cell) → is_said (Some x) (lines_of (take (i + 1) strokes)) ≡ is_said (Some x) (lines_of (take i strokes))
   more x = said_more (Some x) strokes i s h at ∙ by_key (same_cell x s.key) refl where
-    by_key : (k : Bool) → same_cell x s.key ≡ k → (is_said (Some x) (said_by (take i strokes)) || same_cell x s.key) ≡ is_said (Some x) (said_by (take i strokes))
-    by_key true g = let t : is_said (Some x) (said_by (take i strokes)) ≡ true = said_same x (said_by (take i strokes)) g ∙ has in ap (λ b. b || same_cell x s.key) t ∙ sym t
-    by_key false g = ap (λ b. is_said (Some x) (said_by (take i strokes)) || b) g ∙ or_none (is_said (Some x) (said_by (take i strokes)))
-
-pub no_rows : (place : ℕ) (rows : List plain.Row) (covers : List (Cell × List (ℤ × ℤ))) → ((x : Cell) (t : ℤ) → is_covered t (cover_at x covers) ≡ false) → HoldRows place covers [] rows
-no_rows place rows covers e = record { full = λ x f. absurd (cc); same = e }
+    by_key : (k : Bool) → same_cell x s.key ≡ k → (is_said (Some x) (lines_of (take i strokes)) || same_cell x s.key) ≡ is_said (Some x) (lines_of (take i strokes))
+    by_key true g = let t : is_said (Some x) (lines_of (take i strokes)) ≡ true = said_same x (lines_of (take i strokes)) g ∙ has in ap (λ b. b || same_cell x s.key) t ∙ sym t
+    by_key false g = ap (λ b. is_said (Some x) (lines_of (take i strokes)) || b) g ∙ or_none (is_said (Some x) (lines_of (take i strokes)))
 
 -- ONE LINE MORE
 
@@ -179,28 +178,28 @@ same_self : (x : Cell) → same_cell x x ≡ true
 same_self (cell.Int i) = int_eq_equiv.refl i
 same_self (cell.Text t) = nat_list_eq_equiv.refl t
 
-said_at : (strokes : List Stroke) (i : ℕ) (s : Stroke) → i < length strokes → s ≡ get_or strokes i s → is_said (Some s.key) (said_by strokes) ≡ true
+said_at : (strokes : List KeyLine) (i : ℕ) (s : KeyLine) → i < length strokes → s ≡ get_or strokes i s → is_said (Some s.key) (lines_of strokes) ≡ true
 said_at [] i s h at = absurd (omega arith)
-said_at (r ∷ strokes) zero s h at = ap (λ q. same_cell s.key q.key || is_said (Some s.key) (said_by strokes)) (sym at) ∙ ap (λ b. b || is_said (Some s.key) (said_by strokes)) (same_self s.key)
+said_at (r ∷ strokes) zero s h at = ap (λ q. same_cell s.key q.key || is_said (Some s.key) (lines_of strokes)) (sym at) ∙ ap (λ b. b || is_said (Some s.key) (lines_of strokes)) (same_self s.key)
 said_at (r ∷ strokes) (suc i) s h at = ap (λ b. same_cell s.key r.key || b) (said_at strokes i s (omega arith) at) ∙ either (same_cell s.key r.key) where
   either : (b : Bool) → (b || true) ≡ true
   either true = refl
   either false = refl
 
 -- what the step says of a line
-abbrev pub Tells : Bool → Stroke → List (Cell × List (ℤ × ℤ)) → List (Cell × List (ℤ × ℤ)) → Type 0
-Tells touched s earlier covers = (lines : List BatchLine) (wholes : List (Option plain.Period)) → HoldLines earlier lines → Full wholes → ((t : ℤ) → is_covered t (cover_at s.key covers) ≡ list_any (is_in t) wholes) → touched ≡ meets_left s.period (periods_with (Some s.key) lines) wholes
+abbrev pub Tells : Bool → KeyLine → List (Cell × List (ℤ × ℤ)) → List (Cell × List (ℤ × ℤ)) → Type 0
+Tells touched s earlier covers = (lines : List BatchLine) (wholes : List (Option plain.Period)) → HoldLines earlier lines → Full wholes → ((t : ℤ) → is_covered t (cover_at s.key covers) ≡ list_any (is_in t) wholes) → touched ≡ affects_rest s.period (periods_with (Some s.key) lines) wholes
 
-pub touched_fault : (schema : plain.Schema) (rows : List plain.Row) (strokes : List Stroke) (i rec : ℕ) (s : Stroke) (touched : Bool) (earlier covers : List (Cell × List (ℤ × ℤ))) → schema.valid ≡ true → i < length strokes → s ≡ get_or strokes i s → HoldRows schema.key covers (said_by strokes) rows → HoldLines earlier (said_by (take i strokes))
-    → Tells touched s earlier covers → cond touched None (Some (fault.NoRow rec)) ≡ fault_of schema true rows (said_by (take i strokes)) (said_of s) rec
+pub touched_fault : (schema : plain.Schema) (rows : List plain.Row) (strokes : List KeyLine) (i rec : ℕ) (s : KeyLine) (touched : Bool) (earlier covers : List (Cell × List (ℤ × ℤ))) → schema.valid ≡ true → i < length strokes → s ≡ get_or strokes i s → HoldRows schema.key covers (lines_of strokes) rows → HoldLines earlier (lines_of (take i strokes))
+    → Tells touched s earlier covers → cond touched None (Some (fault.NoRow rec)) ≡ fault_of schema true rows (lines_of (take i strokes)) (line_of s) rec
 touched_fault schema rows strokes i rec s touched earlier covers valid h at held lines tells =
-    ap (λ b. cond b None (Some (fault.NoRow rec))) is ∙ (turned (list_any (is_touched schema (said_by (take i strokes)) (said_of s)) rows)
-    ∙ ap (λ v. cond (not v && list_any (λ (e : BatchLine). same_key e.key (Some s.key)) (said_by (take i strokes))) (Some (fault.KeyTwice rec)) (cond (true && not (list_any (is_touched schema (said_by (take i strokes)) (said_of s)) rows)) (Some (fault.NoRow rec)) None)) (sym valid)) where
-      has : is_said (Some s.key) (said_by strokes) ≡ true
+    ap (λ b. cond b None (Some (fault.NoRow rec))) is ∙ (turned (list_any (is_touched schema (lines_of (take i strokes)) (line_of s)) rows)
+    ∙ ap (λ v. cond (not v && list_any (λ (e : BatchLine). same_key e.key (Some s.key)) (lines_of (take i strokes))) (Some (fault.KeyTwice rec)) (cond (true && not (list_any (is_touched schema (lines_of (take i strokes)) (line_of s)) rows)) (Some (fault.NoRow rec)) None)) (sym valid)) where
+      has : is_said (Some s.key) (lines_of strokes) ≡ true
       has = said_at strokes i s h at
 
-      is : touched ≡ list_any (is_touched schema (said_by (take i strokes)) (said_of s)) rows
-      is = tells (said_by (take i strokes)) (open_periods schema.key s.key rows) lines (held.full s.key has) (λ t. held.same s.key t ∙ ap (λ b. b && list_any (is_in t) (open_periods schema.key s.key rows)) has) ∙ open_touched schema (said_by (take i strokes)) s rows valid
+      is : touched ≡ list_any (is_touched schema (lines_of (take i strokes)) (line_of s)) rows
+      is = tells (lines_of (take i strokes)) (open_periods schema.key s.key rows) lines (held.full s.key has) (λ t. held.same s.key t ∙ ap (λ b. b && list_any (is_in t) (open_periods schema.key s.key rows)) has) ∙ open_touched schema (lines_of (take i strokes)) s rows valid
 
       turned : (b : Bool) → cond b None (Some (fault.NoRow rec)) ≡ cond (true && not b) (Some (fault.NoRow rec)) None
       turned true = refl

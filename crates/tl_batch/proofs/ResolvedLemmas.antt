@@ -13,7 +13,7 @@ use Rattle.tl_types.specs.declared.limits.Limits.{Limits}
 use Rattle.tl_types.specs.Plain as plain
 use Rattle.tl_types.specs.Resolving.{BatchLine, open_rows, line_fault, put_lines, removal_lines, resolved_change}
 use Rattle.tl_types.specs.History.{is_open, is_open_at, matches, match_columns, fits_table, fits}
-use Rattle.tl_batch.specs.Pieces.{meets, rest_of, cut, cuts, periods_with, is_met, met_ids, over, row_pieces, old_pieces, put_pieces}
+use Rattle.tl_batch.specs.Pieces.{affects_period, rest_of, cut, cuts, periods_with, is_affected, affected_ids, over, row_pieces, old_pieces, put_pieces}
 use Rattle.tl_batch.proofs.FollowLemmas.{all_joined}
 use Rattle.tl_batch.specs.Faults.{fault_from}
 use Rattle.tl_batch.proofs.ChangeLemmas.{change_by_rows}
@@ -21,7 +21,7 @@ use Rattle.tl_batch.proofs.FaultLemmas.{fault_of_keys, fault_of_rows}
 
 -- the change of lines in a table, by its rows
 abbrev pub row_change : ℕ → plain.Table → List BatchLine → plain.Change
-row_change number t lines = record { table = number; closes = met_ids t.schema lines 0 t.rows; opens = old_pieces t.schema lines t.rows ++ put_pieces t.schema lines }
+row_change number t lines = record { table = number; closes = affected_ids t.schema lines 0 t.rows; opens = old_pieces t.schema lines t.rows ++ put_pieces t.schema lines }
 
 -- no version is left
 pub change-late : (limits : Limits) (db : plain.Database) (author number : ℕ) (t : plain.Table) (lines : plain.Schema → List BatchLine) → limits.versions ≤ db.version → resolved_change limits db author (Some (number, t)) lines ≡ Err fault.VersionsFull
@@ -85,7 +85,7 @@ beq-is false true e = absurd (cc)
 beq-is false false e = refl
 
 cut-alike : (valid : Bool) (line whole : Option plain.Period) → list_all (alike whole) (cut valid line whole) ≡ true
-cut-alike valid line whole = split (meets valid line whole) where
+cut-alike valid line whole = split (affects_period valid line whole) where
   split : (b : Bool) → list_all (alike whole) (cond b (rest_of line whole) (whole ∷ [])) ≡ true
   split true = rest-alike line whole
   split false = beq-self (is_some whole)
@@ -110,7 +110,7 @@ pieces-match schema lines cells whole m = over-match schema cells whole (cuts sc
 
 old-match : (schema : plain.Schema) (lines : List BatchLine) (rows : List plain.Row) → list_all (λ r. matches schema (record { cells = r.cells; period = r.period })) rows ≡ true → list_all (matches schema) (old_pieces schema lines rows) ≡ true
 old-match schema lines [] all = refl
-old-match schema lines (r ∷ rows) all = split (is_open r && is_met schema lines r) (old-match schema lines rows parts.1) where
+old-match schema lines (r ∷ rows) all = split (is_open r && is_affected schema lines r) (old-match schema lines rows parts.1) where
   parts : (matches schema (record { cells = r.cells; period = r.period }) ≡ true) × (list_all (λ s. matches schema (record { cells = s.cells; period = s.period })) rows ≡ true)
   parts = and_parts (matches schema (record { cells = r.cells; period = r.period })) (list_all (λ s. matches schema (record { cells = s.cells; period = s.period })) rows) all
 
@@ -128,13 +128,13 @@ pub keys-match : (schema : plain.Schema) (lines : List KeyLine) → list_all (ma
 keys-match schema [] = refl
 keys-match schema (k ∷ lines) = keys-match schema lines
 
-closes-open : (test : ℕ → Bool) (schema : plain.Schema) (lines : List BatchLine) (n : ℕ) (rows : List plain.Row) → ((i : ℕ) → test (n + i) ≡ is_open_at rows i) → list_all test (met_ids schema lines n rows) ≡ true
+closes-open : (test : ℕ → Bool) (schema : plain.Schema) (lines : List BatchLine) (n : ℕ) (rows : List plain.Row) → ((i : ℕ) → test (n + i) ≡ is_open_at rows i) → list_all test (affected_ids schema lines n rows) ≡ true
 closes-open test schema lines n [] e = refl
-closes-open test schema lines n (r ∷ rows) e = split (is_open r) (is_met schema lines r) refl (closes-open test schema lines (n + 1) rows (λ i. (let q : n + 1 + i ≡ n + suc i = omega arith in ap test q) ∙ e (suc i))) where
+closes-open test schema lines n (r ∷ rows) e = split (is_open r) (is_affected schema lines r) refl (closes-open test schema lines (n + 1) rows (λ i. (let q : n + 1 + i ≡ n + suc i = omega arith in ap test q) ∙ e (suc i))) where
   here : test n ≡ is_open r
   here = (let q : n ≡ n + 0 = omega arith in ap test q) ∙ e 0
 
-  split : (a b : Bool) → is_open r ≡ a → list_all test (met_ids schema lines (n + 1) rows) ≡ true → list_all test (cond (a && b) (n ∷ met_ids schema lines (n + 1) rows) (met_ids schema lines (n + 1) rows)) ≡ true
+  split : (a b : Bool) → is_open r ≡ a → list_all test (affected_ids schema lines (n + 1) rows) ≡ true → list_all test (cond (a && b) (n ∷ affected_ids schema lines (n + 1) rows) (affected_ids schema lines (n + 1) rows)) ≡ true
   split true true f later = and_from _ _ (here ∙ f) later
   split true false f later = later
   split false b f later = later
@@ -143,16 +143,7 @@ closes-open test schema lines n (r ∷ rows) e = split (is_open r) (is_met schem
 pub change-fits : (limits : Limits) (db : plain.Database) (author number : ℕ) (t : plain.Table) (lines : List BatchLine) → slice_get db.tables number ≡ Some t → db.version < limits.versions → list_all (λ r. matches t.schema (record { cells = r.cells; period = r.period })) t.rows ≡ true
     → list_all (matches t.schema) (put_pieces t.schema lines) ≡ true → length t.rows + length (row_change number t lines).opens ≤ limits.rows → fits limits db (record { author = author; body = body.Change (row_change number t lines) }) ≡ true
 change-fits limits db author number t lines at next rows puts few =
-    let closes : list_all (is_open_at t.rows) (met_ids t.schema lines 0 t.rows) ≡ true = closes-open (is_open_at t.rows) t.schema lines 0 t.rows (λ k. ap (is_open_at t.rows) (let e : 0 + k ≡ k = omega arith in e)) in
+    let closes : list_all (is_open_at t.rows) (affected_ids t.schema lines 0 t.rows) ≡ true = closes-open (is_open_at t.rows) t.schema lines 0 t.rows (λ k. ap (is_open_at t.rows) (let e : 0 + k ≡ k = omega arith in e)) in
     let opens : list_all (matches t.schema) (row_change number t lines).opens ≡ true = all_joined (matches t.schema) (old_pieces t.schema lines t.rows) (put_pieces t.schema lines) (old-match t.schema lines t.rows rows) puts in
     let inside : fits_table limits (row_change number t lines) (Some t) ≡ true = and_from (list_all (is_open_at t.rows) (row_change number t lines).closes && list_all (matches t.schema) (row_change number t lines).opens) (nat_le (length t.rows + length (row_change number t lines).opens) limits.rows) (and_from (list_all (is_open_at t.rows) (row_change number t lines).closes) (list_all (matches t.schema) (row_change number t lines).opens) closes opens) (le-leb _ _ few) in
     and_from (nat_lt db.version limits.versions) (fits_table limits (row_change number t lines) (slice_get db.tables number)) (lt-ltb _ _ next) (ap (fits_table limits (row_change number t lines)) at ∙ inside)
-
--- both kinds of batch, for an answer by name
-pub made_of_keys : (limits : Limits) (db : plain.Database) (author number : ℕ) (t : plain.Table) (lines : List KeyLine) → db.version < limits.versions → fault_from t.schema true t.rows 2 [] (removal_lines lines) ≡ None
-    → length t.rows + length (row_change number t (removal_lines lines)).opens ≤ limits.rows → resolved_change limits db author (Some (number, t)) (λ schema. removal_lines lines) ≡ Ok (record { author = author; body = body.Change (row_change number t (removal_lines lines)) })
-made_of_keys limits db author number t lines next e few = change-made limits db author number t (λ schema. removal_lines lines) next (keys-fault t lines ∙ e) few
-
-pub made_of_rows : (limits : Limits) (db : plain.Database) (author number : ℕ) (t : plain.Table) (lines : List plain.Opened) → db.version < limits.versions → fault_from t.schema false t.rows 2 [] (put_lines t.schema lines) ≡ None
-    → length t.rows + length (row_change number t (put_lines t.schema lines)).opens ≤ limits.rows → resolved_change limits db author (Some (number, t)) (λ schema. put_lines schema lines) ≡ Ok (record { author = author; body = body.Change (row_change number t (put_lines t.schema lines)) })
-made_of_rows limits db author number t lines next e few = change-made limits db author number t (λ schema. put_lines schema lines) next (rows-fault t lines ∙ e) few

@@ -1,14 +1,13 @@
 -- A working list decomposes by row: each row leaves what the later lines of its key leave of it.
-use Rattle.std.proofs.Common.{◌≡◌, ℕ, zero, suc, ◌+◌, ◌<◌, ◌≤◌, Bool, true, false, ◌&&◌, ◌||◌, cond, int_lt, List, [], ◌∷◌, ◌++◌, length, map, drop, get_or, Option, Some, None, is_some, refl, sym, ap, ◌∙◌, arith, slice_get, append_assoc, append-nil}
+use Rattle.std.proofs.Common.{◌≡◌, ℕ, zero, suc, ◌≤◌, Bool, true, false, ◌&&◌, ◌||◌, cond, int_lt, List, [], ◌∷◌, ◌++◌, length, map, drop, Option, Some, None, is_some, refl, sym, ap, ◌∙◌, arith, slice_get, append_assoc, append-nil}
 use Rattle.std.specs.List.{list_any, flat_map, fold, filter_map}
-use Rattle.std.proofs.lemmas.List.{at_drop_more}
 use Rattle.std.proofs.lemmas.List.Elements.{filter_map-append}
 use Rattle.std.proofs.lemmas.List.Folds.{flat_map-map}
 use Rattle.std.proofs.lemmas.Grind.{flat_map-append}
 use Rattle.tl_types.specs.declared.cells.Cell.{Cell}
 use Rattle.tl_types.specs.Plain as plain
 use Rattle.tl_types.specs.Resolving.{WorkingRow, BatchLine, same_key, affects, remainders, put_row, after_line, ids_of, new_rows}
-use Rattle.tl_batch.specs.Pieces.{meets, rest_of, cut, cuts, periods_with, over, put_pieces}
+use Rattle.tl_batch.specs.Pieces.{affects_period, rest_of, cut, cuts, periods_with, over, put_pieces}
 
 -- LISTS
 
@@ -50,20 +49,6 @@ drop_past [] zero h = refl
 drop_past [] (suc i) h = refl
 drop_past (x ∷ xs) zero h = absurd (omega arith)
 drop_past (x ∷ xs) (suc i) h = drop_past xs i (omega arith)
-
--- a loop over the lines, at the next line
-pub cut_next : (valid : Bool) (lines : List (Option plain.Period)) (i : ℕ) (line : Option plain.Period) (left given new all : List (Option plain.Period)) → i < length lines → line ≡ get_or lines i line → given ≡ left → new ≡ flat_map (cut valid line) given
-    → flat_map (cuts valid (drop i lines)) left ≡ all → flat_map (cuts valid (drop (i + 1) lines)) new ≡ all
-cut_next valid lines i line left given new all h at same made e =
-    let rest : List (Option plain.Period) = drop (i + 1) lines in
-    ap (flat_map (cuts valid rest)) (made ∙ ap (flat_map (cut valid line)) same)
-    ∙ (sym (cut_more valid rest line left)
-    ∙ (ap (λ q. flat_map (cuts valid (q ∷ rest)) left) at
-    ∙ (sym (at_drop_more (λ qs. flat_map (cuts valid qs) left) lines i line h) ∙ e)))
-
--- and behind the last
-pub cut_last : (valid : Bool) (lines : List (Option plain.Period)) (i : ℕ) (left all : List (Option plain.Period)) → length lines ≤ i → flat_map (cuts valid (drop i lines)) left ≡ all → left ≡ all
-cut_last valid lines i left all h e = sym (cut_none valid left) ∙ (ap (λ qs. flat_map (cuts valid qs) left) (sym (drop_past lines i h)) ∙ e)
 
 -- THE WORKING LIST BY ROWS
 
@@ -125,22 +110,22 @@ rows_left-fresh schema (said ∷ lines) cells p = by_key (same_key (slice_get ce
   later : List (Option plain.Period)
   later = periods_with key lines
 
-  met : Bool
-  met = meets schema.valid said.period p
+  affected : Bool
+  affected = affects_period schema.valid said.period p
 
   chosen : (m : Bool) → cond m (remainders said (fresh cells p)) (fresh cells p ∷ []) ≡ map (fresh cells) (cond m (rest_of said.period p) (p ∷ []))
   chosen true = remainders-rest said.key said.puts said.period None cells p
   chosen false = refl
 
   by_key : (b : Bool) → ((q : Option plain.Period) → rows_left schema lines (fresh cells q) ≡ map (fresh cells) (cuts schema.valid later q))
-      → flat_map (rows_left schema lines) (cond (b && met) (remainders said (fresh cells p)) (fresh cells p ∷ [])) ≡ map (fresh cells) (cuts schema.valid (cond b (said.period ∷ later) later) p)
-  by_key true each = ap (flat_map (rows_left schema lines)) (chosen met) ∙ rows_left-each schema lines cells (cut schema.valid said.period p) each
+      → flat_map (rows_left schema lines) (cond (b && affected) (remainders said (fresh cells p)) (fresh cells p ∷ [])) ≡ map (fresh cells) (cuts schema.valid (cond b (said.period ∷ later) later) p)
+  by_key true each = ap (flat_map (rows_left schema lines)) (chosen affected) ∙ rows_left-each schema lines cells (cut schema.valid said.period p) each
   by_key false each = append-nil (rows_left schema lines (fresh cells p)) ∙ each p
 
--- a row with an id stays where no line meets it, and else leaves the pieces of its period
+-- a row with an id stays where no line affects it, and else leaves the pieces of its period
 pub rows_left-old : (schema : plain.Schema) (lines : List BatchLine) (n : ℕ) (cells : List Cell) (p : Option plain.Period)
     → rows_left schema lines (record { id = Some n; row = record { cells = cells; period = p } })
-    ≡ cond (list_any (λ line. meets schema.valid line p) (periods_with (slice_get cells schema.key) lines)) (map (fresh cells) (cuts schema.valid (periods_with (slice_get cells schema.key) lines) p)) (record { id = Some n; row = record { cells = cells; period = p } } ∷ [])
+    ≡ cond (list_any (λ line. affects_period schema.valid line p) (periods_with (slice_get cells schema.key) lines)) (map (fresh cells) (cuts schema.valid (periods_with (slice_get cells schema.key) lines) p)) (record { id = Some n; row = record { cells = cells; period = p } } ∷ [])
 rows_left-old schema [] n cells p = refl
 rows_left-old schema (said ∷ lines) n cells p = by_key (same_key (slice_get cells schema.key) said.key) (rows_left-old schema lines n cells p) where
   key : Option Cell
@@ -153,16 +138,16 @@ rows_left-old schema (said ∷ lines) n cells p = by_key (same_key (slice_get ce
   old = record { id = Some n; row = record { cells = cells; period = p } }
 
   any : List (Option plain.Period) → Bool
-  any qs = list_any (λ line. meets schema.valid line p) qs
+  any qs = list_any (λ line. affects_period schema.valid line p) qs
 
-  by_meet : (m : Bool) → rows_left schema lines old ≡ cond (any later) (map (fresh cells) (cuts schema.valid later p)) (old ∷ [])
+  by_affect : (m : Bool) → rows_left schema lines old ≡ cond (any later) (map (fresh cells) (cuts schema.valid later p)) (old ∷ [])
       → flat_map (rows_left schema lines) (cond m (remainders said old) (old ∷ [])) ≡ cond (m || any later) (map (fresh cells) (flat_map (cuts schema.valid later) (cond m (rest_of said.period p) (p ∷ [])))) (old ∷ [])
-  by_meet true same = ap (flat_map (rows_left schema lines)) (remainders-rest said.key said.puts said.period (Some n) cells p) ∙ rows_left-each schema lines cells (rest_of said.period p) (rows_left-fresh schema lines cells)
-  by_meet false same = append-nil (rows_left schema lines old) ∙ (same ∙ ap (λ ps. cond (any later) (map (fresh cells) ps) (old ∷ [])) (sym (append-nil (cuts schema.valid later p))))
+  by_affect true same = ap (flat_map (rows_left schema lines)) (remainders-rest said.key said.puts said.period (Some n) cells p) ∙ rows_left-each schema lines cells (rest_of said.period p) (rows_left-fresh schema lines cells)
+  by_affect false same = append-nil (rows_left schema lines old) ∙ (same ∙ ap (λ ps. cond (any later) (map (fresh cells) ps) (old ∷ [])) (sym (append-nil (cuts schema.valid later p))))
 
   by_key : (b : Bool) → rows_left schema lines old ≡ cond (any later) (map (fresh cells) (cuts schema.valid later p)) (old ∷ [])
-      → flat_map (rows_left schema lines) (cond (b && meets schema.valid said.period p) (remainders said old) (old ∷ [])) ≡ cond (any (cond b (said.period ∷ later) later)) (map (fresh cells) (cuts schema.valid (cond b (said.period ∷ later) later) p)) (old ∷ [])
-  by_key true same = by_meet (meets schema.valid said.period p) same
+      → flat_map (rows_left schema lines) (cond (b && affects_period schema.valid said.period p) (remainders said old) (old ∷ [])) ≡ cond (any (cond b (said.period ∷ later) later)) (map (fresh cells) (cuts schema.valid (cond b (said.period ∷ later) later) p)) (old ∷ [])
+  by_key true same = by_affect (affects_period schema.valid said.period p) same
   by_key false same = append-nil (rows_left schema lines old) ∙ same
 
 pub fresh-ids : (cells : List Cell) (ps : List (Option plain.Period)) → ids_of (map (fresh cells) ps) ≡ []

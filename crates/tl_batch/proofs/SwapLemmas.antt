@@ -1,22 +1,22 @@
--- Whether a line meets what earlier lines left of some periods, by what the earlier lines left of the line.
+-- Whether a line affects what earlier lines left of some periods, by what the earlier lines left of the line.
 use Rattle.std.proofs.Common.{◌≡◌, ℤ, pos, ◌+ℤ◌, ◌<ℤ◌, int_lt, Bool, true, false, ◌&&◌, ◌||◌, not, List, [], ◌∷◌, Option, Some, None, subst, refl, sym, ap, ◌∙◌, arith}
 use Rattle.std.specs.List.{list_any}
 use Rattle.std.proofs.lemmas.Bool.{and_parts}
 use Rattle.std.proofs.lemmas.Int.{ints}
 use Rattle.tl_types.specs.Plain as plain
-use Rattle.tl_batch.specs.Pieces.{meets, cuts}
+use Rattle.tl_batch.specs.Pieces.{affects_period, cuts}
 use Rattle.tl_batch.specs.Covers.{Full, is_in}
 use Rattle.tl_batch.proofs.GapLemmas.{Apart, cuts_apart, cuts_holds}
 use Rattle.tl_batch.proofs.FaultLemmas.{whole_left}
 use Rattle.tl_batch.proofs.WholeLemmas.{shared}
 
--- a line meets what earlier lines left of one of the periods
-abbrev pub meets_left : Option plain.Period → List (Option plain.Period) → List (Option plain.Period) → Bool
-meets_left line earlier wholes = list_any (λ p. list_any (λ q. meets true line q) (cuts true earlier p)) wholes
+-- a line affects what earlier lines left of one of the periods
+abbrev pub affects_rest : Option plain.Period → List (Option plain.Period) → List (Option plain.Period) → Bool
+affects_rest line earlier wholes = list_any (λ p. list_any (λ q. affects_period true line q) (cuts true earlier p)) wholes
 
--- what earlier lines left of a line meets one of the periods
-abbrev pub left_meets : Option plain.Period → List (Option plain.Period) → List (Option plain.Period) → Bool
-left_meets line earlier wholes = list_any (λ g. list_any (λ p. meets true p g) wholes) (cuts true earlier line)
+-- what earlier lines left of a line affects one of the periods
+abbrev pub rest_affects : Option plain.Period → List (Option plain.Period) → List (Option plain.Period) → Bool
+rest_affects line earlier wholes = list_any (λ g. list_any (λ p. affects_period true p g) wholes) (cuts true earlier line)
 
 and-swap : (a b : Bool) → (a && b) ≡ (b && a)
 and-swap true true = refl
@@ -24,15 +24,15 @@ and-swap true false = refl
 and-swap false true = refl
 and-swap false false = refl
 
-meets-swap : (p q : Option plain.Period) → meets true p q ≡ meets true q p
-meets-swap None None = refl
-meets-swap None (Some q) = refl
-meets-swap (Some p) None = refl
-meets-swap (Some p) (Some q) = and-swap (int_lt q.from p.to) (int_lt p.from q.to)
+affects_period-swap : (p q : Option plain.Period) → affects_period true p q ≡ affects_period true q p
+affects_period-swap None None = refl
+affects_period-swap None (Some q) = refl
+affects_period-swap (Some p) None = refl
+affects_period-swap (Some p) (Some q) = and-swap (int_lt q.from p.to) (int_lt p.from q.to)
 
-any-swap : (line : Option plain.Period) (ps : List (Option plain.Period)) → list_any (λ q. meets true line q) ps ≡ list_any (λ q. meets true q line) ps
+any-swap : (line : Option plain.Period) (ps : List (Option plain.Period)) → list_any (λ q. affects_period true line q) ps ≡ list_any (λ q. affects_period true q line) ps
 any-swap line [] = refl
-any-swap line (p ∷ ps) = ap (λ b. b || list_any (λ q. meets true line q) ps) (meets-swap line p) ∙ ap (λ b. meets true p line || b) (any-swap line ps)
+any-swap line (p ∷ ps) = ap (λ b. b || list_any (λ q. affects_period true line q) ps) (affects_period-swap line p) ∙ ap (λ b. affects_period true p line || b) (any-swap line ps)
 
 or_true : (b : Bool) → (b || true) ≡ true
 or_true true = refl
@@ -48,19 +48,19 @@ apart_full low high (None ∷ ps) a = absurd (a)
 apart_full low high (Some p ∷ ps) a = (a.1, apart_full (p.to +ℤ pos 1) high ps a.3)
 
 none_cut : (lines : List (Option plain.Period)) → cuts true lines None ≡ None ∷ []
-none_cut lines = whole_left true lines None (none_met lines) where
-  none_met : (lines : List (Option plain.Period)) → list_any (λ line. meets true line None) lines ≡ false
-  none_met [] = refl
-  none_met (line ∷ lines) = none_met lines
+none_cut lines = whole_left true lines None (none_affected lines) where
+  none_affected : (lines : List (Option plain.Period)) → list_any (λ line. affects_period true line None) lines ≡ false
+  none_affected [] = refl
+  none_affected (line ∷ lines) = none_affected lines
 
 cut_full : (lines : List (Option plain.Period)) (p : Option plain.Period) → Full lines → Full (p ∷ []) → Full (cuts true lines p)
 cut_full lines None full h = subst Full (sym (none_cut lines)) tt
 cut_full lines (Some p) full h = apart_full p.from p.to (cuts true lines (Some p)) (cuts_apart lines full p.from p.to p (omega (arith, ints)) h.0 (omega (arith, ints)))
 
 -- a moment in common is a part in common
-met_at : (t : ℤ) (lines : List (Option plain.Period)) (p : plain.Period) → is_in t (Some p) ≡ true → list_any (is_in t) lines ≡ true → list_any (λ line. meets true line (Some p)) lines ≡ true
-met_at t lines p e f = by (list_any (λ line. meets true line (Some p)) lines) refl where
-  by : (b : Bool) → list_any (λ line. meets true line (Some p)) lines ≡ b → b ≡ true
+affected_at : (t : ℤ) (lines : List (Option plain.Period)) (p : plain.Period) → is_in t (Some p) ≡ true → list_any (is_in t) lines ≡ true → list_any (λ line. affects_period true line (Some p)) lines ≡ true
+affected_at t lines p e f = by (list_any (λ line. affects_period true line (Some p)) lines) refl where
+  by : (b : Bool) → list_any (λ line. affects_period true line (Some p)) lines ≡ b → b ≡ true
   by true g = refl
   by false g = absurd (
       let one : list_any (is_in t) (cuts true lines (Some p)) ≡ true = ap (list_any (is_in t)) (whole_left true lines (Some p) g) ∙ (or_none (is_in t (Some p)) ∙ e) in
@@ -85,9 +85,9 @@ parts_of t earlier p e =
       turn true e = absurd (cc)
       turn false e = refl
 
-free_left : (line : plain.Period) (earlier wholes : List (Option plain.Period)) → line.from <ℤ line.to → Full earlier → Full wholes → meets_left (Some line) earlier wholes ≡ true → Free line earlier wholes
+free_left : (line : plain.Period) (earlier wholes : List (Option plain.Period)) → line.from <ℤ line.to → Full earlier → Full wholes → affects_rest (Some line) earlier wholes ≡ true → Free line earlier wholes
 free_left line earlier [] h full all e = absurd (cc)
-free_left line earlier (p ∷ wholes) h full all e = by (list_any (λ q. meets true (Some line) q) (cuts true earlier p)) refl e (free_left line earlier wholes h full (rest p all)) where
+free_left line earlier (p ∷ wholes) h full all e = by (list_any (λ q. affects_period true (Some line) q) (cuts true earlier p)) refl e (free_left line earlier wholes h full (rest p all)) where
   rest : (p : Option plain.Period) → Full (p ∷ wholes) → Full wholes
   rest None a = a
   rest (Some q) a = a.1
@@ -96,66 +96,66 @@ free_left line earlier (p ∷ wholes) h full all e = by (list_any (λ q. meets t
   one None a = tt
   one (Some q) a = (a.0, tt)
 
-  by : (b : Bool) → list_any (λ q. meets true (Some line) q) (cuts true earlier p) ≡ b → (b || meets_left (Some line) earlier wholes) ≡ true → (meets_left (Some line) earlier wholes ≡ true → Free line earlier wholes) → Free line earlier (p ∷ wholes)
+  by : (b : Bool) → list_any (λ q. affects_period true (Some line) q) (cuts true earlier p) ≡ b → (b || affects_rest (Some line) earlier wholes) ≡ true → (affects_rest (Some line) earlier wholes ≡ true → Free line earlier wholes) → Free line earlier (p ∷ wholes)
   by true f g later =
       let s = shared (cuts true earlier p) line h (cut_full earlier p full (one p all)) (sym (any-swap (Some line) (cuts true earlier p)) ∙ f) in
       let both = parts_of s.t earlier p s.covered in
       record { t = s.t; on_line = s.inside; on_whole = ap (λ b. b || list_any (is_in s.t) wholes) both.0; free = both.1 }
   by false f g later = let s = later g in record { t = s.t; on_line = s.on_line; on_whole = ap (λ b. is_in s.t p || b) s.on_whole ∙ or_true (is_in s.t p); free = s.free }
 
-left_free : (t : ℤ) (line : plain.Period) (earlier wholes : List (Option plain.Period)) → is_in t (Some line) ≡ true → list_any (is_in t) wholes ≡ true → list_any (is_in t) earlier ≡ false → meets_left (Some line) earlier wholes ≡ true
+left_free : (t : ℤ) (line : plain.Period) (earlier wholes : List (Option plain.Period)) → is_in t (Some line) ≡ true → list_any (is_in t) wholes ≡ true → list_any (is_in t) earlier ≡ false → affects_rest (Some line) earlier wholes ≡ true
 left_free t line earlier [] e f g = absurd (cc)
 left_free t line earlier (p ∷ wholes) e f g = by (is_in t p) refl f (λ k. left_free t line earlier wholes e k g) where
-  by : (b : Bool) → is_in t p ≡ b → (b || list_any (is_in t) wholes) ≡ true → (list_any (is_in t) wholes ≡ true → meets_left (Some line) earlier wholes ≡ true) → (list_any (λ q. meets true (Some line) q) (cuts true earlier p) || meets_left (Some line) earlier wholes) ≡ true
-  by true h k later = ap (λ b. b || meets_left (Some line) earlier wholes) (any-swap (Some line) (cuts true earlier p) ∙ met_at t (cuts true earlier p) line e (kept t earlier p h g))
-  by false h k later = ap (λ b. list_any (λ q. meets true (Some line) q) (cuts true earlier p) || b) (later k) ∙ or_true (list_any (λ q. meets true (Some line) q) (cuts true earlier p))
+  by : (b : Bool) → is_in t p ≡ b → (b || list_any (is_in t) wholes) ≡ true → (list_any (is_in t) wholes ≡ true → affects_rest (Some line) earlier wholes ≡ true) → (list_any (λ q. affects_period true (Some line) q) (cuts true earlier p) || affects_rest (Some line) earlier wholes) ≡ true
+  by true h k later = ap (λ b. b || affects_rest (Some line) earlier wholes) (any-swap (Some line) (cuts true earlier p) ∙ affected_at t (cuts true earlier p) line e (kept t earlier p h g))
+  by false h k later = ap (λ b. list_any (λ q. affects_period true (Some line) q) (cuts true earlier p) || b) (later k) ∙ or_true (list_any (λ q. affects_period true (Some line) q) (cuts true earlier p))
 
--- a part meets one of the periods
-part_met : (parts wholes : List (Option plain.Period)) → Full parts → Full wholes → list_any (λ g. list_any (λ p. meets true p g) wholes) parts ≡ true → (t : ℤ) × (list_any (is_in t) parts ≡ true) × (list_any (is_in t) wholes ≡ true)
-part_met [] wholes full all e = absurd (cc)
-part_met (None ∷ parts) wholes full all e = part_met parts wholes full all (sym (ap (λ b. b || list_any (λ g. list_any (λ p. meets true p g) wholes) parts) (none_met wholes)) ∙ e) where
-  none_met : (lines : List (Option plain.Period)) → list_any (λ line. meets true line None) lines ≡ false
-  none_met [] = refl
-  none_met (line ∷ lines) = none_met lines
-part_met (Some g ∷ parts) wholes full all e = by (list_any (λ p. meets true p (Some g)) wholes) refl e (part_met parts wholes full.1 all) where
-  by : (b : Bool) → list_any (λ p. meets true p (Some g)) wholes ≡ b → (b || list_any (λ h. list_any (λ p. meets true p h) wholes) parts) ≡ true
-      → (list_any (λ h. list_any (λ p. meets true p h) wholes) parts ≡ true → (t : ℤ) × (list_any (is_in t) parts ≡ true) × (list_any (is_in t) wholes ≡ true)) → (t : ℤ) × (list_any (is_in t) (Some g ∷ parts) ≡ true) × (list_any (is_in t) wholes ≡ true)
+-- a part affects one of the periods
+part_affected : (parts wholes : List (Option plain.Period)) → Full parts → Full wholes → list_any (λ g. list_any (λ p. affects_period true p g) wholes) parts ≡ true → (t : ℤ) × (list_any (is_in t) parts ≡ true) × (list_any (is_in t) wholes ≡ true)
+part_affected [] wholes full all e = absurd (cc)
+part_affected (None ∷ parts) wholes full all e = part_affected parts wholes full all (sym (ap (λ b. b || list_any (λ g. list_any (λ p. affects_period true p g) wholes) parts) (none_affected wholes)) ∙ e) where
+  none_affected : (lines : List (Option plain.Period)) → list_any (λ line. affects_period true line None) lines ≡ false
+  none_affected [] = refl
+  none_affected (line ∷ lines) = none_affected lines
+part_affected (Some g ∷ parts) wholes full all e = by (list_any (λ p. affects_period true p (Some g)) wholes) refl e (part_affected parts wholes full.1 all) where
+  by : (b : Bool) → list_any (λ p. affects_period true p (Some g)) wholes ≡ b → (b || list_any (λ h. list_any (λ p. affects_period true p h) wholes) parts) ≡ true
+      → (list_any (λ h. list_any (λ p. affects_period true p h) wholes) parts ≡ true → (t : ℤ) × (list_any (is_in t) parts ≡ true) × (list_any (is_in t) wholes ≡ true)) → (t : ℤ) × (list_any (is_in t) (Some g ∷ parts) ≡ true) × (list_any (is_in t) wholes ≡ true)
   by true f k later = let s = shared wholes g full.0 all f in (s.t, ap (λ b. b || list_any (is_in s.t) parts) s.inside, s.covered)
   by false f k later = let s = later k in (s.0, ap (λ b. is_in s.0 (Some g) || b) s.1 ∙ or_true (is_in s.0 (Some g)), s.2)
 
-met_part : (t : ℤ) (parts wholes : List (Option plain.Period)) → list_any (is_in t) parts ≡ true → list_any (is_in t) wholes ≡ true → list_any (λ g. list_any (λ p. meets true p g) wholes) parts ≡ true
-met_part t [] wholes e f = absurd (cc)
-met_part t (None ∷ parts) wholes e f = ap (λ b. list_any (λ p. meets true p None) wholes || b) (met_part t parts wholes e f) ∙ or_true (list_any (λ p. meets true p None) wholes)
-met_part t (Some g ∷ parts) wholes e f = by (is_in t (Some g)) refl e (λ k. met_part t parts wholes k f) where
-  by : (b : Bool) → is_in t (Some g) ≡ b → (b || list_any (is_in t) parts) ≡ true → (list_any (is_in t) parts ≡ true → list_any (λ h. list_any (λ p. meets true p h) wholes) parts ≡ true)
-      → (list_any (λ p. meets true p (Some g)) wholes || list_any (λ h. list_any (λ p. meets true p h) wholes) parts) ≡ true
-  by true h k later = ap (λ b. b || list_any (λ q. list_any (λ p. meets true p q) wholes) parts) (met_at t wholes g h f)
-  by false h k later = ap (λ b. list_any (λ p. meets true p (Some g)) wholes || b) (later k) ∙ or_true (list_any (λ p. meets true p (Some g)) wholes)
+affected_part : (t : ℤ) (parts wholes : List (Option plain.Period)) → list_any (is_in t) parts ≡ true → list_any (is_in t) wholes ≡ true → list_any (λ g. list_any (λ p. affects_period true p g) wholes) parts ≡ true
+affected_part t [] wholes e f = absurd (cc)
+affected_part t (None ∷ parts) wholes e f = ap (λ b. list_any (λ p. affects_period true p None) wholes || b) (affected_part t parts wholes e f) ∙ or_true (list_any (λ p. affects_period true p None) wholes)
+affected_part t (Some g ∷ parts) wholes e f = by (is_in t (Some g)) refl e (λ k. affected_part t parts wholes k f) where
+  by : (b : Bool) → is_in t (Some g) ≡ b → (b || list_any (is_in t) parts) ≡ true → (list_any (is_in t) parts ≡ true → list_any (λ h. list_any (λ p. affects_period true p h) wholes) parts ≡ true)
+      → (list_any (λ p. affects_period true p (Some g)) wholes || list_any (λ h. list_any (λ p. affects_period true p h) wholes) parts) ≡ true
+  by true h k later = ap (λ b. b || list_any (λ q. list_any (λ p. affects_period true p q) wholes) parts) (affected_at t wholes g h f)
+  by false h k later = ap (λ b. list_any (λ p. affects_period true p (Some g)) wholes || b) (later k) ∙ or_true (list_any (λ p. affects_period true p (Some g)) wholes)
 
 -- either way
-pub swapped : (line : Option plain.Period) (earlier wholes : List (Option plain.Period)) → Full (line ∷ []) → Full earlier → Full wholes → left_meets line earlier wholes ≡ meets_left line earlier wholes
-swapped None earlier wholes some full all = ap (list_any (λ g. list_any (λ p. meets true p g) wholes)) (none_cut earlier) ∙ (or_none (list_any (λ p. meets true p None) wholes) ∙ (none_met wholes ∙ sym (nothing wholes))) where
-  none_met : (lines : List (Option plain.Period)) → list_any (λ line. meets true line None) lines ≡ false
-  none_met [] = refl
-  none_met (line ∷ lines) = none_met lines
+pub swapped : (line : Option plain.Period) (earlier wholes : List (Option plain.Period)) → Full (line ∷ []) → Full earlier → Full wholes → rest_affects line earlier wholes ≡ affects_rest line earlier wholes
+swapped None earlier wholes some full all = ap (list_any (λ g. list_any (λ p. affects_period true p g) wholes)) (none_cut earlier) ∙ (or_none (list_any (λ p. affects_period true p None) wholes) ∙ (none_affected wholes ∙ sym (nothing wholes))) where
+  none_affected : (lines : List (Option plain.Period)) → list_any (λ line. affects_period true line None) lines ≡ false
+  none_affected [] = refl
+  none_affected (line ∷ lines) = none_affected lines
 
-  no_part : (ps : List (Option plain.Period)) → list_any (λ q. meets true None q) ps ≡ false
-  no_part ps = any-swap None ps ∙ none_met ps
+  no_part : (ps : List (Option plain.Period)) → list_any (λ q. affects_period true None q) ps ≡ false
+  no_part ps = any-swap None ps ∙ none_affected ps
 
-  nothing : (ps : List (Option plain.Period)) → meets_left None earlier ps ≡ false
+  nothing : (ps : List (Option plain.Period)) → affects_rest None earlier ps ≡ false
   nothing [] = refl
-  nothing (p ∷ ps) = ap (λ b. b || meets_left None earlier ps) (no_part (cuts true earlier p)) ∙ nothing ps
-swapped (Some line) earlier wholes some full all = by (left_meets (Some line) earlier wholes) (meets_left (Some line) earlier wholes) refl refl where
-  forth : left_meets (Some line) earlier wholes ≡ true → meets_left (Some line) earlier wholes ≡ true
+  nothing (p ∷ ps) = ap (λ b. b || affects_rest None earlier ps) (no_part (cuts true earlier p)) ∙ nothing ps
+swapped (Some line) earlier wholes some full all = by (rest_affects (Some line) earlier wholes) (affects_rest (Some line) earlier wholes) refl refl where
+  forth : rest_affects (Some line) earlier wholes ≡ true → affects_rest (Some line) earlier wholes ≡ true
   forth e =
-      let s = part_met (cuts true earlier (Some line)) wholes (cut_full earlier (Some line) full some) all e in
+      let s = part_affected (cuts true earlier (Some line)) wholes (cut_full earlier (Some line) full some) all e in
       let both = parts_of s.0 earlier (Some line) s.1 in
       left_free s.0 line earlier wholes both.0 s.2 both.1
 
-  back : meets_left (Some line) earlier wholes ≡ true → left_meets (Some line) earlier wholes ≡ true
-  back e = let s = free_left line earlier wholes some.0 full all e in met_part s.t (cuts true earlier (Some line)) wholes (kept s.t earlier (Some line) s.on_line s.free) s.on_whole
+  back : affects_rest (Some line) earlier wholes ≡ true → rest_affects (Some line) earlier wholes ≡ true
+  back e = let s = free_left line earlier wholes some.0 full all e in affected_part s.t (cuts true earlier (Some line)) wholes (kept s.t earlier (Some line) s.on_line s.free) s.on_whole
 
-  by : (a b : Bool) → left_meets (Some line) earlier wholes ≡ a → meets_left (Some line) earlier wholes ≡ b → a ≡ b
+  by : (a b : Bool) → rest_affects (Some line) earlier wholes ≡ a → affects_rest (Some line) earlier wholes ≡ b → a ≡ b
   by true true e f = refl
   by false false e f = refl
   by true false e f = absurd (let g : true ≡ false = sym (forth e) ∙ f in cc)

@@ -1,36 +1,14 @@
--- What a line meets is not left whole.
-use Rattle.std.proofs.Common.{◌≡◌, ℤ, ◌≤ℤ◌, ◌<ℤ◌, int_lt, int_eq, Bool, true, false, ◌&&◌, ◌||◌, not, cond, List, [], ◌∷◌, Option, Some, None, refl, sym, ap, ◌∙◌, arith}
+-- What a line affects is not left whole.
+use Rattle.std.proofs.Common.{◌≡◌, ℤ, ◌≤ℤ◌, ◌<ℤ◌, int_lt, int_eq, Bool, true, false, ◌&&◌, ◌||◌, not, List, [], ◌∷◌, Option, Some, None, refl, sym, ap, ◌∙◌, arith}
 use Rattle.std.specs.List.{list_any}
 use Rattle.std.specs.Cmp.{int_eq_equiv}
 use Rattle.std.proofs.lemmas.Bool.{and_parts}
 use Rattle.std.proofs.lemmas.Int.{ints}
-use Rattle.std.specs.BTreeMap.{is_at}
-use Rattle.tl_types.specs.declared.cells.Cell.{Cell}
-use Rattle.tl_types.specs.contracts.cells.CellOrd.TheImpl as cells
 use Rattle.tl_types.specs.Plain as plain
-use Rattle.tl_types.specs.History.{same_cell}
-use Rattle.tl_batch.specs.Pieces.{meets, cuts}
-use Rattle.tl_batch.specs.Covers.{Full, is_in, is_between, is_whole, has_cell}
-use Rattle.tl_batch.proofs.SpotLemmas.{cell_order, same_cell-sym}
+use Rattle.tl_batch.specs.Pieces.{affects_period, cuts}
+use Rattle.tl_batch.specs.Covers.{Full, is_in, is_between, is_whole}
 use Rattle.tl_batch.proofs.GapLemmas.{lt_true, lt_false, cuts_holds}
 use Rattle.tl_batch.proofs.FaultLemmas.{whole_left}
-
--- SETS OF KEYS
-
-cell_at : (x : Cell) (keys : List Cell) → list_any (is_at (cells.cmp-value.it x)) keys ≡ has_cell keys x
-cell_at x [] = refl
-cell_at x (k ∷ keys) = ap (λ b. b || list_any (is_at (cells.cmp-value.it x)) keys) (cell_order x k) ∙ ap (λ b. same_cell x k || b) (cell_at x keys)
-
-pub cell_fresh : (key copy : Cell) (fresh : Bool) (keys list : List Cell) → copy ≡ key → fresh ≡ not (list_any (is_at (cells.cmp-value.it copy)) keys) → keys ≡ list → fresh ≡ not (has_cell list key)
-cell_fresh key copy fresh keys list same e view = e ∙ ap not (cell_at copy keys ∙ (ap (has_cell keys) same ∙ ap (λ ks. has_cell ks key) view))
-
-pub cell_added : (key copy : Cell) (keys list more : List Cell) → copy ≡ key → ((q : Cell) → list_any (is_at (cells.cmp-value.it q)) more ≡ cond (is_at (cells.cmp-value.it copy) q) true (list_any (is_at (cells.cmp-value.it q)) keys)) → keys ≡ list
-    → (x : Cell) → has_cell more x ≡ (same_cell x key || has_cell list x)
-cell_added key copy keys list more same update view x =
-    sym (cell_at x more) ∙ (update x ∙ (ap (λ b. cond b true (list_any (is_at (cells.cmp-value.it x)) keys)) (cell_order copy x ∙ (same_cell-sym copy x ∙ ap (same_cell x) same)) ∙ (ap (λ b. cond (same_cell x key) true b) (cell_at x keys ∙ ap (λ ks. has_cell ks x) view) ∙ split (same_cell x key)))) where
-      split : (b : Bool) → cond b true (has_cell list x) ≡ (b || has_cell list x)
-      split true = refl
-      split false = refl
 
 -- PERIODS
 
@@ -47,7 +25,7 @@ or_true : (b : Bool) → (b || true) ≡ true
 or_true true = refl
 or_true false = refl
 
-pub shared : (lines : List (Option plain.Period)) (p : plain.Period) → p.from <ℤ p.to → Full lines → list_any (λ line. meets true line (Some p)) lines ≡ true → Shares p lines
+pub shared : (lines : List (Option plain.Period)) (p : plain.Period) → p.from <ℤ p.to → Full lines → list_any (λ line. affects_period true line (Some p)) lines ≡ true → Shares p lines
 shared [] p h full e = absurd (cc)
 shared (None ∷ lines) p h full e = let s = shared lines p h full e in record { t = s.t; inside = s.inside; covered = s.covered }
 shared (Some q ∷ lines) p h full e = by (int_lt p.from q.to) (int_lt q.from p.to) refl refl e (shared lines p h full.1) where
@@ -63,7 +41,7 @@ shared (Some q ∷ lines) p h full e = by (int_lt p.from q.to) (int_lt q.from p.
     covered = ap (λ b. b || list_any (is_in p.from) lines) (held p.from q (omega (arith, ints)) k);
   }
 
-  by : (a b : Bool) → int_lt p.from q.to ≡ a → int_lt q.from p.to ≡ b → ((a && b) || list_any (λ line. meets true line (Some p)) lines) ≡ true → (list_any (λ line. meets true line (Some p)) lines ≡ true → Shares p lines) → Shares p (Some q ∷ lines)
+  by : (a b : Bool) → int_lt p.from q.to ≡ a → int_lt q.from p.to ≡ b → ((a && b) || list_any (λ line. affects_period true line (Some p)) lines) ≡ true → (list_any (λ line. affects_period true line (Some p)) lines ≡ true → Shares p lines) → Shares p (Some q ∷ lines)
   by true true f g e later = first (omega (arith, ints)) (omega (arith, ints)) (int_lt p.from q.from) refl
   by true false f g e later = let s = later e in record { t = s.t; inside = s.inside; covered = ap (λ b. is_in s.t (Some q) || b) s.covered ∙ or_true (is_in s.t (Some q)) }
   by false b f g e later = let s = later e in record { t = s.t; inside = s.inside; covered = ap (λ b. is_in s.t (Some q) || b) s.covered ∙ or_true (is_in s.t (Some q)) }
@@ -78,12 +56,12 @@ whole_holds t p (Some q ∷ []) e f =
     ap (λ z. is_between t z q.to || false) from ∙ (ap (λ z. is_between t p.from z || false) to ∙ ap (λ b. b || false) f)
 whole_holds t p (q ∷ r ∷ parts) e f = absurd (cc)
 
-none_met : (lines : List (Option plain.Period)) → list_any (λ line. meets true line None) lines ≡ false
-none_met [] = refl
-none_met (line ∷ lines) = none_met lines
+none_affected : (lines : List (Option plain.Period)) → list_any (λ line. affects_period true line None) lines ≡ false
+none_affected [] = refl
+none_affected (line ∷ lines) = none_affected lines
 
 none_cut : (lines : List (Option plain.Period)) → cuts true lines None ≡ None ∷ []
-none_cut lines = whole_left true lines None (none_met lines)
+none_cut lines = whole_left true lines None (none_affected lines)
 
 same_self : (z : ℤ) → int_eq z z ≡ true
 same_self z = int_eq_equiv.refl z
@@ -91,11 +69,11 @@ same_self z = int_eq_equiv.refl z
 whole_self : (p : plain.Period) → is_whole (Some p) (Some p ∷ []) ≡ true
 whole_self p = ap (λ b. b && int_eq p.to p.to) (same_self p.from) ∙ same_self p.to
 
--- lines meet a period just where they do not leave it whole
-pub met_by_lines : (lines : List (Option plain.Period)) (whole : Option plain.Period) → Full (whole ∷ []) → Full lines → not (is_whole whole (cuts true lines whole)) ≡ list_any (λ line. meets true line whole) lines
-met_by_lines lines None some full = ap (λ ps. not (is_whole None ps)) (none_cut lines) ∙ sym (none_met lines)
-met_by_lines lines (Some p) some full = by (list_any (λ line. meets true line (Some p)) lines) (is_whole (Some p) (cuts true lines (Some p))) refl refl where
-  by : (a b : Bool) → list_any (λ line. meets true line (Some p)) lines ≡ a → is_whole (Some p) (cuts true lines (Some p)) ≡ b → not b ≡ a
+-- lines affect a period just where they do not leave it whole
+pub affected_by_lines : (lines : List (Option plain.Period)) (whole : Option plain.Period) → Full (whole ∷ []) → Full lines → not (is_whole whole (cuts true lines whole)) ≡ list_any (λ line. affects_period true line whole) lines
+affected_by_lines lines None some full = ap (λ ps. not (is_whole None ps)) (none_cut lines) ∙ sym (none_affected lines)
+affected_by_lines lines (Some p) some full = by (list_any (λ line. affects_period true line (Some p)) lines) (is_whole (Some p) (cuts true lines (Some p))) refl refl where
+  by : (a b : Bool) → list_any (λ line. affects_period true line (Some p)) lines ≡ a → is_whole (Some p) (cuts true lines (Some p)) ≡ b → not b ≡ a
   by true false e f = refl
   by false true e f = refl
   by true true e f =

@@ -1,4 +1,5 @@
--- Stretches of time with something between neighbours, each kept as its end and the moment where it begins.
+-- Stretches of time with something between neighbours, each kept as its end and the moment where it
+-- begins.
 use Rattle.std.specs.Prelude.{◌≡◌, ℤ, negsuc, ◌<ℤ◌, Bool, true, false, ◌&&◌, not, int_lt, List, [], ◌∷◌, ◌++◌, Option, Some, None, if◌then◌else◌, slice_get}
 use Rattle.std.specs.List.{list_any}
 use Rattle.std.specs.Ordering.{int_eq}
@@ -7,7 +8,7 @@ use Rattle.tl_types.specs.declared.cells.Cell.{Cell}
 use Rattle.tl_types.specs.Plain as plain
 use Rattle.tl_types.specs.History.{is_open, same_cell}
 use Rattle.tl_types.specs.Resolving.{BatchLine, same_key}
-use Rattle.tl_batch.specs.Pieces.{part, periods_with, is_met}
+use Rattle.tl_batch.specs.Pieces.{part, periods_with, is_affected}
 
 -- the moment is one of those from one on and before another
 abbrev pub is_between : ℤ → ℤ → ℤ → Bool
@@ -37,21 +38,24 @@ Full (Some p ∷ ps) = (p.from <ℤ p.to) × Full ps
 abbrev pub before_all : ℤ
 before_all = negsuc 9223372036854775808
 
--- the first of the stretches that has a part in common with a stretch, or touches it
-abbrev pub touching : ℤ → ℤ → List (ℤ × ℤ) → Option (ℤ × ℤ)
-touching from to [] = None
-touching from to (s ∷ stretches) = if int_lt s.0 from then touching from to stretches else (if int_lt to s.1 then None else Some s)
+-- the first of the stretches that overlaps a stretch or is adjacent to it
+abbrev pub joining : ℤ → ℤ → List (ℤ × ℤ) → Option (ℤ × ℤ)
+joining from to [] = None
+joining from to (s ∷ stretches) =
+    if int_lt s.0 from then joining from to stretches else (if int_lt to s.1 then None else Some s)
 
 -- the times between two moments that no stretch covers
 abbrev pub gaps : ℤ → ℤ → List (ℤ × ℤ) → List (Option plain.Period)
 gaps from to [] = part from to
 gaps from to (s ∷ stretches) =
-    if int_lt from s.0 then (if int_lt s.1 to then part from s.1 ++ gaps s.0 to stretches else part from to) else gaps from to stretches
+    if int_lt from s.0 then (if int_lt s.1 to then part from s.1
+    ++ gaps s.0 to stretches else part from to) else gaps from to stretches
 
 -- the same of stretches that all end after the first moment
 abbrev pub walk : ℤ → ℤ → List (ℤ × ℤ) → List (Option plain.Period)
 walk from to [] = part from to
-walk from to (s ∷ stretches) = if int_lt s.1 to then part from s.1 ++ walk s.0 to stretches else part from to
+walk from to (s ∷ stretches) =
+    if int_lt s.1 to then part from s.1 ++ walk s.0 to stretches else part from to
 
 -- the stretches that are there, or none
 abbrev pub stretches_or : Option (List (ℤ × ℤ)) → List (ℤ × ℤ)
@@ -62,10 +66,12 @@ stretches_or (Some stretches) = stretches
 abbrev pub cover_at : Cell → List (Cell × List (ℤ × ℤ)) → List (ℤ × ℤ)
 cover_at x covers = stretches_or (lookup (same_cell x) covers)
 
--- key by key, the covers have the moments of the lines and no others, and each period of a line has a moment
+-- key by key, the covers have the moments of the lines and no others, and each period of a line has
+-- a moment
 pub record HoldLines (covers : List (Cell × List (ℤ × ℤ))) (lines : List BatchLine) : Type 0 where
   pub full : (x : Cell) → Full (periods_with (Some x) lines)
-  pub same : (x : Cell) (t : ℤ) → is_covered t (cover_at x covers) ≡ list_any (is_in t) (periods_with (Some x) lines)
+  pub same : (x : Cell) (t : ℤ)
+      → is_covered t (cover_at x covers) ≡ list_any (is_in t) (periods_with (Some x) lines)
 
 -- the periods are the same
 abbrev pub same_period : Option plain.Period → Option plain.Period → Bool
@@ -80,15 +86,13 @@ is_whole whole [] = false
 is_whole whole (p ∷ []) = same_period p whole
 is_whole whole (p ∷ q ∷ ps) = false
 
--- the cell is one of the keys
-abbrev pub has_cell : List Cell → Cell → Bool
-has_cell keys x = list_any (same_cell x) keys
-
 -- a line has the key
 abbrev pub is_said : Option Cell → List BatchLine → Bool
 is_said key lines = list_any (λ said. same_key key said.key) lines
 
--- the row is there and current, its key is among those of the lines so far, and one of all lines meets it
-abbrev pub met_so_far : plain.Schema → List BatchLine → List BatchLine → Option plain.Row → Bool
-met_so_far schema lines front None = false
-met_so_far schema lines front (Some row) = is_open row && (is_said (slice_get row.cells schema.key) front && is_met schema lines row)
+-- the row is there and current, its key is among those of the lines so far, and one of all lines
+-- affects it
+abbrev pub affected_so_far : plain.Schema → List BatchLine → List BatchLine → Option plain.Row → Bool
+affected_so_far schema lines front None = false
+affected_so_far schema lines front (Some row) =
+    is_open row && (is_said (slice_get row.cells schema.key) front && is_affected schema lines row)

@@ -8,28 +8,35 @@ use Rattle.tl_types.specs.Plain as plain
 use Rattle.tl_types.specs.History.{is_open}
 use Rattle.tl_types.specs.Resolving.{BatchLine, same_key}
 use Rattle.tl_batch.specs.Covers.{Full, cover_at, is_covered, is_in, is_said}
-use Rattle.tl_batch.specs.Pieces.{meets, cuts, periods_with}
+use Rattle.tl_batch.specs.Pieces.{affects_period, cuts, periods_with}
 
--- the row is current, and the line meets a part that the earlier lines left of it
+-- the row is current, and the line affects a part that the earlier lines left of it
 abbrev pub is_touched : plain.Schema → List BatchLine → BatchLine → plain.Row → Bool
 is_touched schema earlier said row =
     is_open row && (same_key (slice_get row.cells schema.key) said.key
-    && list_any (λ p. meets schema.valid said.period p) (cuts schema.valid (periods_with (slice_get row.cells schema.key) earlier) row.period))
+    && list_any (λ p. affects_period schema.valid said.period p)
+    (cuts schema.valid (periods_with (slice_get row.cells schema.key) earlier) row.period))
 
--- the first fault of lines from a record number on, behind the earlier ones: a key met twice in a table without
--- valid time, then, where the lines remove, a line that touches no row
-abbrev pub fault_from : plain.Schema → Bool → List plain.Row → ℕ → List BatchLine → List BatchLine → Option BatchFault
+-- the first fault of lines from a record number on, behind the earlier ones: a key affected twice in a
+-- table without valid time, then, where the lines remove, a line that touches no row
+abbrev pub fault_from : plain.Schema → Bool → List plain.Row → ℕ → List BatchLine → List BatchLine
+    → Option BatchFault
 fault_from schema removes rows rec earlier [] = None
 fault_from schema removes rows rec earlier (said ∷ lines) =
-    if not schema.valid && list_any (λ e. same_key e.key said.key) earlier then Some (fault.KeyTwice rec)
-    else (if removes && not (list_any (is_touched schema earlier said) rows) then Some (fault.NoRow rec)
+    if not schema.valid && list_any (λ e. same_key e.key said.key) earlier then Some
+    (fault.KeyTwice rec)
+    else (if removes && not (list_any (is_touched schema earlier said) rows) then Some
+    (fault.NoRow rec)
     else fault_from schema removes rows (rec + 1) (earlier ++ said ∷ []) lines)
 
 -- the fault of one line with a record number, behind the earlier ones
-abbrev pub fault_of : plain.Schema → Bool → List plain.Row → List BatchLine → BatchLine → ℕ → Option BatchFault
+abbrev pub fault_of : plain.Schema → Bool → List plain.Row → List BatchLine → BatchLine → ℕ
+    → Option BatchFault
 fault_of schema removes rows earlier said rec =
-    if not schema.valid && list_any (λ e. same_key e.key said.key) earlier then Some (fault.KeyTwice rec)
-    else (if removes && not (list_any (is_touched schema earlier said) rows) then Some (fault.NoRow rec) else None)
+    if not schema.valid && list_any (λ e. same_key e.key said.key) earlier then Some
+    (fault.KeyTwice rec)
+    else (if removes && not (list_any (is_touched schema earlier said) rows) then Some
+    (fault.NoRow rec) else None)
 
 -- there is an item
 abbrev pub is_some_item : {X : Type 0} → List X → Bool
@@ -44,10 +51,16 @@ period_of (Some row) = row.period
 -- the periods of the current rows of a key, which is the cell at a place
 abbrev pub open_periods : ℕ → Cell → List plain.Row → List (Option plain.Period)
 open_periods place x [] = []
-open_periods place x (row ∷ rows) = if is_open row && same_key (slice_get row.cells place) (Some x) then row.period ∷ open_periods place x rows else open_periods place x rows
+open_periods place x (row ∷ rows) =
+    if is_open row
+    && same_key (slice_get row.cells place) (Some x) then row.period ∷ open_periods place x rows
+    else open_periods place x rows
 
--- for the keys of the lines, the covers have the moments of the current rows and no others, and each such row has
--- a moment
-pub record HoldRows (place : ℕ) (covers : List (Cell × List (ℤ × ℤ))) (lines : List BatchLine) (rows : List plain.Row) : Type 0 where
+-- for the keys of the lines, the covers have the moments of the current rows and no others, and
+-- each such row has a moment
+pub record HoldRows (place : ℕ) (covers : List (Cell × List (ℤ × ℤ))) (lines : List BatchLine)
+    (rows : List plain.Row) : Type 0 where
   pub full : (x : Cell) → is_said (Some x) lines ≡ true → Full (open_periods place x rows)
-  pub same : (x : Cell) (t : ℤ) → is_covered t (cover_at x covers) ≡ (is_said (Some x) lines && list_any (is_in t) (open_periods place x rows))
+  pub same : (x : Cell) (t : ℤ)
+      → is_covered t (cover_at x covers)
+      ≡ (is_said (Some x) lines && list_any (is_in t) (open_periods place x rows))

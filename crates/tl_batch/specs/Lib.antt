@@ -1,7 +1,11 @@
-pub mod Pieces
-pub mod Spots
+pub mod KeyIndex
+pub mod ClosedRows
 pub mod Standing
-pub mod Strokes
+pub mod OpenTables
+pub mod Untimed
+pub mod Pieces
+pub mod Lines
+pub mod Covers
 pub mod Faults
 pub mod Made
-pub mod Covers
+pub mod PutRows

@@ -1,5 +1,5 @@
 -- The commit of a batch, read off the rows of its table.
-use Rattle.std.specs.Prelude.{ℕ, ◌+◌, ◌≤◌, Bool, true, nat_lt, List, [], ◌++◌, length, Option, Some, None, Result, Ok, Err, if◌then◌else◌}
+use Rattle.std.specs.Prelude.{◌≡◌, ℕ, ◌+◌, ◌≤◌, Bool, true, nat_lt, List, [], ◌++◌, length, Option, Some, None, Result, Ok, Err, if◌then◌else◌}
 use Rattle.std.specs.List.{list_all}
 use Rattle.tl_types.specs.declared.commits.Commit.{Commit}
 use Rattle.tl_types.specs.declared.commits.Body.TheVariants as body
@@ -11,21 +11,55 @@ use Rattle.tl_types.specs.declared.limits.Limits.{Limits}
 use Rattle.tl_types.specs.Plain as plain
 use Rattle.tl_types.specs.History.{matches}
 use Rattle.tl_types.specs.Resolving.{BatchLine, find_table}
-use Rattle.tl_batch.specs.Pieces.{met_ids, old_pieces, put_pieces}
+use Rattle.tl_batch.specs.Pieces.{affected_ids, old_pieces, put_pieces}
 use Rattle.tl_batch.specs.Faults.{fault_from}
+use Rattle.tl_batch.specs.declared.changing.RowChanges.{RowChanges}
 
 -- the change that lines make in the table with a number, by its rows
 abbrev pub change_by : ℕ → plain.Schema → List plain.Row → List BatchLine → plain.Change
-change_by number schema rows lines = record { table = number; closes = met_ids schema lines 0 rows; opens = old_pieces schema lines rows ++ put_pieces schema lines }
+change_by number schema rows lines =
+    record {
+      table = number;
+      closes = affected_ids schema lines 0 rows;
+      opens = old_pieces schema lines
+          rows ++ put_pieces schema lines;
+    }
 
--- the change of a table with so many rows, where no line has a fault and it leaves no more rows than the limit
+-- the change of a table with so many rows, where no line has a fault and it leaves no more rows
+-- than the limit
 abbrev pub unless_fault : ℕ → ℕ → plain.Change → Option BatchFault → Result plain.Change BatchFault
 unless_fault limit count change (Some f) = Err f
-unless_fault limit count change None = if nat_lt limit (count + length change.opens) then Err fault.RowsFull else Ok change
+unless_fault limit count change None =
+    if nat_lt limit (count + length change.opens) then Err fault.RowsFull else Ok change
 
 -- the change that lines make in the table with a number, by its rows, or the first fault
-abbrev pub made_by : ℕ → ℕ → Bool → plain.Schema → List plain.Row → List BatchLine → Result plain.Change BatchFault
-made_by limit number removes schema rows lines = unless_fault limit (length rows) (change_by number schema rows lines) (fault_from schema removes rows 2 [] lines)
+abbrev pub made_by : ℕ → ℕ → Bool → plain.Schema → List plain.Row → List BatchLine
+    → Result plain.Change BatchFault
+made_by limit number removes schema rows lines =
+    unless_fault limit (length rows) (change_by number schema rows lines)
+    (fault_from schema removes rows 2 [] lines)
+
+-- what was made of lines of a table: their first fault, or the rows that they close and open
+abbrev pub IsMade : Bool → plain.Schema → List plain.Row → List BatchLine
+    → Result RowChanges BatchFault → Type 0
+IsMade removes schema rows lines (Err f) = fault_from schema removes rows 2 [] lines ≡ Some f
+IsMade removes schema rows lines (Ok c) =
+    (fault_from schema removes rows 2 [] lines ≡ None) × (c.closes ≡ affected_ids schema lines 0 rows)
+    × (c.opens.items ≡ old_pieces schema lines rows ++ put_pieces schema lines)
+
+-- the same of the rows that lines close alone
+abbrev pub IsClosed : Bool → plain.Schema → List plain.Row → List BatchLine
+    → Result (List ℕ) BatchFault → Type 0
+IsClosed removes schema rows lines (Err f) = fault_from schema removes rows 2 [] lines ≡ Some f
+IsClosed removes schema rows lines (Ok ids) =
+    (fault_from schema removes rows 2 [] lines ≡ None) × (ids ≡ affected_ids schema lines 0 rows)
+
+-- the change of what was made in a table with so many rows
+abbrev pub change_made : ℕ → ℕ → ℕ → Result RowChanges BatchFault → Result plain.Change BatchFault
+change_made limit number count (Err f) = Err f
+change_made limit number count (Ok c) =
+    unless_fault limit count (record { table = number; closes = c.closes; opens = c.opens.items })
+    None
 
 -- the author's commit of the change
 abbrev pub committed : ℕ → Result plain.Change BatchFault → Result Commit BatchFault

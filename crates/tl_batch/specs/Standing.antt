@@ -5,13 +5,15 @@ use Rattle.tl_types.specs.declared.cells.Cell.{Cell}
 use Rattle.tl_types.specs.Plain as plain
 use Rattle.tl_types.specs.History.{is_open, matches}
 use Rattle.tl_types.specs.Resolving.{same_key}
-use Rattle.tl_batch.specs.declared.spots.Spot.{Spot}
-use Rattle.tl_batch.specs.Spots.{has_spot}
+use Rattle.tl_batch.specs.KeyIndex.{IdsByKey, has_row, no_ids}
 
--- one of the opened rows, of which the first has this id, has this id and the key, which is the cell at a place
+-- one of the opened rows, of which the first has this id, has this id and the key, which is the
+-- cell at a place
 abbrev pub opens_with : ℕ → ℕ → List plain.Opened → Cell → ℕ → Bool
 opens_with place first [] x id = false
-opens_with place first (o ∷ opens) x id = (same_key (slice_get o.cells place) (Some x) && (id == first)) || opens_with place (first + 1) opens x id
+opens_with place first (o ∷ opens) x id =
+    (same_key (slice_get o.cells place) (Some x) && (id == first))
+    || opens_with place (first + 1) opens x id
 
 -- the row has the key
 abbrev pub has_key : ℕ → Cell → Option plain.Row → Bool
@@ -31,23 +33,18 @@ table_has (Some t) x id = is_open_with t.schema.key x (slice_get t.rows id)
 -- each row matches the schema of its table
 abbrev pub rows_match : Option plain.Table → Bool
 rows_match None = true
-rows_match (Some t) = list_all (λ r. matches t.schema (record { cells = r.cells; period = r.period })) t.rows
+rows_match (Some t) =
+    list_all (λ r. matches t.schema (record { cells = r.cells; period = r.period })) t.rows
 
--- the spots of the table with this number
-abbrev pub spots_at : List (List Spot) → ℕ → List Spot
-spots_at keys table = unwrap_or (slice_get keys table) []
+-- the ids by key of the table with this number
+abbrev pub index_at : List IdsByKey → ℕ → IdsByKey
+index_at keys table = unwrap_or (slice_get keys table) no_ids
 
--- the keys stand for the tables: there is a set of spots for each table, and a number stands in it with a key
--- exactly where the table's row with this id is current and has the key. The tables are such as fitting commits
--- make: each row matches its schema
-pub record StandFor (keys : List (List Spot)) (db : plain.Database) : Type 0 where
+-- the keys stand for the tables: there is an index for each table, and an id stands in it under a
+-- key exactly where the table's row with this id is open and has the key. The tables are such as
+-- fitting commits make: each row matches its schema
+pub record StandFor (keys : List IdsByKey) (db : plain.Database) : Type 0 where
   pub tables : length keys ≡ length db.tables
-  pub spots : (table : ℕ) (x : Cell) (id : ℕ) → has_spot (spots_at keys table) x id ≡ table_has (slice_get db.tables table) x id
+  pub ids : (table : ℕ) (x : Cell) (id : ℕ)
+      → has_row (index_at keys table) x id ≡ table_has (slice_get db.tables table) x id
   pub matching : (table : ℕ) → rows_match (slice_get db.tables table) ≡ true
-
--- the table with this number is there, with this schema, which its rows match
-pub record IsTable (db : plain.Database) (number : ℕ) (schema : plain.Schema) : Type 0 where
-  pub table : plain.Table
-  pub at : slice_get db.tables number ≡ Some table
-  pub same : schema ≡ table.schema
-  pub matching : rows_match (Some table) ≡ true

@@ -1,87 +1,97 @@
-//! What lines make of the current rows of a table.
-ghost use Rattle.std.specs.Prelude.{◌≡◌, ◌+◌, ◌++◌, ◌<◌, ◌^◌, ℕ, false, None, All, IfOk, length, map, slice_get};
-ghost use Rattle.tl_types.specs.declared.cells.Cell.{Cell};
-ghost use Rattle.tl_types.specs.Facts.{AscendFrom};
-ghost use Rattle.tl_types.specs.History.{database_of, rows_of};
-ghost use Rattle.tl_types.specs.Resolving.{put_lines};
-ghost use Rattle.tl_batch.specs.Pieces.{met_ids, old_pieces, put_pieces};
-ghost use Rattle.tl_batch.specs.Spots.{has_spot};
-ghost use Rattle.tl_batch.specs.Standing.{IsTable, is_open_with};
-ghost use Rattle.tl_batch.specs.Strokes.{said_by, said_by_row, line_has};
+//! What lines make of the rows of a table with valid time.
+ghost use Rattle.std.specs.Prelude.{◌≡◌, ◌+◌, ◌<◌, ◌^◌, ◌++◌, true, IfOk, IsTrue, length};
+ghost use Rattle.std.specs.List.{list_all};
+ghost use Rattle.tl_types.specs.History.{matches};
+ghost use Rattle.tl_types.specs.Resolving.{put_lines, removal_lines};
+ghost use Rattle.tl_batch.specs.Lines.{lines_of};
+ghost use Rattle.tl_batch.specs.Made.{IsMade};
+ghost use Rattle.tl_batch.specs.Pieces.{affected_ids, old_pieces, put_pieces};
 
-use crate::covers::covers_of;
-use crate::meeting::met_rows;
-use crate::opening::{old_pieces, put_pieces};
-use crate::spots::Spots;
-use crate::strokes::{Stroke, places_of};
+use crate::affected::affected_rows;
+use crate::faults::first_fault;
+use crate::lines::lines_of_rows;
+use crate::open_table::OpenTable;
+use crate::opening::{old_pieces, push_puts};
+use crate::periods_by_key::covers_of;
 use std::alloc::Global;
-use std::sync::ledger::Ledger;
-use tl_store::Store;
-use tl_types::{NoMemory, Opened, Schema, Seq, Steps};
+use std::sync::ledger::{Blank, Ledger};
+use tl_types::{BatchFault, KeyLine, NoMemory, Opened, Seq, Steps};
 
-/// What lines take from the current rows of a table: the ids of the rows that they close, and what is left of
-/// these rows.
+/// What lines change in a table: the ids of the rows that they close, and the rows that they open.
 #[derive(Drop)]
-pub(crate) struct Taken {
+pub(crate) struct RowChanges {
     pub(crate) closes: Seq<u32>,
     pub(crate) opens: Vec<Opened>,
 }
 
-/// What lines take from the current rows of a table. The error is want of memory.
-pub(crate) fn taken_by<L: Ledger>(
+// The open rows that lines affect, and what the lines leave of these.
+fn cut_rows<L: Ledger>(
     alloc: Global,
-    spots: &Spots,
-    store: &Store,
-    table: u16,
-    schema: &Schema,
-    strokes: &[Stroke],
-    places: &Spots,
+    table: &OpenTable<'_>,
+    lines: &[KeyLine],
     steps: &mut Steps<L>,
-) -> Result<Taken, NoMemory>
-    requires known { IsTable (database_of store.now) table schema.now }
-    requires rows { length (rows_of (database_of store.now) table) < 2 ^ 32 }
-    requires few { length strokes.now < 2 ^ 32 }
-    requires stand { (x : Cell) (n : ℕ) → has_spot spots.now x n ≡ is_open_with schema.now.key x (slice_get (rows_of (database_of store.now) table) n) }
-    requires placed { (x : Cell) (n : ℕ) → has_spot places.now x n ≡ line_has x (slice_get strokes.now n) }
-    ensures closes { IfOk result (λ taken. taken.closes ≡ met_ids schema.now (said_by strokes.now) 0 (rows_of (database_of store.now) table)) }
-    ensures opens { IfOk result (λ taken. taken.opens.items ≡ old_pieces schema.now (said_by strokes.now) (rows_of (database_of store.now) table)) }
+) -> Result<RowChanges, NoMemory>
+    requires valid { table.now.schema.valid ≡ true }
+    ensures closes { IfOk result (λ changes. changes.closes
+        ≡ affected_ids table.now.schema (lines_of lines.now) 0 table.now.rows) }
+    ensures opens { IfOk result (λ changes. changes.opens.items
+        ≡ old_pieces table.now.schema (lines_of lines.now) table.now.rows) }
 {
-    let covers = covers_of(alloc, strokes)?;
-    let met = met_rows(alloc, spots, store, table, schema, strokes, &covers, steps)?;
-    let closes = met.listed(alloc)?;
+    let periods = covers_of(alloc, lines)?;
+    let affected = affected_rows(alloc, table, lines, &periods, steps)?;
+    let closes = affected.listed(alloc)?;
     let ids = closes.as_slice();
-    let opens = old_pieces(
-        alloc, store, table, schema, strokes, places, &covers, ids, steps,
-    )?;
-    Ok(Taken { closes, opens })
+    let opens = old_pieces(alloc, table, &periods, ids, steps)?;
+    Ok(RowChanges { closes, opens })
 }
 
-/// What lines that put rows close and open: the current rows that a line meets; what is left of these, and then
-/// what is left of the rows put. The error is want of memory.
-pub(crate) fn put_by<L: Ledger>(
+/// What rows that are put change in a table with valid time. The error is `NoMemory`.
+pub(crate) fn put_timed<L: Ledger>(
     alloc: Global,
-    spots: &Spots,
-    store: &Store,
-    table: u16,
-    schema: &Schema,
-    strokes: &[Stroke],
-    lines: &[Opened],
-    steps: &mut Steps<L>,
-) -> Result<Taken, NoMemory>
-    requires known { IsTable (database_of store.now) table schema.now }
-    requires rows { length (rows_of (database_of store.now) table) < 2 ^ 32 }
-    requires few { length lines.now + 1 < 2 ^ 32 }
-    requires few_strokes { length strokes.now < 2 ^ 32 }
-    requires stand { (x : Cell) (n : ℕ) → has_spot spots.now x n ≡ is_open_with schema.now.key x (slice_get (rows_of (database_of store.now) table) n) }
-    requires same { said_by strokes.now ≡ map (said_by_row schema.now.key) lines.now }
-    requires keyed { All (λ o. schema.now.key < length o.cells) lines.now }
-    requires untimed { schema.now.valid ≡ false → All (λ o. o.period ≡ None) lines.now }
-    ensures closes { IfOk result (λ taken. taken.closes ≡ met_ids schema.now (put_lines schema.now lines.now) 0 (rows_of (database_of store.now) table)) }
-    ensures opens { IfOk result (λ taken. taken.opens.items ≡ old_pieces schema.now (put_lines schema.now lines.now) (rows_of (database_of store.now) table) ++ put_pieces schema.now (put_lines schema.now lines.now)) }
+    table: &OpenTable<'_>,
+    rows: &[Opened],
+    blank: Blank,
+) -> Result<RowChanges, NoMemory>
+    requires name { blank.name ≡ L.name }
+    requires parts { blank.parts ≡ L.parts }
+    requires some { 0 < blank.parts }
+    requires valid { table.now.schema.valid ≡ true }
+    requires matching { IsTrue (list_all (matches table.now.schema) rows.now) }
+    ensures closes { IfOk result (λ changes. changes.closes
+        ≡ affected_ids table.now.schema (put_lines table.now.schema rows.now) 0 table.now.rows) }
+    ensures opens { IfOk result (λ changes. changes.opens.items
+        ≡ old_pieces table.now.schema (put_lines table.now.schema rows.now) table.now.rows
+        ++ put_pieces table.now.schema (put_lines table.now.schema rows.now)) }
 {
-    let places = places_of(alloc, strokes)?;
-    let taken = taken_by(alloc, spots, store, table, schema, strokes, &places, steps)?;
-    let Taken { closes, mut opens } = taken;
-    put_pieces(alloc, &mut opens, schema, strokes, &places, lines)?;
-    Ok(Taken { closes, opens })
+    let mut steps = Steps::<L>::new(blank);
+    let schema = table.schema();
+    let lines = lines_of_rows(alloc, rows, schema.key())?;
+    let changes = cut_rows(alloc, table, &lines, &mut steps)?;
+    let RowChanges { closes, mut opens } = changes;
+    push_puts(alloc, &mut opens, schema, rows)?;
+    Ok(RowChanges { closes, opens })
+}
+
+/// What the lines of a removal change in a table with valid time, or their first fault. The error
+/// is `NoMemory`.
+pub(crate) fn remove_timed<L: Ledger>(
+    alloc: Global,
+    table: &OpenTable<'_>,
+    lines: &[KeyLine],
+    blank: Blank,
+) -> Result<Result<RowChanges, BatchFault>, NoMemory>
+    requires name { blank.name ≡ L.name }
+    requires parts { blank.parts ≡ L.parts }
+    requires some { 0 < blank.parts }
+    requires valid { table.now.schema.valid ≡ true }
+    requires few { length lines.now + 1 < 2 ^ 32 }
+    ensures { IfOk result (IsMade true table.now.schema table.now.rows (removal_lines lines.now)) }
+{
+    let mut steps = Steps::<L>::new(blank);
+    let found = first_fault(alloc, table, lines, &mut steps)?;
+    if let Some(fault) = found {
+        return Ok(Err(fault));
+    }
+    let changes = cut_rows(alloc, table, lines, &mut steps)?;
+    Ok(Ok(changes))
 }

@@ -1,5 +1,5 @@
 //! Sets of ids.
-ghost use Rattle.std.specs.Prelude.{◌≡◌, ◌||◌, ◌==◌, ℕ, [], OnOk, IfOk, length, ◌<◌, ◌^◌};
+ghost use Rattle.std.specs.Prelude.{◌≡◌, ◌||◌, ◌&&◌, not, true, ◌==◌, IsTrue, ◌∷◌, ℕ, [], OnOk, OnErr, IfOk, IfSome, IfNone};
 ghost use Rattle.tl_types.specs.Facts.{AscendFrom};
 ghost use Rattle.tl_types.specs.History.{has_id};
 
@@ -32,15 +32,57 @@ impl IdSet {
         }
     }
 
-    /// Adds an id. The error is want of memory.
+    /// Adds an id. The error is `NoMemory`.
     pub(crate) fn add(&mut self, id: u32) -> Result<(), NoMemory>
-        ensures { OnOk result ((n : ℕ) → has_id self.new n ≡ ((n == id) || has_id self.old n)) }
+        ensures ok { OnOk result ((n : ℕ) → has_id self.new n ≡ ((n == id) || has_id self.old n)) }
+        ensures err { OnErr result (self.new ≡ self.old) }
     {
         self.ids.insert(id)?;
         Ok(())
     }
 
-    /// The ids, ascending. The error is want of memory.
+    /// Adds the ids of another set. The error is `NoMemory`.
+    pub(crate) fn add_all(&mut self, others: &IdSet) -> Result<(), NoMemory>
+        ensures { OnOk result ((n : ℕ) → has_id self.new n
+            ≡ (has_id others.now n || has_id self.old n)) }
+    {
+        for id in &others.ids {
+            self.add(*id)?;
+        }
+        Ok(())
+    }
+
+    /// Takes an id away.
+    pub(crate) fn remove(&mut self, id: u32)
+        ensures { (n : ℕ) → has_id self.new n ≡ (not (n == id) && has_id self.old n) }
+    {
+        self.ids.remove(&id);
+    }
+
+    /// Takes the least id out, where there is one.
+    pub(crate) fn pop(&mut self) -> Option<u32>
+        ensures taken { IfSome result (λ id. self.old ≡ id ∷ self.new) }
+        ensures none { IfNone result (self.new ≡ self.old) }
+    {
+        self.ids.pop_first()
+    }
+
+    /// The least id, where there is one.
+    pub(crate) fn least(&self) -> Option<u32>
+        ensures some { IfSome result (λ id. has_id self.now id ≡ true) }
+        ensures none { IfNone result (self.now ≡ []) }
+    {
+        self.ids.first().copied()
+    }
+
+    /// Whether there is no id.
+    pub(crate) fn is_empty(&self) -> bool
+        ensures { IsTrue result → self.now ≡ [] }
+    {
+        self.ids.is_empty()
+    }
+
+    /// The ids, ascending. The error is `NoMemory`.
     pub(crate) fn listed(&self, alloc: Global) -> Result<Seq<u32>, NoMemory>
         ensures value { IfOk result (λ ids. ids ≡ self.now) }
         ensures ascending { AscendFrom 0 self.now }

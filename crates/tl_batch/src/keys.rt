@@ -7,28 +7,30 @@ ghost use Rattle.tl_types.specs.History.{database_of, after_body, fits, fits_bod
 ghost use Rattle.tl_types.specs.Limits.{standard_limits};
 ghost use Rattle.tl_types.specs.Resolving.{resolved};
 ghost use Rattle.tl_batch.specs.Made.{AreWithin, batch_matches};
-ghost use Rattle.tl_batch.specs.Spots.{has_spot};
-ghost use Rattle.tl_batch.specs.Standing.{StandFor, opens_with};
+ghost use Rattle.tl_batch.specs.KeyIndex.{no_ids};
+ghost use Rattle.tl_batch.specs.Standing.{StandFor};
 
-use crate::reading::closing_spots;
+use crate::following::{change_index, closed_rows};
+use crate::key_index::KeyIndex;
+use crate::put_rows::PutRows;
 use crate::resolving::{resolve_create, resolve_put, resolve_remove};
-use crate::spots::{Spot, Spots};
 use std::alloc::Global;
 use std::marker::Model;
 use tl_store::Store;
 use tl_types::{Batch, BatchFault, Body, Change, Commit, Limits, NoMemory};
 
-/// The ids of the current rows of each key, table by table. `StandFor` says which tables the keys stand for.
+/// The ids of the current rows of each key, table by table. `StandFor` says which tables the keys
+/// stand for.
 #[derive(Drop)]
 pub struct Keys {
-    tables: Vec<Spots>,
+    tables: Vec<KeyIndex>,
 }
 
 impl Model for Keys {
     ghost use Rattle.std.specs.Prelude.{List};
-    ghost use Rattle.tl_batch.specs.declared.spots.Spot.{Spot};
+    ghost use Rattle.tl_batch.specs.KeyIndex.{IdsByKey};
 
-    ghost Value = { List (List Spot) };
+    ghost Value = { List IdsByKey };
 
     ghost view = { λ k. k.tables.items };
 }
@@ -44,8 +46,9 @@ impl Keys {
         }
     }
 
-    /// Follows a commit that fits the store that the keys stand for: they then stand for the store after it. The
-    /// error is want of memory, after which the keys stand for the store before the commit, as they did.
+    /// Follows a commit that fits the store that the keys stand for: they then stand for the store
+    /// after it. The error is `NoMemory`, after which the keys stand for the store before the
+    /// commit, as they did.
     pub fn follow(&mut self, alloc: Global, before: &Store, commit: &Commit) -> Result<(), NoMemory>
         requires stands { StandFor self.old (database_of before.now) }
         requires fit { IsTrue (fits standard_limits (database_of before.now) commit.now) }
@@ -56,17 +59,19 @@ impl Keys {
         Ok(())
     }
 
-    /// What a batch of this author becomes over the store that the keys stand for: its one commit, which fits the
-    /// store, or its first fault.
+    /// What a batch of this author becomes over the store that the keys stand for: its one commit,
+    /// which fits the store, or its first fault.
     ///
-    /// The rows that a batch puts match the schema of the table that it names, where there is one. The first
-    /// fault of a new table is `TableExists` where a table has the name, `TablesFull` where there are as many
-    /// tables as the limits allow, `VersionsFull` where there are as many commits as they allow. That of rows or
-    /// keys is `UnknownTable` where no table has the name; `VersionsFull`; then line by line `KeyTwice` where the
-    /// table has no valid time and an earlier line has the key, and `NoRow` where the line removes and touches no
-    /// row; last `RowsFull` where the rows of the table and the opened ones together are more than the limits
-    /// allow. The record number of a line is its place from 0, plus 2. `NoMemory` is want of memory, or that a
-    /// batch is so large that its record numbers, or the number of rows that it opens, have no place in 32 bits.
+    /// The rows that a batch puts match the schema of the table that it names, where there is one.
+    /// The first fault of a new table is `TableExists` where a table has the name, `TablesFull`
+    /// where there are as many tables as the limits allow, `VersionsFull` where there are as many
+    /// commits as they allow. That of rows or keys is `UnknownTable` where no table has the name;
+    /// `VersionsFull`; then line by line `KeyTwice` where the table has no valid time and an
+    /// earlier line has the key, and `NoRow` where the line removes and affects no row; last
+    /// `RowsFull` where the rows of the table and the opened ones together are more than the limits
+    /// allow. The record number of a line is its place from 0, plus 2. `NoMemory` is want of
+    /// memory, or that a batch is so large that its record numbers, or the number of rows that it
+    /// opens, have no place in 32 bits.
     pub fn resolve(
         &self,
         alloc: Global,
@@ -77,10 +82,13 @@ impl Keys {
     ) -> Result<Commit, BatchFault>
         requires stands { StandFor self.now (database_of store.now) }
         requires matching { IsTrue (batch_matches (database_of store.now) batch.now) }
-        ensures ok { IfOk result (λ c. resolved limits.now (database_of store.now) author batch.now ≡ Ok c) }
+        ensures ok { IfOk result (λ c. resolved limits.now (database_of store.now) author batch.now
+            ≡ Ok c) }
         ensures fit { IfOk result (λ c. IsTrue (fits limits.now (database_of store.now) c)) }
-        ensures standard { AreWithin limits.now standard_limits → IfOk result (λ c. IsTrue (fits standard_limits (database_of store.now) c)) }
-        ensures err { IfErr result (λ e. (e ≡ fault.NoMemory) ⊎ (resolved limits.now (database_of store.now) author batch.now ≡ Err e)) }
+        ensures standard { AreWithin limits.now standard_limits
+            → IfOk result (λ c. IsTrue (fits standard_limits (database_of store.now) c)) }
+        ensures err { IfErr result (λ e. (e ≡ fault.NoMemory)
+            ⊎ (resolved limits.now (database_of store.now) author batch.now ≡ Err e)) }
     {
         match batch {
             Batch::Create(schema) => {
@@ -90,21 +98,56 @@ impl Keys {
                 resolve_create(store, author, schema, limits)
             }
             Batch::Put { table, lines } => {
-                let lines = lines.as_slice();
-                let tables = self.tables.as_slice();
-                resolve_put(alloc, tables, store, author, table, lines, limits)
+                let rows = PutRows::Lent(lines.as_slice());
+                let keys = self.tables.as_slice();
+                resolve_put(alloc, keys, store, author, table, rows, limits)
             }
             Batch::Remove { table, lines } => {
                 let lines = lines.as_slice();
-                let tables = self.tables.as_slice();
-                resolve_remove(alloc, tables, store, author, table, lines, limits)
+                let keys = self.tables.as_slice();
+                resolve_remove(alloc, keys, store, author, table, lines, limits)
+            }
+        }
+    }
+
+    /// As `resolve`, of a batch that is handed over: a commit of rows takes the rows over and makes
+    /// no copies of them.
+    pub fn resolve_owned(
+        &self,
+        alloc: Global,
+        store: &Store,
+        batch: Batch,
+        author: u32,
+        limits: &Limits,
+    ) -> Result<Commit, BatchFault>
+        requires stands { StandFor self.now (database_of store.now) }
+        requires matching { IsTrue (batch_matches (database_of store.now) batch) }
+        ensures ok { IfOk result (λ c. resolved limits.now (database_of store.now) author batch
+            ≡ Ok c) }
+        ensures fit { IfOk result (λ c. IsTrue (fits limits.now (database_of store.now) c)) }
+        ensures standard { AreWithin limits.now standard_limits
+            → IfOk result (λ c. IsTrue (fits standard_limits (database_of store.now) c)) }
+        ensures err { IfErr result (λ e. (e ≡ fault.NoMemory)
+            ⊎ (resolved limits.now (database_of store.now) author batch ≡ Err e)) }
+    {
+        match batch {
+            Batch::Create(schema) => resolve_create(store, author, schema, limits),
+            Batch::Put { table, lines } => {
+                let rows = PutRows::Owned(lines.into_vec());
+                let keys = self.tables.as_slice();
+                resolve_put(alloc, keys, store, author, &table, rows, limits)
+            }
+            Batch::Remove { table, lines } => {
+                let lines = lines.as_slice();
+                let keys = self.tables.as_slice();
+                resolve_remove(alloc, keys, store, author, &table, lines, limits)
             }
         }
     }
 }
 
 fn follow_body(
-    tables: &mut Vec<Spots>,
+    tables: &mut Vec<KeyIndex>,
     alloc: Global,
     before: &Store,
     body: &Body,
@@ -112,12 +155,17 @@ fn follow_body(
     requires stands { StandFor tables.old.items (database_of before.now) }
     requires version { (database_of before.now).version < 16777215 }
     requires fit { IsTrue (fits_body standard_limits (database_of before.now).tables body.now) }
-    ensures ok { OnOk result (StandFor tables.new.items (record { version = (database_of before.now).version + 1; tables = after_body ((database_of before.now).version + 1) body.now (database_of before.now).tables })) }
+    ensures ok { OnOk result (StandFor tables.new.items
+        (record {
+          version = (database_of before.now).version + 1;
+          tables = after_body
+              ((database_of before.now).version + 1) body.now (database_of before.now).tables;
+        })) }
     ensures err { OnErr result (StandFor tables.new.items (database_of before.now)) }
 {
     match body {
         Body::Create(_) => {
-            tables.push(Spots::new(alloc))?;
+            tables.push(KeyIndex::new(alloc))?;
             Ok(())
         }
         Body::Change(change) => {
@@ -128,42 +176,29 @@ fn follow_body(
 }
 
 fn follow_change(
-    tables: &mut Vec<Spots>,
+    tables: &mut Vec<KeyIndex>,
     alloc: Global,
     before: &Store,
     change: &Change,
 ) -> Result<(), NoMemory>
     requires stands { StandFor tables.old.items (database_of before.now) }
     requires version { (database_of before.now).version < 16777215 }
-    requires fit { IsTrue (fits_body standard_limits (database_of before.now).tables (body.Change change.now)) }
-    ensures ok { OnOk result (StandFor tables.new.items (record { version = (database_of before.now).version + 1; tables = after_body ((database_of before.now).version + 1) (body.Change change.now) (database_of before.now).tables })) }
+    requires fit { IsTrue (fits_body standard_limits (database_of before.now).tables
+        (body.Change change.now)) }
+    ensures ok { OnOk result (StandFor tables.new.items
+        (record {
+          version = (database_of before.now).version + 1;
+          tables = after_body
+              ((database_of before.now).version + 1) (body.Change change.now)
+              (database_of before.now).tables;
+        })) }
     ensures err { OnErr result (StandFor tables.new.items (database_of before.now)) }
 {
     let number = change.table();
     let place = before.schema(number).key();
-    let closing = closing_spots(alloc, before, change, place)?;
+    let closed = closed_rows(alloc, before, change, place)?;
     let first = before.rows(number);
-    let spots = &mut tables[number as usize];
-    change_spots(spots, change, &closing, place, first)?;
-    Ok(())
-}
-
-// Adds the spots of the rows that a change opens, of which the first has this number, and takes away those of
-// the rows that it closes. The error leaves the spots as they were.
-fn change_spots(
-    spots: &mut Spots,
-    change: &Change,
-    closing: &[Spot],
-    place: u8,
-    first: u32,
-) -> Result<(), NoMemory>
-    requires few { first + length change.now.opens < 2 ^ 32 }
-    requires keyed { All (λ o. place < length o.cells) change.now.opens }
-    requires below { (x : Cell) (n : ℕ) → first ≤ n → has_spot spots.old x n ≡ false }
-    ensures ok { OnOk result ((x : Cell) (n : ℕ) → has_spot spots.new x n ≡ (not (has_spot closing.now x n) && (opens_with place first change.now.opens x n || has_spot spots.old x n))) }
-    ensures err { OnErr result ((x : Cell) (n : ℕ) → has_spot spots.new x n ≡ has_spot spots.old x n) }
-{
-    spots.add_rows(change.opens(), place, first)?;
-    spots.remove_all(closing);
+    let index = &mut tables[number as usize];
+    change_index(index, alloc, change, &closed, place, first)?;
     Ok(())
 }

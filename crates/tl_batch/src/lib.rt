@@ -1,20 +1,24 @@
-// What a batch becomes: the keys of a store's open rows, and the commit that a batch resolves to.
+//! What a batch becomes over a store: its one commit, or its first fault. Beside the store stand
+//! the ids of the open rows of each key, which follow each commit.
 #![tactic(auto)]
 
+mod affected;
 mod changing;
-mod cover;
-mod covers;
 mod faults;
+mod following;
+mod further_ids;
 mod ids;
+mod key_index;
+mod key_set;
 mod keys;
-mod meeting;
+mod lines;
+mod open_table;
 mod opening;
-mod pieces;
-mod reading;
+mod period_set;
+mod periods_by_key;
+mod put_rows;
 mod resolving;
-mod seen;
-mod spots;
-mod strokes;
+mod untimed;
 
 pub use keys::Keys;
 

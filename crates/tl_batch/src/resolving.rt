@@ -7,20 +7,21 @@ ghost use Rattle.tl_types.specs.declared.batches.BatchFault.TheVariants as fault
 ghost use Rattle.tl_types.specs.Facts.{AscendFrom};
 ghost use Rattle.tl_types.specs.History.{database_of, fits, has_name, matches, rows_of};
 ghost use Rattle.tl_types.specs.Resolving.{find_table, resolved, removal_lines, put_lines};
-ghost use Rattle.tl_batch.specs.Made.{unless_fault, made_by, committed, rows_fit_found};
-ghost use Rattle.tl_batch.specs.Spots.{has_spot};
-ghost use Rattle.tl_batch.specs.Standing.{IsTable, StandFor, is_open_with};
+ghost use Rattle.tl_batch.specs.Made.{made_by, change_made, committed, rows_fit_found, IsMade, IsClosed};
+ghost use Rattle.tl_batch.specs.PutRows.{rows_put};
+ghost use Rattle.tl_batch.specs.Standing.{StandFor, rows_match};
 
-use crate::changing::{Taken, put_by, taken_by};
-use crate::faults::first_fault;
-use crate::spots::Spots;
-use crate::strokes::{places_of, strokes_of_keys, strokes_of_rows};
+use crate::changing::{RowChanges, put_timed, remove_timed};
+use crate::key_index::KeyIndex;
+use crate::open_table::OpenTable;
+use crate::put_rows::PutRows;
+use crate::untimed::{closes_of_keys, keys_of_lines, keys_of_rows};
 use std::alloc::{AllocError, Global};
 use std::marker::Brand;
-use std::sync::ledger::{Blank, Ledger};
+use std::sync::ledger::Blank;
 use tl_store::Store;
 use tl_types::{
-    BatchFault, Body, Change, Commit, KeyLine, Limits, NoMemory, Opened, Schema, Seq, Steps, Text,
+    BatchFault, Body, Change, Commit, KeyLine, Limits, NoMemory, Opened, Schema, Seq, Text,
 };
 
 // A batch of this many lines has no record number of 32 bits for the last one.
@@ -40,16 +41,17 @@ fn is_named(store: &Store, name: &Text) -> bool
     store.find(name.as_str()).is_some()
 }
 
-/// The commit of this author that creates a table of this schema, or its first fault: `TableExists` where a
-/// table has the name, `TablesFull` where there are as many tables as the limits allow, `VersionsFull` where
-/// there are as many commits as they allow.
+/// The commit of this author that creates a table of this schema, or its first fault: `TableExists`
+/// where a table has the name, `TablesFull` where there are as many tables as the limits allow,
+/// `VersionsFull` where there are as many commits as they allow.
 pub(crate) fn resolve_create(
     store: &Store,
     author: u32,
     schema: Schema,
     limits: &Limits,
 ) -> Result<Commit, BatchFault>
-    ensures value { result ≡ resolved limits.now (database_of store.now) author (batch.Create schema) }
+    ensures value { result ≡ resolved limits.now (database_of store.now) author
+        (batch.Create schema) }
     ensures fit { IfOk result (λ c. IsTrue (fits limits.now (database_of store.now) c)) }
 {
     if is_named(store, schema.name()) {
@@ -67,158 +69,172 @@ pub(crate) fn resolve_create(
     })
 }
 
-// The change of what lines take and put, or `RowsFull` where the table, which has this many rows, would then have
-// more than the limit. The error is want of memory.
+// The change of what was made in the table with this number, or `RowsFull` where the table would
+// then have more rows than the limit. The error is `NoMemory`.
 fn change_within(
-    table: u16,
+    number: u16,
     rows: u32,
-    taken: Taken,
+    made: Result<RowChanges, BatchFault>,
     limit: u64,
 ) -> Result<Result<Change, BatchFault>, NoMemory>
-    requires ascending { AscendFrom 0 taken.closes }
-    requires few { length taken.closes < 2 ^ 32 }
-    ensures { IfOk result (λ made. made ≡ unless_fault limit rows (record { table = table; closes = taken.closes; opens = taken.opens.items }) None) }
+    requires ascending { IfOk made (λ c. AscendFrom 0 c.closes) }
+    requires few { IfOk made (λ c. length c.closes < 2 ^ 32) }
+    ensures { IfOk result (λ change. change ≡ change_made limit number rows made) }
 {
-    let Taken { closes, opens } = taken;
+    let RowChanges { closes, opens } = match made {
+        Ok(changes) => changes,
+        Err(fault) => return Ok(Err(fault)),
+    };
     if rows as u64 + opens.len() as u64 > limit {
         return Ok(Err(BatchFault::RowsFull));
     }
     if opens.len() > u32::MAX as usize {
         return Err(AllocError);
     }
-    let change = Change::new(table, closes, Seq::from_vec(opens));
+    let change = Change::new(number, closes, Seq::from_vec(opens));
     Ok(Ok(change))
 }
 
-// The change that lines of rows make in a table, or their first fault. The error is want of memory.
-fn put_change<L: Ledger>(
+// The rows that rows put into a table without valid time close, or their first fault.
+fn put_closes(
     alloc: Global,
-    spots: &Spots,
-    store: &Store,
-    table: u16,
-    schema: &Schema,
-    lines: &[Opened],
-    limit: u64,
-    blank: Blank,
-) -> Result<Result<Change, BatchFault>, NoMemory>
-    requires name { blank.name ≡ L.name }
-    requires parts { blank.parts ≡ L.parts }
-    requires some { 0 < blank.parts }
-    requires known { IsTable (database_of store.now) table schema.now }
-    requires stand { (x : Cell) (n : ℕ) → has_spot spots.now x n ≡ is_open_with schema.now.key x (slice_get (rows_of (database_of store.now) table) n) }
-    requires few { length lines.now + 1 < 2 ^ 32 }
-    requires matching { IsTrue (list_all (matches schema.now) lines.now) }
-    ensures { IfOk result (λ made. made ≡ made_by limit table false schema.now (rows_of (database_of store.now) table) (put_lines schema.now lines.now)) }
+    table: &OpenTable<'_>,
+    rows: &[Opened],
+) -> Result<Result<Seq<u32>, BatchFault>, NoMemory>
+    requires few { length rows.now + 1 < 2 ^ 32 }
+    requires untimed { table.now.schema.valid ≡ false }
+    requires matching { IsTrue (list_all (matches table.now.schema) rows.now) }
+    ensures matching { rows_match (Some table.now) ≡ true }
+    ensures made { IfOk result (IsClosed false table.now.schema table.now.rows
+        (put_lines table.now.schema rows.now)) }
 {
-    let rows = store.rows(table);
-    let mut steps = Steps::<L>::new(blank);
-    let strokes = strokes_of_rows(alloc, lines, schema.key())?;
-    let found = first_fault(
-        alloc, spots, store, table, schema, false, &strokes, &mut steps,
-    )?;
-    if let Some(fault) = found {
-        return Ok(Err(fault));
+    let keys = keys_of_rows(alloc, rows, table.schema().key())?;
+    let closes = closes_of_keys(alloc, table, false, &keys)?;
+    Ok(closes)
+}
+
+// What rows that are put change in a table without valid time, or their first fault.
+fn put_untimed(
+    alloc: Global,
+    table: &OpenTable<'_>,
+    rows: PutRows<'_>,
+) -> Result<Result<RowChanges, BatchFault>, NoMemory>
+    requires few { length (rows_put rows) + 1 < 2 ^ 32 }
+    requires untimed { table.now.schema.valid ≡ false }
+    requires matching { IsTrue (list_all (matches table.now.schema) (rows_put rows)) }
+    ensures { IfOk result (IsMade false table.now.schema table.now.rows
+        (put_lines table.now.schema (rows_put rows.entry))) }
+{
+    match put_closes(alloc, table, rows.as_slice())? {
+        Ok(closes) => {
+            let opens = rows.into_vec(alloc)?;
+            Ok(Ok(RowChanges { closes, opens }))
+        }
+        Err(fault) => Ok(Err(fault)),
     }
-    let taken = put_by(
-        alloc, spots, store, table, schema, &strokes, lines, &mut steps,
-    )?;
-    let made = change_within(table, rows, taken, limit)?;
+}
+
+// What rows that are put change in a table, or their first fault.
+fn put_made(
+    alloc: Global,
+    table: &OpenTable<'_>,
+    rows: PutRows<'_>,
+) -> Result<Result<RowChanges, BatchFault>, NoMemory>
+    requires few { length (rows_put rows) + 1 < 2 ^ 32 }
+    requires matching { IsTrue (list_all (matches table.now.schema) (rows_put rows)) }
+    ensures { IfOk result (IsMade false table.now.schema table.now.rows
+        (put_lines table.now.schema (rows_put rows.entry))) }
+{
+    if table.schema().valid() {
+        let changes = put_timed::<Brand>(alloc, table, rows.as_slice(), Blank::new(1))?;
+        return Ok(Ok(changes));
+    }
+    let made = put_untimed(alloc, table, rows)?;
     Ok(made)
 }
 
-// The change that the lines of a removal make in a table, or their first fault. The error is want of memory.
-fn remove_change<L: Ledger>(
+// What the lines of a removal change in a table without valid time, or their first fault.
+fn remove_untimed(
     alloc: Global,
-    spots: &Spots,
-    store: &Store,
-    table: u16,
-    schema: &Schema,
+    table: &OpenTable<'_>,
     lines: &[KeyLine],
-    limit: u64,
-    blank: Blank,
-) -> Result<Result<Change, BatchFault>, NoMemory>
-    requires name { blank.name ≡ L.name }
-    requires parts { blank.parts ≡ L.parts }
-    requires some { 0 < blank.parts }
-    requires known { IsTable (database_of store.now) table schema.now }
-    requires stand { (x : Cell) (n : ℕ) → has_spot spots.now x n ≡ is_open_with schema.now.key x (slice_get (rows_of (database_of store.now) table) n) }
+) -> Result<Result<RowChanges, BatchFault>, NoMemory>
     requires few { length lines.now + 1 < 2 ^ 32 }
-    ensures { IfOk result (λ made. made ≡ made_by limit table true schema.now (rows_of (database_of store.now) table) (removal_lines lines.now)) }
+    requires untimed { table.now.schema.valid ≡ false }
+    ensures { IfOk result (IsMade true table.now.schema table.now.rows (removal_lines lines.now)) }
 {
-    let rows = store.rows(table);
-    let mut steps = Steps::<L>::new(blank);
-    let strokes = strokes_of_keys(alloc, lines)?;
-    let found = first_fault(
-        alloc, spots, store, table, schema, true, &strokes, &mut steps,
-    )?;
-    if let Some(fault) = found {
-        return Ok(Err(fault));
+    let keys = keys_of_lines(alloc, lines)?;
+    match closes_of_keys(alloc, table, true, &keys)? {
+        Ok(closes) => Ok(Ok(RowChanges {
+            closes,
+            opens: Vec::new(alloc),
+        })),
+        Err(fault) => Ok(Err(fault)),
     }
-    let places = places_of(alloc, &strokes)?;
-    let taken = taken_by(
-        alloc, spots, store, table, schema, &strokes, &places, &mut steps,
-    )?;
-    let made = change_within(table, rows, taken, limit)?;
+}
+
+// What the lines of a removal change in a table, or their first fault.
+fn remove_made(
+    alloc: Global,
+    table: &OpenTable<'_>,
+    lines: &[KeyLine],
+) -> Result<Result<RowChanges, BatchFault>, NoMemory>
+    requires few { length lines.now + 1 < 2 ^ 32 }
+    ensures { IfOk result (IsMade true table.now.schema table.now.rows (removal_lines lines.now)) }
+{
+    if table.schema().valid() {
+        let made = remove_timed::<Brand>(alloc, table, lines, Blank::new(1))?;
+        return Ok(made);
+    }
+    let made = remove_untimed(alloc, table, lines)?;
     Ok(made)
 }
 
-// As `put_change`, for the table with this number, by the keys of all tables.
+// The change that rows make which are put into the table with this number, or their first fault.
 fn rows_change(
     alloc: Global,
-    tables: &[Spots],
+    keys: &[KeyIndex],
     store: &Store,
-    table: u16,
-    lines: &[Opened],
+    number: u16,
+    rows: PutRows<'_>,
     limit: u64,
 ) -> Result<Result<Change, BatchFault>, NoMemory>
-    requires stands { StandFor tables.now (database_of store.now) }
-    requires there { table < length (database_of store.now).tables }
-    requires few { length lines.now + 1 < 2 ^ 32 }
-    requires matching { IfSome (slice_get (database_of store.now).tables table) (λ t. IsTrue (list_all (matches t.schema) lines.now)) }
-    ensures { IfOk result (λ made. Some made ≡ option_map (λ t. made_by limit table false t.schema t.rows (put_lines t.schema lines.now)) (slice_get (database_of store.now).tables table)) }
+    requires stands { StandFor keys.now (database_of store.now) }
+    requires there { number < length (database_of store.now).tables }
+    requires few { length (rows_put rows) + 1 < 2 ^ 32 }
+    requires matching { IfSome (slice_get (database_of store.now).tables number)
+        (λ t. IsTrue (list_all (matches t.schema) (rows_put rows))) }
+    ensures { IfOk result (λ made. Some made
+        ≡ option_map (λ t. made_by limit number false t.schema t.rows
+        (put_lines t.schema (rows_put rows.entry)))
+        (slice_get (database_of store.now).tables number)) }
 {
-    let schema = store.schema(table);
-    let spots = &tables[table as usize];
-    let made = put_change::<Brand>(
-        alloc,
-        spots,
-        store,
-        table,
-        schema,
-        lines,
-        limit,
-        Blank::new(1),
-    )?;
-    Ok(made)
+    let table = OpenTable::new(store, number, &keys[number as usize]);
+    let made = put_made(alloc, &table, rows)?;
+    let change = change_within(number, table.rows(), made, limit)?;
+    Ok(change)
 }
 
-// As `remove_change`, for the table with this number, by the keys of all tables.
+// The change that the lines of a removal make in the table with this number, or their first fault.
 fn keys_change(
     alloc: Global,
-    tables: &[Spots],
+    keys: &[KeyIndex],
     store: &Store,
-    table: u16,
+    number: u16,
     lines: &[KeyLine],
     limit: u64,
 ) -> Result<Result<Change, BatchFault>, NoMemory>
-    requires stands { StandFor tables.now (database_of store.now) }
-    requires there { table < length (database_of store.now).tables }
+    requires stands { StandFor keys.now (database_of store.now) }
+    requires there { number < length (database_of store.now).tables }
     requires few { length lines.now + 1 < 2 ^ 32 }
-    ensures { IfOk result (λ made. Some made ≡ option_map (λ t. made_by limit table true t.schema t.rows (removal_lines lines.now)) (slice_get (database_of store.now).tables table)) }
+    ensures { IfOk result (λ made. Some made
+        ≡ option_map (λ t. made_by limit number true t.schema t.rows (removal_lines lines.now))
+        (slice_get (database_of store.now).tables number)) }
 {
-    let schema = store.schema(table);
-    let spots = &tables[table as usize];
-    let made = remove_change::<Brand>(
-        alloc,
-        spots,
-        store,
-        table,
-        schema,
-        lines,
-        limit,
-        Blank::new(1),
-    )?;
-    Ok(made)
+    let table = OpenTable::new(store, number, &keys[number as usize]);
+    let made = remove_made(alloc, &table, lines)?;
+    let change = change_within(number, table.rows(), made, limit)?;
+    Ok(change)
 }
 
 // The commit of a change, by this author.
@@ -237,18 +253,22 @@ fn commit_of(author: u32, made: Result<Change, BatchFault>) -> Result<Commit, Ba
 /// The commit of this author that puts rows into the table with this name, or its first fault.
 pub(crate) fn resolve_put(
     alloc: Global,
-    tables: &[Spots],
+    keys: &[KeyIndex],
     store: &Store,
     author: u32,
     name: &Text,
-    lines: &[Opened],
+    rows: PutRows<'_>,
     limits: &Limits,
 ) -> Result<Commit, BatchFault>
-    requires stands { StandFor tables.now (database_of store.now) }
-    requires matching { IsTrue (rows_fit_found lines.now (find_table name.now (database_of store.now).tables)) }
-    ensures ok { IfOk result (λ c. resolved limits.now (database_of store.now) author (batch.Put name.now lines.now) ≡ Ok c) }
+    requires stands { StandFor keys.now (database_of store.now) }
+    requires matching { IsTrue (rows_fit_found (rows_put rows)
+        (find_table name.now (database_of store.now).tables)) }
+    ensures ok { IfOk result (λ c. resolved limits.now (database_of store.now) author
+        (batch.Put name.now (rows_put rows.entry)) ≡ Ok c) }
     ensures fit { IfOk result (λ c. IsTrue (fits limits.now (database_of store.now) c)) }
-    ensures err { IfErr result (λ e. (e ≡ fault.NoMemory) ⊎ (resolved limits.now (database_of store.now) author (batch.Put name.now lines.now) ≡ Err e)) }
+    ensures err { IfErr result (λ e. (e ≡ fault.NoMemory)
+        ⊎ (resolved limits.now (database_of store.now) author
+        (batch.Put name.now (rows_put rows.entry)) ≡ Err e)) }
 {
     let Some(table) = store.find(name.as_str()) else {
         return Err(BatchFault::UnknownTable);
@@ -256,10 +276,10 @@ pub(crate) fn resolve_put(
     if has_all_versions(store, limits) {
         return Err(BatchFault::VersionsFull);
     }
-    if lines.len() >= TOO_MANY_LINES {
+    if rows.as_slice().len() >= TOO_MANY_LINES {
         return Err(BatchFault::NoMemory);
     }
-    let Ok(made) = rows_change(alloc, tables, store, table, lines, limits.rows) else {
+    let Ok(made) = rows_change(alloc, keys, store, table, rows, limits.rows) else {
         return Err(BatchFault::NoMemory);
     };
     commit_of(author, made)
@@ -268,17 +288,20 @@ pub(crate) fn resolve_put(
 /// The commit of this author that removes rows from the table with this name, or its first fault.
 pub(crate) fn resolve_remove(
     alloc: Global,
-    tables: &[Spots],
+    keys: &[KeyIndex],
     store: &Store,
     author: u32,
     name: &Text,
     lines: &[KeyLine],
     limits: &Limits,
 ) -> Result<Commit, BatchFault>
-    requires stands { StandFor tables.now (database_of store.now) }
-    ensures ok { IfOk result (λ c. resolved limits.now (database_of store.now) author (batch.Remove name.now lines.now) ≡ Ok c) }
+    requires stands { StandFor keys.now (database_of store.now) }
+    ensures ok { IfOk result (λ c. resolved limits.now (database_of store.now) author
+        (batch.Remove name.now lines.now) ≡ Ok c) }
     ensures fit { IfOk result (λ c. IsTrue (fits limits.now (database_of store.now) c)) }
-    ensures err { IfErr result (λ e. (e ≡ fault.NoMemory) ⊎ (resolved limits.now (database_of store.now) author (batch.Remove name.now lines.now) ≡ Err e)) }
+    ensures err { IfErr result (λ e. (e ≡ fault.NoMemory)
+        ⊎ (resolved limits.now (database_of store.now) author (batch.Remove name.now lines.now)
+        ≡ Err e)) }
 {
     let Some(table) = store.find(name.as_str()) else {
         return Err(BatchFault::UnknownTable);
@@ -289,7 +312,7 @@ pub(crate) fn resolve_remove(
     if lines.len() >= TOO_MANY_LINES {
         return Err(BatchFault::NoMemory);
     }
-    let Ok(made) = keys_change(alloc, tables, store, table, lines, limits.rows) else {
+    let Ok(made) = keys_change(alloc, keys, store, table, lines, limits.rows) else {
         return Err(BatchFault::NoMemory);
     };
     commit_of(author, made)

@@ -1,4 +1,5 @@
-//! Batches one after the other, each over the store and the keys that the commits of the earlier ones leave.
+//! Batches one after the other, each over the store and the keys that the commits of the earlier
+//! ones leave.
 ghost use Rattle.std.specs.Prelude.{◌≡◌, ◌≤◌, IfOk, IfSome, IsTrue, length, slice_get};
 ghost use Rattle.std.specs.Bool.{OnTrue};
 ghost use Rattle.std.specs.List.{list_all};
@@ -28,8 +29,8 @@ enum Kind {
 // A key, a number, and the ends of a valid period, where the table has them.
 type Line = (i64, i64, i64, i64);
 
-// What a batch does, the name of its table, its lines, and what it becomes: the ids of the rows that it closes
-// and the rows that it opens, or its fault.
+// What a batch does, the name of its table, its lines, and what it becomes: the ids of the rows
+// that it closes and the rows that it opens, or its fault.
 type Case<'a> = (Kind, &'a str, &'a [Line], &'a str);
 
 fn column(alloc: Global, name: &str) -> Result<Column, NoMemory>
@@ -100,7 +101,9 @@ fn batch(alloc: Global, kind: Kind, name: &str, lines: &[Line]) -> Result<Batch,
 
 // Whether rows match the schema of the table with a number: a change that opens them fits.
 fn may_open(alloc: Global, store: &Store, table: u16, rows: &Seq<Opened>) -> Result<bool, NoMemory>
-    ensures { IfOk result (λ may. OnTrue may (IfSome (slice_get (database_of store.now).tables table) (λ t. IsTrue (list_all (matches t.schema) rows.now)))) }
+    ensures { IfOk result (λ may. OnTrue may
+        (IfSome (slice_get (database_of store.now).tables table)
+        (λ t. IsTrue (list_all (matches t.schema) rows.now)))) }
 {
     if rows.len() > 100 {
         return Ok(false);
@@ -114,7 +117,8 @@ fn may_open(alloc: Global, store: &Store, table: u16, rows: &Seq<Opened>) -> Res
 
 // Whether rows match the schema of the table with a name, where there is one.
 fn may_put(alloc: Global, store: &Store, name: &Text, rows: &Seq<Opened>) -> Result<bool, NoMemory>
-    ensures { IfOk result (λ may. OnTrue may (IsTrue (rows_fit_found rows.now (find_table name.now (database_of store.now).tables)))) }
+    ensures { IfOk result (λ may. OnTrue may
+        (IsTrue (rows_fit_found rows.now (find_table name.now (database_of store.now).tables)))) }
 {
     let Some(number) = store.find(name.as_str()) else {
         return Ok(true);
@@ -125,7 +129,8 @@ fn may_put(alloc: Global, store: &Store, name: &Text, rows: &Seq<Opened>) -> Res
 
 // Whether the rows that a batch puts match the schema of its table, where there is one.
 fn may_resolve(alloc: Global, store: &Store, batch: &Batch) -> Result<bool, NoMemory>
-    ensures { IfOk result (λ may. OnTrue may (IsTrue (batch_matches (database_of store.now) batch.now))) }
+    ensures { IfOk result (λ may. OnTrue may
+        (IsTrue (batch_matches (database_of store.now) batch.now))) }
 {
     match batch {
         Batch::Create(_) => Ok(true),
@@ -137,22 +142,28 @@ fn may_resolve(alloc: Global, store: &Store, batch: &Batch) -> Result<bool, NoMe
     }
 }
 
-// What a batch becomes.
+// What a batch becomes, lent or handed over.
 fn resolved(
     alloc: Global,
     keys: &Keys,
     store: &Store,
-    batch: &Batch,
+    batch: Batch,
     limits: &Limits,
 ) -> Result<Result<Commit, BatchFault>, Fail>
     requires stands { StandFor keys.now (database_of store.now) }
     requires within { AreWithin limits.now standard_limits }
-    ensures { IfOk result (λ r. IfOk r (λ c. IsTrue (fits standard_limits (database_of store.now) c))) }
+    ensures { IfOk result (λ r. IfOk r
+        (λ c. IsTrue (fits standard_limits (database_of store.now) c))) }
 {
-    if !may_resolve(alloc, store, batch)? {
+    if !may_resolve(alloc, store, &batch)? {
         return Err("rows of another shape".into());
     }
-    Ok(keys.resolve(alloc, store, batch, 7, limits))
+    let lent = keys.resolve(alloc, store, &batch, 7, limits);
+    let owned = keys.resolve_owned(alloc, store, batch, 7, limits);
+    if lent != owned {
+        return Err("lent and owned batches differ".into());
+    }
+    Ok(owned)
 }
 
 // The store after what a batch became, which the keys then stand for.
@@ -210,8 +221,8 @@ fn shown(alloc: Global, made: &Result<Commit, BatchFault>) -> Result<String, NoM
     }
 }
 
-// The first case whose batch becomes something else than it says, with what it becomes; none where all are as
-// they say.
+// The first case whose batch becomes something else than it says, with what it becomes; none where
+// all are as they say.
 fn first_wrong(alloc: Global, limits: &Limits, cases: &[Case]) -> Result<Option<String>, Fail>
     requires { AreWithin limits.now standard_limits }
 {
@@ -219,7 +230,7 @@ fn first_wrong(alloc: Global, limits: &Limits, cases: &[Case]) -> Result<Option<
     let mut store = Store::empty(alloc);
     for (i, (kind, name, lines, expected)) in cases.iter().enumerate() {
         let batch = batch(alloc, *kind, name, lines)?;
-        let made = resolved(alloc, &keys, &store, &batch, limits)?;
+        let made = resolved(alloc, &keys, &store, batch, limits)?;
         let shown = shown(alloc, &made)?;
         if shown.as_str() != *expected {
             return Ok(Some(format!(in alloc; "{i}: {shown}")?));

@@ -8,7 +8,7 @@ abbrev pub invariant-behind : goal.invariant-behind
 invariant-behind l = record {
   within : l.i ≤ length l.lines;
   back : reverse l.back.items ≡ put_pieces l.schema (put_lines l.schema (drop l.i l.lines));
-  held : HoldLines l.covers (put_lines l.schema (drop l.i l.lines));
+  held : HoldLines l.periods (put_lines l.schema (drop l.i l.lines));
 }
 
 abbrev pub decreases-behind : goal.decreases-behind

@@ -1,3 +1,4 @@
+use Rattle.tl_batch.specs.PutRows.{rows_put}
 use Rattle.std.proofs.Common.{false, ◌<◌, arith}
 use Rattle.std.proofs.lemmas.Bool.Decides.{nat_tests}
 use Rattle.tl_types.specs.declared.batches.Batch.TheVariants as batch
@@ -16,24 +17,24 @@ rows_change-requires-clause-there c =
 pub rows_change-requires-clause-matching : goal.rows_change-requires-clause-matching
 rows_change-requires-clause-matching c =
     let named = table_named (database_of c.args.store.now) c.args.name.now c.in-Some.table (name_is (database_of c.args.store.now) c.as_str.result.now c.args.name.now c.in-Some.table c.as_str.ensures.bytes c.in-Some.ensures) in
-    named-match (database_of c.args.store.now) c.args.name.now c.in-Some.table c.args.lines.now named c.requires.matching
+    named-match (database_of c.args.store.now) c.args.name.now c.in-Some.table (rows_put c.args.rows) named c.requires.matching
 
 pub returns-clause-ok : goal.returns-clause-ok
 returns-clause-ok c =
     let named = table_named (database_of c.args.store.now) c.args.name.now c.in-Some.table (name_is (database_of c.args.store.now) c.as_str.result.now c.args.name.now c.in-Some.table c.as_str.ensures.bytes c.in-Some.ensures) in
     let next : (database_of c.args.store.now).version < c.args.limits.now.versions = let e = c.has_all_versions.ensures in let f = c.if-has_all_versions.false in grind (arith, nat_tests) in
-    let made = named-made c.args.limits.now (database_of c.args.store.now) c.args.author c.in-Some.table c.args.name.now false (λ schema. put_lines schema c.args.lines.now) c.in-Ok.made (λ t. rows-fault t c.args.lines.now) named next c.in-Ok.ensures in
-    ok_is c.commit_of.result (resolved c.args.limits.now (database_of c.args.store.now) c.args.author (batch.Put c.args.name.now c.args.lines.now)) (committed c.args.author c.in-Ok.made) c.commit_of.ensures made
+    let made = named-made c.args.limits.now (database_of c.args.store.now) c.args.author c.in-Some.table c.args.name.now false (λ schema. put_lines schema (rows_put c.args.rows)) c.in-Ok.made (λ t. rows-fault t (rows_put c.args.rows)) named next c.in-Ok.ensures in
+    ok_is c.commit_of.result (resolved c.args.limits.now (database_of c.args.store.now) c.args.author (batch.Put c.args.name.now (rows_put c.args.rows))) (committed c.args.author c.in-Ok.made) c.commit_of.ensures made
 
 pub returns-clause-err : goal.returns-clause-err
 returns-clause-err c =
     let named = table_named (database_of c.args.store.now) c.args.name.now c.in-Some.table (name_is (database_of c.args.store.now) c.as_str.result.now c.args.name.now c.in-Some.table c.as_str.ensures.bytes c.in-Some.ensures) in
     let next : (database_of c.args.store.now).version < c.args.limits.now.versions = let e = c.has_all_versions.ensures in let f = c.if-has_all_versions.false in grind (arith, nat_tests) in
-    let made = named-made c.args.limits.now (database_of c.args.store.now) c.args.author c.in-Some.table c.args.name.now false (λ schema. put_lines schema c.args.lines.now) c.in-Ok.made (λ t. rows-fault t c.args.lines.now) named next c.in-Ok.ensures in
-    err_is c.commit_of.result (resolved c.args.limits.now (database_of c.args.store.now) c.args.author (batch.Put c.args.name.now c.args.lines.now)) (committed c.args.author c.in-Ok.made) c.commit_of.ensures made
+    let made = named-made c.args.limits.now (database_of c.args.store.now) c.args.author c.in-Some.table c.args.name.now false (λ schema. put_lines schema (rows_put c.args.rows)) c.in-Ok.made (λ t. rows-fault t (rows_put c.args.rows)) named next c.in-Ok.ensures in
+    err_is c.commit_of.result (resolved c.args.limits.now (database_of c.args.store.now) c.args.author (batch.Put c.args.name.now (rows_put c.args.rows))) (committed c.args.author c.in-Ok.made) c.commit_of.ensures made
 
 pub returns-clause-fit : goal.returns-clause-fit
 returns-clause-fit c =
     let named = table_named (database_of c.args.store.now) c.args.name.now c.in-Some.table (name_is (database_of c.args.store.now) c.as_str.result.now c.args.name.now c.in-Some.table c.as_str.ensures.bytes c.in-Some.ensures) in
     let next : (database_of c.args.store.now).version < c.args.limits.now.versions = let e = c.has_all_versions.ensures in let f = c.if-has_all_versions.false in grind (arith, nat_tests) in
-    named-fits c.args.tables.now c.args.limits.now (database_of c.args.store.now) c.args.author c.in-Some.table c.args.name.now false (λ schema. put_lines schema c.args.lines.now) c.in-Ok.made c.requires.stands named next (put-match named.table.schema c.args.lines.now (found-match (database_of c.args.store.now) c.args.name.now c.in-Some.table c.args.lines.now named c.requires.matching)) c.in-Ok.ensures c.commit_of.result c.commit_of.ensures
+    named-fits c.args.keys.now c.args.limits.now (database_of c.args.store.now) c.args.author c.in-Some.table c.args.name.now false (λ schema. put_lines schema (rows_put c.args.rows)) c.in-Ok.made c.requires.stands named next (put-match named.table.schema (rows_put c.args.rows) (found-match (database_of c.args.store.now) c.args.name.now c.in-Some.table (rows_put c.args.rows) named c.requires.matching)) c.in-Ok.ensures c.commit_of.result c.commit_of.ensures

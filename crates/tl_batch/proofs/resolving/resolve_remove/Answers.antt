@@ -31,4 +31,4 @@ pub returns-clause-fit : goal.returns-clause-fit
 returns-clause-fit c =
     let named = table_named (database_of c.args.store.now) c.args.name.now c.in-Some.table (name_is (database_of c.args.store.now) c.as_str.result.now c.args.name.now c.in-Some.table c.as_str.ensures.bytes c.in-Some.ensures) in
     let next : (database_of c.args.store.now).version < c.args.limits.now.versions = let e = c.has_all_versions.ensures in let f = c.if-has_all_versions.false in grind (arith, nat_tests) in
-    named-fits c.args.tables.now c.args.limits.now (database_of c.args.store.now) c.args.author c.in-Some.table c.args.name.now true (λ schema. removal_lines c.args.lines.now) c.in-Ok.made c.requires.stands named next (keys-match named.table.schema c.args.lines.now) c.in-Ok.ensures c.commit_of.result c.commit_of.ensures
+    named-fits c.args.keys.now c.args.limits.now (database_of c.args.store.now) c.args.author c.in-Some.table c.args.name.now true (λ schema. removal_lines c.args.lines.now) c.in-Ok.made c.requires.stands named next (keys-match named.table.schema c.args.lines.now) c.in-Ok.ensures c.commit_of.result c.commit_of.ensures

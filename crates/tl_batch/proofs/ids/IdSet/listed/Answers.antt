@@ -1,4 +1,4 @@
-use Rattle.tl_batch.proofs.MeetingLemmas.{ids_ascend}
+use Rattle.tl_batch.proofs.KeyIndexLemmas.{ids_ascend}
 use Rattle.tl_batch.proofs.ids.IdSet.listed.Goals as goal
 
 pub returns-in_err-push-clause-ascending : goal.returns-in_err-push-clause-ascending

@@ -1,0 +1,13 @@
+use Rattle.tl_types.specs.History.{database_of}
+use Rattle.tl_types.specs.Limits.{standard_limits}
+use Rattle.tl_batch.proofs.CommitLemmas.{ok_within}
+use Rattle.tl_batch.proofs.keys.Keys.resolve_owned.Goals as goal
+
+pub returns-in-Create-clause-standard : goal.returns-in-Create-clause-standard
+returns-in-Create-clause-standard c = ok_within c.args.limits.now standard_limits (database_of c.args.store.now) c.resolve_create.result c.resolve_create.ensures.fit
+
+pub returns-in-Put-clause-standard : goal.returns-in-Put-clause-standard
+returns-in-Put-clause-standard c = ok_within c.args.limits.now standard_limits (database_of c.args.store.now) c.resolve_put.result c.resolve_put.ensures.fit
+
+pub returns-in-Remove-clause-standard : goal.returns-in-Remove-clause-standard
+returns-in-Remove-clause-standard c = ok_within c.args.limits.now standard_limits (database_of c.args.store.now) c.resolve_remove.result c.resolve_remove.ensures.fit

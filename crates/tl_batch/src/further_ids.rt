@@ -1,0 +1,180 @@
+//! The ids of a key beyond its first.
+ghost use Rattle.std.specs.Prelude.{◌≡◌, ◌||◌, ◌&&◌, not, ◌==◌, ℕ, [], true, false, OnOk, OnErr, IfOk, IfSome, IfNone, IsTrue, Some, is_some};
+ghost use Rattle.std.specs.Map.{lookup};
+ghost use Rattle.tl_types.specs.declared.cells.Cell.{Cell};
+ghost use Rattle.tl_types.specs.History.{has_id, same_cell};
+ghost use Rattle.tl_batch.specs.KeyIndex.{has_further, Changes};
+
+use crate::ids::IdSet;
+use std::alloc::Global;
+use std::collections::HashMap;
+use std::marker::Model;
+use tl_types::{Cell, NoMemory};
+
+/// Sets of ids by key, of which none stays empty. A contract sees the list of the keys with their
+/// ids.
+#[derive(Drop)]
+pub(crate) struct FurtherIds {
+    ids: HashMap<Cell, IdSet>,
+}
+
+impl Model for FurtherIds {
+    ghost use Rattle.std.specs.Prelude.{ℕ, List};
+    ghost use Rattle.tl_types.specs.declared.cells.Cell.{Cell};
+
+    ghost Value = { List (Cell × List ℕ) };
+
+    ghost view = { λ f. f.ids.entries };
+}
+
+// A set of one id. The error is `NoMemory`.
+fn one_id(alloc: Global, id: u32) -> Result<IdSet, NoMemory>
+    ensures { IfOk result (λ ids. (n : ℕ) → has_id ids n ≡ (n == id)) }
+{
+    let mut ids = IdSet::new(alloc);
+    ids.add(id)?;
+    Ok(ids)
+}
+
+impl FurtherIds {
+    /// No ids.
+    pub(crate) fn new(alloc: Global) -> FurtherIds
+        ensures { result ≡ [] }
+    {
+        FurtherIds {
+            ids: HashMap::new(alloc),
+        }
+    }
+
+    /// Adds an id of a key. The error is `NoMemory`, and leaves the ids as they were.
+    pub(crate) fn add(&mut self, alloc: Global, key: &Cell, id: u32) -> Result<(), NoMemory>
+        ensures ok { OnOk result ((x : Cell) (n : ℕ) → has_further self.new x n
+            ≡ ((same_cell x key.now && (n == id)) || has_further self.old x n)) }
+        ensures err { OnErr result ((x : Cell) (n : ℕ) → has_further self.new x n
+            ≡ has_further self.old x n) }
+    {
+        if self.ids.contains_key(key) {
+            self.add_to_set(key, id)?;
+            return Ok(());
+        }
+        let set = one_id(alloc, id)?;
+        self.put(key, set)?;
+        Ok(())
+    }
+
+    // Adds an id of a key that has a set of ids.
+    fn add_to_set(&mut self, key: &Cell, id: u32) -> Result<(), NoMemory>
+        requires { is_some (lookup (same_cell key.now) self.old) ≡ true }
+        ensures ok { OnOk result ((x : Cell) (n : ℕ) → has_further self.new x n
+            ≡ ((same_cell x key.now && (n == id)) || has_further self.old x n)) }
+        ensures err { OnErr result ((x : Cell) (n : ℕ) → has_further self.new x n
+            ≡ has_further self.old x n) }
+    {
+        let Some(ids) = self.ids.get_mut(key) else {
+            return Ok(());
+        };
+        ids.add(id)?;
+        Ok(())
+    }
+
+    // Gives a key that has no set of ids one.
+    fn put(&mut self, key: &Cell, set: IdSet) -> Result<(), NoMemory>
+        requires { is_some (lookup (same_cell key.now) self.old) ≡ false }
+        ensures ok { OnOk result (Changes key.now (Some set) self.old self.new) }
+        ensures err { OnErr result (self.new ≡ self.old) }
+    {
+        let copy = key.clone()?;
+        self.ids.insert(copy, set)?;
+        Ok(())
+    }
+
+    // Takes an id of a key away, and leaves the set of its ids, also where it is empty.
+    fn cut(&mut self, key: &Cell, id: u32)
+        ensures { (x : Cell) (n : ℕ) → has_further self.new x n
+            ≡ (not (same_cell x key.now && (n == id)) && has_further self.old x n) }
+    {
+        let Some(ids) = self.ids.get_mut(key) else {
+            return;
+        };
+        ids.remove(id);
+    }
+
+    // Takes one of the ids of a key out, where there is one, and leaves the set of its ids, also
+    // where it is empty.
+    fn draw(&mut self, key: &Cell) -> Option<u32>
+        ensures some { IfSome result (λ id. (x : Cell) (n : ℕ) → has_further self.old x n
+            ≡ ((same_cell x key.now && (n == id)) || has_further self.new x n)) }
+        ensures none { IfNone result ((x : Cell) (n : ℕ) → has_further self.new x n
+            ≡ has_further self.old x n) }
+    {
+        let Some(ids) = self.ids.get_mut(key) else {
+            return None;
+        };
+        ids.pop()
+    }
+
+    // Whether there is an empty set of ids of a key.
+    fn is_spent(&self, key: &Cell) -> bool
+        ensures { IsTrue result → (n : ℕ) → has_further self.now key.now n ≡ false }
+    {
+        match self.ids.get(key) {
+            Some(ids) => ids.is_empty(),
+            None => false,
+        }
+    }
+
+    // Takes the set of ids of a key away where it is empty.
+    fn shed(&mut self, key: &Cell)
+        ensures { (x : Cell) (n : ℕ) → has_further self.new x n ≡ has_further self.old x n }
+    {
+        if self.is_spent(key) {
+            self.ids.remove(key);
+        }
+    }
+
+    /// Takes an id of a key away.
+    pub(crate) fn remove(&mut self, key: &Cell, id: u32)
+        ensures { (x : Cell) (n : ℕ) → has_further self.new x n
+            ≡ (not (same_cell x key.now && (n == id)) && has_further self.old x n) }
+    {
+        self.cut(key, id);
+        self.shed(key);
+    }
+
+    /// Takes one of the ids of a key out, where there is one.
+    pub(crate) fn pop(&mut self, key: &Cell) -> Option<u32>
+        ensures some { IfSome result (λ id. (x : Cell) (n : ℕ) → has_further self.old x n
+            ≡ ((same_cell x key.now && (n == id)) || has_further self.new x n)) }
+        ensures none { IfNone result ((x : Cell) (n : ℕ) → has_further self.new x n
+            ≡ has_further self.old x n) }
+    {
+        let id = self.draw(key);
+        self.shed(key);
+        id
+    }
+
+    /// One of the ids of a key, where there is one.
+    pub(crate) fn find(&self, key: &Cell) -> Option<u32>
+        ensures some { IfSome result (λ id. has_further self.now key.now id ≡ true) }
+        ensures none { IfNone result ((n : ℕ) → has_further self.now key.now n ≡ false) }
+    {
+        match self.ids.get(key) {
+            Some(ids) => ids.least(),
+            None => None,
+        }
+    }
+
+    /// Adds the ids of a key to a set. The error is `NoMemory`.
+    pub(crate) fn add_to(&self, key: &Cell, set: &mut IdSet) -> Result<(), NoMemory>
+        ensures { OnOk result ((n : ℕ) → has_id set.new n
+            ≡ (has_further self.now key.now n || has_id set.old n)) }
+    {
+        match self.ids.get(key) {
+            Some(ids) => {
+                set.add_all(ids)?;
+                Ok(())
+            }
+            None => Ok(()),
+        }
+    }
+}

@@ -1,0 +1,115 @@
+//! A table of a store, with the ids of its open rows by their keys.
+ghost use Rattle.std.specs.Prelude.{◌≡◌, ◌<◌, ◌≤◌, ◌^◌, ℕ, true, false, None, Some, IfOk, length, slice_get, option_map};
+ghost use Rattle.tl_types.specs.declared.cells.Cell.{Cell};
+ghost use Rattle.tl_types.specs.Facts.{AscendFrom};
+ghost use Rattle.tl_types.specs.History.{database_of, has_id};
+ghost use Rattle.tl_store.specs.Reading.{cell_of_row};
+ghost use Rattle.tl_batch.specs.KeyIndex.{has_row};
+ghost use Rattle.tl_batch.specs.OpenTables.{IsIndexOf};
+ghost use Rattle.tl_batch.specs.Standing.{is_open_with, rows_match, table_has};
+
+use crate::key_index::KeyIndex;
+use std::alloc::Global;
+use std::marker::Model;
+use std::sync::ledger::Ledger;
+use tl_store::Store;
+use tl_types::{Cell, NoMemory, Period, Schema, Seq, Steps};
+
+/// A table of a store, with the ids of its open rows by their keys. A contract sees the table.
+#[derive(Drop)]
+pub(crate) struct OpenTable<'a> {
+    store: &'a Store,
+    number: u16,
+    schema: &'a Schema,
+    index: &'a KeyIndex,
+}
+
+impl<'a> Model for OpenTable<'a> {
+    ghost use Rattle.tl_types.specs.Plain as plain;
+    ghost use Rattle.tl_batch.specs.OpenTables.{table_at, IsOpenTable};
+
+    ghost Value = { plain.Table };
+
+    ghost view = { λ t. table_at t.store.now t.number t.schema.now };
+
+    ghost invariant = { λ t. IsOpenTable t.store.now t.number t.schema.now t.index.now };
+}
+
+impl<'a> OpenTable<'a> {
+    /// The table with this number, whose rows match its schema, with the ids of its open rows.
+    pub(crate) fn new(store: &'a Store, number: u16, index: &'a KeyIndex) -> OpenTable<'a>
+        requires there { number < length (database_of store.now).tables }
+        requires matching { rows_match (slice_get (database_of store.now).tables number) ≡ true }
+        requires ids { (x : Cell) (n : ℕ) → has_row index.now x n
+            ≡ table_has (slice_get (database_of store.now).tables number) x n }
+        ensures { Some result ≡ slice_get (database_of store.now).tables number }
+    {
+        let schema = store.schema(number);
+        OpenTable {
+            store,
+            number,
+            schema,
+            index,
+        }
+    }
+
+    /// The schema.
+    pub(crate) fn schema(&self) -> &'a Schema
+        ensures value { result.now ≡ self.now.schema }
+        ensures matching { rows_match (Some self.now) ≡ true }
+    {
+        self.schema
+    }
+
+    /// The ids of the open rows by their keys.
+    pub(crate) fn index(&self) -> &'a KeyIndex
+        ensures ids { IsIndexOf result.now self.now.schema.key self.now.rows }
+        ensures matching { rows_match (Some self.now) ≡ true }
+    {
+        self.index
+    }
+
+    /// The number of rows, ended ones included.
+    pub(crate) fn rows(&self) -> u32
+        ensures number { result ≡ length self.now.rows }
+        ensures few { result ≤ 16777216 }
+    {
+        self.store.rows(self.number)
+    }
+
+    /// The ids of the open rows of a key, ascending. The error is `NoMemory`.
+    pub(crate) fn ids(&self, alloc: Global, key: &Cell) -> Result<Seq<u32>, NoMemory>
+        ensures ascending { IfOk result (λ ids. AscendFrom 0 ids) }
+        ensures members { IfOk result (λ ids. (n : ℕ) → has_id ids n
+            ≡ is_open_with self.now.schema.key key.now (slice_get self.now.rows n)) }
+    {
+        self.index.ids(alloc, key)
+    }
+
+    /// The cell of a row in a column. The error is `NoMemory`.
+    pub(crate) fn cell<L: Ledger>(
+        &self,
+        alloc: Global,
+        row: u32,
+        column: u8,
+        steps: &mut Steps<L>,
+    ) -> Result<Cell, NoMemory>
+        requires row { row < length self.now.rows }
+        requires column { column < length self.now.schema.columns }
+        ensures { IfOk result (λ cell. Some cell
+            ≡ cell_of_row column (slice_get self.now.rows row)) }
+    {
+        self.store
+            .cell(self.number, row, column, steps)
+            .to_cell(alloc)
+    }
+
+    /// The valid period of a row of a table with valid time.
+    pub(crate) fn period<L: Ledger>(&self, row: u32, steps: &mut Steps<L>) -> Option<Period>
+        requires row { row < length self.now.rows }
+        requires valid { self.now.schema.valid ≡ true }
+        ensures { Some result ≡ option_map (λ r. r.period) (slice_get self.now.rows row) }
+    {
+        Some(self.store.valid_at(self.number, row, steps))
+    }
+}

@@ -1,0 +1,16 @@
+//! A head: one published value, which many read while one writer publishes the next.
+//!
+//! The value stands for a list of entries. The writer's pass has written a list, and each publish
+//! adds one entry to it. A reader's pass has seen a list. A read gives a value that stands for what
+//! is written at its turn, and what the pass had seen is a prefix of that. Of what two passes have
+//! seen one is a prefix of the other.
+#![tactic(auto)]
+
+mod head;
+mod passes;
+
+pub use head::{Head, NewHead};
+pub use passes::{Pass, WriterPass};
+
+#[cfg(test)]
+mod tests;

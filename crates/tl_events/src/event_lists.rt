@@ -1,0 +1,144 @@
+//! Lists of events.
+ghost use Rattle.std.specs.Prelude.{◌≡◌, ℕ, suc, ◌+◌, ◌^◌, ◌<◌, List, [], ◌++◌, length, map, IfOk, Some, slice_get};
+ghost use Rattle.std.specs.List.{range_with_len};
+ghost use Rattle.tl_types.specs.Plain as plain;
+ghost use Rattle.tl_types.specs.Events.{invalidation, activation, events_of};
+ghost use Rattle.tl_events.specs.Timeline.{version_events, AreEventsAt};
+
+use std::alloc::Global;
+use std::marker::Model;
+use std::sync::ledger::Ledger;
+use tl_shared::{Shareable, SharedList};
+use tl_types::{Event, NoMemory, Seq, Steps};
+
+// An event as a list keeps it: the id of its row and a bit, in 8 bytes.
+#[derive(Clone, Copy)]
+pub(crate) struct Kept {
+    event: Event,
+}
+
+const _: () = prove!(size_of::<Kept>() == 8);
+
+impl Shareable for Kept {
+    fn share(&self, _alloc: Global) -> Result<Kept, NoMemory> {
+        Ok(*self)
+    }
+}
+
+/// The events of a table. A contract sees it as the list of the events; it has fewer than 2^32.
+#[derive(Drop)]
+pub struct EventList {
+    events: SharedList<Kept>,
+}
+
+impl Model for EventList {
+    ghost use Rattle.std.specs.Prelude.{◌<◌, ◌^◌, List, length, map};
+    ghost use Rattle.tl_types.specs.declared.events.Event.{Event};
+
+    ghost Value = { List Event };
+
+    ghost view = { λ l. map (λ kept. kept.event) l.events };
+
+    ghost invariant = { λ l. length l.events < 2 ^ 32 };
+}
+
+// Puts the ends of these rows behind the events.
+fn push_closes(events: &mut Vec<Kept>, closes: &[u32]) -> Result<(), NoMemory>
+    ensures { IfOk result (λ _. map (λ kept. kept.event) events.new.items
+        ≡ map (λ kept. kept.event) events.old.items ++ map invalidation closes.now) }
+{
+    for row in closes {
+        events.push(Kept {
+            event: Event {
+                row: *row,
+                opens: false,
+            },
+        })?;
+    }
+    Ok(())
+}
+
+// Puts the beginnings of so many rows from `first` on behind the events.
+fn push_opens(events: &mut Vec<Kept>, first: u32, opens: u32) -> Result<(), NoMemory>
+    requires { first + opens < 2 ^ 32 }
+    ensures { IfOk result (λ _. map (λ kept. kept.event) events.new.items
+        ≡ map (λ kept. kept.event) events.old.items
+        ++ map activation (range_with_len first opens)) }
+{
+    for k in 0..opens {
+        events.push(Kept {
+            event: Event {
+                row: first + k,
+                opens: true,
+            },
+        })?;
+    }
+    Ok(())
+}
+
+// The events of one version.
+fn kept_events(alloc: Global, closes: &[u32], first: u32, opens: u32) -> Result<Vec<Kept>, NoMemory>
+    requires ids { first + opens < 2 ^ 32 }
+    requires few { length closes.now < 2 ^ 32 }
+    ensures { IfOk result (λ events. map (λ kept. kept.event) events.items
+        ≡ version_events closes.now first opens) }
+{
+    let mut events = Vec::with_capacity(alloc, closes.len() + opens as usize)?;
+    push_closes(&mut events, closes)?;
+    push_opens(&mut events, first, opens)?;
+    Ok(events)
+}
+
+impl EventList {
+    /// The list of no event. It takes no memory.
+    pub fn none(alloc: Global) -> EventList
+        ensures { result ≡ [] }
+    {
+        EventList {
+            events: SharedList::none(alloc),
+        }
+    }
+
+    /// The list followed by the events of one more version: the ends of the rows `closes`, and then
+    /// the beginnings of `opens` rows whose ids follow on each other from `first` on. Where these
+    /// are the rows that end and begin at the version after one, a list of the events up to that
+    /// one becomes the list up to the next. It costs its own events and a pointer for each chunk of
+    /// the older list, which stays as it was. `NoMemory` comes only where memory ran out.
+    pub fn extend(
+        &self,
+        alloc: Global,
+        closes: &Seq<u32>,
+        first: u32,
+        opens: u32,
+    ) -> Result<EventList, NoMemory>
+        requires ids { first + opens < 2 ^ 32 }
+        requires few { length self.now + length closes.now + opens < 2 ^ 32 }
+        ensures list { IfOk result
+            (λ list. list ≡ self.now ++ version_events closes.now first opens) }
+        ensures history { (rows : List plain.Row) (version : ℕ) → self.now ≡ events_of rows version
+            → AreEventsAt rows (suc version) closes.now first opens
+            → IfOk result (λ list. list ≡ events_of rows (suc version)) }
+    {
+        let events = kept_events(alloc, closes.as_slice(), first, opens)?;
+        Ok(EventList {
+            events: self.events.push_all(alloc, &events)?,
+        })
+    }
+
+    /// How many events there are.
+    pub fn len(&self) -> u32
+        ensures { result ≡ length self.now }
+    {
+        self.events.len() as u32
+    }
+
+    /// Event `i`, counted from 0. It takes one step.
+    pub fn event_at<L: Ledger>(&self, i: u32, steps: &mut Steps<L>) -> Event
+        requires { i < length self.now }
+        ensures event { slice_get self.now i ≡ Some result }
+        ensures steps { steps.new ≡ steps.old + 1 }
+    {
+        steps.tick();
+        self.events.at(u64::from(i)).event
+    }
+}

@@ -1,0 +1,4 @@
+pub mod LaneMasks
+pub mod MaskBits
+pub mod PickedLemmas
+pub mod Zipped

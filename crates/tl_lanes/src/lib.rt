@@ -1,0 +1,14 @@
+//! Kernels that go over whole words and whole columns several lanes at a time. Each gives what the
+//! plain function on lists gives, which its contract names, for lists of any length.
+#![tactic(auto)]
+
+mod masked;
+mod masks;
+mod words;
+
+pub use masked::{masked_max, masked_min, masked_sum};
+pub use masks::{LaneCmp, compare_mask, compare_mask_u32};
+pub use words::{and_into, and_not_into, count_ones, or_into};
+
+#[cfg(test)]
+mod tests;

@@ -1,15 +1,17 @@
 -- The numbers that words spell.
-use Rattle.std.proofs.Common.{◌≡◌, ℕ, ◌<◌, ◌≤◌, ◌^◌, nat_lt, nat_le, Bool, true, false, ◌&&◌, cond, List, [], ◌∷◌, length, Option, Some, None, IfSome, Result, Ok, Err, refl, ap, sym, ◌∙◌, arith}
+use Rattle.std.proofs.Common.{◌≡◌, ℕ, ◌<◌, ◌^◌, nat_lt, nat_le, Bool, true, false, ◌&&◌, cond, List, [], ◌∷◌, length, get_or, Option, Some, None, IfSome, Result, Ok, Err, refl, ap, sym, ◌∙◌, arith}
 use Rattle.std.specs.Result.{OkIff, result_ok}
 use Rattle.std.specs.Char.{is_ascii_digit}
 use Rattle.std.specs.List.{list_all}
-use Rattle.std.specs.Str.{all_ascii_digits}
+use Rattle.std.specs.Str.{all_ascii_digits, IsUtf8, is_utf8}
+use Rattle.std.proofs.lemmas.Str.{IsUtf8-from_is_utf8}
+use Rattle.std.proofs.lemmas.List.Folds.{list_all_at}
 use Rattle.std.specs.Str.Parse.{digits_value, ParsesUnsigned}
 use Rattle.std.proofs.lemmas.Str.Parse.{IsNumeralModel, numerals_by_value, tells_all_ascii_digits, parse_digits}
 use Rattle.std.proofs.lemmas.Bool.{ltb-true}
 use Rattle.std.proofs.lemmas.Bool.Decides.{nat_tests}
 use Rattle.std.proofs.lemmas.Grind.{common_steps}
-use Rattle.timeline.specs.Commands.{number_of, within}
+use Rattle.timeline.specs.Commands.{spelled_number, within}
 
 own : IsNumeralModel (λ ds. all_ascii_digits ds ≡ true) (digits_value 10)
 own = numerals_by_value _ tells_all_ascii_digits
@@ -38,7 +40,7 @@ all_digits [] = refl
 all_digits (b ∷ bs) = ap (λ t. is_ascii_digit b && t) (all_digits bs)
 
 -- what parsing digits gives
-pub number_parsed : {E : Type 0} (bs : List ℕ) (r : Result ℕ E) → ParsesUnsigned 64 10 bs r → list_all is_ascii_digit bs ≡ true → result_ok r ≡ number_of bs
+pub number_parsed : {E : Type 0} (bs : List ℕ) (r : Result ℕ E) → ParsesUnsigned 64 10 bs r → list_all is_ascii_digit bs ≡ true → result_ok r ≡ spelled_number bs
 number_parsed bs r h digits =
     ok_by_test r (nat_lt 0 (length bs) && list_all is_ascii_digit bs && nat_lt (digits_value 10 bs) (2 ^ 64)) _ (parse_digits own 64 bs r h (all_digits bs ∙ digits))
     (λ t. let p = both_tests _ _ _ t in (ltb-true _ _ p.0, ltb-true _ _ p.2))
@@ -55,3 +57,10 @@ few_lines (Some n) = by_test (nat_le 1 n && nat_le n 1000000) refl where
   by_test : (t : Bool) → (nat_le 1 n && nat_le n 1000000) ≡ t → IfSome (cond t (Some n) None) (λ m. m < 4294967296)
   by_test true e = let h = both (nat_le 1 n) (nat_le n 1000000) e in grind (arith, nat_tests)
   by_test false e = tt
+
+-- each of several words is UTF-8 where all are
+pub word_is_utf8 : (given : List (List ℕ)) (i : ℕ) (d word : List ℕ) → list_all is_utf8 given ≡ true → i < length given → word ≡ get_or given i d → IsUtf8 word
+word_is_utf8 given i d word all within is = by_test (is_utf8 (get_or given i d)) refl where
+  by_test : (t : Bool) → is_utf8 (get_or given i d) ≡ t → IsUtf8 word
+  by_test true e = IsUtf8-from_is_utf8 word (ap is_utf8 is ∙ e)
+  by_test false e = absurd (let f : true ≡ false = sym all ∙ list_all_at is_utf8 given i d within e in cc)

@@ -1,8 +1,6 @@
 pub mod CommandLemmas
-pub mod FrontLemmas
-pub mod ListLemmas
 pub mod PlayLemmas
-pub mod ReadyLemmas
+pub mod PrefixLemmas
 pub mod SampleLemmas
 pub mod ScriptLemmas
 pub mod StoreLemmas

@@ -9,8 +9,9 @@ use Rattle.std.proofs.lemmas.Bool.{ltb-true, ltb-false, lt-ltb, ltb_from_iff, eq
 use Rattle.std.proofs.Math.Seq.{take-length, drop-length, take-append_seam, get_or-append_seam}
 use Rattle.std.proofs.lemmas.List.Sums.{prefix_len-le-length, passes_at_first}
 use Rattle.std.proofs.Common.{append_assoc, Result, Ok, Err}
+use Rattle.tl_query.specs.Scanning.{is_blank}
 use Rattle.timeline.specs.declared.jobs.ScriptFault.{ScriptFault}
-use Rattle.timeline.specs.Script.{Job, Stand, Inside, and_then, after_line, ends_block, with_jobs, lines_of, is_session_name, trimmed, statement_of, without_last, is_blank, without_blanks_before, without_blanks_after, stands_in}
+use Rattle.timeline.specs.Script.{Job, Stand, Inside, and_then, after_line, ends_block, with_jobs, lines_of, is_session_name, trimmed, statement_of, without_last, without_blanks_before, without_blanks_after, stands_in}
 
 -- LINES
 
@@ -100,8 +101,8 @@ keeps_after b (x ∷ y ∷ ys) e = rw (keeps_after b (y ∷ ys) e)
 pub utf8_rest : (b : ℕ) (bytes : List ℕ) → is_blank b ≡ true → IsUtf8 (b ∷ bytes) → IsUtf8 bytes
 utf8_rest b bytes e u = IsUtf8-drop (b ∷ bytes) 1 u (IsCharBoundary-after_ascii (b ∷ bytes) 0 u (omega arith) (blank_is_ascii b e))
 
-pub utf8_front : (b : ℕ) (bytes : List ℕ) → is_blank b ≡ true → IsUtf8 (bytes ++ (b ∷ [])) → IsUtf8 bytes
-utf8_front b bytes e u =
+pub utf8_prefix : (b : ℕ) (bytes : List ℕ) → is_blank b ≡ true → IsUtf8 (bytes ++ (b ∷ [])) → IsUtf8 bytes
+utf8_prefix b bytes e u =
     let whole = bytes ++ (b ∷ []) in
     let within : length bytes < length whole = simp length-append (omega arith) in
     let ascii : get_or whole (length bytes) 0 < 128 = rw get_or-append_seam (blank_is_ascii b e) in
@@ -176,13 +177,13 @@ pub goes_on : (session : Option (List ℕ)) (begun n : ℕ) (text block line : L
 goes_on session begun n text block line ahead e = rw e (with_no_jobs _)
 
 -- the front of the bytes with one more line
-pub front_with_line : (whole front line rest : List ℕ) (n : ℕ) → whole ≡ (front ++ line) ++ rest → length front ≡ n → take (n + length line) whole ≡ front ++ line
-front_with_line whole front line rest n e h =
+pub prefix_with_line : (whole front line rest : List ℕ) (n : ℕ) → whole ≡ (front ++ line) ++ rest → length front ≡ n → take (n + length line) whole ≡ front ++ line
+prefix_with_line whole front line rest n e h =
     let len : n + length line ≡ length (front ++ line) = simp length-append (omega arith) in
     ap (λ w. take (n + length line) w) e ∙ (ap (λ k. take k ((front ++ line) ++ rest)) len ∙ take-append_seam (front ++ line) rest)
 
-pub front_with_line_fits : (whole front line rest : List ℕ) (n : ℕ) → whole ≡ (front ++ line) ++ rest → length front ≡ n → n + length line ≤ length whole
-front_with_line_fits whole front line rest n e h = omega (arith, simp length-append at (ap length e))
+pub prefix_with_line_fits : (whole front line rest : List ℕ) (n : ℕ) → whole ≡ (front ++ line) ++ rest → length front ≡ n → n + length line ≤ length whole
+prefix_with_line_fits whole front line rest n e h = omega (arith, simp length-append at (ap length e))
 
 -- a job more in front of what is ahead
 pub one_more_job : (jobs : List Job) (job : Job) (all ahead behind rest : Result (List Job) ScriptFault) → with_jobs jobs ahead ≡ all → ahead ≡ behind → behind ≡ with_jobs (job ∷ []) rest → with_jobs (jobs ++ (job ∷ [])) rest ≡ all

@@ -1,6 +1,6 @@
 -- The database that commits make, one commit after the other.
 use Rattle.std.proofs.Common.{◌≡◌, ℕ, zero, suc, ◌+◌, ◌-◌, ◌≤◌, arith, List, [], ◌∷◌, ◌++◌, length, take, get_or, Some, refl, ap, sym, ◌∙◌, slice_get}
-use Rattle.std.proofs.lemmas.List.{take_more}
+use Rattle.std.proofs.lemmas.List.{take_all, take_more}
 use Rattle.std.proofs.lemmas.List.Sums.{fold-append}
 use Rattle.std.proofs.lemmas.Option.{slice_get_within, get_or_from_slice_get}
 use Rattle.tl_types.specs.declared.commits.Commit.{Commit}
@@ -18,12 +18,6 @@ version_more commits version commit h =
     let more : take (version + 1) commits ≡ take version commits ++ commit ∷ [] = take_more commits version commit within ∙ ap (λ c. take version commits ++ c ∷ []) same in
     ap database_of more ∙ database_more (take version commits) commit
 
-take-past : (commits : List Commit) (n : ℕ) → length commits ≤ n → take n commits ≡ commits
-take-past [] zero h = refl
-take-past [] (suc n) h = refl
-take-past (c ∷ cs) zero h = absurd (omega arith)
-take-past (c ∷ cs) (suc n) h = ap (λ xs. c ∷ xs) (take-past cs n (omega arith))
-
 -- the same where the version is one less than the next
 pub next_version : (commits : List Commit) (version : ℕ) (commit : Commit) → Some commit ≡ slice_get commits (version + 1 - 1) → database_at commits (version + 1) ≡ after_commit (database_at commits version) commit
 next_version commits version commit h =
@@ -32,4 +26,4 @@ next_version commits version commit h =
 
 -- the last version
 pub last_version : (commits : List Commit) (version : ℕ) → length commits ≤ version → database_at commits version ≡ database_of commits
-last_version commits version h = ap database_of (take-past commits version h)
+last_version commits version h = ap database_of (take_all version commits h)

@@ -1,15 +1,27 @@
 -- What the words after the program's name ask for.
-use Rattle.std.specs.Prelude.{ℕ, ◌^◌, Bool, true, false, ◌&&◌, nat_le, nat_lt, List, [], ◌∷◌, length, codes, Option, Some, None, if◌then◌else◌}
+use Rattle.std.specs.Prelude.{ℕ, ◌^◌, Bool, true, false, ◌&&◌, nat_le, nat_lt, List, [], ◌∷◌, length, map, codes, string_bytes, String, Option, Some, None, if◌then◌else◌}
 use Rattle.std.specs.Char.{is_ascii_digit}
 use Rattle.std.specs.List.{list_all}
+use Rattle.std.specs.Str.{is_utf8}
 use Rattle.std.specs.Str.Parse.{digits_value}
 use Rattle.tl_types.specs.Names.{same_bytes}
 use Rattle.timeline.specs.declared.commands.Command.{Command}
 use Rattle.timeline.specs.declared.commands.Command.TheVariants as command
 
+-- the bytes of each word
+abbrev pub texts_of : {A : Type 0} → List (String A) → List (List ℕ)
+texts_of words = map (λ w. string_bytes w) words
+
+-- the words as the table of words has them; where one is not UTF-8 they are none, which is no
+-- command
+abbrev pub words_of : List (List ℕ) → List (List ℕ)
+words_of given = if list_all is_utf8 given then given else []
+
 -- the number below 2 ^ 64 that a word spells by one or more digits and nothing else
-abbrev pub number_of : List ℕ → Option ℕ
-number_of word = if nat_lt 0 (length word) && list_all is_ascii_digit word && nat_lt (digits_value 10 word) (2 ^ 64) then Some (digits_value 10 word) else None
+abbrev pub spelled_number : List ℕ → Option ℕ
+spelled_number word =
+    if nat_lt 0 (length word) && list_all is_ascii_digit word
+    && nat_lt (digits_value 10 word) (2 ^ 64) then Some (digits_value 10 word) else None
 
 -- the number, where it lies between two bounds
 abbrev pub within : ℕ → ℕ → Option ℕ → Option ℕ
@@ -28,7 +40,8 @@ command_of [] = None
 command_of (word ∷ []) = if same_bytes word (codes "run") then Some command.Run else None
 command_of (word ∷ lines ∷ []) = None
 command_of (word ∷ lines ∷ start ∷ []) =
-    if same_bytes word (codes "sample") then sample_of (within 1 1000000 (number_of lines)) (number_of start) else None
+    if same_bytes word (codes "sample") then sample_of (within 1 1000000 (spelled_number lines))
+    (spelled_number start) else None
 command_of (word ∷ lines ∷ start ∷ more ∷ words) = None
 
 -- the source is read by `run` alone

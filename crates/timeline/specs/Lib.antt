@@ -1,6 +1,5 @@
 pub mod Commands
 pub mod Ending
-pub mod Known
 pub mod Outcome
 pub mod Play
 pub mod Reading

@@ -5,11 +5,11 @@ use Rattle.tl_types.specs.Limits.{standard_limits}
 use Rattle.tl_types.specs.History.{database_of, fits}
 use Rattle.timeline.specs.declared.outcomes.Outcome.{Outcome}
 use Rattle.timeline.specs.declared.outcomes.Outcome.TheVariants as outcome
-use Rattle.timeline.specs.Play.{Turn, settled}
+use Rattle.timeline.specs.Play.{Turn, commit_turn}
 
 -- the reply, and the commits after it
 abbrev pub turn_of : List Commit → Outcome → Turn
-turn_of commits (outcome.Commits commit) = settled commits (Ok commit)
+turn_of commits (outcome.Commits commit) = commit_turn commits (Ok commit)
 turn_of commits (outcome.Replies reply) = record { reply = reply; after = commits }
 
 -- a commit that it comes to fits

@@ -33,20 +33,25 @@ check_fault_words (check.UnknownTable at) = codes "UnknownTable " ++ decimal at
 check_fault_words (check.UnknownColumn at) = codes "UnknownColumn " ++ decimal at
 check_fault_words (check.WrongType at) = codes "WrongType " ++ decimal at
 check_fault_words (check.NotValidTable at) = codes "NotValidTable " ++ decimal at
-check_fault_words (check.VersionAhead at asked now) = codes "VersionAhead " ++ (decimal at ++ (codes " " ++ (decimal asked ++ (codes " " ++ decimal now))))
+check_fault_words (check.VersionAhead at asked now) =
+    codes "VersionAhead "
+    ++ (decimal at ++ (codes " " ++ (decimal asked ++ (codes " " ++ decimal now))))
 check_fault_words (check.EmptyRange at) = codes "EmptyRange " ++ decimal at
 check_fault_words (check.ColumnTwice at) = codes "ColumnTwice " ++ decimal at
 check_fault_words check.NoMemory = []
 
 -- of a block that is no batch for its table
 abbrev pub csv_fault_words : CsvFault → List ℕ
-csv_fault_words (csv.NotUtf8 rec column) = codes "NotUtf8 " ++ (decimal rec ++ (codes " " ++ decimal column))
+csv_fault_words (csv.NotUtf8 rec column) =
+    codes "NotUtf8 " ++ (decimal rec ++ (codes " " ++ decimal column))
 csv_fault_words (csv.HeaderMissing column) = codes "HeaderMissing " ++ decimal column
 csv_fault_words (csv.HeaderName column) = codes "HeaderName " ++ decimal column
 csv_fault_words (csv.HeaderTwice column) = codes "HeaderTwice " ++ decimal column
 csv_fault_words (csv.FieldCount rec) = codes "FieldCount " ++ decimal rec
-csv_fault_words (csv.NotInt rec column) = codes "NotInt " ++ (decimal rec ++ (codes " " ++ decimal column))
-csv_fault_words (csv.TextTooLong rec column) = codes "TextTooLong " ++ (decimal rec ++ (codes " " ++ decimal column))
+csv_fault_words (csv.NotInt rec column) =
+    codes "NotInt " ++ (decimal rec ++ (codes " " ++ decimal column))
+csv_fault_words (csv.TextTooLong rec column) =
+    codes "TextTooLong " ++ (decimal rec ++ (codes " " ++ decimal column))
 csv_fault_words (csv.EmptyPeriod rec) = codes "EmptyPeriod " ++ decimal rec
 csv_fault_words (csv.BatchTooLong rec) = codes "BatchTooLong " ++ decimal rec
 csv_fault_words csv.NoMemory = []
@@ -77,9 +82,12 @@ named name version rest = name ++ (codes " @" ++ (decimal version ++ rest))
 
 -- a reply: NAME @V rows N and the rows as CSV, NAME @V ok, or NAME @V ! and the fault's words
 abbrev pub body_bytes : List ℕ → ℕ → ReplyBody → List ℕ
-body_bytes name version (body.Rows answer) = named name version (codes " rows " ++ (decimal (length answer.rows) ++ codes "\n")) ++ answer_text answer
+body_bytes name version (body.Rows answer) =
+    named name version (codes " rows " ++ (decimal (length answer.rows) ++ codes "\n"))
+    ++ answer_text answer
 body_bytes name version body.Done = named name version (codes " ok\n")
-body_bytes name version (body.Refused r) = named name version (codes " ! " ++ (refusal_words r ++ codes "\n"))
+body_bytes name version (body.Refused r) =
+    named name version (codes " ! " ++ (refusal_words r ++ codes "\n"))
 
 -- the bytes of a reply of the session with the name
 abbrev pub reply_bytes : List ℕ → Reply → List ℕ

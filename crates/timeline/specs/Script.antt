@@ -3,11 +3,12 @@ use Rattle.std.specs.Prelude.{ℕ, ◌+◌, Bool, true, false, ◌&&◌, ◌||�
 use Rattle.std.specs.List.{list_all, take_while, before_first, after_first}
 use Rattle.std.specs.Str.{is_utf8}
 use Rattle.tl_types.specs.Names.{same_bytes, continues_word}
+use Rattle.tl_query.specs.Scanning.{is_blank}
 use Rattle.timeline.specs.declared.jobs.ScriptFault.{ScriptFault}
 use Rattle.timeline.specs.declared.jobs.ScriptFault.TheVariants as fault
 
--- a statement of a script: its session's name, the line that it stands on, its text, and its block where it
--- has one
+-- a statement of a script: its session's name, the line that it stands on, its text, and its block
+-- where it has one
 pub record Job : Type 0 where
   pub session : List ℕ
   pub line : ℕ
@@ -16,7 +17,7 @@ pub record Job : Type 0 where
 
 -- LINES
 
--- a byte in front of a list of lines
+-- a byte before a list of lines
 abbrev pub before_lines : ℕ → List (List ℕ) → List (List ℕ)
 before_lines b [] = (b ∷ []) ∷ []
 before_lines b (line ∷ lines) = (b ∷ line) ∷ lines
@@ -24,7 +25,8 @@ before_lines b (line ∷ lines) = (b ∷ line) ∷ lines
 -- the lines of the bytes, each with its LF; the last may lack it
 abbrev pub lines_of : List ℕ → List (List ℕ)
 lines_of [] = []
-lines_of (b ∷ bytes) = if b == 10 then (b ∷ []) ∷ lines_of bytes else before_lines b (lines_of bytes)
+lines_of (b ∷ bytes) =
+    if b == 10 then (b ∷ []) ∷ lines_of bytes else before_lines b (lines_of bytes)
 
 -- the list without its last element where that is this one
 abbrev pub without_last : ℕ → List ℕ → List ℕ
@@ -36,11 +38,7 @@ without_last b (x ∷ y ∷ xs) = x ∷ without_last b (y ∷ xs)
 abbrev pub text_of : List ℕ → List ℕ
 text_of line = without_last 13 (without_last 10 line)
 
--- a space or a tab
-abbrev pub is_blank : ℕ → Bool
-is_blank b = (b == 32) || (b == 9)
-
--- the list without the blanks at its front
+-- the list without the blanks at its start
 abbrev pub without_blanks_before : List ℕ → List ℕ
 without_blanks_before [] = []
 without_blanks_before (x ∷ xs) = if is_blank x then without_blanks_before xs else x ∷ xs
@@ -53,7 +51,7 @@ without_blanks_after (x ∷ xs) = onto (without_blanks_after xs) where
   onto [] = if is_blank x then [] else x ∷ []
   onto (y ∷ ys) = x ∷ y ∷ ys
 
--- the list without the blanks at its front and its end
+-- the list without the blanks at its start and its end
 abbrev pub trimmed : List ℕ → List ℕ
 trimmed xs = without_blanks_after (without_blanks_before xs)
 
@@ -64,7 +62,8 @@ is_passed_over (b ∷ bytes) = (b == 35) || list_all is_blank (b ∷ bytes)
 
 -- a session's name: 1 to 32 ASCII letters, digits or `_`
 abbrev pub is_session_name : List ℕ → Bool
-is_session_name name = nat_le 1 (length name) && nat_le (length name) 32 && list_all continues_word name
+is_session_name name =
+    nat_le 1 (length name) && nat_le (length name) 32 && list_all continues_word name
 
 -- the byte stands in the list
 abbrev pub stands_in : ℕ → List ℕ → Bool
@@ -75,15 +74,17 @@ stands_in b (x ∷ xs) = (x == b) || stands_in b xs
 abbrev pub statement_of : List ℕ → Option (List ℕ × List ℕ)
 statement_of text =
     if stands_in 62 text && is_session_name (before_first (λ b. b == 62) text)
-    then Some (before_first (λ b. b == 62) text, trimmed (after_first (λ b. b == 62) text)) else None
+    then Some (before_first (λ b. b == 62) text, trimmed (after_first (λ b. b == 62) text))
+    else None
 
--- the first word of a statement: the longest run of ASCII letters, digits and `_` at its front
+-- the first word of a statement: the longest run of ASCII letters, digits and `_` at its start
 abbrev pub first_word : List ℕ → List ℕ
 first_word text = take_while continues_word text
 
 -- a statement whose first word is PUT or REMOVE has a block
 abbrev pub has_block : List ℕ → Bool
-has_block text = same_bytes (first_word text) (codes "PUT") || same_bytes (first_word text) (codes "REMOVE")
+has_block text =
+    same_bytes (first_word text) (codes "PUT") || same_bytes (first_word text) (codes "REMOVE")
 
 -- the line ends a block
 abbrev pub ends_block : List ℕ → Bool
@@ -91,8 +92,8 @@ ends_block line = same_bytes (text_of line) (codes "\\.")
 
 -- FROM LINE TO LINE
 
--- outside a block, or in the block of a statement with the line and the text that it has, and the block's
--- bytes so far
+-- outside a block, or in the block of a statement with the line and the text that it has, and the
+-- block's bytes so far
 pub data Place : Type 0 where
   Outside : Place
   Inside : ℕ → List ℕ → List ℕ → Place
@@ -111,17 +112,22 @@ is_session (Some known) name = same_bytes known name
 abbrev pub after_statement : ℕ → List ℕ → List ℕ → Stand × List Job
 after_statement n name text =
     if has_block text then (record { session = Some name; place = Inside n text [] }, [])
-    else (record { session = Some name; place = Outside }, record { session = name; line = n; text = text; block = None } ∷ [])
+    else (
+      record { session = Some name; place = Outside },
+      record
+          { session = name; line = n; text = text; block = None } ∷ [],
+    )
 
 -- what a line outside a block does
 abbrev pub outside : Option (List ℕ) → ℕ → List ℕ → Result (Stand × List Job) ScriptFault
 outside session n text =
     if not (is_utf8 text) then Err (fault.NotUtf8 n)
     else (if is_passed_over text then Ok (record { session = session; place = Outside }, [])
-    else said (statement_of text)) where
-      said : Option (List ℕ × List ℕ) → Result (Stand × List Job) ScriptFault
-      said None = Err (fault.NoSession n)
-      said (Some s) = if is_session session s.0 then Ok (after_statement n s.0 s.1) else Err (fault.NoSession n)
+    else named (statement_of text)) where
+      named : Option (List ℕ × List ℕ) → Result (Stand × List Job) ScriptFault
+      named None = Err (fault.NoSession n)
+      named (Some s) =
+          if is_session session s.0 then Ok (after_statement n s.0 s.1) else Err (fault.NoSession n)
 
 -- the session's name, where it is known
 abbrev pub known_name : Option (List ℕ) → List ℕ
@@ -131,7 +137,11 @@ known_name (Some name) = name
 -- what a line inside a block does: it ends the block, or is a part of it
 abbrev pub inside : Option (List ℕ) → ℕ → List ℕ → List ℕ → List ℕ → Stand × List Job
 inside session at text block line =
-    if ends_block line then (record { session = session; place = Outside }, record { session = known_name session; line = at; text = text; block = Some block } ∷ [])
+    if ends_block line then (
+      record { session = session; place = Outside },
+      record
+          { session = known_name session; line = at; text = text; block = Some block } ∷ [],
+    )
     else (record { session = session; place = Inside at text (block ++ line) }, [])
 
 -- what the n-th line does at a stand
@@ -141,13 +151,14 @@ after_line stand n line = at stand.place where
   at Outside = outside stand.session n (text_of line)
   at (Inside begun text block) = Ok (inside stand.session begun text block line)
 
--- the jobs that a line gives, in front of those of the lines after it
+-- the jobs that a line gives, before those of the lines after it
 abbrev pub with_jobs : List Job → Result (List Job) ScriptFault → Result (List Job) ScriptFault
 with_jobs jobs (Ok more) = Ok (jobs ++ more)
 with_jobs jobs (Err e) = Err e
 
 -- a step that may fail, and what follows it
-abbrev pub and_then : {A B : Type 0} → Result A ScriptFault → (A → Result B ScriptFault) → Result B ScriptFault
+abbrev pub and_then : {A B : Type 0} → Result A ScriptFault → (A → Result B ScriptFault)
+    → Result B ScriptFault
 and_then (Ok x) f = f x
 and_then (Err e) f = Err e
 
@@ -156,12 +167,13 @@ abbrev pub at_end : Place → Result (List Job) ScriptFault
 at_end Outside = Ok []
 at_end (Inside begun text block) = Err (fault.BlockOpen begun)
 
--- the jobs of the lines from the n-th on, behind lines of so many bytes: the first fault is that of the
--- least line, and at one line the phase's length comes first
+-- the jobs of the lines from the n-th on, behind lines of so many bytes: the first fault is that of
+-- the least line, and at one line the phase's length comes first
 abbrev pub jobs_from : ℕ → Stand → ℕ → ℕ → List (List ℕ) → Result (List Job) ScriptFault
 jobs_from limit stand n size [] = at_end stand.place
 jobs_from limit stand n size (line ∷ lines) =
-    and_then (if nat_lt limit (size + length line) then Err (fault.PhaseTooLong n) else after_line stand n line)
+    and_then (if nat_lt limit (size + length line) then Err (fault.PhaseTooLong n) else after_line
+    stand n line)
     (λ s. with_jobs s.1 (jobs_from limit s.0 (n + 1) (size + length line) lines))
 
 -- the stand before the first line

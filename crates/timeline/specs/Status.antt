@@ -4,14 +4,14 @@ use Rattle.timeline.specs.declared.statuses.Status.{Status}
 use Rattle.timeline.specs.declared.statuses.Status.TheVariants as status
 
 -- the exit status
-abbrev pub number_of : Status → ℕ
-number_of status.Done = 0
-number_of status.NoMemory = 1
-number_of status.Usage = 2
-number_of (status.SourceFault faults) = 3
-number_of (status.SinkFault faults) = 4
-number_of (status.DiskFault faults) = 5
-number_of (status.ScriptFault fault) = 6
-number_of (status.NotInitialised len) = 7
-number_of (status.AlreadyInitialised len) = 8
-number_of (status.Damaged at) = 9
+abbrev pub exit_status : Status → ℕ
+exit_status status.Done = 0
+exit_status status.NoMemory = 1
+exit_status status.Usage = 2
+exit_status (status.SourceFault faults) = 3
+exit_status (status.SinkFault faults) = 4
+exit_status (status.DiskFault faults) = 5
+exit_status (status.ScriptFault fault) = 6
+exit_status (status.NotInitialised len) = 7
+exit_status (status.AlreadyInitialised len) = 8
+exit_status (status.Damaged at) = 9

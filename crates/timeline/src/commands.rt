@@ -1,9 +1,8 @@
 //! The words after the program's name.
-ghost use Rattle.std.specs.Prelude.{◌≡◌, ◌<◌, ◌^◌, IfSome, true, map};
-ghost use Rattle.std.specs.String.{string_bytes};
+ghost use Rattle.std.specs.Prelude.{◌≡◌, ◌<◌, ◌^◌, IfSome, true};
 ghost use Rattle.std.specs.Char.{is_ascii_digit};
 ghost use Rattle.std.specs.List.{list_all};
-ghost use Rattle.timeline.specs.Commands.{number_of, within, sample_of, command_of};
+ghost use Rattle.timeline.specs.Commands.{spelled_number, within, sample_of, command_of, texts_of};
 
 /// What the words ask for.
 #[derive(Clone, Copy, Debug, PartialEq, Eq)]
@@ -30,21 +29,21 @@ fn all_digits(bytes: &[u8]) -> bool
 
 // The number that digits spell, where it is below 2^64.
 #[tactic(auto, using(crate::proofs::CommandLemmas::number_parsed))]
-fn parsed(digits: &str) -> Option<u64>
+fn parse_digits(digits: &str) -> Option<u64>
     requires { list_all is_ascii_digit digits.now ≡ true }
-    ensures { result ≡ number_of digits.now }
+    ensures { result ≡ spelled_number digits.now }
 {
     digits.parse::<u64>().ok()
 }
 
 // The number below 2^64 that a word spells in digits alone.
-fn number_of(word: &str) -> Option<u64>
-    ensures { result ≡ number_of word.now }
+fn spelled_number(word: &str) -> Option<u64>
+    ensures { result ≡ spelled_number word.now }
 {
     if !all_digits(word.as_bytes()) {
         return None;
     }
-    parsed(word)
+    parse_digits(word)
 }
 
 // The number, where it lies between two bounds.
@@ -72,15 +71,19 @@ fn sample_of(lines: Option<u64>, start: Option<u64>) -> Option<Command>
 
 #[tactic(auto, using(crate::proofs::CommandLemmas::few_lines))]
 fn sample_with(lines: &str, start: &str) -> Option<Command>
-    ensures { result ≡ sample_of (within 1 1000000 (number_of lines.now)) (number_of start.now) }
+    ensures { result ≡ sample_of (within 1 1000000 (spelled_number lines.now))
+        (spelled_number start.now) }
 {
-    sample_of(within(1, MOST_LINES, number_of(lines)), number_of(start))
+    sample_of(
+        within(1, MOST_LINES, spelled_number(lines)),
+        spelled_number(start),
+    )
 }
 
-/// The command that the words are, `None` where they are none: `run`, or `sample N START` with N from 1 to
-/// 1,000,000 and START from 0 to 2^64 - 1, both spelled by ASCII digits alone.
+/// The command that the words are, `None` where they are none: `run`, or `sample N START` with N
+/// from 1 to 1,000,000 and START from 0 to 2^64 - 1, both spelled by ASCII digits alone.
 pub(crate) fn command_of(words: &[String]) -> Option<Command>
-    ensures { result ≡ command_of (map (λ w. string_bytes w) words.now) }
+    ensures { result ≡ command_of (texts_of words.now) }
 {
     match words {
         [word] if word.as_str() == "run" => Some(Command::Run),

@@ -12,8 +12,8 @@ use tl_batch::Keys;
 use tl_store::Store;
 use tl_types::{Batch, BatchFault, Commit, Limits, NoMemory};
 
-/// The commits so far, in order, with the tables that they make and the open rows of each key of these. Contracts
-/// see the list of commits.
+/// The commits so far, in order, with the tables that they make and the open rows of each key of
+/// these. Contracts see the list of commits.
 #[derive(Drop)]
 pub(crate) struct History {
     store: Store,
@@ -52,25 +52,28 @@ impl History {
         &self.store
     }
 
-    /// What a batch of this author becomes over the tables: its commit, which fits them, or its first fault. Its
-    /// rows match the schema of the table that it names, where there is one. `NoMemory` is want of memory.
+    /// What a batch of this author becomes over the tables: its commit, which fits them, or its
+    /// first fault. Its rows match the schema of the table that it names, where there is one.
+    /// A commit of rows takes them over from the batch. `NoMemory`: memory ran out.
     pub(crate) fn resolve(
         &self,
         alloc: Global,
-        batch: &Batch,
+        batch: Batch,
         author: u32,
     ) -> Result<Commit, BatchFault>
-        requires { IsTrue (batch_matches (database_of self.now) batch.now) }
-        ensures ok { IfOk result (λ c. resolved standard_limits (database_of self.now) author batch.now ≡ Ok c) }
+        requires { IsTrue (batch_matches (database_of self.now) batch) }
+        ensures ok { IfOk result (λ c. resolved standard_limits
+            (database_of self.now) author batch ≡ Ok c) }
         ensures fit { IfOk result (λ c. IsTrue (fits standard_limits (database_of self.now) c)) }
-        ensures err { IfErr result (λ e. (e ≡ batch_fault.NoMemory) ⊎ (resolved standard_limits (database_of self.now) author batch.now ≡ Err e)) }
+        ensures err { IfErr result (λ e. (e ≡ batch_fault.NoMemory)
+            ⊎ (resolved standard_limits (database_of self.now) author batch ≡ Err e)) }
     {
         let limits = Limits::standard();
         self.keys
-            .resolve(alloc, &self.store, batch, author, &limits)
+            .resolve_owned(alloc, &self.store, batch, author, &limits)
     }
 
-    /// Appends a commit that fits. The error is want of memory, and leaves the commits as they were.
+    /// Appends a commit that fits. `NoMemory` leaves the commits as they were.
     pub(crate) fn push(&mut self, alloc: Global, commit: &Commit) -> Result<(), NoMemory>
         requires { IsTrue (fits standard_limits (database_of self.old) commit.now) }
         ensures ok { OnOk result (self.new ≡ self.old ++ commit.now ∷ []) }

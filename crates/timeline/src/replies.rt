@@ -3,10 +3,10 @@ ghost use Rattle.std.specs.Prelude.{◌≡◌, ◌++◌, IfOk, OnOk};
 ghost use Rattle.std.specs.String.{string_bytes};
 ghost use Rattle.timeline.specs.Replies.{text_fault_words, check_fault_words, csv_fault_words, batch_fault_words, refusal_words, reply_bytes};
 
-use std::alloc::{AllocError, Global};
+use std::alloc::Global;
 use tl_csv::{CsvFault, answer_bytes};
 use tl_query::{CheckFault, TextFault};
-use tl_types::{Answer, BatchFault};
+use tl_types::{Answer, BatchFault, NoMemory};
 
 /// Why a statement is refused.
 #[derive(Clone, Copy, Debug, PartialEq, Eq)]
@@ -41,7 +41,7 @@ pub struct Reply {
     pub body: ReplyBody,
 }
 
-fn text_fault_words(alloc: Global, fault: &TextFault) -> Result<String, AllocError>
+fn text_fault_words(alloc: Global, fault: &TextFault) -> Result<String, NoMemory>
     ensures { IfOk result (λ text. string_bytes text ≡ text_fault_words fault.now) }
 {
     match fault {
@@ -54,7 +54,7 @@ fn text_fault_words(alloc: Global, fault: &TextFault) -> Result<String, AllocErr
     }
 }
 
-fn check_fault_words(alloc: Global, fault: &CheckFault) -> Result<String, AllocError>
+fn check_fault_words(alloc: Global, fault: &CheckFault) -> Result<String, NoMemory>
     ensures { IfOk result (λ text. string_bytes text ≡ check_fault_words fault.now) }
 {
     match fault {
@@ -71,7 +71,7 @@ fn check_fault_words(alloc: Global, fault: &CheckFault) -> Result<String, AllocE
     }
 }
 
-fn csv_fault_words(alloc: Global, fault: &CsvFault) -> Result<String, AllocError>
+fn csv_fault_words(alloc: Global, fault: &CsvFault) -> Result<String, NoMemory>
     ensures { IfOk result (λ text. string_bytes text ≡ csv_fault_words fault.now) }
 {
     match fault {
@@ -88,7 +88,7 @@ fn csv_fault_words(alloc: Global, fault: &CsvFault) -> Result<String, AllocError
     }
 }
 
-fn batch_fault_words(alloc: Global, fault: &BatchFault) -> Result<String, AllocError>
+fn batch_fault_words(alloc: Global, fault: &BatchFault) -> Result<String, NoMemory>
     ensures { IfOk result (λ text. string_bytes text ≡ batch_fault_words fault.now) }
 {
     match fault {
@@ -103,7 +103,7 @@ fn batch_fault_words(alloc: Global, fault: &BatchFault) -> Result<String, AllocE
     }
 }
 
-fn refusal_words(alloc: Global, refusal: &Refusal) -> Result<String, AllocError>
+fn refusal_words(alloc: Global, refusal: &Refusal) -> Result<String, NoMemory>
     ensures { IfOk result (λ text. string_bytes text ≡ refusal_words refusal.now) }
 {
     match refusal {
@@ -114,21 +114,21 @@ fn refusal_words(alloc: Global, refusal: &Refusal) -> Result<String, AllocError>
     }
 }
 
-fn put_text(out: &mut Vec<u8>, text: &str) -> Result<(), AllocError>
+fn put_text(out: &mut Vec<u8>, text: &str) -> Result<(), NoMemory>
     ensures { OnOk result (out.new.items ≡ out.old.items ++ text.now) }
 {
     out.extend_from_slice(text.as_bytes())?;
     Ok(())
 }
 
-/// Appends a reply of the session `name`: its line and, for a query, its rows as CSV. After an error, which is want of
-/// memory, a part of it may stand there.
+/// Appends a reply of the session `name`: its line and, for a query, its rows as CSV. After
+/// `NoMemory` a part of it may stand there.
 pub fn put_reply(
     alloc: Global,
     out: &mut Vec<u8>,
     name: &[u8],
     reply: &Reply,
-) -> Result<(), AllocError>
+) -> Result<(), NoMemory>
     ensures { OnOk result (out.new.items ≡ out.old.items ++ reply_bytes name.now reply.now) }
 {
     let version = reply.version;

@@ -2,18 +2,19 @@
 ghost use Rattle.std.specs.Prelude.{◌≡◌, ◌<◌, ◌+◌, ◌^◌, ◌++◌, [], ℕ, IfOk, OnOk, map, length, option_map};
 ghost use Rattle.std.specs.String.{string_bytes};
 ghost use Rattle.timeline.specs.Reading.{job_of};
-ghost use Rattle.timeline.specs.Play.{IsPlayed};
-ghost use Rattle.timeline.specs.Sample.{blocks_of, job_with, jobs_with, puts_from, questions_from, sample_jobs, sum_text};
+ghost use Rattle.timeline.specs.Play.{IsPlay};
+ghost use Rattle.timeline.specs.Sample.{blocks_of, job_with, jobs_with, puts_from, queries_from, sample_jobs, sum_text};
 
 use crate::jobs::Job;
-use crate::plays::played;
-use std::alloc::{AllocError, Global};
+use crate::plays::{Play, play_jobs};
+use std::alloc::Global;
 use tl_csv::Sample;
 use tl_device::Gate;
-use tl_types::Bytes;
+use tl_types::{Bytes, NoMemory};
 
-/// The blocks of a sample of so many lines, whose generator begins with `start`. The error is want of memory.
-pub(crate) fn blocks_of(alloc: Global, lines: u32, start: u64) -> Result<Vec<Bytes>, AllocError>
+/// The blocks of a sample of so many lines, whose generator begins with `start`. The error is
+/// `NoMemory`.
+pub(crate) fn blocks_of(alloc: Global, lines: u32, start: u64) -> Result<Vec<Bytes>, NoMemory>
     ensures { IfOk result (λ blocks. blocks.items ≡ blocks_of lines start) }
 {
     let mut sample = Sample::new(lines, start);
@@ -35,8 +36,8 @@ fn job_with<'a>(number: usize, text: &'a str, block: Option<&'a [u8]>) -> Job<'a
     }
 }
 
-// The question for the sums of the groups at the last version.
-fn sum_text(alloc: Global, last: usize) -> Result<String, AllocError>
+// The query for the sums of the groups at the last version.
+fn sum_text(alloc: Global, last: usize) -> Result<String, NoMemory>
     requires { last + 1 < 2 ^ 64 }
     ensures { IfOk result (λ text. string_bytes text ≡ sum_text last) }
 {
@@ -45,8 +46,9 @@ fn sum_text(alloc: Global, last: usize) -> Result<String, AllocError>
 }
 
 // Appends the jobs that put the blocks, of which the first has number 2.
-fn put_jobs<'a>(jobs: &mut Vec<Job<'a>>, blocks: &'a [Bytes]) -> Result<(), AllocError>
-    ensures { OnOk result (map job_of jobs.new.items ≡ map job_of jobs.old.items ++ puts_from 2 blocks.now) }
+fn put_jobs<'a>(jobs: &mut Vec<Job<'a>>, blocks: &'a [Bytes]) -> Result<(), NoMemory>
+    ensures { OnOk result (map job_of jobs.new.items
+        ≡ map job_of jobs.old.items ++ puts_from 2 blocks.now) }
 {
     for (i, block) in blocks.iter().enumerate() {
         jobs.push(job_with(i + 2, "PUT sample", Some(block.as_slice())))?;
@@ -54,10 +56,11 @@ fn put_jobs<'a>(jobs: &mut Vec<Job<'a>>, blocks: &'a [Bytes]) -> Result<(), Allo
     Ok(())
 }
 
-// Appends the three questions, of which the first has this number and the last has this text.
-fn ask_jobs<'a>(jobs: &mut Vec<Job<'a>>, number: usize, sums: &'a str) -> Result<(), AllocError>
+// Appends the three queries, of which the first has this number and the last has this text.
+fn ask_jobs<'a>(jobs: &mut Vec<Job<'a>>, number: usize, sums: &'a str) -> Result<(), NoMemory>
     requires { number + 2 < 2 ^ 64 }
-    ensures { OnOk result ((last : ℕ) → sums.now ≡ sum_text last → map job_of jobs.new.items ≡ map job_of jobs.old.items ++ questions_from number last) }
+    ensures { OnOk result ((last : ℕ) → sums.now ≡ sum_text last
+        → map job_of jobs.new.items ≡ map job_of jobs.old.items ++ queries_from number last) }
 {
     let least = "MIN val FROM sample OVER SYSTEM ALL";
     let greatest = "MAX val FROM sample OVER SYSTEM ALL";
@@ -72,7 +75,7 @@ fn jobs_with<'a>(
     alloc: Global,
     blocks: &'a [Bytes],
     sums: &'a str,
-) -> Result<Vec<Job<'a>>, AllocError>
+) -> Result<Vec<Job<'a>>, NoMemory>
     requires { sums.now ≡ sum_text (length blocks.now + 1) }
     ensures { IfOk result (λ jobs. map job_of jobs.items ≡ jobs_with blocks.now) }
 {
@@ -84,18 +87,19 @@ fn jobs_with<'a>(
     Ok(jobs)
 }
 
-/// The replies to the jobs of a sample of so many lines, whose generator begins with `start`, as bytes, from no
-/// commits on. The error is want of memory.
-pub(crate) fn played_sample<G: Gate>(
+/// Does the jobs of a sample of so many lines, whose generator begins with `start`, from no commits
+/// on. The error is `NoMemory`.
+pub(crate) fn play_sample<G: Gate>(
     alloc: Global,
     lines: u32,
     start: u64,
     gate: &G,
-) -> Result<Vec<u8>, AllocError>
-    ensures { IfOk result (λ bytes. IsPlayed [] (sample_jobs lines start) bytes.items) }
+) -> Result<Play, NoMemory>
+    ensures { IfOk result
+        (λ play. IsPlay [] (sample_jobs lines start) play.replies.items play.history) }
 {
     let blocks = blocks_of(alloc, lines, start)?;
     let sums = sum_text(alloc, blocks.len() + 1)?;
     let jobs = jobs_with(alloc, &blocks, sums.as_str())?;
-    played(alloc, &jobs, gate)
+    play_jobs(alloc, &jobs, gate)
 }

@@ -15,15 +15,15 @@ use std::alloc::Global;
 use texts::{is_passed_over, statement_of, text_of};
 pub(crate) use texts::{first_line, position_of, without_last};
 
-// A statement that a line says, and the session that it names.
+// A statement that a line says, with the name of its session.
 #[derive(Clone, Copy, Drop)]
-struct Said<'a> {
+struct NamedStatement<'a> {
     name: &'a [u8],
     text: &'a str,
 }
 
 #[tactic(auto, using(crate::proofs::ScriptLemmas::is_text, crate::proofs::ScriptLemmas::is_no_text))]
-fn is_utf8(bytes: &[u8]) -> bool
+pub(crate) fn is_utf8(bytes: &[u8]) -> bool
     ensures value { result ≡ is_utf8 bytes.now }
     ensures text { IsTrue result → IsUtf8 bytes.now }
 {
@@ -33,7 +33,7 @@ fn is_utf8(bytes: &[u8]) -> bool
     }
 }
 
-fn as_text(bytes: &[u8]) -> &str
+pub(crate) fn as_text(bytes: &[u8]) -> &str
     requires { IsUtf8 bytes.now }
     ensures { result.now ≡ bytes.now }
 {
@@ -53,11 +53,11 @@ fn is_session(session: Option<&[u8]>, name: &[u8]) -> bool
 }
 
 // What a line outside a block says, from its text.
-fn said_on<'a>(
+fn statement_on<'a>(
     session: Option<&[u8]>,
     line: u64,
     text: &'a [u8],
-) -> Result<Option<Said<'a>>, ScriptFault>
+) -> Result<Option<NamedStatement<'a>>, ScriptFault>
     ensures { Says (option_map (λ b. b.now) session.entry) line text.now result }
 {
     if !is_utf8(text) {
@@ -72,23 +72,23 @@ fn said_on<'a>(
     if !is_session(session, name) {
         return Err(ScriptFault::NoSession { line });
     }
-    Ok(Some(Said {
+    Ok(Some(NamedStatement {
         name,
         text: as_text(statement),
     }))
 }
 
-/// The jobs of a script, in order: each statement, with its block where it has one. They borrow from the
-/// script's bytes.
+/// The jobs of a script, in order: each statement, with its block where it has one. They borrow
+/// from the script's bytes.
 ///
-/// A script is a list of lines, numbered from 1, each ended by LF or by the end of the bytes. Outside a
-/// block a line is blank, a comment whose first byte is `#`, or a session's name, `>` and a statement; one
-/// session alone may be named. A statement whose first word is `PUT` or `REMOVE` has a block: the lines
-/// after it, up to a line `\.`.
+/// A script is a list of lines, numbered from 1, each ended by LF or by the end of the bytes.
+/// Outside a block a line is blank, a comment whose first byte is `#`, or a session's name, `>` and
+/// a statement; one session alone may be named. A statement whose first word is `PUT` or `REMOVE`
+/// has a block: the lines after it, up to a line `\.`.
 ///
-/// `limit` is the number of bytes that the lines may have. The error is want of memory, or the fault of the
-/// least line; at one line the first of `PhaseTooLong`, `NotUtf8` and `NoSession`. `BlockOpen` counts as
-/// standing after the last line.
+/// `limit` is the number of bytes that the lines may have. The error is `NoMemory`, or the fault of
+/// the least line; at one line the first of `PhaseTooLong`, `NotUtf8` and `NoSession`. `BlockOpen`
+/// counts as standing after the last line.
 pub fn read_jobs<'a>(
     alloc: Global,
     bytes: &'a [u8],
@@ -101,11 +101,11 @@ pub fn read_jobs<'a>(
     let mut session = None;
     let mut jobs = Vec::new(alloc);
     'reading: while let Some(line) = lines.next_line()? {
-        let Some(said) = said_on(session, line.number, text_of(line.bytes))? else {
+        let Some(named) = statement_on(session, line.number, text_of(line.bytes))? else {
             continue 'reading;
         };
-        session = Some(said.name);
-        jobs.push(lines.job(line.number, said.name, said.text)?)?;
+        session = Some(named.name);
+        jobs.push(lines.job(line.number, named.name, named.text)?)?;
     }
     Ok(jobs)
 }

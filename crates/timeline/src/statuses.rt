@@ -22,7 +22,8 @@ pub enum Status {
         /// The count.
         faults: u64,
     },
-    /// The disk failed. `faults` is its count of faults, which rose in this call. It does not come yet.
+    /// The disk failed. `faults` is its count of faults, which rose in this call. It does not come
+    /// yet.
     DiskFault {
         /// The count.
         faults: u64,
@@ -47,11 +48,11 @@ pub enum Status {
 }
 
 impl Status {
-    ghost use Rattle.timeline.specs.Status.{number_of};
+    ghost use Rattle.timeline.specs.Status.{exit_status};
 
     /// The program's exit status: 0 for `Done`, and so on in order.
     pub fn number(&self) -> u8
-        ensures { result ≡ number_of self.now }
+        ensures { result ≡ exit_status self.now }
     {
         match self {
             Status::Done => 0,

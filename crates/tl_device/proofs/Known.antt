@@ -3,7 +3,7 @@ use Rattle.std.proofs.Common.{◌≡◌, ◌↔◌, ℕ, ◌+◌, ◌≤◌, Lis
 use Rattle.std.proofs.Math.Seq.{take-append_seam}
 use Rattle.tl_device.specs.Known.{prepend_known, append_known, HasRoom, spend_room, Rose}
 
--- no byte in front changes nothing
+-- no byte before them changes nothing
 pub prepend_none : (known : Option (List ℕ)) → prepend_known [] known ≡ known
 prepend_none None = refl
 prepend_none (Some bytes) = refl
@@ -74,9 +74,9 @@ pub read_more : (first before after : Option (List ℕ)) (bytes taken newer : Li
 read_more first before after bytes taken newer so_far more joined =
     so_far ∙ ap (prepend_known bytes) more ∙ sym (prepend_both bytes taken after) ∙ ap (λ xs. prepend_known xs after) (sym joined)
 
--- a list is the front of what it begins
-pub whole_front : (n : ℕ) (xs ys : List ℕ) → length xs ≡ n → take n (xs ++ ys) ≡ xs
-whole_front n xs ys same = ap (λ k. take k (xs ++ ys)) (sym same) ∙ take-append_seam xs ys
+-- a list is a prefix of what it begins
+pub whole_prefix : (n : ℕ) (xs ys : List ℕ) → length xs ≡ n → take n (xs ++ ys) ≡ xs
+whole_prefix n xs ys same = ap (λ k. take k (xs ++ ys)) (sym same) ∙ take-append_seam xs ys
 
 -- a read that takes nothing leaves what was taken before it
 pub taken_all : (first before after : Option (List ℕ)) (bytes into : List ℕ) (n : ℕ) → n ≡ 0 → first ≡ prepend_known bytes before → before ≡ prepend_known (take n into) after → first ≡ prepend_known bytes after

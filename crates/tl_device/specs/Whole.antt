@@ -4,11 +4,12 @@ use Rattle.tl_device.specs.declared.whole.ReadError.{ReadError}
 use Rattle.tl_device.specs.declared.whole.ReadError.TheVariants.{NoMemory, Source}
 use Rattle.tl_device.specs.Known.{Rose}
 
--- want of memory leaves the count of faults, and a fault of the source raised it to the count that it hands on
+-- being out of memory leaves the count of faults; a fault of the source raised it to the count that
+-- it hands on
 abbrev pub ReadFaults : ReadError → ℕ → ℕ → Type 0
 ReadFaults NoMemory before now = now ≡ before
 ReadFaults (Source faults) before now = (faults ≡ now) × Rose before now
 
 -- more than so many bytes were read, or none is left
-abbrev pub IsFront : ℕ → List ℕ → Option (List ℕ) → Type 0
-IsFront most bytes left = (most < length bytes) ⊎ IfSome left (λ rest. rest ≡ [])
+abbrev pub IsRead : ℕ → List ℕ → Option (List ℕ) → Type 0
+IsRead most bytes left = (most < length bytes) ⊎ IfSome left (λ rest. rest ≡ [])

@@ -10,8 +10,8 @@ use crate::written::Written;
 use std::alloc::Global;
 use std::marker::Model;
 
-/// A sink in memory with a list of the numbers of the calls that are to fail. Contracts see the bytes written, the
-/// room that is left, and the calls.
+/// A sink in memory with a list of the numbers of the calls that are to fail. Contracts see the
+/// bytes written, the room that is left, and the calls.
 #[derive(Debug, Drop)]
 pub struct MemorySink {
     written: Written,
@@ -23,12 +23,13 @@ impl Model for MemorySink {
 
     ghost Value = { plain.MemorySink };
 
-    ghost view = { λ s. record { bytes = s.written.bytes; spare = s.written.spare; calls = s.calls } };
+    ghost view = { λ s.
+        record { bytes = s.written.bytes; spare = s.written.spare; calls = s.calls } };
 }
 
 impl MemorySink {
-    /// A sink with no byte written and no room. `failing` holds the numbers of the calls that fail, counted from 1;
-    /// `room` is not counted.
+    /// A sink with no byte written and no room. `failing` holds the numbers of the calls that fail,
+    /// counted from 1; `room` is not counted.
     pub fn new(alloc: Global, failing: Vec<u64>) -> MemorySink
         ensures bytes { result.bytes ≡ [] }
         ensures spare { result.spare ≡ 0 }
@@ -57,7 +58,8 @@ impl Sink for MemorySink {
 
     ghost faults = { λ s. s.calls.faults };
 
-    /// Appends the whole of `from`. It fails exactly where the number of this call is among those that are to fail.
+    /// Appends the whole of `from`. It fails exactly where the number of this call is among those
+    /// that are to fail.
     fn write(&mut self, from: &[u8]) -> Result<usize, Failed>
         requires { length from.now ≤ self.old.spare }
         ensures whole { IfOk result (λ n. n ≡ length from.now) }
@@ -77,6 +79,7 @@ impl Sink for MemorySink {
     }
 
     /// Makes room for `bytes` bytes more, and keeps the room that there is.
+    /// `NoMemory`: memory ran out, and nothing has changed.
     fn room(&mut self, bytes: u64) -> Result<(), NoMemory>
         ensures bytes { self.new.bytes ≡ self.old.bytes }
         ensures ok { OnOk result (self.new.spare ≡ max self.old.spare bytes) }

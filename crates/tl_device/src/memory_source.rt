@@ -9,8 +9,8 @@ use crate::source::Source;
 use crate::unread::Unread;
 use std::marker::Model;
 
-/// A source in memory with a list of the numbers of the calls that are to fail. Contracts see the bytes left, the
-/// most that one read gives, and the calls.
+/// A source in memory with a list of the numbers of the calls that are to fail. Contracts see the
+/// bytes left, the most that one read gives, and the calls.
 #[derive(Debug, Drop)]
 pub struct MemorySource {
     unread: Unread,
@@ -30,7 +30,8 @@ impl Model for MemorySource {
 }
 
 impl MemorySource {
-    /// A source that has these bytes left. `failing` holds the numbers of the calls that fail, counted from 1.
+    /// A source that has these bytes left. `failing` holds the numbers of the calls that fail,
+    /// counted from 1.
     pub fn new(bytes: Vec<u8>, failing: Vec<u64>) -> MemorySource
         ensures left { result.left ≡ bytes.items }
         ensures most { result.most ≡ 2 ^ 64 - 1 }
@@ -41,8 +42,8 @@ impl MemorySource {
         MemorySource::in_pieces(bytes, failing, usize::MAX)
     }
 
-    /// A source that has these bytes left and gives at most `most` of them in one read. `failing` holds the numbers
-    /// of the calls that fail, counted from 1.
+    /// A source that has these bytes left and gives at most `most` of them in one read. `failing`
+    /// holds the numbers of the calls that fail, counted from 1.
     pub fn in_pieces(bytes: Vec<u8>, failing: Vec<u64>, most: usize) -> MemorySource
         requires { 0 < most }
         ensures left { result.left ≡ bytes.items }
@@ -64,10 +65,11 @@ impl Source for MemorySource {
 
     ghost faults = { λ s. s.calls.faults };
 
-    /// Moves as many bytes as are left, as `into` has room for and as one read gives. It fails exactly where the
-    /// number of this call is among those that are to fail.
+    /// Moves as many bytes as are left, as `into` has room for and as one read gives. It fails
+    /// exactly where the number of this call is among those that are to fail.
     fn read(&mut self, into: &mut [u8]) -> Result<usize, Failed>
-        ensures number { IfOk result (λ n. n ≡ min (min (length self.old.left) (length into.old)) self.old.most) }
+        ensures number { IfOk result (λ n. n ≡ min (min (length self.old.left)
+            (length into.old)) self.old.most) }
         ensures end { IfOk result (λ n. 0 < length into.old → (n ≡ 0) ↔ (self.old.left ≡ [])) }
         ensures moved { IfOk result (λ n. into.new ≡ take n self.old.left ++ drop n into.old) }
         ensures rest { IfOk result (λ n. self.new.left ≡ drop n self.old.left) }

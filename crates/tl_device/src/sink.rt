@@ -16,14 +16,16 @@ pub trait Sink {
     // The count of faults so far.
     ghost faults: { Self → ℕ };
 
-    /// Appends the front of `from`, and answers its length in bytes, which is above 0 unless `from` is empty. The
-    /// room falls by that. It takes no memory: `from` is not longer than the room that is left.
-    /// `Failed` appends nothing, and comes only where the count of faults rose in this call.
+    /// Appends a prefix of `from`, and answers its length in bytes, which is above 0 unless `from`
+    /// is empty. The room falls by that. It takes no memory: `from` is not longer than the room
+    /// that is left. `Failed` appends nothing, and comes only where the count of faults rose in
+    /// this call.
     fn write(&mut self, from: &[u8]) -> Result<usize, Failed>
         requires { HasRoom (spare self.old) (length from.now) }
         ensures bound { IfOk result (λ n. n ≤ length from.now) }
         ensures some { IfOk result (λ n. 0 < length from.now → 0 < n) }
-        ensures appended { IfOk result (λ n. written self.new ≡ append_known (written self.old) (take n from.now)) }
+        ensures appended { IfOk result (λ n. written self.new
+            ≡ append_known (written self.old) (take n from.now)) }
         ensures spent { IfOk result (λ n. spare self.new ≡ spend_room (spare self.old) n) }
         ensures sure { OnOk result (faults self.new ≡ faults self.old) }
         ensures unwritten { OnErr result (written self.new ≡ written self.old) }
@@ -31,7 +33,7 @@ pub trait Sink {
         ensures rose { OnErr result (Rose (faults self.old) (faults self.new)) };
 
     /// Makes the sink ready to take `bytes` bytes more.
-    /// `NoMemory` is for want of memory, and changes nothing.
+    /// `NoMemory`: memory ran out, and nothing has changed.
     fn room(&mut self, bytes: u64) -> Result<(), NoMemory>
         ensures ready { OnOk result (HasRoom (spare self.new) bytes) }
         ensures refused { OnErr result (spare self.new ≡ spare self.old) }

@@ -60,6 +60,7 @@ impl Sink for SureSink {
     }
 
     /// Makes room for `bytes` bytes more, and keeps the room that there is.
+    /// `NoMemory`: memory ran out, and nothing has changed.
     fn room(&mut self, bytes: u64) -> Result<(), NoMemory>
         ensures bytes { self.new.bytes ≡ self.old.bytes }
         ensures ok { OnOk result (self.new.spare ≡ max self.old.spare bytes) }

@@ -6,23 +6,13 @@ use std::io;
 use std::io::{ErrorKind, Read, Write};
 use std::test::Fail;
 
-// A reader and writer that fails.
+// A reader that fails.
 #[derive(Drop)]
 struct Broken;
 
 impl Read for Broken {
     fn read(&mut self, _buf: &mut [u8]) -> io::Result<usize> {
         Err(io::Error::from(ErrorKind::Other))
-    }
-}
-
-impl Write for Broken {
-    fn write(&mut self, _buf: &[u8]) -> io::Result<usize> {
-        Err(io::Error::from(ErrorKind::Other))
-    }
-
-    fn flush(&mut self) -> io::Result<()> {
-        Ok(())
     }
 }
 
@@ -54,32 +44,6 @@ impl Write for Unflushed {
     }
 }
 
-// Why a copy ended early.
-#[derive(Debug, Drop)]
-enum CopyError {
-    NoMemory,
-    Source,
-    Sink,
-}
-
-// Writes all that the source has left: a caller that knows no form.
-fn copy_all<S: Source, K: Sink>(
-    alloc: Global,
-    source: &mut S,
-    sink: &mut K,
-) -> Result<(), CopyError> {
-    let Ok(bytes) = read_front(alloc, source, u64::MAX) else {
-        return Err(CopyError::Source);
-    };
-    let Ok(()) = sink.room(bytes.len() as u64) else {
-        return Err(CopyError::NoMemory);
-    };
-    let Ok(()) = write_all(sink, &bytes) else {
-        return Err(CopyError::Sink);
-    };
-    Ok(())
-}
-
 // Passes a gate of any form.
 fn pass_both<G: Gate>(gate: &G) {
     gate.pass(Place::Statement(1));
@@ -88,7 +52,7 @@ fn pass_both<G: Gate>(gate: &G) {
 
 // What reading to the end answers.
 fn taken<S: Source>(alloc: Global, source: &mut S) -> Result<Vec<u8>, ReadError> {
-    read_front(alloc, source, u64::MAX)
+    read_prefix(alloc, source, u64::MAX)
 }
 
 // Whether the sink took all of `from`, for which room is made first.
@@ -98,11 +62,12 @@ fn took<K: Sink>(sink: &mut K, from: &[u8]) -> Result<bool, NoMemory> {
 }
 
 #[test]
-fn a_sure_source_is_read_to_its_end(rt: HostRuntime) -> Result<(), Fail> {
+fn a_copy_knows_no_form(rt: HostRuntime) -> Result<(), Fail> {
     let alloc = rt.alloc();
-    let mut source = SureSource::new(vec![in alloc; 1, 2, 3]?);
-    assert_eq!(rt; taken(alloc, &mut source)?.as_slice(), [1, 2, 3].as_slice());
-    assert_eq!(rt; source.faults(), 0);
+    let mut sink = SureSink::none(alloc);
+    let bytes = taken(alloc, &mut SureSource::new(vec![in alloc; 7, 8]?))?;
+    assert!(rt; took(&mut sink, &bytes)?);
+    assert_eq!(rt; sink.bytes(), [7, 8].as_slice());
     Ok(())
 }
 
@@ -120,22 +85,6 @@ fn a_planned_read_fails_once(rt: HostRuntime) -> Result<(), Fail> {
 }
 
 #[test]
-fn a_source_without_planned_faults_is_read_whole(rt: HostRuntime) -> Result<(), Fail> {
-    let alloc = rt.alloc();
-    let mut source = MemorySource::new(vec![in alloc; 1, 2, 3]?, Vec::new(alloc));
-    assert_eq!(rt; taken(alloc, &mut source)?.as_slice(), [1, 2, 3].as_slice());
-    Ok(())
-}
-
-#[test]
-fn a_sure_sink_keeps_what_was_written(rt: HostRuntime) -> Result<(), Fail> {
-    let mut sink = SureSink::none(rt.alloc());
-    assert!(rt; took(&mut sink, b"abc")?);
-    assert_eq!(rt; sink.bytes(), b"abc".as_slice());
-    Ok(())
-}
-
-#[test]
 fn a_planned_write_fails_once(rt: HostRuntime) -> Result<(), Fail> {
     let alloc = rt.alloc();
     let mut sink = MemorySink::new(alloc, vec![in alloc; 2]?);
@@ -147,30 +96,14 @@ fn a_planned_write_fails_once(rt: HostRuntime) -> Result<(), Fail> {
 }
 
 #[test]
-fn a_copy_knows_no_form(rt: HostRuntime) -> Result<(), Fail> {
-    let alloc = rt.alloc();
-    let mut sink = SureSink::none(alloc);
-    copy_all(
-        alloc,
-        &mut SureSource::new(vec![in alloc; 7, 8]?),
-        &mut sink,
-    )?;
-    assert_eq!(rt; sink.bytes(), [7, 8].as_slice());
-    Ok(())
-}
-
-#[test]
 fn a_reader_of_std_is_a_source(rt: HostRuntime) -> Result<(), Fail> {
     let alloc = rt.alloc();
     let mut source = RealSource::new(b"hello".as_slice());
     assert_eq!(rt; taken(alloc, &mut source)?.as_slice(), b"hello".as_slice());
-    let mut broken = RealSource::new(Broken);
-    for faults in 1..4 {
-        assert_eq!(rt;
-            taken(alloc, &mut broken).err(),
-            Some(ReadError::Source { faults })
-        );
-    }
+    assert_eq!(rt;
+        taken(alloc, &mut RealSource::new(Broken)).err(),
+        Some(ReadError::Source { faults: 1 })
+    );
     Ok(())
 }
 
@@ -179,25 +112,10 @@ fn a_writer_of_std_is_a_sink(rt: HostRuntime) -> Result<(), Fail> {
     let mut out = Vec::new(rt.alloc());
     assert!(rt; took(&mut RealSink::new(&mut out), b"hello")?);
     assert_eq!(rt; out.as_slice(), b"hello".as_slice());
-    Ok(())
-}
-
-#[test]
-fn a_writer_that_fails_is_a_fault(rt: HostRuntime) -> Result<(), Fail> {
-    let mut broken = RealSink::new(Broken);
-    assert!(rt; !took(&mut broken, b"hello")?);
-    assert!(rt; !took(&mut broken, b"hello")?);
-    assert_eq!(rt; broken.faults(), 2);
-    Ok(())
-}
-
-#[test]
-fn a_writer_that_takes_or_flushes_nothing_is_a_fault(rt: HostRuntime) -> Result<(), Fail> {
     let mut full = RealSink::new(Full);
     assert!(rt; !took(&mut full, b"hello")?);
     assert_eq!(rt; full.faults(), 1);
-    let mut unflushed = RealSink::new(Unflushed);
-    assert!(rt; !took(&mut unflushed, b"hello")?);
+    assert!(rt; !took(&mut RealSink::new(Unflushed), b"hello")?);
     Ok(())
 }
 

@@ -1,4 +1,4 @@
-// Bytes in memory that are read from the front.
+// Bytes in memory that are read in order.
 ghost use Rattle.std.specs.Prelude.{◌≡◌, ℕ, ◌≤◌, ◌++◌, List, length, take, drop, min, vec_len};
 
 use std::marker::Model;
@@ -26,8 +26,8 @@ impl Unread {
         Unread { bytes, place: 0 }
     }
 
-    /// Moves the next bytes into the front of `into`, and answers their number: as many as are left, as it has room
-    /// for, and as `most` allows.
+    /// Moves the next bytes into a prefix of `into`, and answers their number: as many as are left,
+    /// as it has room for, and as `most` allows.
     pub fn read(&mut self, into: &mut [u8], most: usize) -> usize
         ensures number { result ≡ min (min (length self.old) (length into.old)) most }
         ensures moved { into.new ≡ take result self.old ++ drop result into.old }

@@ -1,7 +1,7 @@
 // Reading up to a bound or the end of input, and writing the whole of a text.
 ghost use Rattle.std.specs.Prelude.{◌≡◌, ℕ, ◌+◌, ◌≤◌, [], length, take, IfOk, OnOk, IfErr, OnErr, vec_len};
-ghost use Rattle.tl_device.specs.Known.{prepend_known, append_known, spend_room, HasRoom, Rose, TakesFront};
-ghost use Rattle.tl_device.specs.Whole.{ReadFaults, IsFront};
+ghost use Rattle.tl_device.specs.Known.{prepend_known, append_known, spend_room, HasRoom, Rose, TakesPrefix};
+ghost use Rattle.tl_device.specs.Whole.{ReadFaults, IsRead};
 
 use crate::failed::{Failed, NoMemory};
 use crate::sink::Sink;
@@ -37,16 +37,21 @@ fn zeros(alloc: Global, number: usize) -> Result<Vec<u8>, NoMemory>
     Ok(vec![in alloc; 0u8; number]?)
 }
 
-/// Reads to the end of input, or until more than `most` bytes are there. It answers all the bytes that it took, at
-/// most 65,536 more than `most`.
-/// `NoMemory` is for want of memory; `Source` is the source's fault, with its count of faults, which rose in this
-/// call. Both leave the source with some front of its bytes taken.
-pub fn read_front<S: Source>(alloc: Global, source: &mut S, most: u64) -> Result<Vec<u8>, ReadError>
-    ensures taken { IfOk result (λ bytes. S.left source.old ≡ prepend_known bytes.items (S.left source.new)) }
-    ensures end { IfOk result (λ bytes. IsFront most bytes.items (S.left source.new)) }
+/// Reads to the end of input, or until more than `most` bytes are there. It answers all the bytes
+/// that it took, at most 65,536 more than `most`. `NoMemory`: memory ran out. `Source`: the source
+/// failed; its count of faults, which rose in this call, is handed on. Both leave the source with
+/// some prefix of its bytes taken.
+pub fn read_prefix<S: Source>(
+    alloc: Global,
+    source: &mut S,
+    most: u64,
+) -> Result<Vec<u8>, ReadError>
+    ensures taken { IfOk result (λ bytes. S.left source.old
+        ≡ prepend_known bytes.items (S.left source.new)) }
+    ensures end { IfOk result (λ bytes. IsRead most bytes.items (S.left source.new)) }
     ensures bound { IfOk result (λ bytes. vec_len bytes ≤ most + 65536) }
     ensures sure { OnOk result (S.faults source.new ≡ S.faults source.old) }
-    ensures front { OnErr result (TakesFront (S.left source.old) (S.left source.new)) }
+    ensures prefix { OnErr result (TakesPrefix (S.left source.old) (S.left source.new)) }
     ensures faults { IfErr result (λ e. ReadFaults e (S.faults source.old) (S.faults source.new)) }
 {
     let mut piece = zeros(alloc, PIECE)?;
@@ -65,14 +70,16 @@ pub fn read_front<S: Source>(alloc: Global, source: &mut S, most: u64) -> Result
     Ok(bytes)
 }
 
-/// Writes the whole of `from`, for which the sink has room. The room falls by its length.
-/// `Failed` is the sink's fault: its count of faults rose in this call, and some front of `from` was written.
+/// Writes the whole of `from`, for which the sink has room. The room falls by its length. `Failed`:
+/// the sink failed; its count of faults rose in this call, and some prefix of `from` was written.
 pub fn write_all<K: Sink>(sink: &mut K, from: &[u8]) -> Result<(), Failed>
     requires { HasRoom (K.spare sink.old) (length from.now) }
-    ensures appended { OnOk result (K.written sink.new ≡ append_known (K.written sink.old) from.now) }
-    ensures spent { OnOk result (K.spare sink.new ≡ spend_room (K.spare sink.old) (length from.now)) }
+    ensures appended { OnOk result (K.written sink.new
+        ≡ append_known (K.written sink.old) from.now) }
+    ensures spent { OnOk result (K.spare sink.new ≡ spend_room (K.spare sink.old)
+        (length from.now)) }
     ensures sure { OnOk result (K.faults sink.new ≡ K.faults sink.old) }
-    ensures front { OnErr result ((n : ℕ) × (n ≤ length from.now)
+    ensures prefix { OnErr result ((n : ℕ) × (n ≤ length from.now)
         × (K.written sink.new ≡ append_known (K.written sink.old) (take n from.now))
         × (K.spare sink.new ≡ spend_room (K.spare sink.old) n)) }
     ensures rose { OnErr result (Rose (K.faults sink.old) (K.faults sink.new)) }

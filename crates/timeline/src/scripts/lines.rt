@@ -11,8 +11,8 @@ pub(super) struct Line<'a> {
     pub bytes: &'a [u8],
 }
 
-// The lines that are left: their bytes, the number of the next one, the bytes of those before it, and how
-// many bytes there may be.
+// The lines that are left: their bytes, the number of the next one, the bytes of those before it,
+// and how many bytes there may be.
 #[derive(Drop)]
 pub(super) struct Lines<'a> {
     pub rest: &'a [u8],
@@ -26,7 +26,8 @@ pub(super) struct Lines<'a> {
 impl<'a> Lines<'a> {
     ghost use Rattle.timeline.specs.Reading.{TakesLine, TakesBlock, TakesJob};
 
-    /// The lines of these bytes, from the first, numbered 1, on; `limit` is how many bytes of them there may be.
+    /// The lines of these bytes, from the first, numbered 1, on; `limit` is how many bytes of them
+    /// there may be.
     pub fn new(bytes: &'a [u8], limit: u64) -> Lines<'a>
         ensures rest { result.rest.now ≡ bytes.now }
         ensures number { result.number ≡ 1 }
@@ -44,8 +45,10 @@ impl<'a> Lines<'a> {
     /// The next line, or None at the end.
     pub fn next_line(&mut self) -> Result<Option<Line<'a>>, ScriptFault>
         ensures taken { TakesLine self.old result self.new }
-        ensures split { IfOk result (λ found. IfSome found (λ line. self.old.rest.now ≡ line.bytes.now ++ self.new.rest.now)) }
-        ensures shorter { IfOk result (λ found. IfSome found (λ _. length self.new.rest.now < length self.old.rest.now)) }
+        ensures split { IfOk result (λ found. IfSome found
+            (λ line. self.old.rest.now ≡ line.bytes.now ++ self.new.rest.now)) }
+        ensures shorter { IfOk result (λ found. IfSome found
+            (λ _. length self.new.rest.now < length self.old.rest.now)) }
     {
         if self.rest.is_empty() {
             return Ok(None);

@@ -1,7 +1,8 @@
 //! The lines of a script, and what one line says.
 ghost use Rattle.std.specs.Prelude.{◌≡◌, ◌<◌, ◌++◌, ◌∷◌, ◌==◌, length, position, not, MatchOption, IsUtf8, Some, None};
 ghost use Rattle.std.specs.List.{list_all};
-ghost use Rattle.timeline.specs.Script.{lines_of, without_last, text_of, is_blank, without_blanks_before, without_blanks_after, trimmed, is_passed_over, is_session_name, statement_of, first_word, has_block, ends_block};
+ghost use Rattle.timeline.specs.Script.{lines_of, without_last, text_of, without_blanks_before, without_blanks_after, trimmed, is_passed_over, is_session_name, statement_of, first_word, has_block, ends_block};
+ghost use Rattle.tl_query.specs.Scanning.{is_blank};
 ghost use Rattle.tl_types.specs.Names.{continues_word};
 
 use tl_types::continues_word;
@@ -16,7 +17,8 @@ pub(crate) fn position_of(bytes: &[u8], byte: u8) -> Option<usize>
 #[tactic(auto, using(crate::proofs::ScriptLemmas::first_line_found, crate::proofs::ScriptLemmas::last_line))]
 pub(crate) fn first_line(bytes: &[u8]) -> (&[u8], &[u8])
     ensures joined { bytes.now ≡ result.0.now ++ result.1.now }
-    ensures line { 0 < length bytes.now → lines_of bytes.now ≡ result.0.now ∷ lines_of result.1.now }
+    ensures line { 0 < length bytes.now → lines_of bytes.now
+        ≡ result.0.now ∷ lines_of result.1.now }
     ensures some { 0 < length bytes.now → 0 < length result.0.now }
 {
     match position_of(bytes, b'\n') {
@@ -31,7 +33,7 @@ pub(crate) fn without_last(line: &[u8], byte: u8) -> &[u8]
     ensures { result.now ≡ without_last byte line.now }
 {
     match line.split_last() {
-        Some((last, front)) if *last == byte => front,
+        Some((last, prefix)) if *last == byte => prefix,
         _ => line,
     }
 }
@@ -70,17 +72,17 @@ fn without_blanks_before(bytes: &[u8]) -> &[u8]
     kept
 }
 
-#[tactic(auto, using(crate::proofs::ScriptLemmas::drops_blank_after, crate::proofs::ScriptLemmas::keeps_after, crate::proofs::ScriptLemmas::utf8_front))]
+#[tactic(auto, using(crate::proofs::ScriptLemmas::drops_blank_after, crate::proofs::ScriptLemmas::keeps_after, crate::proofs::ScriptLemmas::utf8_prefix))]
 fn without_blanks_after(bytes: &[u8]) -> &[u8]
     ensures kept { result.now ≡ without_blanks_after bytes.now }
     ensures utf8 { IsUtf8 bytes.now → IsUtf8 result.now }
 {
     let mut kept = bytes;
-    while let Some((last, front)) = kept.split_last() {
+    while let Some((last, prefix)) = kept.split_last() {
         if !is_blank(*last) {
             break;
         }
-        kept = front;
+        kept = prefix;
     }
     kept
 }
@@ -117,7 +119,8 @@ fn is_session_name(name: &[u8]) -> bool
 // What a line says: the name of its session, and its statement.
 #[tactic(auto, using(crate::proofs::ScriptLemmas::stands_in_by_position))]
 pub(super) fn statement_of(text: &[u8]) -> Option<(&[u8], &[u8])>
-    ensures said { MatchOption result (statement_of text.now ≡ None) (λ s. statement_of text.now ≡ Some (s.0.now, s.1.now)) }
+    ensures said { MatchOption result (statement_of text.now ≡ None)
+        (λ s. statement_of text.now ≡ Some (s.0.now, s.1.now)) }
     ensures utf8 { IsUtf8 text.now → MatchOption result Unit (λ s. IsUtf8 s.1.now) }
 {
     let (name, rest) = text.split_at(position_of(text, b'>')?);

@@ -1,6 +1,7 @@
 use Rattle.std.proofs.Common.{Ok, Err, sym}
 use Rattle.tl_types.specs.History.{database_of}
-use Rattle.timeline.proofs.PlayLemmas.{table_found, lent_load, lent_fits}
+use Rattle.tl_types.proofs.FoundTables.{table_found}
+use Rattle.timeline.proofs.PlayLemmas.{lent_load, lent_fits}
 use Rattle.timeline.proofs.outcomes.load.Goals as goal
 
 pub schema-schema-requires : goal.schema-schema-requires
@@ -18,4 +19,4 @@ returns-in-Ok-clause-turn c =
 pub returns-in_ok-csv_refusal-in-Err-clause-turn : goal.returns-in_ok-csv_refusal-in-Err-clause-turn
 returns-in_ok-csv_refusal-in-Err-clause-turn c =
     let none = lent_load c.args.history.now c.store-store.result.now c.args.name.now.text c.args.kind c.args.block.now c.in-Some.number c.schema-schema.result.now c.standard-limits.result (Err c.in-Err.fault) c.store-store.ensures c.standard-limits.ensures (rw c.as_str.ensures.bytes at (sym c.in-Some.ensures)) c.schema-schema.ensures.value (c.in-Err.ensures.fault c.in_ok-csv_refusal-in-Err.ensures.told) in
-    rw (c.refused-in-Err.ensures, c.versions-in-Err.ensures.number, c.in_ok-csv_refusal-in-Err.ensures.why, c.store-store.ensures) (sym none)
+    rw (c.refuse-in-Err.ensures, c.versions-in-Err.ensures.number, c.in_ok-csv_refusal-in-Err.ensures.why, c.store-store.ensures) (sym none)

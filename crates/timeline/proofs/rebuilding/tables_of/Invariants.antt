@@ -1,4 +1,4 @@
 use Rattle.timeline.proofs.rebuilding.tables_of.Given as goal
 
-abbrev pub ghosts-applied : goal.ghosts-applied
-ghosts-applied a = record { name = a.blank.name; parts = a.blank.parts }
+abbrev pub ghosts-apply_all : goal.ghosts-apply_all
+ghosts-apply_all a = record { name = a.blank.name; parts = a.blank.parts }

@@ -1,4 +1,4 @@
-use Rattle.std.proofs.Common.{◌∙◌, arith, sym, ap, Some, refl, map, codes, ◌+◌}
+use Rattle.std.proofs.Common.{◌∙◌, ap, Some, map, codes, ◌+◌}
 use Rattle.timeline.specs.Reading.{job_of}
 use Rattle.timeline.specs.Sample.{job_with}
 use Rattle.timeline.proofs.SampleLemmas.{put_more, puts_end}

@@ -13,15 +13,15 @@ reading-smaller c =
 pub reading-preserved : goal.reading-preserved
 reading-preserved c =
     let taken = rw c.in-Some.is at c.in_ok-line.ensures.taken in
-    let said = rw c.in-Some-2.is at c.in_ok-said.ensures in
+    let named = rw c.in-Some-2.is at c.in_ok-named.ensures in
     let job = c.in_ok-job.ensures.taken in
     let session = option_map (λ b. b.now) c.reading.session in
     let left = jobs_ahead c.next_line.new.self in
     let line = c.in-Some.line in
-    let says = ap (outside session line.number) (sym c.text_of.ensures) ∙ said in
+    let says = ap (outside session line.number) (sym c.text_of.ensures) ∙ named in
     let jobs = map job_of c.reading.jobs.items in
     let more = map-append job_of c.reading.jobs.items (c.in_ok-job.field-0 ∷ []) in
     let with_it = taken (outside_of c.reading.session) ∙ ap (λ r. and_then r (λ s. with_jobs s.1 (left s.0))) says in
-    let rest = jobs_ahead c.job.new.self (record { session = Some c.in-Some-2.said.name.now; place = Outside }) in
+    let rest = jobs_ahead c.job.new.self (record { session = Some c.in-Some-2.named.name.now; place = Outside }) in
     let one = one_more_job jobs (job_of c.in_ok-job.field-0) _ _ _ rest c.reading.invariant with_it job in
     ap (λ items. with_jobs (map job_of items) rest) c.in_ok-push.ensures.items ∙ (ap (λ jobs. with_jobs jobs rest) more ∙ one)

@@ -21,7 +21,8 @@ activation id = record { row = id; opens = true }
 -- the events of a version: the rows that end, then those that begin, each by ascending id
 abbrev pub events_at : List plain.Row → ℕ → List Event
 events_at rows version =
-    map invalidation (ids_where (λ row. row.to == version) rows) ++ map activation (ids_where (λ row. row.from == version) rows)
+    map invalidation (ids_where (λ row. row.to == version) rows)
+    ++ map activation (ids_where (λ row. row.from == version) rows)
 
 -- the events of the versions from 1 up to one, in order
 abbrev pub events_of : List plain.Row → ℕ → List Event

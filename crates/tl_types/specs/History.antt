@@ -51,7 +51,10 @@ new_table schema = record { schema = schema; floor = 0; rows = [] }
 -- others
 abbrev pub table_after : ℕ → plain.Change → plain.Table → plain.Table
 table_after version change table =
-    record table { rows = map (row_after version change.closes) (with_ids table.rows) ++ map (new_row version) change.opens }
+    record table {
+      rows = map (row_after version change.closes) (with_ids table.rows)
+          ++ map (new_row version) change.opens;
+    }
 
 -- the list with what stands at a place replaced by its image
 abbrev pub at_place : {X : Type 0} → ℕ → (X → X) → List X → List X

@@ -43,11 +43,14 @@ affects schema line working =
     same_key (slice_get working.row.cells schema.key) line.key
     && (not schema.valid || overlap working.row.period line.period)
 
+-- old cells over a period, as a row of the working list that has no id yet
+abbrev pub over_period : List Cell → plain.Period → WorkingRow
+over_period cells period = record { id = None; row = record { cells = cells; period = Some period } }
+
 -- the old cells over a part of the old period, where that part is not empty
 abbrev pub remainder : List Cell → ℤ → ℤ → List WorkingRow
 remainder cells from to =
-    if int_lt from to then record { id = None; row = record { cells = cells; period = Some (record { from = from; to = to }) } } ∷ []
-    else []
+    if int_lt from to then over_period cells (record { from = from; to = to }) ∷ [] else []
 
 -- what is left of an affected row: the part before the line's period and the part after it
 abbrev pub remainders : BatchLine → WorkingRow → List WorkingRow
@@ -114,8 +117,10 @@ abbrev pub line_fault : plain.Schema → ℕ → List BatchLine → List Working
     → Option BatchFault
 line_fault schema rec earlier list [] = None
 line_fault schema rec earlier list (line ∷ lines) =
-    if not schema.valid && list_any (λ e. same_key e.key line.key) earlier then Some (fault.KeyTwice rec)
-    else (if not (is_some line.puts) && not (list_any (affects schema line) list) then Some (fault.NoRow rec)
+    if not schema.valid && list_any (λ e. same_key e.key line.key) earlier
+    then Some (fault.KeyTwice rec)
+    else (if not (is_some line.puts) && not (list_any (affects schema line) list)
+    then Some (fault.NoRow rec)
     else line_fault schema (rec + 1) (line ∷ earlier) (after_line schema list line) lines)
 
 -- the number and the table of a name, counted from a number
@@ -138,9 +143,13 @@ resolved_change limits db author (Some (number, table)) lines =
       after_lines : Option BatchFault → Result Commit BatchFault
       after_lines (Some e) = Err e
       after_lines None =
-          if nat_lt limits.rows (length table.rows + length (change_of number table (lines table.schema)).opens)
+          if nat_lt limits.rows
+          (length table.rows + length (change_of number table (lines table.schema)).opens)
           then Err fault.RowsFull
-          else Ok (record { author = author; body = body.Change (change_of number table (lines table.schema)) })
+          else Ok (record {
+            author = author;
+            body = body.Change (change_of number table (lines table.schema));
+          })
 
 -- the commit that a batch of this author becomes, or its first fault
 abbrev pub resolved : Limits → plain.Database → ℕ → Batch → Result Commit BatchFault

@@ -20,7 +20,8 @@ same_field x y = false
 abbrev pub add_stretch : List Run → Run → List Run
 add_stretch [] stretch = stretch ∷ []
 add_stretch (run ∷ []) stretch =
-    if same_field run.value stretch.value then record run { to = stretch.to } ∷ [] else run ∷ stretch ∷ []
+    if same_field run.value stretch.value then record run { to = stretch.to } ∷ []
+    else run ∷ stretch ∷ []
 add_stretch (run ∷ next ∷ runs) stretch = run ∷ add_stretch (next ∷ runs) stretch
 
 -- a stretch of time with one value
@@ -31,7 +32,8 @@ stretch_of from to value = record { group = None; from = from; to = to; value = 
 unfoldable pub runs_over : (ℤ → Field) → ℤ → ℕ → List Run
 runs_over f from zero = []
 runs_over f from (suc n) =
-    add_stretch (runs_over f from n) (stretch_of (from +ℤ pos n) (from +ℤ pos n +ℤ pos 1) (f (from +ℤ pos n)))
+    add_stretch (runs_over f from n)
+    (stretch_of (from +ℤ pos n) (from +ℤ pos n +ℤ pos 1) (f (from +ℤ pos n)))
 
 -- a whole number as a count: none where it is negative
 abbrev pub count_of : ℤ → ℕ

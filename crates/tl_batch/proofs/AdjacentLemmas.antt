@@ -1,4 +1,4 @@
--- The rows that a line touches, found by its key.
+-- The rows that a line affects, found by its key.
 use Rattle.std.proofs.Common.{◌≡◌, ℕ, zero, suc, ◌+◌, ◌<◌, ◌≤◌, Bool, true, false, ◌&&◌, ◌||◌, not, cond, nat_eq, List, [], ◌∷◌, ◌++◌, length, take, drop, get_or, slice_get, Option, Some, None, refl, sym, ap, ◌∙◌, arith}
 use Rattle.std.specs.List.{list_any}
 use Rattle.std.specs.Cmp.{int_eq_equiv}
@@ -18,7 +18,7 @@ use Rattle.tl_batch.specs.Pieces.{affects_period, cuts, periods_with}
 use Rattle.tl_batch.specs.Standing.{is_open_with}
 use Rattle.tl_batch.specs.Untimed.{has_open}
 use Rattle.tl_batch.specs.Lines.{line_of, lines_of}
-use Rattle.tl_batch.specs.Faults.{is_touched, fault_of, fault_from}
+use Rattle.tl_batch.specs.Faults.{is_row_affected, fault_of, fault_from}
 use Rattle.tl_batch.proofs.KeyIndexLemmas.{cell_sym}
 
 -- KEYS
@@ -99,13 +99,13 @@ no_lines x (said ∷ earlier) h =
       key_sym None = refl
       key_sym (Some y) = cell_sym x y
 
--- a line whose key no earlier line has touches the open rows of the key
-pub touched_keyed : (schema : plain.Schema) (rows : List plain.Row) (earlier : List BatchLine) (said : BatchLine) (x : Cell) → schema.valid ≡ false → said.key ≡ Some x → list_any (λ e. same_key e.key (Some x)) earlier ≡ false
-    → list_any (is_touched schema earlier said) rows ≡ has_open schema.key x rows
-touched_keyed schema [] earlier said x untimed keyed first = refl
-touched_keyed schema (r ∷ rows) earlier said x untimed keyed first =
-    ap (λ b. b || list_any (is_touched schema earlier said) rows) (ap (λ k. is_open r && (same_key key k && list_any (λ p. affects_period schema.valid said.period p) (cuts schema.valid (periods_with key earlier) r.period))) keyed ∙ by_key (is_open r) (same_key key (Some x)) refl)
-    ∙ ap (λ b. (is_open r && same_key key (Some x)) || b) (touched_keyed schema rows earlier said x untimed keyed first) where
+-- a line whose key no earlier line has affects the open rows of the key
+pub row_affected_keyed : (schema : plain.Schema) (rows : List plain.Row) (earlier : List BatchLine) (said : BatchLine) (x : Cell) → schema.valid ≡ false → said.key ≡ Some x → list_any (λ e. same_key e.key (Some x)) earlier ≡ false
+    → list_any (is_row_affected schema earlier said) rows ≡ has_open schema.key x rows
+row_affected_keyed schema [] earlier said x untimed keyed first = refl
+row_affected_keyed schema (r ∷ rows) earlier said x untimed keyed first =
+    ap (λ b. b || list_any (is_row_affected schema earlier said) rows) (ap (λ k. is_open r && (same_key key k && list_any (λ p. affects_period schema.valid said.period p) (cuts schema.valid (periods_with key earlier) r.period))) keyed ∙ by_key (is_open r) (same_key key (Some x)) refl)
+    ∙ ap (λ b. (is_open r && same_key key (Some x)) || b) (row_affected_keyed schema rows earlier said x untimed keyed first) where
       key : Option Cell
       key = slice_get r.cells schema.key
 
@@ -136,7 +136,7 @@ pub fault_here : (schema : plain.Schema) (removes : Bool) (rows : List plain.Row
 fault_here schema removes rows strokes i s f o all h at e g start =
     sym (start ∙ (at_drop_more (λ ls. fault_from schema removes rows (i + 2) (lines_of (take i strokes)) (lines_of ls)) strokes i s h
     ∙ (ap (λ q. fault_from schema removes rows (i + 2) (lines_of (take i strokes)) (lines_of (q ∷ drop (i + 1) strokes))) (sym at)
-    ∙ found_here (not schema.valid && list_any (λ e. same_key e.key (Some s.key)) (lines_of (take i strokes))) (removes && not (list_any (is_touched schema (lines_of (take i strokes)) (line_of s)) rows)) (fault.KeyTwice (i + 2)) (fault.NoRow (i + 2)) f o (fault_from schema removes rows (i + 2 + 1) (lines_of (take i strokes) ++ line_of s ∷ []) (lines_of (drop (i + 1) strokes))) e g)))
+    ∙ found_here (not schema.valid && list_any (λ e. same_key e.key (Some s.key)) (lines_of (take i strokes))) (removes && not (list_any (is_row_affected schema (lines_of (take i strokes)) (line_of s)) rows)) (fault.KeyTwice (i + 2)) (fault.NoRow (i + 2)) f o (fault_from schema removes rows (i + 2 + 1) (lines_of (take i strokes) ++ line_of s ∷ []) (lines_of (drop (i + 1) strokes))) e g)))
 
 pub fault_later : (schema : plain.Schema) (removes : Bool) (rows : List plain.Row) (strokes : List KeyLine) (i : ℕ) (s : KeyLine) (o all : Option BatchFault) → i < length strokes → s ≡ get_or strokes i s → o ≡ fault_of schema removes rows (lines_of (take i strokes)) (line_of s) (i + 2) → o ≡ None
     → all ≡ fault_from schema removes rows (i + 2) (lines_of (take i strokes)) (lines_of (drop i strokes)) → all ≡ fault_from schema removes rows (i + 1 + 2) (lines_of (take (i + 1) strokes)) (lines_of (drop (i + 1) strokes))
@@ -145,7 +145,7 @@ fault_later schema removes rows strokes i s o all h at e g start =
     let front : lines_of (take i strokes) ++ line_of s ∷ [] ≡ lines_of (take (i + 1) strokes) = sym (ap lines_of (take_more strokes i s h ∙ ap (λ q. take i strokes ++ q ∷ []) (sym at)) ∙ map-append line_of (take i strokes) (s ∷ [])) in
     start ∙ (at_drop_more (λ ls. fault_from schema removes rows (i + 2) (lines_of (take i strokes)) (lines_of ls)) strokes i s h
     ∙ (ap (λ q. fault_from schema removes rows (i + 2) (lines_of (take i strokes)) (lines_of (q ∷ drop (i + 1) strokes))) (sym at)
-    ∙ (found_later (not schema.valid && list_any (λ e. same_key e.key (Some s.key)) (lines_of (take i strokes))) (removes && not (list_any (is_touched schema (lines_of (take i strokes)) (line_of s)) rows)) (fault.KeyTwice (i + 2)) (fault.NoRow (i + 2)) o (fault_from schema removes rows (i + 2 + 1) (lines_of (take i strokes) ++ line_of s ∷ []) (lines_of (drop (i + 1) strokes))) e g
+    ∙ (found_later (not schema.valid && list_any (λ e. same_key e.key (Some s.key)) (lines_of (take i strokes))) (removes && not (list_any (is_row_affected schema (lines_of (take i strokes)) (line_of s)) rows)) (fault.KeyTwice (i + 2)) (fault.NoRow (i + 2)) o (fault_from schema removes rows (i + 2 + 1) (lines_of (take i strokes) ++ line_of s ∷ []) (lines_of (drop (i + 1) strokes))) e g
     ∙ (ap (λ m. fault_from schema removes rows m (lines_of (take i strokes) ++ line_of s ∷ []) (lines_of (drop (i + 1) strokes))) number ∙ ap (λ ls. fault_from schema removes rows (i + 1 + 2) ls (lines_of (drop (i + 1) strokes))) front))))
 
 -- a line that puts a row into a table with valid time has no fault
@@ -153,5 +153,5 @@ pub never_fault : (schema : plain.Schema) (removes : Bool) (rows : List plain.Ro
 never_fault schema removes rows rec earlier [] valid puts = refl
 never_fault schema removes rows rec earlier (said ∷ lines) valid puts =
     never_fault schema removes rows (rec + 1) (earlier ++ said ∷ []) lines valid puts
-    ∙ sym (ap (λ b. cond (not b && list_any (λ e. same_key e.key said.key) earlier) (Some (fault.KeyTwice rec)) (cond (removes && not (list_any (is_touched schema earlier said) rows)) (Some (fault.NoRow rec)) (fault_from schema removes rows (rec + 1) (earlier ++ said ∷ []) lines))) valid
-    ∙ ap (λ b. cond (b && not (list_any (is_touched schema earlier said) rows)) (Some (fault.NoRow rec)) (fault_from schema removes rows (rec + 1) (earlier ++ said ∷ []) lines)) puts)
+    ∙ sym (ap (λ b. cond (not b && list_any (λ e. same_key e.key said.key) earlier) (Some (fault.KeyTwice rec)) (cond (removes && not (list_any (is_row_affected schema earlier said) rows)) (Some (fault.NoRow rec)) (fault_from schema removes rows (rec + 1) (earlier ++ said ∷ []) lines))) valid
+    ∙ ap (λ b. cond (b && not (list_any (is_row_affected schema earlier said) rows)) (Some (fault.NoRow rec)) (fault_from schema removes rows (rec + 1) (earlier ++ said ∷ []) lines)) puts)

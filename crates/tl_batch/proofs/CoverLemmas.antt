@@ -38,7 +38,7 @@ max_test t a b = by (int_lt t (int_max a b)) (int_lt t a) (int_lt t b) refl refl
   by false false true f g h = absurd (omega (arith, ints, clamps))
   by false false false f g h = refl
 
--- two that touch are one
+-- two that are adjacent are one
 pub union : (t from to start end : ℤ) → from ≤ℤ end → start ≤ℤ to → is_between t (int_min from start) (int_max to end) ≡ (is_between t start end || is_between t from to)
 union t from to start end h k =
     ap (λ b. not b && int_lt t (int_max to end)) (min_test t from start) ∙ (ap (λ b. not (int_lt t from && int_lt t start) && b) (max_test t to end)
@@ -59,9 +59,9 @@ union t from to start end h k =
 
 -- TAKING AWAY A STRETCH THAT TOUCHES
 
-pub touching_is : (from to : ℤ) (stretches : List (ℤ × ℤ)) (s : ℤ × ℤ) → joining from to stretches ≡ Some s → (from ≤ℤ s.0) × (s.1 ≤ℤ to)
-touching_is from to [] s e = absurd (cc)
-touching_is from to (r ∷ stretches) s e = by (int_lt r.0 from) (int_lt to r.1) refl refl e (touching_is from to stretches s) where
+pub adjacent_is : (from to : ℤ) (stretches : List (ℤ × ℤ)) (s : ℤ × ℤ) → joining from to stretches ≡ Some s → (from ≤ℤ s.0) × (s.1 ≤ℤ to)
+adjacent_is from to [] s e = absurd (cc)
+adjacent_is from to (r ∷ stretches) s e = by (int_lt r.0 from) (int_lt to r.1) refl refl e (adjacent_is from to stretches s) where
   by : (a b : Bool) → int_lt r.0 from ≡ a → int_lt to r.1 ≡ b → cond a (joining from to stretches) (cond b None (Some r)) ≡ Some s → (joining from to stretches ≡ Some s → (from ≤ℤ s.0) × (s.1 ≤ℤ to)) → (from ≤ℤ s.0) × (s.1 ≤ℤ to)
   by true b f g e later = later e
   by false true f g e later = absurd (cc)
@@ -86,7 +86,7 @@ removed_beyond from to low (r ∷ stretches) s e all = by (int_lt r.0 from) (int
   by : (a b : Bool) → int_lt r.0 from ≡ a → int_lt to r.1 ≡ b → cond a (joining from to stretches) (cond b None (Some r)) ≡ Some s
       → (joining from to stretches ≡ Some s → Beyond r.0 stretches → Beyond r.0 (remove_entry (is_at (int_cmp s.0)) stretches)) → Goal
   by true b f g e later =
-      let h = (touching_is from to stretches s e).0 in
+      let h = (adjacent_is from to stretches s e).0 in
       subst (λ t. Beyond low (cond t stretches (r ∷ remove_entry (is_at (int_cmp s.0)) stretches))) (sym (at_other s.0 r.0 (omega (arith, ints)))) (all.0, all.1, later e all.2)
   by false true f g e later = absurd (cc)
   by false false f g e later =
@@ -106,7 +106,7 @@ or_assoc : (a b c : Bool) → ((a || b) || c) ≡ (a || (b || c))
 or_assoc true b c = refl
 or_assoc false b c = refl
 
--- the moments stay: what is taken away joins the stretch that it touches
+-- the moments stay: what is taken away joins the stretch that it affects
 pub removed_covers : (t from to low : ℤ) (stretches : List (ℤ × ℤ)) (s : ℤ × ℤ) → joining from to stretches ≡ Some s → Beyond low stretches
     → (is_covered t stretches || is_between t from to) ≡ (is_covered t (remove_entry (is_at (int_cmp s.0)) stretches) || is_between t (int_min from s.1) (int_max to s.0))
 removed_covers t from to low [] s e all = absurd (cc)
@@ -121,7 +121,7 @@ removed_covers t from to low (r ∷ stretches) s e all = by (int_lt r.0 from) (i
       → (joining from to stretches ≡ Some s → Beyond r.0 stretches → (is_covered t stretches || is_between t from to) ≡ (is_covered t rest || wide))
       → ((is_between t r.1 r.0 || is_covered t stretches) || is_between t from to) ≡ (is_covered t (cond (is_at (int_cmp s.0) r.0) stretches (r ∷ rest)) || wide)
   by true b f g e later =
-      let h = (touching_is from to stretches s e).0 in
+      let h = (adjacent_is from to stretches s e).0 in
       or_assoc (is_between t r.1 r.0) (is_covered t stretches) (is_between t from to)
       ∙ (ap (λ c. is_between t r.1 r.0 || c) (later e all.2)
       ∙ (sym (or_assoc (is_between t r.1 r.0) (is_covered t rest) wide)
@@ -298,9 +298,9 @@ ends_from from end = by (int_lt from end) (int_lt end from) refl refl where
   by false true e f = refl
   by false false e f = refl
 
-pub touching_near : (from to : ℤ) (stretches : List (ℤ × ℤ)) → joining from to stretches ≡ near to (entries_between int_cmp (Included from) Unbounded stretches)
-touching_near from to [] = refl
-touching_near from to (s ∷ stretches) = by (int_lt s.0 from) (ends_from from s.0) (touching_near from to stretches) where
+pub adjacent_near : (from to : ℤ) (stretches : List (ℤ × ℤ)) → joining from to stretches ≡ near to (entries_between int_cmp (Included from) Unbounded stretches)
+adjacent_near from to [] = refl
+adjacent_near from to (s ∷ stretches) = by (int_lt s.0 from) (ends_from from s.0) (adjacent_near from to stretches) where
   rest : List (ℤ × ℤ)
   rest = entries_between int_cmp (Included from) Unbounded stretches
 
@@ -310,17 +310,17 @@ touching_near from to (s ∷ stretches) = by (int_lt s.0 from) (ends_from from s
   by false e later = ap (λ c. near to (cond c (s ∷ rest) rest)) (sym e)
 
 pub near_none : (from to : ℤ) (stretches range : List (ℤ × ℤ)) → range ≡ entries_between int_cmp (Included from) Unbounded stretches → range ≡ [] → None ≡ joining from to stretches
-near_none from to stretches range is none = sym (touching_near from to stretches ∙ ap (near to) (sym is ∙ none))
+near_none from to stretches range is none = sym (adjacent_near from to stretches ∙ ap (near to) (sym is ∙ none))
 
 pub near_some : (from to : ℤ) (stretches range rest : List (ℤ × ℤ)) (end start first second : ℤ) → range ≡ entries_between int_cmp (Included from) Unbounded stretches → range ≡ (first, second) ∷ rest → end ≡ first → start ≡ second → start ≤ℤ to → Some (end, start) ≡ joining from to stretches
 near_some from to stretches range rest end start first second is some e f h =
     let early : int_lt to start ≡ false = lt_false to start h in
-    sym (touching_near from to stretches ∙ (ap (near to) (sym is ∙ (some ∙ (ap (λ z. (z, second) ∷ rest) (sym e) ∙ ap (λ z. (end, z) ∷ rest) (sym f)))) ∙ ap (λ b. cond b None (Some (end, start))) early))
+    sym (adjacent_near from to stretches ∙ (ap (near to) (sym is ∙ (some ∙ (ap (λ z. (z, second) ∷ rest) (sym e) ∙ ap (λ z. (end, z) ∷ rest) (sym f)))) ∙ ap (λ b. cond b None (Some (end, start))) early))
 
 pub near_past : (from to : ℤ) (stretches range rest : List (ℤ × ℤ)) (start first second : ℤ) → range ≡ entries_between int_cmp (Included from) Unbounded stretches → range ≡ (first, second) ∷ rest → start ≡ second → to <ℤ start → None ≡ joining from to stretches
 near_past from to stretches range rest start first second is some f h =
     let late : int_lt to start ≡ true = lt_true to start h in
-    sym (touching_near from to stretches ∙ (ap (near to) (sym is ∙ (some ∙ ap (λ z. (first, z) ∷ rest) (sym f))) ∙ ap (λ b. cond b None (Some (first, start))) late))
+    sym (adjacent_near from to stretches ∙ (ap (near to) (sym is ∙ (some ∙ ap (λ z. (first, z) ∷ rest) (sym f))) ∙ ap (λ b. cond b None (Some (first, start))) late))
 
 -- one is fewer
 pub removed_fewer : (from to : ℤ) (stretches : List (ℤ × ℤ)) (s : ℤ × ℤ) → joining from to stretches ≡ Some s → length (remove_entry (is_at (int_cmp s.0)) stretches) < length stretches
@@ -332,7 +332,7 @@ removed_fewer from to (r ∷ stretches) s e = by (int_lt r.0 from) (int_lt to r.
   by : (a b : Bool) → int_lt r.0 from ≡ a → int_lt to r.1 ≡ b → cond a (joining from to stretches) (cond b None (Some r)) ≡ Some s → (joining from to stretches ≡ Some s → length rest < length stretches)
       → length (cond (is_at (int_cmp s.0) r.0) stretches (r ∷ rest)) < length (r ∷ stretches)
   by true b f g e later =
-      let h = (touching_is from to stretches s e).0 in
+      let h = (adjacent_is from to stretches s e).0 in
       let l = later e in
       subst (λ t. length (cond t stretches (r ∷ rest)) < length (r ∷ stretches)) (sym (at_other s.0 r.0 (omega (arith, ints)))) (omega arith)
   by false true f g e later = absurd (cc)

@@ -118,7 +118,7 @@ remove_again = refl
 pub remove_more : resolved standard_limits timed_3 7 (batch.Remove (codes "q") (key_in 1 0 5 ∷ key_in 1 4 6 ∷ [])) ≡ Ok (change (1 ∷ []) (part 1 5 6 10 ∷ []))
 remove_more = refl
 
--- periods that touch have no part in common
+-- periods that are adjacent have no part in common
 pub remove_beside : resolved standard_limits timed_2 7 (batch.Remove (codes "q") (key_in 1 100 200 ∷ [])) ≡ Err (fault.NoRow 2)
 remove_beside = refl
 

@@ -10,7 +10,7 @@ use Rattle.tl_types.specs.Plain as plain
 use Rattle.tl_types.specs.History.{is_open}
 use Rattle.tl_types.specs.Resolving.{WorkingRow, BatchLine, same_key, affects, after_line, open_rows, line_fault, put_lines, removal_lines}
 use Rattle.tl_batch.specs.Pieces.{affects_period, cuts, periods_with}
-use Rattle.tl_batch.specs.Faults.{is_touched, fault_from}
+use Rattle.tl_batch.specs.Faults.{is_row_affected, fault_from}
 use Rattle.tl_batch.proofs.Rows.{rows_left, puts_left, worked_by_rows, fresh, rows_left-old}
 use Rattle.tl_batch.proofs.ChangeLemmas.{open_from}
 
@@ -33,17 +33,17 @@ whole_left valid (line ∷ lines) p e = by_test (affects_period valid line p) re
     rest : Option plain.Period → Option plain.Period → List (Option plain.Period)
     rest = Rattle.tl_batch.specs.Pieces.rest_of
 
-fresh_touched : (schema : plain.Schema) (said : BatchLine) (cells : List Cell) (ps : List (Option plain.Period)) → list_any (affects schema said) (map (fresh cells) ps) ≡ (same_key (slice_get cells schema.key) said.key && list_any (λ p. affects_period schema.valid said.period p) ps)
-fresh_touched schema said cells [] = sym (and_false (same_key (slice_get cells schema.key) said.key))
-fresh_touched schema said cells (p ∷ ps) = ap (λ b. affects schema said (fresh cells p) || b) (fresh_touched schema said cells ps) ∙ table (same_key (slice_get cells schema.key) said.key) (affects_period schema.valid said.period p) (list_any (λ q. affects_period schema.valid said.period q) ps) where
+fresh_row_affected : (schema : plain.Schema) (said : BatchLine) (cells : List Cell) (ps : List (Option plain.Period)) → list_any (affects schema said) (map (fresh cells) ps) ≡ (same_key (slice_get cells schema.key) said.key && list_any (λ p. affects_period schema.valid said.period p) ps)
+fresh_row_affected schema said cells [] = sym (and_false (same_key (slice_get cells schema.key) said.key))
+fresh_row_affected schema said cells (p ∷ ps) = ap (λ b. affects schema said (fresh cells p) || b) (fresh_row_affected schema said cells ps) ∙ table (same_key (slice_get cells schema.key) said.key) (affects_period schema.valid said.period p) (list_any (λ q. affects_period schema.valid said.period q) ps) where
   table : (a b c : Bool) → ((a && b) || (a && c)) ≡ (a && (b || c))
   table true b c = refl
   table false b c = refl
 
-old_touched : (schema : plain.Schema) (earlier : List BatchLine) (said : BatchLine) (n : ℕ) (r : plain.Row)
+old_row_affected : (schema : plain.Schema) (earlier : List BatchLine) (said : BatchLine) (n : ℕ) (r : plain.Row)
     → list_any (affects schema said) (rows_left schema earlier (record { id = Some n; row = record { cells = r.cells; period = r.period } }))
     ≡ (same_key (slice_get r.cells schema.key) said.key && list_any (λ p. affects_period schema.valid said.period p) (cuts schema.valid (periods_with (slice_get r.cells schema.key) earlier) r.period))
-old_touched schema earlier said n r = ap (list_any (affects schema said)) (rows_left-old schema earlier n r.cells r.period) ∙ by_test (list_any (λ line. affects_period schema.valid line r.period) lines) refl where
+old_row_affected schema earlier said n r = ap (list_any (affects schema said)) (rows_left-old schema earlier n r.cells r.period) ∙ by_test (list_any (λ line. affects_period schema.valid line r.period) lines) refl where
   lines : List (Option plain.Period)
   lines = periods_with (slice_get r.cells schema.key) earlier
 
@@ -56,12 +56,12 @@ old_touched schema earlier said n r = ap (list_any (affects schema said)) (rows_
 
   by_test : (b : Bool) → list_any (λ line. affects_period schema.valid line r.period) lines ≡ b
       → list_any (affects schema said) (cond b (map (fresh r.cells) (cuts schema.valid lines r.period)) (record { id = Some n; row = record { cells = r.cells; period = r.period } } ∷ [])) ≡ (same && list_any (λ p. affects_period schema.valid said.period p) (cuts schema.valid lines r.period))
-  by_test true e = fresh_touched schema said r.cells (cuts schema.valid lines r.period)
+  by_test true e = fresh_row_affected schema said r.cells (cuts schema.valid lines r.period)
   by_test false e = none same (affects_period schema.valid said.period r.period) ∙ ap (λ ps. same && list_any (λ p. affects_period schema.valid said.period p) ps) (sym (whole_left schema.valid lines r.period e))
 
-rows_touched : (schema : plain.Schema) (earlier : List BatchLine) (said : BatchLine) (n : ℕ) (rows : List plain.Row) → list_any (λ h. list_any (affects schema said) (rows_left schema earlier h)) (open_from n rows) ≡ list_any (is_touched schema earlier said) rows
-rows_touched schema earlier said n [] = refl
-rows_touched schema earlier said n (r ∷ rows) = split (is_open r) (rows_touched schema earlier said (n + 1) rows) where
+rows_row_affected : (schema : plain.Schema) (earlier : List BatchLine) (said : BatchLine) (n : ℕ) (rows : List plain.Row) → list_any (λ h. list_any (affects schema said) (rows_left schema earlier h)) (open_from n rows) ≡ list_any (is_row_affected schema earlier said) rows
+rows_row_affected schema earlier said n [] = refl
+rows_row_affected schema earlier said n (r ∷ rows) = split (is_open r) (rows_row_affected schema earlier said (n + 1) rows) where
   rest : List (ℕ × plain.Row)
   rest = filter (λ s. is_open s.1) (enumerate_from (n + 1) rows)
 
@@ -71,16 +71,16 @@ rows_touched schema earlier said n (r ∷ rows) = split (is_open r) (rows_touche
   any : WorkingRow → Bool
   any h = list_any (affects schema said) (rows_left schema earlier h)
 
-  split : (b : Bool) → list_any any (map old rest) ≡ list_any (is_touched schema earlier said) rows
-      → list_any any (map old (cond b ((n, r) ∷ rest) rest)) ≡ ((b && (same_key (slice_get r.cells schema.key) said.key && list_any (λ p. affects_period schema.valid said.period p) (cuts schema.valid (periods_with (slice_get r.cells schema.key) earlier) r.period))) || list_any (is_touched schema earlier said) rows)
-  split true later = ap (λ b. b || list_any any (map old rest)) (old_touched schema earlier said n r) ∙ ap (λ b. (same_key (slice_get r.cells schema.key) said.key && list_any (λ p. affects_period schema.valid said.period p) (cuts schema.valid (periods_with (slice_get r.cells schema.key) earlier) r.period)) || b) later
+  split : (b : Bool) → list_any any (map old rest) ≡ list_any (is_row_affected schema earlier said) rows
+      → list_any any (map old (cond b ((n, r) ∷ rest) rest)) ≡ ((b && (same_key (slice_get r.cells schema.key) said.key && list_any (λ p. affects_period schema.valid said.period p) (cuts schema.valid (periods_with (slice_get r.cells schema.key) earlier) r.period))) || list_any (is_row_affected schema earlier said) rows)
+  split true later = ap (λ b. b || list_any any (map old rest)) (old_row_affected schema earlier said n r) ∙ ap (λ b. (same_key (slice_get r.cells schema.key) said.key && list_any (λ p. affects_period schema.valid said.period p) (cuts schema.valid (periods_with (slice_get r.cells schema.key) earlier) r.period)) || b) later
   split false later = later
 
--- a line that removes touches what the definition says
-pub working_touched : (t : plain.Table) (earlier : List BatchLine) (said : BatchLine) → puts_left t.schema earlier ≡ [] → list_any (affects t.schema said) (fold (after_line t.schema) (open_rows t) earlier) ≡ list_any (is_touched t.schema earlier said) t.rows
-working_touched t earlier said none =
+-- a line that removes affects what the definition says
+pub working_row_affected : (t : plain.Table) (earlier : List BatchLine) (said : BatchLine) → puts_left t.schema earlier ≡ [] → list_any (affects t.schema said) (fold (after_line t.schema) (open_rows t) earlier) ≡ list_any (is_row_affected t.schema earlier said) t.rows
+working_row_affected t earlier said none =
     ap (list_any (affects t.schema said)) (worked_by_rows t.schema earlier (open_rows t) ∙ (ap (λ ps. flat_map (rows_left t.schema earlier) (open_rows t) ++ ps) none ∙ append-nil (flat_map (rows_left t.schema earlier) (open_rows t))))
-    ∙ (any_flat (affects t.schema said) (rows_left t.schema earlier) (open_rows t) ∙ rows_touched t.schema earlier said 0 t.rows)
+    ∙ (any_flat (affects t.schema said) (rows_left t.schema earlier) (open_rows t) ∙ rows_row_affected t.schema earlier said 0 t.rows)
 
 puts_none : (schema : plain.Schema) (lines : List KeyLine) → puts_left schema (removal_lines lines) ≡ []
 puts_none schema [] = refl
@@ -112,8 +112,8 @@ fault_of_keys t rec seen before (k ∷ lines) same =
     let next : line_fault t.schema (rec + 1) (said ∷ seen) (after_line t.schema (fold (after_line t.schema) (open_rows t) earlier) said) (removal_lines lines) ≡ fault_from t.schema true t.rows (rec + 1) (earlier ++ said ∷ []) (removal_lines lines) =
     ap (λ hs. line_fault t.schema (rec + 1) (said ∷ seen) hs (removal_lines lines)) (sym (ap (fold (after_line t.schema) (open_rows t)) (keys_more before k) ∙ fold_more t.schema (open_rows t) earlier said)) ∙ (later ∙ ap (λ ls. fault_from t.schema true t.rows (rec + 1) ls (removal_lines lines)) (keys_more before k)) in
     ap (λ b. cond (not t.schema.valid && b) (Some (fault.KeyTwice rec)) (cond (not (list_any (affects t.schema said) (fold (after_line t.schema) (open_rows t) earlier))) (Some (fault.NoRow rec)) (line_fault t.schema (rec + 1) (said ∷ seen) (after_line t.schema (fold (after_line t.schema) (open_rows t) earlier) said) (removal_lines lines)))) (same (Some k.key))
-    ∙ (ap (λ b. cond (not t.schema.valid && list_any (λ e. same_key e.key (Some k.key)) earlier) (Some (fault.KeyTwice rec)) (cond (not b) (Some (fault.NoRow rec)) (line_fault t.schema (rec + 1) (said ∷ seen) (after_line t.schema (fold (after_line t.schema) (open_rows t) earlier) said) (removal_lines lines)))) (working_touched t earlier said (puts_none t.schema before))
-    ∙ ap (λ f. cond (not t.schema.valid && list_any (λ e. same_key e.key (Some k.key)) earlier) (Some (fault.KeyTwice rec)) (cond (not (list_any (is_touched t.schema earlier said) t.rows)) (Some (fault.NoRow rec)) f)) next)
+    ∙ (ap (λ b. cond (not t.schema.valid && list_any (λ e. same_key e.key (Some k.key)) earlier) (Some (fault.KeyTwice rec)) (cond (not b) (Some (fault.NoRow rec)) (line_fault t.schema (rec + 1) (said ∷ seen) (after_line t.schema (fold (after_line t.schema) (open_rows t) earlier) said) (removal_lines lines)))) (working_row_affected t earlier said (puts_none t.schema before))
+    ∙ ap (λ f. cond (not t.schema.valid && list_any (λ e. same_key e.key (Some k.key)) earlier) (Some (fault.KeyTwice rec)) (cond (not (list_any (is_row_affected t.schema earlier said) t.rows)) (Some (fault.NoRow rec)) f)) next)
 
 -- the first fault of lines that put rows
 pub fault_of_rows : (t : plain.Table) (rec : ℕ) (seen earlier : List BatchLine) (held : List WorkingRow) (lines : List plain.Opened) → ((k : Option Cell) → list_any (λ s. same_key s.key k) seen ≡ list_any (λ s. same_key s.key k) earlier)

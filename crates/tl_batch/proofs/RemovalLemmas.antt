@@ -1,4 +1,4 @@
--- Lines that remove rows of a table with valid time: what they touch, by the periods of the current rows of their keys.
+-- Lines that remove rows of a table with valid time: what they are adjacent, by the periods of the current rows of their keys.
 use Rattle.std.proofs.Common.{◌≡◌, ℕ, ℤ, zero, suc, ◌+◌, ◌<◌, ◌≤◌, Bool, true, false, ◌&&◌, ◌||◌, not, cond, List, [], ◌∷◌, ◌++◌, length, map, take, get_or, slice_get, Option, Some, None, option_map, subst, refl, sym, ap, ◌∙◌, arith}
 use Rattle.std.specs.List.{list_any}
 use Rattle.std.proofs.lemmas.List.{take_more, map-append}
@@ -18,7 +18,7 @@ use Rattle.tl_batch.specs.Lines.{line_of, lines_of}
 use Rattle.tl_batch.specs.Pieces.{affects_period, cuts, periods_with}
 use Rattle.tl_batch.specs.Covers.{Full, HoldLines, cover_at, is_covered, is_in, is_said}
 use Rattle.tl_batch.specs.Untimed.{has_cell}
-use Rattle.tl_batch.specs.Faults.{HoldRows, fault_of, is_touched, period_of, open_periods}
+use Rattle.tl_batch.specs.Faults.{HoldRows, fault_of, is_row_affected, period_of, open_periods}
 use Rattle.tl_batch.proofs.HoldLemmas.{full_both}
 use Rattle.tl_batch.proofs.AdjacentLemmas.{cell_congr, key_congr, periods-same, key_ids, key_ascend, key_holds}
 use Rattle.tl_batch.proofs.ChangeLemmas.{ascend_same}
@@ -26,10 +26,10 @@ use Rattle.tl_batch.proofs.KeyLemmas.{said_more}
 use Rattle.tl_batch.proofs.KeyIndexLemmas.{cell_sym}
 use Rattle.tl_batch.proofs.SwapLemmas.{affects_rest}
 
--- a line touches a row where it affects what earlier lines left of the periods of the rows of its key
-pub open_touched : (schema : plain.Schema) (earlier : List BatchLine) (s : KeyLine) (rows : List plain.Row) → schema.valid ≡ true → affects_rest s.period (periods_with (Some s.key) earlier) (open_periods schema.key s.key rows) ≡ list_any (is_touched schema earlier (line_of s)) rows
-open_touched schema earlier s [] valid = refl
-open_touched schema earlier s (r ∷ rows) valid = by_key (is_open r) (same_key key (Some s.key)) refl (open_touched schema earlier s rows valid) where
+-- a line affects a row where it affects what earlier lines left of the periods of the rows of its key
+pub open_row_affected : (schema : plain.Schema) (earlier : List BatchLine) (s : KeyLine) (rows : List plain.Row) → schema.valid ≡ true → affects_rest s.period (periods_with (Some s.key) earlier) (open_periods schema.key s.key rows) ≡ list_any (is_row_affected schema earlier (line_of s)) rows
+open_row_affected schema earlier s [] valid = refl
+open_row_affected schema earlier s (r ∷ rows) valid = by_key (is_open r) (same_key key (Some s.key)) refl (open_row_affected schema earlier s rows valid) where
   key : Option Cell
   key = slice_get r.cells schema.key
 
@@ -39,8 +39,8 @@ open_touched schema earlier s (r ∷ rows) valid = by_key (is_open r) (same_key 
   rest : List (Option plain.Period)
   rest = open_periods schema.key s.key rows
 
-  by_key : (o k : Bool) → same_key key (Some s.key) ≡ k → affects_rest s.period own rest ≡ list_any (is_touched schema earlier (line_of s)) rows
-      → affects_rest s.period own (cond (o && k) (r.period ∷ rest) rest) ≡ ((o && (k && list_any (λ p. affects_period schema.valid s.period p) (cuts schema.valid (periods_with key earlier) r.period))) || list_any (is_touched schema earlier (line_of s)) rows)
+  by_key : (o k : Bool) → same_key key (Some s.key) ≡ k → affects_rest s.period own rest ≡ list_any (is_row_affected schema earlier (line_of s)) rows
+      → affects_rest s.period own (cond (o && k) (r.period ∷ rest) rest) ≡ ((o && (k && list_any (λ p. affects_period schema.valid s.period p) (cuts schema.valid (periods_with key earlier) r.period))) || list_any (is_row_affected schema earlier (line_of s)) rows)
   by_key true true g later =
       ap (λ b. b || affects_rest s.period own rest) (ap (λ v. list_any (λ q. affects_period v s.period q) (cuts v own r.period)) (sym valid) ∙ ap (λ ps. list_any (λ q. affects_period schema.valid s.period q) (cuts schema.valid ps r.period)) (sym (periods-same key s.key earlier g)))
       ∙ ap (λ b. list_any (λ p. affects_period schema.valid s.period p) (cuts schema.valid (periods_with key earlier) r.period) || b) later
@@ -188,18 +188,18 @@ said_at (r ∷ strokes) (suc i) s h at = ap (λ b. same_cell s.key r.key || b) (
 
 -- what the step says of a line
 abbrev pub Tells : Bool → KeyLine → List (Cell × List (ℤ × ℤ)) → List (Cell × List (ℤ × ℤ)) → Type 0
-Tells touched s earlier covers = (lines : List BatchLine) (wholes : List (Option plain.Period)) → HoldLines earlier lines → Full wholes → ((t : ℤ) → is_covered t (cover_at s.key covers) ≡ list_any (is_in t) wholes) → touched ≡ affects_rest s.period (periods_with (Some s.key) lines) wholes
+Tells affected s earlier covers = (lines : List BatchLine) (wholes : List (Option plain.Period)) → HoldLines earlier lines → Full wholes → ((t : ℤ) → is_covered t (cover_at s.key covers) ≡ list_any (is_in t) wholes) → affected ≡ affects_rest s.period (periods_with (Some s.key) lines) wholes
 
-pub touched_fault : (schema : plain.Schema) (rows : List plain.Row) (strokes : List KeyLine) (i rec : ℕ) (s : KeyLine) (touched : Bool) (earlier covers : List (Cell × List (ℤ × ℤ))) → schema.valid ≡ true → i < length strokes → s ≡ get_or strokes i s → HoldRows schema.key covers (lines_of strokes) rows → HoldLines earlier (lines_of (take i strokes))
-    → Tells touched s earlier covers → cond touched None (Some (fault.NoRow rec)) ≡ fault_of schema true rows (lines_of (take i strokes)) (line_of s) rec
-touched_fault schema rows strokes i rec s touched earlier covers valid h at held lines tells =
-    ap (λ b. cond b None (Some (fault.NoRow rec))) is ∙ (turned (list_any (is_touched schema (lines_of (take i strokes)) (line_of s)) rows)
-    ∙ ap (λ v. cond (not v && list_any (λ (e : BatchLine). same_key e.key (Some s.key)) (lines_of (take i strokes))) (Some (fault.KeyTwice rec)) (cond (true && not (list_any (is_touched schema (lines_of (take i strokes)) (line_of s)) rows)) (Some (fault.NoRow rec)) None)) (sym valid)) where
+pub row_affected_fault : (schema : plain.Schema) (rows : List plain.Row) (strokes : List KeyLine) (i rec : ℕ) (s : KeyLine) (affected : Bool) (earlier covers : List (Cell × List (ℤ × ℤ))) → schema.valid ≡ true → i < length strokes → s ≡ get_or strokes i s → HoldRows schema.key covers (lines_of strokes) rows → HoldLines earlier (lines_of (take i strokes))
+    → Tells affected s earlier covers → cond affected None (Some (fault.NoRow rec)) ≡ fault_of schema true rows (lines_of (take i strokes)) (line_of s) rec
+row_affected_fault schema rows strokes i rec s affected earlier covers valid h at held lines tells =
+    ap (λ b. cond b None (Some (fault.NoRow rec))) is ∙ (turned (list_any (is_row_affected schema (lines_of (take i strokes)) (line_of s)) rows)
+    ∙ ap (λ v. cond (not v && list_any (λ (e : BatchLine). same_key e.key (Some s.key)) (lines_of (take i strokes))) (Some (fault.KeyTwice rec)) (cond (true && not (list_any (is_row_affected schema (lines_of (take i strokes)) (line_of s)) rows)) (Some (fault.NoRow rec)) None)) (sym valid)) where
       has : is_said (Some s.key) (lines_of strokes) ≡ true
       has = said_at strokes i s h at
 
-      is : touched ≡ list_any (is_touched schema (lines_of (take i strokes)) (line_of s)) rows
-      is = tells (lines_of (take i strokes)) (open_periods schema.key s.key rows) lines (held.full s.key has) (λ t. held.same s.key t ∙ ap (λ b. b && list_any (is_in t) (open_periods schema.key s.key rows)) has) ∙ open_touched schema (lines_of (take i strokes)) s rows valid
+      is : affected ≡ list_any (is_row_affected schema (lines_of (take i strokes)) (line_of s)) rows
+      is = tells (lines_of (take i strokes)) (open_periods schema.key s.key rows) lines (held.full s.key has) (λ t. held.same s.key t ∙ ap (λ b. b && list_any (is_in t) (open_periods schema.key s.key rows)) has) ∙ open_row_affected schema (lines_of (take i strokes)) s rows valid
 
       turned : (b : Bool) → cond b None (Some (fault.NoRow rec)) ≡ cond (true && not b) (Some (fault.NoRow rec)) None
       turned true = refl

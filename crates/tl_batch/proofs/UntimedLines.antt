@@ -15,7 +15,7 @@ use Rattle.tl_types.specs.Facts.{AscendFrom}
 use Rattle.tl_types.specs.Plain as plain
 use Rattle.tl_types.specs.History.{is_open, has_id, same_cell, matches, match_columns}
 use Rattle.tl_types.specs.Resolving.{BatchLine, same_key, overlap, put_lines, removal_lines}
-use Rattle.tl_batch.specs.Faults.{fault_from, is_touched}
+use Rattle.tl_batch.specs.Faults.{fault_from, is_row_affected}
 use Rattle.tl_batch.specs.KeyIndex.{IdsByKey, has_row}
 use Rattle.tl_batch.specs.OpenTables.{IsIndexOf}
 use Rattle.tl_batch.specs.Pieces.{affects_period, cuts, periods_with, is_affected, affected_ids, over, row_pieces, old_pieces, put_pieces, is_open_affected}
@@ -25,7 +25,7 @@ use Rattle.tl_batch.specs.Made.{IsMade, IsClosed}
 use Rattle.tl_batch.specs.Untimed.{has_cell, has_open, key_fault}
 use Rattle.tl_batch.proofs.KeyIndexLemmas.{cell_sym, cell_self, same_as}
 use Rattle.tl_batch.proofs.TakenLemmas.{closes_are, nothing_left}
-use Rattle.tl_batch.proofs.AdjacentLemmas.{touched_keyed, never_fault}
+use Rattle.tl_batch.proofs.AdjacentLemmas.{row_affected_keyed, never_fault}
 
 -- THE FIRST FAULT
 
@@ -54,20 +54,20 @@ at_line schema removes rows rec earlier seen l lines k keys untimed key known la
   all : Bool → Bool → Option BatchFault → Option BatchFault
   all b h f = cond b (Some (fault.KeyTwice rec)) (cond (removes && not h) (Some (fault.NoRow rec)) f)
 
-  touched : Bool
-  touched = list_any (is_touched schema earlier l) rows
+  affected : Bool
+  affected = list_any (is_row_affected schema earlier l) rows
 
   rest : Option BatchFault
   rest = fault_from schema removes rows (rec + 1) (earlier ++ l ∷ []) lines
 
-  now : all (not schema.valid && list_any (λ e. same_key e.key l.key) earlier) touched rest ≡ all (has_cell seen k) touched rest
-  now = ap (λ b. all b touched rest) (ap (λ v. not v && list_any (λ (e : BatchLine). same_key e.key l.key) earlier) untimed ∙ twice)
+  now : all (not schema.valid && list_any (λ e. same_key e.key l.key) earlier) affected rest ≡ all (has_cell seen k) affected rest
+  now = ap (λ b. all b affected rest) (ap (λ v. not v && list_any (λ (e : BatchLine). same_key e.key l.key) earlier) untimed ∙ twice)
 
-  by_twice : (b : Bool) → has_cell seen k ≡ b → all (has_cell seen k) (has_open schema.key k rows) (key_fault removes schema.key rows (rec + 1) (k ∷ seen) keys) ≡ all (not schema.valid && list_any (λ e. same_key e.key l.key) earlier) touched rest
-  by_twice true e = ap (λ b. all b (has_open schema.key k rows) (key_fault removes schema.key rows (rec + 1) (k ∷ seen) keys)) e ∙ sym (now ∙ ap (λ b. all b touched rest) e)
+  by_twice : (b : Bool) → has_cell seen k ≡ b → all (has_cell seen k) (has_open schema.key k rows) (key_fault removes schema.key rows (rec + 1) (k ∷ seen) keys) ≡ all (not schema.valid && list_any (λ e. same_key e.key l.key) earlier) affected rest
+  by_twice true e = ap (λ b. all b (has_open schema.key k rows) (key_fault removes schema.key rows (rec + 1) (k ∷ seen) keys)) e ∙ sym (now ∙ ap (λ b. all b affected rest) e)
   by_twice false e =
       ap (λ f. all (has_cell seen k) (has_open schema.key k rows) f) later
-      ∙ (ap (λ h. all (has_cell seen k) h rest) (sym (touched_keyed schema rows earlier l k untimed key (known k ∙ e))) ∙ sym now)
+      ∙ (ap (λ h. all (has_cell seen k) h rest) (sym (row_affected_keyed schema rows earlier l k untimed key (known k ∙ e))) ∙ sym now)
 
 faults_by_keys : (schema : plain.Schema) (removes : Bool) (rows : List plain.Row) (rec : ℕ) (earlier : List BatchLine) (seen : List Cell) (lines : List BatchLine) (keys : List (Bor Cell)) → schema.valid ≡ false → map (λ l. l.key) lines ≡ map (λ k. Some k.now) keys
     → ((x : Cell) → list_any (λ e. same_key e.key (Some x)) earlier ≡ has_cell seen x) → key_fault removes schema.key rows rec seen (map (λ k. k.now) keys) ≡ fault_from schema removes rows rec earlier lines
@@ -168,7 +168,7 @@ no_later : (schema : plain.Schema) (removes : Bool) (rows : List plain.Row) (rec
 no_later schema removes rows rec earlier [] key untimed none has = refl
 no_later schema removes rows rec earlier (l ∷ lines) key untimed none has = by_key (same_key key l.key) refl (no_later schema removes rows (rec + 1) (earlier ++ l ∷ []) lines key untimed parts.1 (list_any-append (λ (q : BatchLine). same_key q.key key) earlier (l ∷ []) ∙ ap (λ b. b || list_any (λ (q : BatchLine). same_key q.key key) (l ∷ [])) has)) where
   parts : ((not schema.valid && list_any (λ e. same_key e.key l.key) earlier) ≡ false) × (fault_from schema removes rows (rec + 1) (earlier ++ l ∷ []) lines ≡ None)
-  parts = parts_none (not schema.valid && list_any (λ e. same_key e.key l.key) earlier) (removes && not (list_any (is_touched schema earlier l) rows)) (fault.KeyTwice rec) (fault.NoRow rec) (fault_from schema removes rows (rec + 1) (earlier ++ l ∷ []) lines) none
+  parts = parts_none (not schema.valid && list_any (λ e. same_key e.key l.key) earlier) (removes && not (list_any (is_row_affected schema earlier l) rows)) (fault.KeyTwice rec) (fault.NoRow rec) (fault_from schema removes rows (rec + 1) (earlier ++ l ∷ []) lines) none
 
   first : list_any (λ e. same_key e.key l.key) earlier ≡ false
   first = sym (ap (λ v. not v && list_any (λ (e : BatchLine). same_key e.key l.key) earlier) untimed) ∙ parts.0
@@ -191,7 +191,7 @@ puts_whole schema removes rows rec earlier (o ∷ lines) untimed none =
       said = record { key = slice_get o.cells schema.key; period = o.period; puts = Some o }
 
       parts : ((not schema.valid && list_any (λ e. same_key e.key said.key) earlier) ≡ false) × (fault_from schema removes rows (rec + 1) (earlier ++ said ∷ []) (put_lines schema lines) ≡ None)
-      parts = parts_none (not schema.valid && list_any (λ e. same_key e.key said.key) earlier) (removes && not (list_any (is_touched schema earlier said) rows)) (fault.KeyTwice rec) (fault.NoRow rec) (fault_from schema removes rows (rec + 1) (earlier ++ said ∷ []) (put_lines schema lines)) none
+      parts = parts_none (not schema.valid && list_any (λ e. same_key e.key said.key) earlier) (removes && not (list_any (is_row_affected schema earlier said) rows)) (fault.KeyTwice rec) (fault.NoRow rec) (fault_from schema removes rows (rec + 1) (earlier ++ said ∷ []) (put_lines schema lines)) none
 
       or_true : (b : Bool) → (b || (true || false)) ≡ true
       or_true true = refl

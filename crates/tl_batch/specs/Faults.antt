@@ -11,21 +11,21 @@ use Rattle.tl_batch.specs.Covers.{Full, cover_at, is_covered, is_in, is_said}
 use Rattle.tl_batch.specs.Pieces.{affects_period, cuts, periods_with}
 
 -- the row is current, and the line affects a part that the earlier lines left of it
-abbrev pub is_touched : plain.Schema → List BatchLine → BatchLine → plain.Row → Bool
-is_touched schema earlier said row =
+abbrev pub is_row_affected : plain.Schema → List BatchLine → BatchLine → plain.Row → Bool
+is_row_affected schema earlier said row =
     is_open row && (same_key (slice_get row.cells schema.key) said.key
     && list_any (λ p. affects_period schema.valid said.period p)
     (cuts schema.valid (periods_with (slice_get row.cells schema.key) earlier) row.period))
 
--- the first fault of lines from a record number on, behind the earlier ones: a key affected twice in a
--- table without valid time, then, where the lines remove, a line that touches no row
+-- the first fault of lines from a record number on, after the earlier ones: a key that an earlier
+-- line has, in a table without valid time, then, where the lines remove, a line that affects no row
 abbrev pub fault_from : plain.Schema → Bool → List plain.Row → ℕ → List BatchLine → List BatchLine
     → Option BatchFault
 fault_from schema removes rows rec earlier [] = None
 fault_from schema removes rows rec earlier (said ∷ lines) =
-    if not schema.valid && list_any (λ e. same_key e.key said.key) earlier then Some
-    (fault.KeyTwice rec)
-    else (if removes && not (list_any (is_touched schema earlier said) rows) then Some
+    if not schema.valid && list_any (λ e. same_key e.key said.key) earlier
+    then Some (fault.KeyTwice rec)
+    else (if removes && not (list_any (is_row_affected schema earlier said) rows) then Some
     (fault.NoRow rec)
     else fault_from schema removes rows (rec + 1) (earlier ++ said ∷ []) lines)
 
@@ -33,15 +33,10 @@ fault_from schema removes rows rec earlier (said ∷ lines) =
 abbrev pub fault_of : plain.Schema → Bool → List plain.Row → List BatchLine → BatchLine → ℕ
     → Option BatchFault
 fault_of schema removes rows earlier said rec =
-    if not schema.valid && list_any (λ e. same_key e.key said.key) earlier then Some
-    (fault.KeyTwice rec)
-    else (if removes && not (list_any (is_touched schema earlier said) rows) then Some
+    if not schema.valid && list_any (λ e. same_key e.key said.key) earlier
+    then Some (fault.KeyTwice rec)
+    else (if removes && not (list_any (is_row_affected schema earlier said) rows) then Some
     (fault.NoRow rec) else None)
-
--- there is an item
-abbrev pub is_some_item : {X : Type 0} → List X → Bool
-is_some_item [] = false
-is_some_item (x ∷ xs) = true
 
 -- the period of the row, where it is there
 abbrev pub period_of : Option plain.Row → Option plain.Period

@@ -75,8 +75,8 @@ pub(crate) fn first_fault<L: Ledger>(
     let rows = periods_of_rows(alloc, table, lines, steps)?;
     let mut earlier = PeriodsByKey::new(alloc);
     for (i, line) in lines.iter().enumerate() {
-        let touched = affects_rest(alloc, &earlier, &rows, &line.key, &line.period)?;
-        if !touched {
+        let affected = affects_rest(alloc, &earlier, &rows, &line.key, &line.period)?;
+        if !affected {
             return Ok(Some(BatchFault::NoRow { rec: i as u32 + 2 }));
         }
         earlier.add(alloc, &line.key, &line.period)?;

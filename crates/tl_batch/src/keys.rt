@@ -69,8 +69,8 @@ impl Keys {
     /// `VersionsFull`; then line by line `KeyTwice` where the table has no valid time and an
     /// earlier line has the key, and `NoRow` where the line removes and affects no row; last
     /// `RowsFull` where the rows of the table and the opened ones together are more than the limits
-    /// allow. The record number of a line is its place from 0, plus 2. `NoMemory` is want of
-    /// memory, or that a batch is so large that its record numbers, or the number of rows that it
+    /// allow. The record number of a line is its place from 0, plus 2. `NoMemory`: memory ran out,
+    /// or a batch is so large that its record numbers, or the number of rows that it
     /// opens, have no place in 32 bits.
     pub fn resolve(
         &self,

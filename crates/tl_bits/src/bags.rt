@@ -94,8 +94,8 @@ impl Bag {
         }
     }
 
-    /// Puts the value into the bag, once more where it is there. `NoMemory` comes for want of
-    /// memory, or where the value is there 2^64 - 1 times, and leaves the bag as it was.
+    /// Puts the value into the bag, once more where it is there. `NoMemory` comes where
+    /// memory ran out, or where the value is there 2^64 - 1 times, and leaves the bag as it was.
     pub fn add(&mut self, value: i64) -> Result<(), NoMemory>
         ensures ok { OnOk result (AddsOne self.old self.new value) }
         ensures err { OnErr result (self.new ≡ self.old) }

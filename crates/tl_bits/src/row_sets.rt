@@ -149,7 +149,7 @@ fn tick_each<L: Ledger>(words: &[u64], steps: &mut Steps<L>)
 }
 
 impl RowSet {
-    /// The set of no row, below `rows`. `NoMemory` comes only where memory ran out.
+    /// The set of no row, below `rows`. The error is `NoMemory`.
     pub fn none(alloc: Global, rows: u32) -> Result<RowSet, NoMemory>
         ensures { IfOk result (λ set. set ≡ replicate rows false) }
     {
@@ -166,8 +166,8 @@ impl RowSet {
         RowSet { rows, words }
     }
 
-    /// The set of these rows and of none past them, below `rows`. `NoMemory` comes only for want of
-    /// memory.
+    /// The set of these rows and of none past them, below `rows`. The error is
+    /// `NoMemory`.
     pub fn grown(&self, alloc: Global, rows: u32) -> Result<RowSet, NoMemory>
         requires { length self.now ≤ rows }
         ensures { IfOk result (λ set. set ≡ self.now ++ replicate (rows - length self.now) false) }
@@ -255,11 +255,11 @@ impl RowSet {
     }
 
     /// The number of rows in the set. It takes one step for each word.
-    pub fn count<L: Ledger>(&self, steps: &mut Steps<L>) -> u64
+    pub fn count<L: Ledger>(&self, steps: &mut Steps<L>) -> u32
         ensures count { result ≡ count_by (λ member. member) self.now }
         ensures steps { steps.new ≡ steps.old + words_for (length self.now) }
     {
         tick_each(&self.words, steps);
-        count_bits(&self.words)
+        count_bits(&self.words) as u32
     }
 }

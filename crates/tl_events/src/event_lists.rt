@@ -103,7 +103,7 @@ impl EventList {
     /// the beginnings of `opens` rows whose ids follow on each other from `first` on. Where these
     /// are the rows that end and begin at the version after one, a list of the events up to that
     /// one becomes the list up to the next. It costs its own events and a pointer for each chunk of
-    /// the older list, which stays as it was. `NoMemory` comes only where memory ran out.
+    /// the older list, which stays as it was. The error is `NoMemory`.
     pub fn extend(
         &self,
         alloc: Global,

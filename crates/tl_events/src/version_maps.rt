@@ -80,7 +80,7 @@ impl VersionMap {
     }
 
     /// The map with one more entry: the events of the version end at `end`. This map stays as it
-    /// was. `NoMemory` comes only where memory ran out.
+    /// was. The error is `NoMemory`.
     pub fn with(&self, alloc: Global, version: u32, end: u32) -> Result<VersionMap, NoMemory>
         requires { IsAfter self.now version end }
         ensures { IfOk result

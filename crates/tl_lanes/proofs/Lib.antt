@@ -1,3 +1,4 @@
+pub mod Counted
 pub mod LaneMasks
 pub mod MaskBits
 pub mod PickedLemmas

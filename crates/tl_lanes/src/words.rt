@@ -1,5 +1,5 @@
 //! Words of 64 bits: one list into another bit by bit, and how many bits are set.
-ghost use Rattle.std.specs.Prelude.{◌≡◌, ℕ, ◌+◌, ◌^◌, ◌<◌, ◌≤◌, length, take, drop, ◌++◌, sum_by, bit_and, bit_or, count_ones};
+ghost use Rattle.std.specs.Prelude.{◌≡◌, ℕ, ◌+◌, ◌*◌, ◌/◌, ◌^◌, ◌<◌, ◌≤◌, length, take, drop, ◌++◌, sum_by, bit_and, bit_or, count_ones};
 ghost use Rattle.std.specs.Simd.Lanes.{zip2, put_chunk, chunk};
 ghost use Rattle.tl_lanes.specs.Words.{and_not};
 
@@ -129,10 +129,31 @@ pub fn and_not_into(left: &mut [u64], right: &[u64])
     combine::<AndNot>(left, right)
 }
 
+// How many bits of the words of whole vectors are set. Each lane adds up its own.
+fn count_lanes(words: &[u64]) -> u64
+    requires { length words.now < 2 ^ 32 }
+    ensures { result ≡ sum_by count_ones (take (length words.now / 8 * 8) words.now) }
+{
+    let mut counts = u64x8::splat(0);
+    for i in 0..words.len() / LANES {
+        counts = counts.strict_add(u64x8::from_slice(&words[LANES * i..]).count_ones());
+    }
+    counts.strict_reduce_sum()
+}
+
+// How many bits of words that do not fill a vector are set.
+fn count_rest(words: &[u64]) -> u64
+    requires { length words.now < 2 ^ 32 }
+    ensures { result ≡ sum_by count_ones words.now }
+{
+    words.iter().map(|word| u64::from(word.count_ones())).sum()
+}
+
 /// How many bits of the words are set.
 pub fn count_ones(words: &[u64]) -> u64
     requires { length words.now < 2 ^ 32 }
     ensures { result ≡ sum_by count_ones words.now }
 {
-    words.iter().map(|word| u64::from(word.count_ones())).sum()
+    let whole = words.len() / LANES * LANES;
+    count_lanes(words) + count_rest(&words[whole..])
 }

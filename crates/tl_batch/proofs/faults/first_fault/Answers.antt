@@ -2,18 +2,18 @@ use Rattle.std.proofs.Common.{◌+◌, true, false, None, Some, refl, arith}
 use Rattle.tl_types.specs.declared.batches.BatchFault.TheVariants as fault
 use Rattle.tl_batch.proofs.HoldLemmas.{stroke_held}
 use Rattle.tl_batch.proofs.AdjacentLemmas.{fault_here, fault_later}
-use Rattle.tl_batch.proofs.RemovalLemmas.{touched_fault, told}
+use Rattle.tl_batch.proofs.RemovalLemmas.{row_affected_fault, told}
 use Rattle.tl_batch.proofs.faults.first_fault.Goals as goal
 
-pub returns-then-not-touched : goal.returns-then-not-touched
-returns-then-not-touched g c = fault_here c.args.table.now.schema true c.args.table.now.rows c.args.lines.now c.loop-i.i c.index-lines-i.result (fault.NoRow (c.loop-i.i + 2)) (Some (fault.NoRow (c.loop-i.i + 2))) _ (omega arith) c.index-lines-i.is
-    (told c.in_ok-touched.touched false None (Some (fault.NoRow (c.loop-i.i + 2))) _ (touched_fault c.args.table.now.schema c.args.table.now.rows c.args.lines.now c.loop-i.i (c.loop-i.i + 2) c.index-lines-i.result c.in_ok-touched.touched c.loop-i.earlier c.in_ok-rows.rows c.requires.valid (omega arith) c.index-lines-i.is c.in_ok-rows.ensures c.loop-i.invariant.held c.in_ok-touched.ensures) c.if-not-touched.true)
+pub returns-then-not-affected : goal.returns-then-not-affected
+returns-then-not-affected g c = fault_here c.args.table.now.schema true c.args.table.now.rows c.args.lines.now c.loop-i.i c.index-lines-i.result (fault.NoRow (c.loop-i.i + 2)) (Some (fault.NoRow (c.loop-i.i + 2))) _ (omega arith) c.index-lines-i.is
+    (told c.in_ok-affected.affected false None (Some (fault.NoRow (c.loop-i.i + 2))) _ (row_affected_fault c.args.table.now.schema c.args.table.now.rows c.args.lines.now c.loop-i.i (c.loop-i.i + 2) c.index-lines-i.result c.in_ok-affected.affected c.loop-i.earlier c.in_ok-rows.rows c.requires.valid (omega arith) c.index-lines-i.is c.in_ok-rows.ensures c.loop-i.invariant.held c.in_ok-affected.ensures) c.if-not-affected.true)
     refl c.loop-i.invariant.none
 
 pub loop-i-preserved : goal.loop-i-preserved
 loop-i-preserved g c = record {
   held = stroke_held c.loop-i.earlier c.add.new.self c.args.lines.now c.loop-i.i c.index-lines-i.result (omega arith) c.index-lines-i.is c.loop-i.invariant.held c.in_ok-add.ensures.held c.in_ok-add.ensures.full;
   none = fault_later c.args.table.now.schema true c.args.table.now.rows c.args.lines.now c.loop-i.i c.index-lines-i.result None _ (omega arith) c.index-lines-i.is
-      (told c.in_ok-touched.touched true None (Some (fault.NoRow (c.loop-i.i + 2))) _ (touched_fault c.args.table.now.schema c.args.table.now.rows c.args.lines.now c.loop-i.i (c.loop-i.i + 2) c.index-lines-i.result c.in_ok-touched.touched c.loop-i.earlier c.in_ok-rows.rows c.requires.valid (omega arith) c.index-lines-i.is c.in_ok-rows.ensures c.loop-i.invariant.held c.in_ok-touched.ensures) c.if-not-touched.false)
+      (told c.in_ok-affected.affected true None (Some (fault.NoRow (c.loop-i.i + 2))) _ (row_affected_fault c.args.table.now.schema c.args.table.now.rows c.args.lines.now c.loop-i.i (c.loop-i.i + 2) c.index-lines-i.result c.in_ok-affected.affected c.loop-i.earlier c.in_ok-rows.rows c.requires.valid (omega arith) c.index-lines-i.is c.in_ok-rows.ensures c.loop-i.invariant.held c.in_ok-affected.ensures) c.if-not-affected.false)
       refl c.loop-i.invariant.none;
 }

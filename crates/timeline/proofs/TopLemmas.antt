@@ -42,7 +42,7 @@ faultless (Some own) script told same right = let there = right own refl in (the
 -- the run of a script without a fault
 run_complete : (before after : Outside) (ended : Status) → RunEnds before after ended → ((script : List ℕ) → before.left ≡ Some script → (jobs : List Job) × (jobs_of most_bytes script ≡ Ok jobs)) → IsSome before.left
     → (Rose before.source_faults after.source_faults → ⊥) → (Rose before.sink_faults after.sink_faults → ⊥) → IsDoneOrNoMemory ended
-run_complete before after ended (inl none) right told source sink = inr none.0
+run_complete before after ended (inl none) right told source sink = inr none.0.0
 run_complete before after ended (inr (inl failed)) right told source sink = absurd (source failed.0)
 run_complete before after ended (inr (inr read)) right told source sink =
     let there = faultless before.left read.0 told read.1 right in

@@ -105,7 +105,8 @@ ScriptEnds before after ended =
 -- failed, or it was read
 abbrev pub RunEnds : Outside → Outside → Status → Type 0
 RunEnds before after ended =
-    WritesNothing before.written after.written before.sink_faults after.sink_faults ended
+    (WritesNothing before.written after.written before.sink_faults after.sink_faults ended
+    × (after.source_faults ≡ before.source_faults))
     ⊎ (SourceFails before after ended ⊎ ScriptEnds before after ended)
 
 -- nothing was taken from the source

@@ -150,3 +150,70 @@ fn sums_and_extremes_under_a_mask(rt: HostRuntime) -> Result<(), Fail> {
     }
     Ok(())
 }
+
+// What a plain loop gives for the values whose bit is set: their sum, the least and the greatest.
+fn plain(values: &[i64], mask: &[u64]) -> (i128, Option<i64>, Option<i64>) {
+    let mut sum = 0i128;
+    let mut least = None;
+    let mut greatest = None;
+    for (k, value) in values.iter().enumerate() {
+        if bit(mask, k) {
+            sum = sum.wrapping_add(i128::from(*value));
+            least = match least {
+                Some(found) if found <= *value => Some(found),
+                _ => Some(*value),
+            };
+            greatest = match greatest {
+                Some(found) if found >= *value => Some(found),
+                _ => Some(*value),
+            };
+        }
+    }
+    (sum, least, greatest)
+}
+
+// Whether sum and extremes under a mask of this word are those of a plain loop.
+fn masked_agree(alloc: Global, len: usize, word: u64) -> Result<bool, AllocError> {
+    let values = numbers(alloc, len)?;
+    let mask = vec![in alloc; word; (values.len() + 63) / 64]?;
+    let (sum, least, greatest) = plain(&values, &mask);
+    Ok(
+        values.len() < 2000
+            && masked_sum(&values, &mask) == sum
+            && masked_min(&values, &mask) == least
+            && masked_max(&values, &mask) == greatest,
+    )
+}
+
+// Whether each bit of a mask of codes is that of a plain comparison.
+fn codes_agree(alloc: Global, len: usize, equal: bool) -> Result<bool, AllocError> {
+    let mut codes = Vec::new(alloc);
+    for k in 0..len {
+        codes.push((k % 3) as u32)?;
+    }
+    let mut mask = vec![in alloc; u64::MAX; (codes.len() + 63) / 64]?;
+    compare_mask_u32(&codes, equal, 2, &mut mask);
+    for k in 0..1100usize {
+        let expected = match codes.get(k) {
+            Some(code) => (*code == 2) == equal,
+            None => false,
+        };
+        if bit(&mask, k) != expected {
+            return Ok(false);
+        }
+    }
+    Ok(true)
+}
+
+#[test]
+fn codes_and_masked_values_agree_with_plain_loops(rt: HostRuntime) -> Result<(), Fail> {
+    for len in LENGTHS {
+        for equal in [true, false] {
+            assert!(rt; codes_agree(rt.alloc(), len, equal)?, "{len} codes");
+        }
+        for word in [0, u64::MAX, 0xaaaa_5555_0f0f_3333] {
+            assert!(rt; masked_agree(rt.alloc(), len, word)?, "{len} values");
+        }
+    }
+    Ok(())
+}

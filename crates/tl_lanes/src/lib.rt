@@ -1,5 +1,6 @@
-//! Kernels that go over whole words and whole columns several lanes at a time. Each gives what the
-//! plain function on lists gives, which its contract names, for lists of any length.
+//! Kernels that go over whole words and whole columns: words and comparisons several lanes at a
+//! time, sums and extremes under a mask by plain loops. Each gives what the plain function on lists
+//! gives, which its contract names, for lists of any length.
 #![tactic(auto)]
 
 mod masked;

@@ -49,7 +49,7 @@ fn shown<L: Ledger>(alloc: Global, blank: Blank, rows: u32) -> Result<(u64, u64,
     let mut steps: Steps<L> = Steps::new(blank);
     let mut set = thirds(alloc, rows)?;
     let found = walked(&set, &mut steps);
-    let count = set.count(&mut steps);
+    let count = u64::from(set.count(&mut steps));
     if set.rows() < 1 {
         return Ok((found, count, 0, false));
     }

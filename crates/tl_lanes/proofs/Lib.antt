@@ -1,5 +1,6 @@
 pub mod Counted
 pub mod LaneMasks
+pub mod LaneSteps
 pub mod MaskBits
 pub mod PickedLemmas
 pub mod Zipped

@@ -1,18 +1,15 @@
 -- One value more among those whose bit is set.
-use Rattle.std.proofs.Common.{◌≡◌, ℕ, zero, suc, ◌+◌, ◌<◌, ◌⊎◌, List, [], ◌∷◌, ◌++◌, Bool, true, false, length, get_or, take, refl, sym, ◌∙◌, ap, arith, inl, inr}
+use Rattle.std.proofs.Common.{◌≡◌, ℕ, zero, suc, ◌+◌, ◌<◌, List, [], ◌∷◌, ◌++◌, Bool, true, false, length, get_or, take, refl, ◌∙◌, ap, arith}
 use Rattle.std.specs.Prelude.{ℤ, pos, negsuc, ◌+ℤ◌, fold, if◌then◌else◌}
-use Rattle.std.proofs.lemmas.Bool.{cases_Bool, or_left, or_right, or_from}
-use Rattle.std.proofs.lemmas.List.Elements.{All-push, All-weaker, Contains-push, Contains-append_left}
-use Rattle.std.proofs.Common.{subst}
-use Rattle.std.proofs.lemmas.List.{take_more, length-take-le, append-nil}
+use Rattle.std.proofs.lemmas.List.{take_more, length-take-le}
 use Rattle.std.proofs.lemmas.List.Sums.{fold-append}
 use Rattle.std.proofs.lemmas.Int.{ints}
 use Rattle.std.proofs.Common.{◌*◌, ◌^◌, neg_ℤ, ◌≤ℤ◌, w64, of_z, to_z}
 use Rattle.std.specs.Int.{w128}
 use Rattle.std.proofs.Math.Facts.{to_z-of_z}
 use mir.Val.{SFits}
-use Rattle.std.specs.Prelude.{int_lt, ◌||◌, ◌&&◌, not}
-use Rattle.tl_lanes.specs.Masks.{bit_of, picked_from, picked, IsUpTo, IsExtreme}
+use Rattle.std.specs.Prelude.{int_lt}
+use Rattle.tl_lanes.specs.Masks.{bit_of, picked_from, picked, IsUpTo}
 
 -- the value, where its bit is set
 abbrev pub one_if : {X : Type 0} → Bool → X → List X
@@ -72,11 +69,7 @@ wide_sum sum value j fits low high few =
     let both : SFits w128 (sum +ℤ value) = fits_between (sum +ℤ value) (9223372036854775808 * (j + 1)) (sum_low sum value j fits low) (sum_high sum value j fits high) (omega arith) in
     ap (λ v. to_z w128 (of_z w128 (sum +ℤ v))) (to_z-of_z wide) ∙ to_z-of_z both
 
--- what was found so far is the least or the greatest, and nothing was passed where nothing is found
-pub record IsBest (least : Bool) (values : List ℤ) (found : Bool) (best : ℤ) : Type 0 where
-  pub some : found ≡ true → IsExtreme least values best
-  pub none : found ≡ false → values ≡ []
-
+-- a value comes before another: it is less, or greater
 abbrev pub before : Bool → ℤ → ℤ → Bool
 before least value best = if least then int_lt value best else int_lt best value
 
@@ -91,53 +84,3 @@ up_to_behind false value best other first up = grind (arith, ints)
 pub up_to_ahead : (least : Bool) (value best : ℤ) → before least value best ≡ false → IsUpTo least best value
 up_to_ahead true value best later = grind (arith, ints)
 up_to_ahead false value best later = grind (arith, ints)
-
-pub best_none : (least : Bool) (best : ℤ) → IsBest least [] false best
-best_none least best = record { some = λ e. absurd (cc); none = λ _. refl }
-
--- one value more
-pub best_more : (least : Bool) (values : List ℤ) (found set : Bool) (best value : ℤ) → IsBest least values found best
-    → IsBest least (values ++ one_if set value) (found || set) (if set && (before least value best || not found) then value else best)
-best_more least values false false best value so_far = record {
-  some = λ e. absurd (cc);
-  none = λ e. append-nil values ∙ so_far.none refl;
-}
-best_more least values true false best value so_far =
-    let kept = so_far.some refl in record {
-      some = λ _. subst (λ vs. IsExtreme least vs best) (sym (append-nil values)) kept;
-      none = λ e. absurd (cc);
-    }
-best_more least values false true best value so_far =
-    let nothing : values ≡ [] = so_far.none refl in
-    let first : (before least value best || true) ≡ true = or_right (before least value best) true refl in
-    let only : IsExtreme least (value ∷ []) value = record {
-      among = Contains-push [] value;
-      first = All-push (IsUpTo least value) [] value (λ k d less. absurd (omega arith)) (up_to_self least value);
-    } in record {
-      some = λ _. subst (λ b. IsExtreme least (values ++ value ∷ []) (if b then value else best)) (sym first)
-          (subst (λ vs. IsExtreme least (vs ++ value ∷ []) value) (sym nothing) only);
-      none = λ e. absurd (cc);
-    }
-best_more least values true true best value so_far = record {
-  some = λ _. by_order (cases_Bool (before least value best));
-  none = λ e. absurd (cc);
-} where
-  kept : IsExtreme least values best
-  kept = so_far.some refl
-
-  by_order : (before least value best ≡ true) ⊎ (before least value best ≡ false)
-      → IsExtreme least (values ++ value ∷ []) (if (before least value best || false) then value else best)
-  by_order (inl first) =
-      let is : (before least value best || false) ≡ true = or_left (before least value best) false first in
-      subst (λ b. IsExtreme least (values ++ value ∷ []) (if b then value else best)) (sym is) (record {
-        among = Contains-push values value;
-        first = All-push (IsUpTo least value) values value
-            (All-weaker (IsUpTo least best) (IsUpTo least value) (λ other up. up_to_behind least value best other first up) values kept.first)
-            (up_to_self least value);
-      })
-  by_order (inr later) =
-      let is : (before least value best || false) ≡ false = or_from (before least value best) false later refl in
-      subst (λ b. IsExtreme least (values ++ value ∷ []) (if b then value else best)) (sym is) (record {
-        among = Contains-append_left values (value ∷ []) best kept.among;
-        first = All-push (IsUpTo least best) values value kept.first (up_to_ahead least value best later);
-      })

@@ -36,7 +36,7 @@ pub(crate) fn number(value: &i64) -> i64
 
 // That each of the numbers fits its type, which a load of many lanes does not tell. It does
 // nothing.
-fn all_fit(values: &[i64])
+pub(crate) fn all_fit(values: &[i64])
     ensures { (k : ℕ) → k < length values.now
         → FitsSigned w64 (slice_index_or values.now k (pos 0)) }
 {

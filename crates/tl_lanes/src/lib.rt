@@ -1,6 +1,6 @@
-//! Kernels that go over whole words and whole columns: words, comparisons and extremes under a mask
-//! several lanes at a time, sums under a mask by plain loops. Each gives what the plain function on
-//! lists gives, which its contract names, for lists of any length.
+//! Kernels that go over whole words and whole columns several lanes at a time, and over the rest
+//! one by one. Each gives what the plain function on lists gives, which its contract names, for
+//! lists of any length.
 #![tactic(auto)]
 
 mod extremes;

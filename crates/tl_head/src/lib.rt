@@ -2,7 +2,7 @@
 //!
 //! The value stands for a list of entries. The writer's pass has written a list, and each publish
 //! adds one entry to it. A reader's pass has seen a list. A read gives a value that stands for what
-//! is written at its turn, and what the pass had seen is a prefix of that. Of what two passes have
+//! the pass has then seen, and what it had seen before is a prefix of that. Of what two passes have
 //! seen one is a prefix of the other.
 #![tactic(auto)]
 

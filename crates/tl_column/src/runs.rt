@@ -20,12 +20,12 @@ pub(crate) fn code_in_run(texts: &TextList, run: &[u32], text: &str) -> Option<u
     ensures found { IfSome result (λ code. text_of texts.now code ≡ text.now) }
     ensures absent { IsNone result → LacksText texts.now text.now run.now }
 {
-    let (front, back) = run.split_at(run.len() / 2);
-    match back {
+    let (low, high) = run.split_at(run.len() / 2);
+    match high {
         [] => None,
         [code, rest @ ..] => match texts.at(*code).cmp(text) {
             Ordering::Less => code_in_run(texts, rest, text),
-            Ordering::Greater => code_in_run(texts, front, text),
+            Ordering::Greater => code_in_run(texts, low, text),
             Ordering::Equal => Some(*code),
         },
     }

@@ -88,8 +88,8 @@ impl<V: Published> Door<V> {
     }
 
     /// Draws a ticket, waits until it is served, and takes the value. It waits for ever where the
-    /// ticket word stands at the greatest u64. What the seat had seen is a prefix of what the value stands for,
-    /// and all of it for the writer's seat.
+    /// ticket word stands at the greatest u64. What the seat had seen is a prefix of what the value
+    /// stands for, and all of it for the writer's seat.
     pub fn turn<R: Wait>(&self, rt: &R, seat: &mut DoorSeat<V>) -> Held<V>
         requires own { seat.old.table ≡ self.now }
         requires idle { seat.old.stage ≡ Idle }

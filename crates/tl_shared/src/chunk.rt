@@ -136,8 +136,8 @@ pub(crate) fn chunks_of<T: Shareable>(
     ensures chunked { IfOk result (λ chunks. IsChunked size chunks.items) }
 {
     let mut chunks = Vec::new(alloc);
-    let (front, rest) = items.split_at(items.len().min(size - unfilled.len()));
-    chunks.push(joined_chunk(alloc, unfilled, front)?)?;
+    let (first, rest) = items.split_at(items.len().min(size - unfilled.len()));
+    chunks.push(joined_chunk(alloc, unfilled, first)?)?;
     push_chunks(alloc, size, &mut chunks, rest)?;
     Ok(chunks)
 }

@@ -4,7 +4,8 @@ ghost use Rattle.tl_types.specs.declared.commits.Entry.{Entry};
 
 use crate::NoMemory;
 
-/// A value that stands for a list of fewer than 2^32 entries, and that threads may share.
+/// A value that stands for a list of fewer than 2^32 entries, and that one thread may hand to
+/// another.
 pub trait Published: Drop + Send {
     // The entries that it stands for.
     ghost entries: { Self → List Entry };

@@ -1,6 +1,9 @@
 -- How what is told of bytes, of room and of faults goes on from one call to the next.
-use Rattle.std.proofs.Common.{◌≡◌, ◌↔◌, ℕ, ◌+◌, ◌≤◌, List, [], ◌++◌, length, take, None, Some, IfSome, Option, Result, Ok, Err, OnErr, refl, sym, ap, ◌∙◌, append_assoc, append-nil, arith}
+use Rattle.std.proofs.Common.{◌≡◌, ◌↔◌, ℕ, ◌+◌, ◌≤◌, List, [], ◌++◌, length, take, None, Some, IfSome, Option, Result, Ok, Err, OnOk, OnErr, refl, sym, ap, ◌∙◌, append_assoc, append-nil, arith}
 use Rattle.std.proofs.Math.Seq.{take-append_seam}
+use Rattle.std.specs.Prelude.{Bool, if◌then◌else◌, is_err}
+use Rattle.tl_device.specs.Plain.{Calls}
+use Rattle.tl_device.specs.Calls.{one_more, next_fails, after_call}
 use Rattle.tl_device.specs.Known.{prepend_known, append_known, HasRoom, spend_room, Rose}
 
 -- no byte before them changes nothing
@@ -68,6 +71,31 @@ none_left (Some before) (Some after) n none same end = let empty = end.0 none in
 pub at_any_error : {T E P : Type 0} (r : Result T E) → P → OnErr r P
 at_any_error (Ok x) p = tt
 at_any_error (Err e) p = p
+
+-- what holds in any case holds at a success
+pub at_any_success : {T E P : Type 0} (r : Result T E) → P → OnOk r P
+at_any_success (Ok x) p = p
+at_any_success (Err e) p = tt
+
+-- what follows from what a success gives and from what an error gives holds in any case
+pub at_either : {T E A B P : Type 0} (r : Result T E) → OnOk r A → OnErr r B → (A → P) → (B → P) → P
+at_either (Ok x) a b f g = f a
+at_either (Err e) a b f g = g b
+
+-- what follows from what a success gives holds at a success
+pub then_success : {T E A P : Type 0} (r : Result T E) → (A → P) → OnOk r A → OnOk r P
+then_success (Ok x) f a = f a
+then_success (Err e) f a = tt
+
+-- what follows from what an error gives holds at an error
+pub then_error : {T E A P : Type 0} (r : Result T E) → (A → P) → OnErr r A → OnErr r P
+then_error (Ok x) f a = tt
+then_error (Err e) f a = f a
+
+-- a call that succeeds is not among those that are to fail, and leaves the count of faults
+pub sure_call : {T E : Type 0} (r : Result T E) (old new : Calls) → is_err r ≡ next_fails old → new ≡ after_call old → OnOk r (new.faults ≡ old.faults)
+sure_call (Ok x) old new fails after = ap (λ (calls : Calls). calls.faults) after ∙ ap (λ (b : Bool). if b then one_more old.faults else old.faults) (sym fails)
+sure_call (Err e) old new fails after = tt
 
 -- a read after what was read so far
 pub read_more : (first before after : Option (List ℕ)) (bytes taken newer : List ℕ) → first ≡ prepend_known bytes before → before ≡ prepend_known taken after → newer ≡ bytes ++ taken → first ≡ prepend_known newer after

@@ -1,1 +1,4 @@
 pub mod Known
+pub mod Undo
+pub mod Filling
+mod Examples

@@ -37,3 +37,7 @@ TakesPrefix before after = (taken : List ℕ) × (before ≡ prepend_known taken
 abbrev pub AppendsPrefix : Option (List ℕ) → Option (List ℕ) → List ℕ → Type 0
 AppendsPrefix before after bytes =
     (n : ℕ) × (n ≤ length bytes) × Appends before after (take n bytes)
+
+-- where nothing is told no bytes are
+pub told_by_none : {P : Type 0} {bytes : List ℕ} → None ≡ Some bytes → P
+told_by_none told = absurd cc

@@ -1,5 +1,6 @@
 -- What contracts see of the forms in memory.
 use Rattle.std.specs.Prelude.{ℕ, List}
+use Rattle.tl_device.specs.declared.call.Call.{Call}
 
 -- the numbers of the calls that fail, how many calls were made, and how many of them failed
 pub record Calls : Type 0 where
@@ -22,4 +23,18 @@ pub record SureSink : Type 0 where
 pub record MemorySink : Type 0 where
   pub bytes : List ℕ
   pub spare : ℕ
+  pub calls : Calls
+
+-- the bytes, the calls that may have changed what a crash leaves (the newest first), the bytes that
+-- these took away, and the room that is left for bytes and for calls
+pub record Kept : Type 0 where
+  pub bytes : List ℕ
+  pub done : List Call
+  pub log : List ℕ
+  pub spare : ℕ
+  pub spare_calls : ℕ
+
+-- what is kept, and the calls
+pub record MemoryDisk : Type 0 where
+  pub kept : Kept
   pub calls : Calls

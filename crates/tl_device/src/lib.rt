@@ -5,12 +5,17 @@
 //! call.
 #![tactic(auto)]
 
+mod call;
 mod calls;
 mod disk;
 mod failed;
+mod file_disk;
 mod gate;
+mod kept;
+mod memory_disk;
 mod memory_sink;
 mod memory_source;
+mod named_file;
 mod real_sink;
 mod real_source;
 mod sink;
@@ -24,9 +29,12 @@ mod unread;
 mod whole;
 mod written;
 
+pub use call::Call;
 pub use disk::Disk;
 pub use failed::{Failed, NoMemory};
+pub use file_disk::FileDisk;
 pub use gate::{Gate, OpenGate, Place};
+pub use memory_disk::MemoryDisk;
 pub use memory_sink::MemorySink;
 pub use memory_source::MemorySource;
 pub use real_sink::RealSink;

@@ -1,10 +1,11 @@
-// Each form called once, and the adapters over readers and writers of std that work and that fail.
+// Each form called once, and the adapters over readers, writers and files of std that work and that
+// fail.
 
 use super::*;
 use std::alloc::Global;
-use std::io;
 use std::io::{ErrorKind, Read, Write};
 use std::test::Fail;
+use std::{env, fs, io};
 
 // A reader that fails.
 #[derive(Drop)]
@@ -119,11 +120,74 @@ fn a_writer_of_std_is_a_sink(rt: HostRuntime) -> Result<(), Fail> {
     Ok(())
 }
 
+// Whether the disk took `from` at its front and made it outlive a crash; room is made first.
+fn stored<D: Disk>(disk: &mut D, from: &[u8]) -> Result<bool, NoMemory> {
+    disk.room(from.len() as u64, 2)?;
+    Ok(disk.write_at(0, from).is_ok() && disk.sync().is_ok())
+}
+
+// What a disk that reads as `abc` reads as after a write, a sync, a read and a cut, of which the
+// calls with these numbers fail, and how many failed.
+fn played(alloc: Global, failing: &[u64]) -> Result<(Vec<u8>, u64), NoMemory> {
+    let bytes = vec![in alloc; b'a', b'b', b'c']?;
+    let mut disk = MemoryDisk::new(alloc, bytes, failing.to_vec(alloc)?);
+    disk.room(3, 3)?;
+    let _written = disk.write_at(2, b"xyz");
+    let _synced = disk.sync();
+    let _read = disk.read_at(1, &mut [0; 2]);
+    let _cut = disk.cut(1);
+    Ok((disk.bytes().to_vec(alloc)?, disk.faults()))
+}
+
 #[test]
 fn a_disk_in_memory_reads_as_its_bytes(rt: HostRuntime) -> Result<(), Fail> {
-    let mut disk = SureDisk::new(vec![in rt.alloc(); 1, 2]?);
+    let mut disk = SureDisk::new(rt.alloc(), vec![in rt.alloc(); 1, 2]?);
     assert_eq!(rt; disk.len(), Ok(2));
-    assert_eq!(rt; disk.bytes(), [1, 2].as_slice());
+    assert!(rt; stored(&mut disk, &[7, 8, 9])?);
+    assert_eq!(rt; disk.bytes(), [7, 8, 9].as_slice());
     pass_both(&OpenGate);
+    Ok(())
+}
+
+#[test]
+fn each_call_of_a_disk_fails_in_turn(rt: HostRuntime) -> Result<(), Fail> {
+    let alloc = rt.alloc();
+    for (failing, want, faults) in [
+        ([0, 0], "a", 0),
+        ([1, 0], "a", 1),
+        ([2, 0], "a", 1),
+        ([3, 0], "a", 1),
+        ([4, 0], "abxyz", 1),
+        ([1, 4], "abc", 2),
+    ] {
+        let (bytes, failed) = played(alloc, &failing)?;
+        assert_eq!(rt; bytes.as_slice(), want.as_bytes());
+        assert_eq!(rt; failed, faults);
+    }
+    Ok(())
+}
+
+#[test]
+fn a_file_is_a_disk(rt: HostRuntime) -> Result<(), Fail> {
+    let alloc = rt.alloc();
+    let folder = env::temp_dir(&rt)?;
+    let number = std::process::id(rt.process());
+    let path = format!(in alloc; "{}/tl_device_{number}", folder.as_str())?;
+    let mut disk = FileDisk::new(&rt, path.clone()?);
+    assert_eq!(rt; disk.len(), Ok(0));
+    assert!(rt; stored(&mut disk, b"kept bytes")?);
+    assert_eq!(rt; disk.cut(7), Ok(()));
+    let mut again = FileDisk::new(&rt, path.clone()?);
+    let mut into = [0; 5];
+    assert_eq!(rt; again.read_at(3, &mut into), Ok(4));
+    assert_eq!(rt; into, [b't', b' ', b'b', b'y', 0]);
+    assert_eq!(rt; again.write_at(u64::MAX, b"end"), Err(Failed));
+    assert_eq!(rt; (again.faults(), again.len()), (1, Ok(7)));
+    fs::remove_file(&rt, path)?;
+    let mut lost = FileDisk::new(&rt, String::from_str(alloc, "/no/such/folder/file")?);
+    assert_eq!(rt;
+        (lost.len(), lost.sync(), lost.faults()),
+        (Err(Failed), Err(Failed), 2)
+    );
     Ok(())
 }

@@ -1,0 +1,16 @@
+// What a disk in memory did, and how it is undone.
+
+/// A call of a disk in memory that may change what a crash leaves.
+#[derive(Clone, Copy, Debug)]
+pub enum Call {
+    /// A write: where, how many bytes, and how many of these were over bytes that stood there.
+    Wrote(u64, usize, usize),
+    /// A failed write, after which a read gives what it gave: where, and how many bytes.
+    Tore(u64, usize),
+    /// A cut: the length after it, and how many bytes it cut off.
+    Cut(u64, usize),
+    /// A failed cut, after which a read gives what it gave: the length that it wanted.
+    MayCut(u64),
+    /// A sync.
+    Synced,
+}

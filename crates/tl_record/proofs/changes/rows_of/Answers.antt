@@ -1,0 +1,25 @@
+use Rattle.std.proofs.lemmas.Result.{err_from_is_err_and}
+use Rattle.tl_record.specs.Reading.{several, row_at}
+use Rattle.tl_record.proofs.Loops.{several_goes_on, several_stops, several_ends}
+use Rattle.tl_record.proofs.changes.rows_of.Goals as goal
+
+pub returns-in_err-row : goal.returns-in_err-row
+returns-in_err-row c =
+    let p =
+    err_from_is_err_and c.from_residual-in_err-row.result c.from_residual-in_err-row.ensures.1 in
+    rw (p.1, p.2)
+    (several_stops c.in_err-row.field-0.0 c.loop.rows.items row_at c.args.count c.loop.counter
+    c.loop.rest.now (several row_at c.args.count c.args.bytes.now) c.loop-test.true
+    c.in_err-row.ensures c.loop.invariant)
+
+pub loop-preserved : goal.loop-preserved
+loop-preserved c =
+    rw c.in_ok-push.ensures.items
+    (several_goes_on c.loop.rows.items row_at c.args.count c.loop.counter c.loop.rest.now
+    c.in_ok-row.behind.now c.in_ok-row.row (several row_at c.args.count c.args.bytes.now)
+    c.loop-test.true c.in_ok-row.ensures c.loop.invariant)
+
+pub returns : goal.returns
+returns c =
+    several_ends c.loop.rows.items row_at c.args.count c.loop.counter c.loop.rest.now
+    (several row_at c.args.count c.args.bytes.now) c.loop-test.false c.loop.invariant

@@ -1,0 +1,56 @@
+//! Why bytes are no record.
+ghost use Rattle.std.specs.Prelude.{◌≡◌};
+ghost use Rattle.tl_record.specs.declared.faults.ReadError.TheVariants.{Memory};
+
+use std::alloc::{AllocError, AllocFailed};
+
+/// Why no record was read.
+#[derive(Clone, Copy, Debug, PartialEq, Eq)]
+pub enum RecordFault {
+    /// The bytes begin a record, and end before it does.
+    Short {
+        /// The byte offset at which the record begins.
+        at: usize,
+    },
+    /// The bytes begin with no record, and begin none.
+    Bad {
+        /// The byte offset at which a record was to begin.
+        at: usize,
+    },
+    /// Out of memory.
+    NoMemory,
+}
+
+/// What is wrong with the bytes of a record.
+#[derive(Clone, Copy, Debug, PartialEq, Eq)]
+pub enum Fault {
+    /// They end before the record does.
+    Short,
+    /// Whatever follows them, they are no record.
+    Bad,
+}
+
+/// Why a part of a record was not read.
+#[derive(Clone, Copy, Debug, PartialEq, Eq)]
+pub enum ReadError {
+    /// Out of memory.
+    Memory,
+    /// What is wrong with the bytes.
+    Fault(Fault),
+}
+
+impl From<AllocError> for ReadError {
+    ghost from_gives = { λ _ e. e ≡ Memory };
+
+    fn from(_error: AllocError) -> ReadError {
+        ReadError::Memory
+    }
+}
+
+impl<T: Drop> From<AllocFailed<T>> for ReadError {
+    ghost from_gives = { λ _ e. e ≡ Memory };
+
+    fn from(_error: AllocFailed<T>) -> ReadError {
+        ReadError::Memory
+    }
+}

@@ -1,0 +1,199 @@
+//! Numbers of a record, between bounds.
+ghost use Rattle.std.specs.Prelude.{◌≡◌, ◌≤◌, ◌<◌, ◌≤ℤ◌, length, IfOk};
+ghost use Rattle.tl_record.specs.Reading.{
+  Gives,
+  IsBetween,
+  byte_between,
+  turned,
+  turned_byte,
+  turned_between,
+  between,
+  weight,
+  distance,
+  at_distance,
+  signed_between,
+};
+
+use crate::faults::{Fault, ReadError};
+
+/// A byte from `lo` to `hi`, and what follows it.
+pub fn byte(lo: u8, hi: u8, bytes: &[u8]) -> Result<(u8, &[u8]), ReadError>
+    ensures read { Gives (λ x. (x.0, x.1.now)) result (byte_between lo hi bytes.now) }
+    ensures within { IfOk result (λ x. IsBetween lo hi x.0) }
+{
+    match bytes {
+        [] => Err(ReadError::Fault(Fault::Short)),
+        [first, rest @ ..] => {
+            if lo <= *first && *first <= hi {
+                Ok((*first, rest))
+            } else {
+                Err(ReadError::Fault(Fault::Bad))
+            }
+        }
+    }
+}
+
+fn weight(count: u8) -> u64
+    requires { count < 8 }
+    ensures { result ≡ weight count }
+{
+    match count {
+        0 => 1,
+        1 => 256,
+        2 => 65536,
+        3 => 16777216,
+        4 => 4294967296,
+        5 => 1099511627776,
+        6 => 281474976710656,
+        _ => 72057594037927936,
+    }
+}
+
+/// A number of `count` bytes, at most 8, from `lo` to `hi`, and what follows it.
+#[tactic(auto, using(crate::proofs::Steps::between_none, crate::proofs::Steps::between_some, crate::proofs::Steps::first_small, crate::proofs::Steps::front_le, crate::proofs::Steps::still_some, crate::proofs::Steps::still_small, crate::proofs::Steps::joined_within, crate::proofs::Bounds::weight_pos))]
+pub fn between(count: u8, lo: u64, hi: u64, bytes: &[u8]) -> Result<(u64, &[u8]), ReadError>
+    requires size { count ≤ 8 }
+    requires some { lo ≤ hi }
+    requires small { hi < weight count }
+    ensures read { Gives (λ x. (x.0, x.1.now)) result (between count lo hi bytes.now) }
+    ensures within { IfOk result (λ x. IsBetween lo hi x.0) }
+{
+    if count == 0 {
+        return Ok((0, bytes));
+    }
+    let weight = weight(count - 1);
+    let (first, rest) = byte((lo / weight) as u8, (hi / weight) as u8, bytes)?;
+    let front = first as u64 * weight;
+    let most = (hi - front).min(weight - 1);
+    let (behind, rest) = between(count - 1, lo.saturating_sub(front), most, rest)?;
+    Ok((front + behind, rest))
+}
+
+#[tactic(auto, using(crate::proofs::Whole::four_read))]
+fn whole_number(lo: u32, hi: u32, bytes: &[u8]) -> Result<(u32, &[u8]), ReadError>
+    requires some { lo ≤ hi }
+    requires long { 4 ≤ length bytes.now }
+    ensures read { Gives (λ x. (x.0, x.1.now)) result (between 4 lo hi bytes.now) }
+    ensures within { IfOk result (λ x. IsBetween lo hi x.0) }
+{
+    let (front, rest) = bytes.split_at(4);
+    let n = u32::from_be_bytes([front[0], front[1], front[2], front[3]]);
+    if lo <= n && n <= hi {
+        Ok((n, rest))
+    } else {
+        Err(ReadError::Fault(Fault::Bad))
+    }
+}
+
+/// A number of 4 bytes from `lo` to `hi`, and what follows it.
+pub fn number(lo: u32, hi: u32, bytes: &[u8]) -> Result<(u32, &[u8]), ReadError>
+    requires { lo ≤ hi }
+    ensures read { Gives (λ x. (x.0, x.1.now)) result (between 4 lo hi bytes.now) }
+    ensures within { IfOk result (λ x. IsBetween lo hi x.0) }
+{
+    if bytes.len() >= 4 {
+        return whole_number(lo, hi, bytes);
+    }
+    let (n, rest) = between(4, lo as u64, hi as u64, bytes)?;
+    Ok((n as u32, rest))
+}
+
+/// A number of 2 bytes, and what follows it.
+pub fn short_number(bytes: &[u8]) -> Result<(u16, &[u8]), ReadError>
+    ensures { Gives (λ x. (x.0, x.1.now)) result (between 2 0 65535 bytes.now) }
+{
+    let (n, rest) = between(2, 0, 65535, bytes)?;
+    Ok((n as u16, rest))
+}
+
+fn turned(byte: u8) -> u8
+    ensures { result ≡ turned byte }
+{
+    if byte < 128 { byte + 128 } else { byte - 128 }
+}
+
+fn turned_byte(lo: u8, hi: u8, bytes: &[u8]) -> Result<(u8, &[u8]), ReadError>
+    ensures read { Gives (λ x. (x.0, x.1.now)) result (turned_byte lo hi bytes.now) }
+    ensures within { IfOk result (λ x. IsBetween lo hi x.0) }
+{
+    match bytes {
+        [] => Err(ReadError::Fault(Fault::Short)),
+        [first, rest @ ..] => {
+            let value = turned(*first);
+            if lo <= value && value <= hi {
+                Ok((value, rest))
+            } else {
+                Err(ReadError::Fault(Fault::Bad))
+            }
+        }
+    }
+}
+
+const WEIGHT: u64 = 72057594037927936;
+
+#[tactic(auto, using(crate::proofs::Steps::first_small, crate::proofs::Steps::front_le, crate::proofs::Steps::still_some, crate::proofs::Steps::still_small, crate::proofs::Steps::joined_within), unfolding(crate::specs::Reading::turned_between))]
+fn turned_between(lo: u64, hi: u64, bytes: &[u8]) -> Result<(u64, &[u8]), ReadError>
+    requires { lo ≤ hi }
+    ensures read { Gives (λ x. (x.0, x.1.now)) result (turned_between lo hi bytes.now) }
+    ensures within { IfOk result (λ x. IsBetween lo hi x.0) }
+{
+    let (first, rest) = turned_byte((lo / WEIGHT) as u8, (hi / WEIGHT) as u8, bytes)?;
+    let front = first as u64 * WEIGHT;
+    let most = (hi - front).min(WEIGHT - 1);
+    let (behind, rest) = between(7, lo.saturating_sub(front), most, rest)?;
+    Ok((front + behind, rest))
+}
+
+fn distance(i: i64) -> u64
+    ensures { result ≡ distance i }
+{
+    if i < 0 {
+        9223372036854775807 - (-(i + 1)) as u64
+    } else {
+        i as u64 + 9223372036854775808
+    }
+}
+
+fn at_distance(distance: u64) -> i64
+    ensures { result ≡ at_distance distance }
+{
+    if distance < 9223372036854775808 {
+        -((9223372036854775807 - distance) as i64) - 1
+    } else {
+        (distance - 9223372036854775808) as i64
+    }
+}
+
+#[tactic(auto, using(crate::proofs::Whole::eight_read))]
+fn whole_signed(lo: i64, hi: i64, bytes: &[u8]) -> Result<(i64, &[u8]), ReadError>
+    requires some { lo ≤ℤ hi }
+    requires long { 8 ≤ length bytes.now }
+    ensures read { Gives (λ x. (x.0, x.1.now)) result (signed_between lo hi bytes.now) }
+    ensures within { IfOk result (λ x. (lo ≤ℤ x.0) × (x.0 ≤ℤ hi)) }
+{
+    let (front, rest) = bytes.split_at(8);
+    let i = i64::from_be_bytes([
+        front[0], front[1], front[2], front[3], front[4], front[5], front[6], front[7],
+    ]);
+    if lo <= i {
+        if i <= hi {
+            return Ok((i, rest));
+        }
+        return Err(ReadError::Fault(Fault::Bad));
+    }
+    Err(ReadError::Fault(Fault::Bad))
+}
+
+/// A signed number of 8 bytes from `lo` to `hi`, and what follows it.
+#[tactic(auto, using(crate::proofs::Steps::distances_ascend, crate::proofs::Steps::signed_within), unfolding(crate::specs::Reading::signed_between))]
+pub fn signed(lo: i64, hi: i64, bytes: &[u8]) -> Result<(i64, &[u8]), ReadError>
+    requires { lo ≤ℤ hi }
+    ensures read { Gives (λ x. (x.0, x.1.now)) result (signed_between lo hi bytes.now) }
+    ensures within { IfOk result (λ x. (lo ≤ℤ x.0) × (x.0 ≤ℤ hi)) }
+{
+    if bytes.len() >= 8 {
+        return whole_signed(lo, hi, bytes);
+    }
+    let (place, rest) = turned_between(distance(lo), distance(hi), bytes)?;
+    Ok((at_distance(place), rest))
+}

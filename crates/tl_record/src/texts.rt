@@ -1,0 +1,191 @@
+//! Names and texts of a record.
+ghost use Rattle.std.specs.Prelude.{◌≡◌, ◌≤◌, ◌++◌, length, replicate, IfOk};
+ghost use Rattle.std.specs.List.{list_all, list_any};
+ghost use Rattle.std.specs.Str.{is_utf8};
+ghost use Rattle.tl_types.specs.Names.{continues_word, same_bytes};
+ghost use Rattle.tl_types.specs.Facts.{names_of};
+ghost use Rattle.tl_record.specs.Reading.{
+  Gives,
+  block,
+  judged,
+  is_new_name,
+  begins_name,
+  name_at,
+  goes_on_by,
+  begins_text,
+  text_of,
+  text_at,
+};
+
+use crate::faults::{Fault, ReadError};
+use crate::numbers;
+use std::alloc::Global;
+use tl_types::{Column, NoMemory, Text, begins_word, continues_word, is_name};
+
+fn all_continue(bytes: &[u8]) -> bool
+    ensures { result ≡ list_all continues_word bytes.now }
+{
+    bytes.iter().all(|byte| continues_word(*byte))
+}
+
+#[tactic(auto, unfolding(crate::specs::Reading::begins_name))]
+fn begins_name(bytes: &[u8]) -> bool
+    ensures { result ≡ begins_name bytes.now }
+{
+    match bytes {
+        [] => true,
+        [first, rest @ ..] => begins_word(*first) && all_continue(rest),
+    }
+}
+
+fn has_name(columns: &[Column], name: &str) -> bool
+    ensures { result ≡ list_any (λ c. same_bytes c name.now) (names_of columns.now) }
+{
+    match columns {
+        [] => false,
+        [first, rest @ ..] => first.name.as_str() == name || has_name(rest, name),
+    }
+}
+
+#[tactic(auto, unfolding(crate::specs::Reading::is_new_name))]
+fn is_new_name(columns: &[Column], name: &str) -> bool
+    ensures { result ≡ is_new_name columns.now name.now }
+{
+    is_name(name) && !has_name(columns, name)
+}
+
+#[tactic(auto, using(crate::proofs::Letters::new_name_is_text, crate::proofs::Letters::new_name_short))]
+fn whole_name<'a>(
+    alloc: Global,
+    columns: &[Column],
+    front: &[u8],
+    rest: &'a [u8],
+) -> Result<(Text, &'a [u8]), ReadError>
+    ensures { Gives (λ x. (x.0, x.1.now)) result
+        (judged (is_new_name columns.now front.now) front.now rest.now) }
+{
+    let Ok(name) = str::from_utf8(front) else {
+        return Err(ReadError::Fault(Fault::Bad));
+    };
+    if !is_new_name(columns, name) {
+        return Err(ReadError::Fault(Fault::Bad));
+    }
+    Ok((Text::new(alloc, name)?, rest))
+}
+
+fn name_of<'a>(
+    alloc: Global,
+    columns: &[Column],
+    count: usize,
+    bytes: &'a [u8],
+) -> Result<(Text, &'a [u8]), ReadError>
+    ensures { Gives (λ x. (x.0, x.1.now)) result
+        (block (is_new_name columns.now) begins_name count bytes.now) }
+{
+    if count <= bytes.len() {
+        let (front, rest) = bytes.split_at(count);
+        return whole_name(alloc, columns, front, rest);
+    }
+    if begins_name(bytes) {
+        Err(ReadError::Fault(Fault::Short))
+    } else {
+        Err(ReadError::Fault(Fault::Bad))
+    }
+}
+
+/// A name that none of the columns has, behind its length, and what follows it.
+#[tactic(auto, unfolding(crate::specs::Reading::name_at))]
+pub fn name<'a>(
+    alloc: Global,
+    columns: &[Column],
+    bytes: &'a [u8],
+) -> Result<(Text, &'a [u8]), ReadError>
+    ensures { Gives (λ x. (x.0, x.1.now)) result (name_at columns.now bytes.now) }
+{
+    let (count, rest) = numbers::byte(1, 64, bytes)?;
+    let (name, rest) = name_of(alloc, columns, count as usize, rest)?;
+    Ok((name, rest))
+}
+
+#[tactic(auto, using(crate::proofs::Letters::utf8_yes, crate::proofs::Letters::utf8_no))]
+fn is_text(bytes: &[u8]) -> bool
+    ensures { result ≡ is_utf8 bytes.now }
+{
+    match str::from_utf8(bytes) {
+        Ok(_) => true,
+        Err(_) => false,
+    }
+}
+
+fn is_filled_text(alloc: Global, bytes: &[u8], more: usize, fill: u8) -> Result<bool, NoMemory>
+    requires { more ≤ 3 }
+    ensures { IfOk result (λ t. t ≡ is_utf8 (bytes.now ++ replicate more fill)) }
+{
+    let mut filled = Vec::from_slice(alloc, bytes)?;
+    filled.resize(bytes.len() + more, fill)?;
+    Ok(is_text(&filled))
+}
+
+fn goes_on_by(alloc: Global, count: usize, bytes: &[u8], more: usize) -> Result<bool, NoMemory>
+    requires { more ≤ 3 }
+    ensures { IfOk result (λ t. t ≡ goes_on_by count bytes.now more) }
+{
+    if bytes.len() + more > count {
+        return Ok(false);
+    }
+    let with_least = is_filled_text(alloc, bytes, more, 128)?;
+    let with_greatest = is_filled_text(alloc, bytes, more, 191)?;
+    Ok(with_least || with_greatest)
+}
+
+#[tactic(auto, unfolding(crate::specs::Reading::begins_text))]
+fn begins_text(alloc: Global, count: usize, bytes: &[u8]) -> Result<bool, NoMemory>
+    ensures { IfOk result (λ t. t ≡ begins_text count bytes.now) }
+{
+    let by_none = goes_on_by(alloc, count, bytes, 0)?;
+    let by_one = goes_on_by(alloc, count, bytes, 1)?;
+    let by_two = goes_on_by(alloc, count, bytes, 2)?;
+    let by_three = goes_on_by(alloc, count, bytes, 3)?;
+    Ok(by_none || by_one || by_two || by_three)
+}
+
+#[tactic(auto, using(crate::proofs::Letters::utf8_yes, crate::proofs::Letters::utf8_no))]
+fn whole_text<'a>(
+    alloc: Global,
+    front: &[u8],
+    rest: &'a [u8],
+) -> Result<(Text, &'a [u8]), ReadError>
+    requires { length front.now ≤ 65535 }
+    ensures { Gives (λ x. (x.0, x.1.now)) result (judged (is_utf8 front.now) front.now rest.now) }
+{
+    let Ok(text) = str::from_utf8(front) else {
+        return Err(ReadError::Fault(Fault::Bad));
+    };
+    Ok((Text::new(alloc, text)?, rest))
+}
+
+#[tactic(auto, unfolding(crate::specs::Reading::text_of))]
+fn text_of(alloc: Global, count: usize, bytes: &[u8]) -> Result<(Text, &[u8]), ReadError>
+    requires { count ≤ 65535 }
+    ensures { Gives (λ x. (x.0, x.1.now)) result (text_of count bytes.now) }
+{
+    if count <= bytes.len() {
+        let (front, rest) = bytes.split_at(count);
+        return whole_text(alloc, front, rest);
+    }
+    if begins_text(alloc, count, bytes)? {
+        Err(ReadError::Fault(Fault::Short))
+    } else {
+        Err(ReadError::Fault(Fault::Bad))
+    }
+}
+
+/// A text behind its length, and what follows it.
+#[tactic(auto, unfolding(crate::specs::Reading::text_at))]
+pub fn text(alloc: Global, bytes: &[u8]) -> Result<(Text, &[u8]), ReadError>
+    ensures { Gives (λ x. (x.0, x.1.now)) result (text_at bytes.now) }
+{
+    let (count, rest) = numbers::short_number(bytes)?;
+    let (text, rest) = text_of(alloc, count as usize, rest)?;
+    Ok((text, rest))
+}

@@ -1,0 +1,65 @@
+-- The journal of a worked history, computed: a table of employees, two rows put, one of them
+-- changed, the other removed, and put again.
+use Rattle.std.proofs.Common.{◌≡◌, ℕ, ◌+◌, pos, List, [], ◌∷◌, ◌++◌, length, take, Option, None, refl, false}
+use Rattle.std.specs.Prelude.{codes}
+use Rattle.tl_types.specs.declared.cells.Cell.TheVariants as cell
+use Rattle.tl_types.specs.declared.cells.ColumnKind.TheVariants.{IntKind, TextKind}
+use Rattle.tl_types.specs.declared.commits.Commit.{Commit}
+use Rattle.tl_types.specs.declared.commits.Body.TheVariants as body
+use Rattle.tl_types.specs.Plain as plain
+use Rattle.tl_record.specs.Spelling.{spelling}
+use Rattle.tl_journal.specs.Image.{header, size_of}
+
+abbrev created : Commit
+created = record {
+  author = 0;
+  body = body.Create (record {
+    name = codes "emp";
+    columns =
+        record { name = codes "id"; kind = IntKind } ∷ record { name = codes "dept"; kind = TextKind }
+        ∷ record { name = codes "pay"; kind = IntKind } ∷ [];
+    key = 0;
+    valid = false;
+  });
+}
+
+abbrev row : ℕ → List ℕ → ℕ → plain.Opened
+row id dept pay = record {
+  cells = cell.Int (pos id) ∷ cell.Text dept ∷ cell.Int (pos pay) ∷ [];
+  period = None;
+}
+
+abbrev change : List ℕ → List plain.Opened → Commit
+change closes opens = record {
+  author = 0;
+  body = body.Change (record { table = 0; closes = closes; opens = opens });
+}
+
+abbrev history : List Commit
+history =
+    created ∷ change [] (row 1 (codes "ops") 100 ∷ row 2 (codes "dev") 50 ∷ [])
+    ∷ change (0 ∷ []) (row 1 (codes "ops") 150 ∷ []) ∷ change (1 ∷ []) []
+    ∷ change [] (row 2 (codes "dev") 50 ∷ []) ∷ []
+
+-- the open gates with their records
+abbrev fronts : List Commit → List ℕ
+fronts [] = []
+fronts (c ∷ cs) = 1 ∷ (spelling c ++ fronts cs)
+
+whole : length ((header ++ fronts history) ++ 0 ∷ []) ≡ 221
+whole = refl
+
+second_gate : 16 + size_of (take 1 history) ≡ 44
+second_gate = refl
+
+third_gate : 16 + size_of (take 2 history) ≡ 112
+third_gate = refl
+
+fourth_gate : 16 + size_of (take 3 history) ≡ 158
+fourth_gate = refl
+
+fifth_gate : 16 + size_of (take 4 history) ≡ 178
+fifth_gate = refl
+
+last_gate : 16 + size_of history ≡ 220
+last_gate = refl

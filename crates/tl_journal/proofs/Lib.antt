@@ -1,0 +1,9 @@
+pub mod Appended
+pub mod Crash
+pub mod Damage
+pub mod Examples
+pub mod Headed
+pub mod Listed
+pub mod Opened
+pub mod Phases
+pub mod Scans

@@ -1,0 +1,5 @@
+use Rattle.std.proofs.Common.{ap, Err}
+use Rattle.tl_journal.proofs.journal.Journal.open.Goals as goal
+
+pub returns-in-Err-clause-too_short : goal.returns-in-Err-clause-too_short
+returns-in-Err-clause-too_short g c len is = c.in-Err.ensures.too_short len (ap (λ e. Err e) is)

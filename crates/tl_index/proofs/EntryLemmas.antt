@@ -1,0 +1,113 @@
+-- The entries that a snapshot keeps.
+use Rattle.std.proofs.Common.{◌≡◌, ℕ, ◌+◌, ◌<◌, ◌≤◌, Bool, true, false, true≢false, ◌||◌, List, [], ◌∷◌, ◌++◌, length, map, Option, Some, None, refl, sym, ap, ◌∙◌, subst, arith, append_assoc, length-append, IsTrue, IfSome}
+use Rattle.std.specs.Prelude.{is_some}
+use Rattle.std.specs.List.{fold}
+use Rattle.tl_types.specs.declared.commits.Commit.{Commit}
+use Rattle.tl_types.specs.declared.commits.Entry.{Entry}
+use Rattle.tl_types.specs.Entries.{commits_of, has_break}
+use Rattle.tl_types.specs.History.{database_of, nothing, after_commit, fits}
+use Rattle.tl_types.specs.Limits.{standard_limits}
+use Rattle.tl_types.specs.Plain as plain
+use Rattle.tl_store.specs.Log.{AllFit}
+use Rattle.tl_index.specs.Snapshots.{commit_entry, break_entry, break_entries, entries_of, BreaksLast, IsLegal, IsKept}
+
+-- the commits among the entries are those that are kept
+commits_kept : (commits : List Commit) (broken : Option Commit) → commits_of (entries_of commits broken) ≡ commits
+commits_kept [] None = refl
+commits_kept [] (Some c) = refl
+commits_kept (commit ∷ commits) broken = ap (λ cs. commit ∷ cs) (commits_kept commits broken)
+
+-- a break is among the entries exactly where one is kept
+break_kept : (commits : List Commit) (broken : Option Commit) → has_break (entries_of commits broken) ≡ is_some broken
+break_kept [] None = refl
+break_kept [] (Some c) = refl
+break_kept (commit ∷ commits) broken = break_kept commits broken
+
+pub commits_are : (entries : List Entry) (commits : List Commit) (broken : Option Commit) → entries_of commits broken ≡ entries → commits ≡ commits_of entries
+commits_are entries commits broken same = sym (commits_kept commits broken) ∙ ap commits_of same
+
+pub break_is : (entries : List Entry) (commits : List Commit) (broken : Option Commit) → entries_of commits broken ≡ entries → is_some broken ≡ has_break entries
+break_is entries commits broken same = sym (break_kept commits broken) ∙ ap has_break same
+
+-- where none is among the entries, none is kept
+pub none_kept : (entries : List Entry) (commits : List Commit) (broken : Option Commit) → entries_of commits broken ≡ entries → has_break entries ≡ false → entries_of commits None ≡ entries
+none_kept entries commits None same whole = same
+none_kept entries commits (Some c) same whole = absurd (true≢false (break_is entries commits (Some c) same ∙ whole))
+
+-- one commit more is one entry more
+commit_last : (commits : List Commit) (c : Commit) → entries_of (commits ++ c ∷ []) None ≡ entries_of commits None ++ commit_entry c ∷ []
+commit_last [] c = refl
+commit_last (d ∷ commits) c = ap (λ es. commit_entry d ∷ es) (commit_last commits c)
+
+pub commit_more : (entries : List Entry) (commits : List Commit) (broken : Option Commit) (c : Commit) → entries_of commits broken ≡ entries → has_break entries ≡ false → entries_of (commits ++ c ∷ []) None ≡ entries ++ commit_entry c ∷ []
+commit_more entries commits broken c same whole =
+    commit_last commits c ∙ ap (λ es. es ++ commit_entry c ∷ []) (none_kept entries commits broken same whole)
+
+-- and so is a break
+break_last : (commits : List Commit) (c : Commit) → entries_of commits (Some c) ≡ entries_of commits None ++ break_entry c ∷ []
+break_last [] c = refl
+break_last (d ∷ commits) c = ap (λ es. commit_entry d ∷ es) (break_last commits c)
+
+pub break_more : (entries : List Entry) (commits : List Commit) (broken : Option Commit) (c : Commit) → entries_of commits broken ≡ entries → has_break entries ≡ false → entries_of commits (Some c) ≡ entries ++ break_entry c ∷ []
+break_more entries commits broken c same whole =
+    break_last commits c ∙ ap (λ es. es ++ break_entry c ∷ []) (none_kept entries commits broken same whole)
+
+-- a commit that fits the entries fits what is kept of them
+pub fits_kept : (entries : List Entry) (commits store : List Commit) (broken : Option Commit) (c : Commit) → entries_of commits broken ≡ entries → store ≡ commits → IsTrue (fits standard_limits (database_of (commits_of entries)) c) → IsTrue (fits standard_limits (database_of store) c)
+fits_kept entries commits store broken c same is fit =
+    subst (λ cs. IsTrue (fits standard_limits (database_of cs) c)) (sym (is ∙ commits_are entries commits broken same)) fit
+
+-- the version is the number of commits
+version_from : (db : plain.Database) (commits : List Commit) → (fold after_commit db commits).version ≡ db.version + length commits
+version_from db [] = omega arith
+version_from db (c ∷ commits) =
+    let e = version_from (after_commit db c) commits in
+    omega (arith, e)
+
+-- a commit that fits is one of few
+few_more : (db : plain.Database) (c : Commit) → IsTrue (fits standard_limits db c) → db.version < 16777215
+few_more db c fit = grind (arith, fit)
+
+-- commits that fit, and one more
+fit_more : (db : plain.Database) (commits : List Commit) (c : Commit) → AllFit db commits → IsTrue (fits standard_limits (fold after_commit db commits) c) → AllFit db (commits ++ c ∷ [])
+fit_more db [] c fitting fit = (fit, tt)
+fit_more db (d ∷ commits) c fitting fit = (fitting.0, fit_more (after_commit db d) commits c fitting.1 fit)
+
+pub kept_more : (entries : List Entry) (commits : List Commit) (broken : Option Commit) (c : Commit) → IsKept commits broken → entries_of commits broken ≡ entries → IsTrue (fits standard_limits (database_of (commits_of entries)) c) → IsKept (commits ++ c ∷ []) None
+kept_more entries commits broken c kept same fit =
+    let here : IsTrue (fits standard_limits (database_of commits) c) = fits_kept entries commits commits broken c same refl fit in
+    let few = few_more (database_of commits) c here in
+    let version = version_from nothing commits in
+    record {
+      fitting = fit_more nothing commits c kept.fitting here;
+      few = omega (arith, few, version, length-append commits (c ∷ []));
+      break_fits = tt;
+    }
+
+pub kept_broken : (entries : List Entry) (commits store : List Commit) (broken : Option Commit) (c : Commit) → IsKept commits broken → entries_of commits broken ≡ entries → store ≡ commits → IsTrue (fits standard_limits (database_of (commits_of entries)) c) → IsKept store (Some c)
+kept_broken entries commits store broken c kept same is fit =
+    record {
+      fitting = subst (λ cs. AllFit nothing cs) (sym is) kept.fitting;
+      few = (let f = kept.few in let e = ap length is in omega (arith, e, f));
+      break_fits = fits_kept entries commits store broken c same is fit;
+    }
+
+-- what is kept is legal
+last_kept : (before commits : List Commit) (broken : Option Commit) → IfSome broken (λ c. IsTrue (fits standard_limits (database_of (before ++ commits)) c)) → BreaksLast before (entries_of commits broken)
+last_kept before [] None fit = tt
+last_kept before [] (Some c) fit =
+    (subst (λ cs. IsTrue (fits standard_limits (database_of cs) c)) (append-nil before) fit, refl) where
+      append-nil : (xs : List Commit) → xs ++ [] ≡ xs
+      append-nil [] = refl
+      append-nil (x ∷ xs) = ap (λ l. x ∷ l) (append-nil xs)
+last_kept before (d ∷ commits) broken fit =
+    last_kept (before ++ d ∷ []) commits broken
+    (subst (λ cs. IfSome broken (λ c. IsTrue (fits standard_limits (database_of cs) c))) (sym (append_assoc before (d ∷ []) commits)) fit)
+
+pub legal_kept : (entries : List Entry) (commits : List Commit) (broken : Option Commit) → IsKept commits broken → entries_of commits broken ≡ entries → IsLegal entries
+legal_kept entries commits broken kept same =
+    subst IsLegal same
+    (record {
+      fitting = subst (λ cs. AllFit nothing cs) (sym (commits_kept commits broken)) kept.fitting;
+      breaks_last = last_kept [] commits broken kept.break_fits;
+    })

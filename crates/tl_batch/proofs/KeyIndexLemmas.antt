@@ -14,7 +14,7 @@ use Rattle.tl_types.specs.declared.cells.Cell.{Cell}
 use Rattle.tl_types.specs.declared.cells.Cell.TheVariants as cell
 use Rattle.tl_types.specs.contracts.cells.CellPartialEq.TheImpl as equal
 use Rattle.tl_types.specs.History.{same_cell, has_id}
-use Rattle.tl_batch.specs.KeyIndex.{is_id, is_among_ids, has_further, Changes}
+use Rattle.tl_batch.specs.KeyIndex.{IdsByKey, is_id, is_among_ids, has_further, has_row, Changes}
 
 -- CELLS
 
@@ -66,6 +66,12 @@ pub copied : {X : Type 0} (key copy : Cell) (w : Option X) (before all after : L
     → ((q : Cell) → lookup (equal.eq-value.it q) after ≡ cond (equal.eq-value.it copy q) w (lookup (equal.eq-value.it q) before)) → Changes key w all after
 copied key copy w before all after same view change q =
     sym (finds q after) ∙ (change q ∙ (ap (λ b. cond b w (lookup (equal.eq-value.it q) before)) (eq_is copy q ∙ ap (λ k. same_cell k q) same) ∙ (ap (λ o. cond (same_cell key q) w o) (finds q before) ∙ ap (λ es. cond (same_cell key q) w (lookup (same_cell q) es)) view)))
+
+-- a map with its entries in another order finds the same
+pub reordered : (before after : List (Cell × ℕ)) (further : List (Cell × List ℕ)) (ids : IdsByKey) → ((q : Cell) → lookup (equal.eq-value.it q) after ≡ lookup (equal.eq-value.it q) before)
+    → record { first = before; further = further } ≡ ids → (x : Cell) (n : ℕ) → has_row (record { first = after; further = further }) x n ≡ has_row ids x n
+reordered before after further ids same view x n =
+    ap (λ o. is_id o n || has_further further x n) (sym (finds x after) ∙ (same x ∙ finds x before)) ∙ ap (λ k. has_row k x n) view
 
 module _ {X : Type 0} (at : Option X → ℕ → Bool) (key : Cell) (w : Option X) (before after : List (Cell × X)) (change : Changes key w before after) where
   pub changed : (x : Cell) (n : ℕ) → at (lookup (same_cell x) after) n ≡ cond (same_cell x key) (at w n) (at (lookup (same_cell x) before) n)

@@ -7,6 +7,7 @@ pub mod CoverLemmas
 pub mod Examples
 pub mod FaultLemmas
 pub mod FollowLemmas
+pub mod FreshKeys
 pub mod GapLemmas
 pub mod HoldLemmas
 pub mod IndexedRows

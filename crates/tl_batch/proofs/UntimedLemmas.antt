@@ -80,7 +80,7 @@ fault_later removes place rows rec earlier more k keys fresh o all e f none adde
     faults_same removes place rows (rec + 1) more (k ∷ earlier) keys added
     ∙ (sym (at_key removes (has_cell earlier k) (has_open place k rows) rec (key_fault removes place rows (rec + 1) (k ∷ earlier) keys) fresh o e f ∙ ap (λ b. cond b o (key_fault removes place rows (rec + 1) (k ∷ earlier) keys)) none) ∙ start)
 
-dropped : (keys : List (Bor Cell)) (i : ℕ) (k : Bor Cell) → i < length keys → k ≡ get_or keys i k → map (λ q. q.now) (drop i keys) ≡ k.now ∷ map (λ q. q.now) (drop (i + 1) keys)
+pub dropped : (keys : List (Bor Cell)) (i : ℕ) (k : Bor Cell) → i < length keys → k ≡ get_or keys i k → map (λ q. q.now) (drop i keys) ≡ k.now ∷ map (λ q. q.now) (drop (i + 1) keys)
 dropped keys i k h at = at_drop_more (map (λ (q : Bor Cell). q.now)) keys i k h ∙ ap (λ (r : Bor Cell). r.now ∷ map (λ (t : Bor Cell). t.now) (drop (i + 1) keys)) (sym at)
 
 pub this_key : (removes : Bool) (place : ℕ) (rows : List plain.Row) (keys : List (Bor Cell)) (i : ℕ) (k : Bor Cell) (earlier : List Cell) (fresh : Bool) (o all : Option BatchFault) → i < length keys → k ≡ get_or keys i k → fresh ≡ not (has_cell earlier k.now)

@@ -1,5 +1,5 @@
 -- Lines for a table without valid time, by their keys.
-use Rattle.std.specs.Prelude.{ℕ, ◌+◌, Bool, ◌&&◌, not, List, [], ◌∷◌, Option, Some, None, if◌then◌else◌}
+use Rattle.std.specs.Prelude.{◌≡◌, ℕ, ◌+◌, Bool, false, ◌&&◌, not, List, [], ◌∷◌, Option, Some, None, if◌then◌else◌}
 use Rattle.std.specs.List.{list_any}
 use Rattle.tl_types.specs.declared.cells.Cell.{Cell}
 use Rattle.tl_types.specs.declared.batches.BatchFault.{BatchFault}
@@ -31,3 +31,16 @@ key_fault removes place rows rec earlier (k ∷ keys) =
     if has_cell earlier k then Some (fault.KeyTwice rec)
     else (if removes && not (has_open place k rows) then Some (fault.NoRow rec)
     else key_fault removes place rows (rec + 1) (k ∷ earlier) keys)
+
+-- the first fault of lines with these keys from a record number on, where no key stands twice: the
+-- lines remove, and no open row has the key
+abbrev pub row_fault : Bool → ℕ → List plain.Row → ℕ → List Cell → Option BatchFault
+row_fault removes place rows rec [] = None
+row_fault removes place rows rec (k ∷ keys) =
+    if removes && not (has_open place k rows) then Some (fault.NoRow rec)
+    else row_fault removes place rows (rec + 1) keys
+
+-- none of the keys is one of the earlier ones or of those before it
+abbrev pub AreFresh : List Cell → List Cell → Type 0
+AreFresh earlier [] = Unit {0}
+AreFresh earlier (k ∷ keys) = (has_cell earlier k ≡ false) × AreFresh (k ∷ earlier) keys

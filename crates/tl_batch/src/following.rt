@@ -177,6 +177,7 @@ pub(crate) fn change_index(
         ≡ has_row index.old x n) }
 {
     let opens = change.opens();
+    index.reserve(opens.len().saturating_sub(closed.len()))?;
     add_opened(index, alloc, opens, place, first)?;
     remove_closed(index, closed);
     Ok(())

@@ -42,6 +42,14 @@ impl KeyIndex {
         }
     }
 
+    /// Makes room for so many further keys. The error is `NoMemory`; no id changes, then either.
+    pub(crate) fn reserve(&mut self, keys: usize) -> Result<(), NoMemory>
+        ensures { (x : Cell) (n : ℕ) → has_row self.new x n ≡ has_row self.old x n }
+    {
+        self.first.reserve(keys)?;
+        Ok(())
+    }
+
     /// Adds the id of a row of a key. The error is `NoMemory`, and leaves the ids as they were.
     pub(crate) fn add(&mut self, alloc: Global, key: &Cell, id: u32) -> Result<(), NoMemory>
         ensures ok { OnOk result ((x : Cell) (n : ℕ) → has_row self.new x n

@@ -34,6 +34,14 @@ impl<'a> KeySet<'a> {
         }
     }
 
+    /// No keys, and room for so many. The error is `NoMemory`.
+    pub(crate) fn with_room(alloc: Global, keys: usize) -> Result<KeySet<'a>, NoMemory>
+        ensures { IfOk result (λ set. set ≡ []) }
+    {
+        let keys = HashSet::with_capacity(alloc, keys)?;
+        Ok(KeySet { keys })
+    }
+
     /// Adds a key, and says whether it is new. The error is `NoMemory`.
     pub(crate) fn add(&mut self, key: &'a Cell) -> Result<bool, NoMemory>
         ensures fresh { IfOk result (λ fresh. fresh ≡ not (has_cell self.old key.now)) }

@@ -1,6 +1,6 @@
 //! Lines for a table without valid time: the first fault of their keys, and the rows that they
 //! close.
-ghost use Rattle.std.specs.Prelude.{◌≡◌, ◌+◌, ◌<◌, ◌^◌, ℕ, List, [], All, false, true, IfOk, Some, length, map, slice_get};
+ghost use Rattle.std.specs.Prelude.{◌≡◌, ◌+◌, ◌<◌, ◌^◌, ℕ, List, [], All, IsTrue, false, true, IfOk, Some, length, map, slice_get};
 ghost use Rattle.std.specs.List.{list_any};
 ghost use Rattle.tl_types.specs.Plain as plain;
 ghost use Rattle.tl_types.specs.Facts.{AscendFrom};
@@ -10,7 +10,7 @@ ghost use Rattle.tl_batch.specs.OpenTables.{IsIndexOf};
 ghost use Rattle.tl_types.specs.Resolving.{BatchLine};
 ghost use Rattle.tl_batch.specs.Made.{IsClosed};
 ghost use Rattle.tl_batch.specs.Standing.{rows_match};
-ghost use Rattle.tl_batch.specs.Untimed.{has_open, fault_of_key, key_fault};
+ghost use Rattle.tl_batch.specs.Untimed.{has_open, fault_of_key, row_fault, key_fault, AreFresh};
 
 use crate::ids::IdSet;
 use crate::key_index::KeyIndex;
@@ -41,15 +41,48 @@ fn fault_of_key(
     if !fresh {
         return Some(BatchFault::KeyTwice { rec });
     }
-    let has = has_open_row(index, key);
-    if removes && !has {
+    if removes && !has_open_row(index, key) {
         return Some(BatchFault::NoRow { rec });
     }
     None
 }
 
-/// The first fault of lines with these keys, which remove rows or put them. The error is
-/// `NoMemory`.
+// Whether each key comes after the one before it, in the order of cells.
+fn rise(keys: &[&Cell]) -> bool
+    ensures { IsTrue result → AreFresh [] (map (λ k. k.now) keys.now) }
+{
+    let [first, behind @ ..] = keys else {
+        return true;
+    };
+    let mut last = *first;
+    for key in behind {
+        if !last.cmp(*key).is_lt() {
+            return false;
+        }
+        last = *key;
+    }
+    true
+}
+
+// The first fault of lines whose keys are fresh: a line removes and no open row has its key.
+fn first_missing_row(index: &KeyIndex, removes: bool, keys: &[&Cell]) -> Option<BatchFault>
+    requires { length keys.now + 1 < 2 ^ 32 }
+    ensures { (place : ℕ) (rows : List plain.Row) → IsIndexOf index.now place rows → result
+        ≡ row_fault removes place rows 2 (map (λ k. k.now) keys.now) }
+{
+    if !removes {
+        return None;
+    }
+    for (i, key) in keys.iter().enumerate() {
+        if !has_open_row(index, key) {
+            return Some(BatchFault::NoRow { rec: i as u32 + 2 });
+        }
+    }
+    None
+}
+
+/// The first fault of lines with these keys, which remove rows or put them. Keys that rise stand
+/// once each and are not collected. The error is `NoMemory`.
 pub(crate) fn first_key_fault(
     alloc: Global,
     index: &KeyIndex,
@@ -61,7 +94,10 @@ pub(crate) fn first_key_fault(
         → IsIndexOf index.now place rows → found
         ≡ key_fault removes place rows 2 [] (map (λ k. k.now) keys.now)) }
 {
-    let mut earlier = KeySet::new(alloc);
+    if rise(keys) {
+        return Ok(first_missing_row(index, removes, keys));
+    }
+    let mut earlier = KeySet::with_room(alloc, keys.len())?;
     for (i, key) in keys.iter().enumerate() {
         let fresh = earlier.add(key)?;
         let found = fault_of_key(index, removes, fresh, key, i as u32 + 2);

@@ -1,6 +1,10 @@
-use Rattle.std.proofs.Common.{arith, sym, ◌∙◌}
+use Rattle.std.proofs.Common.{[], map, arith, sym, ◌∙◌}
+use Rattle.tl_batch.proofs.FreshKeys.{fault_of_fresh}
 use Rattle.tl_batch.proofs.UntimedLemmas.{more_keys, this_key}
 use Rattle.tl_batch.proofs.untimed.first_key_fault.Goals as goal
+
+pub returns-then-rise : goal.returns-then-rise
+returns-then-rise c = λ place rows stand. c.first_missing_row.ensures place rows stand ∙ fault_of_fresh c.args.removes place rows 2 [] (map (λ k. k.now) c.args.keys.now) (c.rise.ensures c.if-rise.true)
 
 pub returns-then-is_some : goal.returns-then-is_some
 returns-then-is_some c = λ place rows stand. this_key c.args.removes place rows c.args.keys.now c.loop-i.i c.index-keys-i.result c.loop-i.earlier c.in_ok-fresh.fresh c.fault_of_key-found.result _ (omega arith) c.index-keys-i.is c.in_ok-fresh.ensures.fresh (c.fault_of_key-found.ensures place rows stand) (sym c.is_some.ensures ∙ c.if-is_some.true) (c.loop-i.invariant place rows stand)

@@ -1,0 +1,56 @@
+-- Commits that fit one after the other.
+use Rattle.std.proofs.Common.{◌≡◌, ℕ, Bool, true, false, List, [], ◌∷◌, ◌++◌, refl, sym, ap, ◌∙◌, subst, IsTrue}
+use Rattle.std.specs.Prelude.{Ok, IfOk}
+use Rattle.std.specs.List.{fold}
+use Rattle.tl_types.specs.declared.commits.Commit.{Commit}
+use Rattle.tl_types.specs.declared.commits.Entry.{Entry}
+use Rattle.tl_types.specs.declared.batches.BatchFault.{BatchFault}
+use Rattle.tl_types.specs.declared.limits.Limits.{Limits}
+use Rattle.tl_types.specs.Entries.{commits_of, has_break}
+use Rattle.tl_types.specs.History.{database_of, nothing, after_commit, fits}
+use Rattle.tl_types.specs.Limits.{standard_limits}
+use Rattle.tl_types.specs.Plain as plain
+use Rattle.tl_batch.specs.Made.{AreWithin}
+use Rattle.tl_batch.proofs.CommitLemmas.{ok_within}
+use Rattle.tl_index.specs.Snapshots.{commit_entry}
+use Rattle.tl_engine.specs.Fitting.{FitFrom, FitInTurn}
+use Rattle.tl_batch.specs.KeyIndex.{IdsByKey}
+use Rattle.tl_batch.specs.Standing.{StandFor}
+use Rattle.tl_engine.specs.Replaying.{IsApplied, IsReplay}
+use Rattle.tl_engine.proofs.ListLemmas.{commits_more, break_same, alone_more}
+
+-- one more that fits
+fit_more : (limits : Limits) (db : plain.Database) (commits : List Commit) (c : Commit) → FitFrom limits db commits → fits limits (fold after_commit db commits) c ≡ true → FitFrom limits db (commits ++ c ∷ [])
+fit_more limits db [] c fitting fit = (fit, tt)
+fit_more limits db (d ∷ commits) c fitting fit = (fitting.0, fit_more limits (after_commit db d) commits c fitting.1 fit)
+
+-- each one fits those before it
+fit_at : (limits : Limits) (db : plain.Database) (before : List Commit) (c : Commit) (later : List Commit) → FitFrom limits db (before ++ c ∷ later) → fits limits (fold after_commit db before) c ≡ true
+fit_at limits db [] c later fitting = fitting.0
+fit_at limits db (d ∷ before) c later fitting = fit_at limits (after_commit db d) before c later fitting.1
+
+-- what fits with the limits fits with wider ones
+pub fits_standard : (limits : Limits) (db : plain.Database) (c : Commit) → AreWithin limits standard_limits → fits limits db c ≡ true → fits standard_limits db c ≡ true
+fits_standard limits db c within fit = ok_within limits standard_limits db (Ok c) fit within
+
+-- the commits of entries with one more, which fits
+pub applied_fit : (limits : Limits) (old new : List Entry) (c : Commit) → FitInTurn limits (commits_of old) → IsApplied limits old new c true → FitInTurn limits (commits_of new)
+applied_fit limits old new c fitting applied =
+    let e : commits_of new ≡ commits_of old ++ c ∷ [] = ap commits_of applied.1 ∙ commits_more old c in
+    subst (λ cs. FitInTurn limits cs) (sym e) (fit_more limits nothing (commits_of old) c fitting applied.0)
+
+-- where all commits fit, none of them does not fit
+pub none_unfit : (limits : Limits) (before : List Commit) (c : Commit) (later : List Commit) → FitInTurn limits (before ++ c ∷ later) → fits limits (database_of before) c ≡ false → ⊥
+none_unfit limits before c later fitting unfit =
+    let fit = fit_at limits nothing before c later fitting in
+    absurd (let e : true ≡ false = sym fit ∙ unfit in cc)
+
+-- what a replay keeps, with one commit more
+pub replay_more : (old new : List Entry) (keys later : List IdsByKey) (store : List Commit) (c : Commit) → IsReplay old keys → new ≡ old ++ commit_entry c ∷ [] → store ≡ commits_of old → StandFor later (database_of (store ++ c ∷ [])) → IsReplay new later
+replay_more old new keys later store c replay more is stand =
+    subst (λ es. IsReplay es later) (sym more)
+    (record {
+      commits_alone = alone_more old c replay.commits_alone;
+      whole = break_same old c ∙ replay.whole;
+      keys_stand = subst (λ cs. StandFor later (database_of cs)) (ap (λ cs. cs ++ c ∷ []) is ∙ sym (commits_more old c)) stand;
+    })

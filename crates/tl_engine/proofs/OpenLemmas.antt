@@ -1,0 +1,65 @@
+-- The end of the opening of a history.
+use Rattle.std.proofs.Common.{◌≡◌, ◌⊎◌, inl, inr, ℕ, Bool, true, false, List, [], ◌∷◌, ◌++◌, refl, sym, ap, ◌∙◌, subst}
+use Rattle.std.specs.Prelude.{Some}
+use Rattle.std.specs.declared.option.Option.{Option}
+use Rattle.tl_types.specs.declared.commits.Commit.{Commit}
+use Rattle.tl_types.specs.declared.commits.Entry.{Entry}
+use Rattle.tl_types.specs.declared.limits.Limits.{Limits}
+use Rattle.tl_types.specs.Entries.{commits_of, has_break}
+use Rattle.tl_device.specs.Disk.{IsStored}
+use Rattle.tl_journal.specs.Image.{StandsFor, IsJournalOf}
+use Rattle.tl_journal.specs.Moments.{EachMoment, EachMomentBySync, OldOr}
+use Rattle.tl_journal.specs.Stands.{StandsAs, SameOrTrimmed}
+use Rattle.tl_journal.specs.Plain as journal
+use Rattle.tl_engine.specs.Opening.{HasImage}
+use Rattle.tl_engine.specs.Plain as plain
+use Rattle.tl_engine.specs.Standing.{IsCount, StandsOnDisk}
+use Rattle.tl_engine.proofs.StandingLemmas.{stands_alone}
+
+-- a count that stays
+pub count_still : (b c : Bool) (first old new : ℕ) → b ≡ false → c ≡ false → new ≡ old → IsCount b first old → IsCount c first new
+count_still b c first old new none still same count =
+    let e : old ≡ first = subst (λ x. IsCount x first old) none count in
+    subst (λ x. IsCount x first new) (sym still) (same ∙ e)
+
+module _ {D : Type 0} (reads : D → Option (List ℕ)) (may_leave : D → List ℕ → Type 0) where
+  -- the history that is made of a journal
+  pub stands_over : (h : plain.History D) (entries : List Entry) (j : journal.Journal D) (first : ℕ) (limits : Limits) → h ≡ record { entries = entries; journal = j; first_count = first; limits = limits } → StandsAs reads may_leave j (commits_of entries) → StandsOnDisk reads may_leave h
+  stands_over h entries j first limits same stands =
+      let made : plain.History D = record { entries = entries; journal = j; first_count = first; limits = limits } in
+      subst (λ x. StandsOnDisk reads may_leave x) (sym same) (stands_alone reads may_leave made stands)
+
+  -- what a read gives of an equal disk
+  pub reads_same : (a b : D) (image : List ℕ) → a ≡ b → (c : List ℕ) × (reads b ≡ Some c) × SameOrTrimmed image c → (c : List ℕ) × (reads a ≡ Some c) × SameOrTrimmed image c
+  reads_same a b image same told = subst (λ d. (c : List ℕ) × (reads d ≡ Some c) × SameOrTrimmed image c) (sym same) told
+
+  -- the image of a disk that was read
+  pub stored_there : (opening : journal.FoundCommits D) (image : List ℕ) → HasImage reads may_leave image opening → IsStored reads may_leave opening.disk image
+  stored_there opening image has = subst (λ b. IsStored reads may_leave opening.disk b) has.same has.stored
+
+  -- the commits that were read are those that the disk stood for
+  pub found_there : (opening : journal.FoundCommits D) (found cs : List Commit) (image : List ℕ) → IsJournalOf found opening.image → HasImage reads may_leave image opening → StandsFor cs image → found ≡ cs
+  found_there opening found cs image whole has stands =
+      sym (whole.only cs (subst (λ b. StandsFor cs b) (sym has.same) stands))
+
+  -- the disk stood for some
+  pub some_there : (opening : journal.FoundCommits D) (found : List Commit) (image : List ℕ) → IsJournalOf found opening.image → HasImage reads may_leave image opening → StandsFor found image
+  some_there opening found image whole has = subst (λ b. StandsFor found b) has.same whole.stands
+
+  pub now_there : (last : D) (found cs : List Commit) (old : List ℕ → Type 0) → found ≡ cs → ((c : List ℕ) → may_leave last c → StandsFor found c) → (c : List ℕ) → may_leave last c → OldOr old (StandsFor cs) c
+  now_there last found cs old same leaves c left = inr (subst (λ l. StandsFor l c) same (leaves c left))
+
+module _ {D : Type 0} (reads : D → Option (List ℕ)) (may_leave : D → List ℕ → Type 0) (moment : D → ℕ) (left_since : D → ℕ → List ℕ → Type 0) where
+  -- what each moment leaves of an equal disk
+  pub moments_same : (a b c : D) (P : List ℕ → Type 0) → c ≡ b → EachMoment moment left_since a b P → EachMoment moment left_since a c P
+  moments_same a b c P same moments = subst (λ d. EachMoment moment left_since a d P) (sym same) moments
+
+  -- what each moment of an opening leaves
+  pub opened_moments : (disk last : D) (opening : journal.FoundCommits D) (found cs : List Commit) → ((b : List ℕ) → reads disk ≡ Some b → HasImage reads may_leave b opening) → found ≡ cs → EachMoment moment left_since disk opening.disk (may_leave disk) → EachMoment moment left_since opening.disk last (StandsFor found) → EachMomentBySync reads may_leave moment left_since disk last (StandsFor cs)
+  opened_moments disk last opening found cs image same first second =
+      inr (record {
+        synced = opening.disk;
+        stored = λ b told. stored_there reads may_leave opening b (image b told);
+        until_then = first;
+        from_then = subst (λ l. EachMoment moment left_since opening.disk last (StandsFor l)) same second;
+      })

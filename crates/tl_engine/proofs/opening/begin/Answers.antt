@@ -1,0 +1,7 @@
+-- Bytes that are no journal's are damaged.
+use Rattle.tl_engine.proofs.ReadLemmas.{bytes_damaged}
+use Rattle.tl_engine.proofs.opening.begin.Goals as goal
+
+pub returns-in-Err-clause-damaged : goal.returns-in-Err-clause-damaged
+returns-in-Err-clause-damaged g c =
+    λ at e. bytes_damaged c.args.limits.now at (g.D.Disk.reads c.args.disk) (c.in-Err.ensures.damaged at e).1

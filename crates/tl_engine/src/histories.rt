@@ -1,0 +1,288 @@
+//! The history.
+ghost use Rattle.std.specs.Prelude.{◌≡◌, ◌+◌, ◌<◌, ◌++◌, ◌∷◌, [], ℕ, List, Some, None, map, false, IsTrue, IfSome, IfOk, IfErr};
+ghost use Rattle.tl_types.specs.declared.commits.Commit.{Commit as CommitValue};
+ghost use Rattle.tl_types.specs.Entries.{commits_of, has_break};
+ghost use Rattle.tl_types.specs.History.{database_of};
+ghost use Rattle.tl_types.specs.Limits.{standard_limits};
+ghost use Rattle.tl_batch.specs.Made.{AreWithin, batch_matches};
+ghost use Rattle.tl_index.specs.Snapshots.{commit_entry, IsLegal};
+ghost use Rattle.tl_journal.specs.Answers.{CountsFaults, IsTooShort, IsDeviceOrMemory};
+ghost use Rattle.tl_journal.specs.Image.{StandsFor, IsJournalOf};
+ghost use Rattle.tl_device.specs.Disk.{IsStored};
+ghost use Rattle.tl_journal.specs.Opening.{HasRead, IsAtEnd};
+ghost use Rattle.tl_journal.specs.Moments.{EachMoment, EachMomentBySync, IsUntouched, OldOr};
+ghost use Rattle.tl_journal.specs.Stands.{IsJournal, SameOrTrimmed};
+ghost use Rattle.tl_journal.specs.declared.faults.JournalFault.TheVariants as journal_fault;
+ghost use Rattle.tl_engine.specs.Answers.{disk_opened, IsOpened, Appends, Fails, version_of};
+ghost use Rattle.tl_engine.specs.Fitting.{FitInTurn, IsDamaged};
+ghost use Rattle.tl_engine.specs.Standing.{IsCount, IsImageOf, IsOneOf, StandsOnDisk};
+
+use crate::committing::{Ready, append, prepare, resolve};
+use crate::faults::CommitFault;
+use crate::opening::{Begun, begin};
+use crate::replaying::Replay;
+use std::alloc::Global;
+use std::marker::Model;
+use tl_batch::Keys;
+use tl_device::Disk;
+use tl_index::Snapshot;
+use tl_journal::{Journal, Refused};
+use tl_store::Store;
+use tl_types::{Batch, Limits};
+
+/// The commits so far over the journal that keeps them, with the tables that they make and the
+/// open rows of each key of these. Contracts see its entries, its journal, the count of faults
+/// that the disk had when the journal was opened, and the limits.
+///
+/// While there is no break the keys stand for the tables, the journal is not broken, and the count
+/// of faults is as it was at the opening; once there is a break it is above that.
+#[derive(Drop)]
+pub struct History<D: Disk> {
+    journal: Journal<D>,
+    snapshot: Snapshot,
+    keys: Keys,
+    first_count: u64,
+    limits: Limits,
+}
+
+impl<D: Disk> Model for History<D> {
+    ghost use Rattle.tl_engine.specs.Plain as plain;
+    ghost use Rattle.tl_engine.specs.Standing.{IsHistory};
+
+    ghost Value = { plain.History D };
+
+    ghost view = { λ h. record {
+      entries = h.snapshot;
+      journal = h.journal;
+      first_count = h.first_count;
+      limits = h.limits;
+    } };
+
+    ghost invariant = { λ h. IsHistory D.faults h.keys (record {
+      entries = h.snapshot;
+      journal = h.journal;
+      first_count = h.first_count;
+      limits = h.limits;
+    }) };
+}
+
+/// What is left of a history that is closed: its snapshot and its disk.
+#[derive(Drop)]
+pub struct Closed<D: Disk> {
+    /// The snapshot of its entries.
+    pub snapshot: Snapshot,
+    /// The disk.
+    pub disk: D,
+}
+
+impl<D: Disk> History<D> {
+    /// Opens the history whose journal is on a disk. It opens the journal and applies its commits
+    /// one by one, each of which is dropped once it is applied; what stands past the closed gate
+    /// is cut off. Every refusal hands the disk back.
+    ///
+    /// `NotInitialised`: the disk has fewer than 17 bytes. `Damaged`: its bytes are no journal, and
+    /// `at` is the offset where they are damaged; or they are one, and `at` is the offset of the
+    /// first gate whose commit does not fit those before it with the limits. Both leave the disk as
+    /// it is. `Device`: the disk failed in this call. `NoMemory`: memory ran out. After both a
+    /// journal stands for the same commits. A journal whose commits fit one after the other meets
+    /// no other refusal.
+    pub fn open(alloc: Global, disk: D, limits: &Limits) -> Result<History<D>, Refused<D>>
+        requires { AreWithin limits.now standard_limits }
+        ensures opened { IfOk result IsOpened }
+        ensures limits { IfOk result (λ h. h.limits ≡ limits.now) }
+        ensures stands { (b : List ℕ) → D.reads disk ≡ Some b →
+            IfOk result (StandsOnDisk D.reads D.may_leave) }
+        ensures image { (b : List ℕ) → D.reads disk ≡ Some b →
+            IfOk result (λ h. IsJournalOf (commits_of h.entries) b) }
+        ensures honest { (b : List ℕ) (cs : List CommitValue) → D.reads disk ≡ Some b →
+            StandsFor cs b → FitInTurn limits.now cs →
+            IfErr result (λ r. IsDeviceOrMemory r.fault) }
+        ensures any_moment { (b : List ℕ) (cs : List CommitValue) → D.reads disk ≡ Some b →
+            StandsFor cs b → EachMomentBySync D.reads D.may_leave D.moment D.left_since
+            disk (disk_opened result) (StandsFor cs) }
+        ensures no_journal { (b : List ℕ) → D.reads disk ≡ Some b →
+            ((cs : List CommitValue) → StandsFor cs b → ⊥) →
+            EachMoment D.moment D.left_since disk (disk_opened result) (D.may_leave disk) }
+        ensures no_journal_now { (b : List ℕ) → D.reads disk ≡ Some b →
+            ((cs : List CommitValue) → StandsFor cs b → ⊥) →
+            IsUntouched D.reads D.may_leave disk (disk_opened result) }
+        ensures now { (b : List ℕ) (cs : List CommitValue) → D.reads disk ≡ Some b →
+            StandsFor cs b → (c : List ℕ) → D.may_leave (disk_opened result) c →
+            OldOr (D.may_leave disk) (StandsFor cs) c }
+        ensures reads { (b : List ℕ) → D.reads disk ≡ Some b → (c : List ℕ)
+            × (D.reads (disk_opened result) ≡ Some c) × SameOrTrimmed b c }
+        ensures count { IfOk result (λ h. (h.first_count ≡ D.faults disk)
+            × (D.faults h.journal.disk ≡ D.faults disk)) }
+        ensures faults { IfErr result (λ r.
+            CountsFaults r.fault (D.faults disk) (D.faults r.disk)) }
+        ensures too_short { (len : ℕ) → IfErr result (λ r.
+            r.fault ≡ journal_fault.NotInitialised len →
+            (len < 17) × IfSome (D.reads disk) (IsTooShort len)
+            × IsUntouched D.reads D.may_leave disk r.disk) }
+        ensures damaged { (at : ℕ) → IfErr result (λ r. r.fault ≡ journal_fault.Damaged at →
+            IfSome (D.reads disk) (IsDamaged limits.now at)
+            × IsUntouched D.reads D.may_leave disk r.disk) }
+        ensures not_long { (len : ℕ) → IfErr result (λ r.
+            r.fault ≡ journal_fault.AlreadyInitialised len → ⊥) }
+    {
+        match begin(alloc, disk, limits) {
+            Ok(begun) => finish(begun, *limits),
+            Err(refused) => Err(refused),
+        }
+    }
+
+    // The history of a journal that is not broken, whose commits were applied.
+    fn over(journal: Journal<D>, replay: Replay, limits: Limits) -> History<D>
+        requires unbroken { journal.broken ≡ None }
+        requires within { AreWithin limits standard_limits }
+        ensures value { result ≡ record {
+          entries = replay;
+          journal = journal;
+          first_count = D.faults journal.disk;
+          limits = limits;
+        } }
+        ensures whole { has_break result.entries ≡ false }
+        ensures alone { result.entries ≡ map commit_entry (commits_of result.entries) }
+    {
+        let first_count = journal.disk().faults();
+        let Replay { snapshot, keys } = replay;
+        History {
+            journal,
+            snapshot,
+            keys,
+            first_count,
+            limits,
+        }
+    }
+
+    /// Commits a batch of an author, and answers the version that it makes: the number of the
+    /// commits with it. The batch is resolved over the tables that the commits so far make. All
+    /// memory is taken before the first byte is written; the commit is on the disk before it is
+    /// among the entries.
+    ///
+    /// The rows of the batch match the schema of the table that it names, where there is one. The
+    /// faults are tried in this order. `Broken`: there is a break. `Refused`: the batch becomes no
+    /// commit over the tables, by this fault. `NoMemory`: memory ran out. These leave the history
+    /// as it is. `Device`: the disk failed in this call; the history then ends with the break of
+    /// the commit, and its tables are as before.
+    pub fn commit(&mut self, alloc: Global, author: u32, batch: Batch) -> Result<u32, CommitFault>
+        requires { IsTrue (batch_matches (database_of (commits_of self.old.entries)) batch) }
+        ensures ok { IfOk result (λ version.
+            Appends author batch commit_entry self.old self.new
+            × (version ≡ version_of self.old + 1)) }
+        ensures err { IfErr result
+            (Fails D.reads D.may_leave D.faults author batch self.old self.new) }
+        ensures settings { (self.new.limits ≡ self.old.limits)
+            × (self.new.first_count ≡ self.old.first_count) }
+        ensures stands { StandsOnDisk D.reads D.may_leave self.old →
+            StandsOnDisk D.reads D.may_leave self.new }
+        ensures any_moment { StandsOnDisk D.reads D.may_leave self.old →
+            EachMoment D.moment D.left_since self.old.journal.disk self.new.journal.disk
+            (IsOneOf self.old.entries self.new.entries) }
+    {
+        let version = self.snapshot.store().versions();
+        if self.snapshot.has_break() {
+            return Err(CommitFault::Broken { version });
+        }
+        let History {
+            journal,
+            snapshot,
+            keys,
+            limits,
+            ..
+        } = self;
+        let commit = resolve(alloc, snapshot, keys, author, batch, limits)?;
+        let Ok(ready) = prepare(alloc, snapshot, keys, journal, commit) else {
+            return Err(CommitFault::NoMemory);
+        };
+        let Ready { next, broken, body } = ready;
+        if let Err(faults) = append(journal, &body) {
+            *snapshot = broken;
+            return Err(CommitFault::Device { version, faults });
+        }
+        *snapshot = next;
+        Ok(version + 1)
+    }
+
+    /// The snapshot of the entries.
+    pub fn snapshot(&self) -> &Snapshot
+        ensures value { result.now ≡ self.now.entries }
+        ensures count { IsCount
+            (has_break self.now.entries) self.now.first_count (D.faults self.now.journal.disk) }
+    {
+        &self.snapshot
+    }
+
+    /// The store of the commits.
+    pub fn store(&self) -> &Store
+        ensures { result.now ≡ commits_of self.now.entries }
+    {
+        self.snapshot.store()
+    }
+
+    /// Whether the history ends with a break.
+    pub fn has_break(&self) -> bool
+        ensures value { result ≡ has_break self.now.entries }
+        ensures legal { IsLegal self.now.entries }
+    {
+        self.snapshot.has_break()
+    }
+
+    /// Ends with the history: its snapshot and its disk. It takes no memory.
+    pub fn close(self) -> Closed<D>
+        ensures snapshot { result.snapshot ≡ self.entries }
+        ensures disk { result.disk ≡ self.journal.disk }
+        ensures whole { StandsOnDisk D.reads D.may_leave self → has_break self.entries ≡ false →
+            IsJournal D.reads D.may_leave result.disk
+            (commits_of self.entries) self.journal.gate }
+        ensures leaves { StandsOnDisk D.reads D.may_leave self → (image : List ℕ) →
+            D.may_leave result.disk image → IsImageOf self.entries image }
+        ensures reads { StandsOnDisk D.reads D.may_leave self → (image : List ℕ) →
+            D.reads result.disk ≡ Some image → IsImageOf self.entries image }
+        ensures count { IsCount
+            (has_break self.entries) self.first_count (D.faults result.disk) }
+    {
+        let History {
+            journal,
+            snapshot,
+            ..
+        } = self;
+        Closed {
+            snapshot,
+            disk: journal.into_disk(),
+        }
+    }
+}
+
+// The history once all commits of its journal were applied: what stands past the closed gate is cut
+// off the disk.
+fn finish<D: Disk>(begun: Begun<D>, limits: Limits) -> Result<History<D>, Refused<D>>
+    requires within { AreWithin limits standard_limits }
+    requires read { HasRead (commits_of begun.replay) begun.opening }
+    requires end { IsAtEnd begun.opening }
+    requires fitting { FitInTurn limits (commits_of begun.replay) }
+    ensures opened { IfOk result IsOpened }
+    ensures entries { IfOk result (λ h. h.entries ≡ begun.replay) }
+    ensures limits { IfOk result (λ h. h.limits ≡ limits) }
+    ensures stands { IsStored D.reads D.may_leave begun.opening.disk begun.opening.image →
+        IfOk result (StandsOnDisk D.reads D.may_leave) }
+    ensures any_moment { IsStored D.reads D.may_leave begun.opening.disk begun.opening.image →
+        EachMoment D.moment D.left_since begun.opening.disk (disk_opened result)
+        (StandsFor (commits_of begun.replay)) }
+    ensures now { IsStored D.reads D.may_leave begun.opening.disk begun.opening.image →
+        (c : List ℕ) → D.may_leave (disk_opened result) c →
+        StandsFor (commits_of begun.replay) c }
+    ensures reads { (b : List ℕ) → D.reads begun.opening.disk ≡ Some b → (c : List ℕ)
+        × (D.reads (disk_opened result) ≡ Some c) × SameOrTrimmed b c }
+    ensures count { IfOk result (λ h. (h.first_count ≡ D.faults begun.opening.disk)
+        × (D.faults h.journal.disk ≡ D.faults begun.opening.disk)) }
+    ensures faults { IfErr result (λ r.
+        CountsFaults r.fault (D.faults begun.opening.disk) (D.faults r.disk)) }
+    ensures kinds { IfErr result (λ r. IsDeviceOrMemory r.fault) }
+{
+    let Begun { opening, replay } = begun;
+    match opening.finish() {
+        Ok(journal) => Ok(History::over(journal, replay, limits)),
+        Err(refused) => Err(refused),
+    }
+}

@@ -1,0 +1,68 @@
+//! The begin of the opening of a history: its journal is read and its commits are applied.
+ghost use Rattle.std.specs.Prelude.{◌≡◌, ◌<◌, ℕ, List, [], Some, IfSome, IfOk, IfErr};
+ghost use Rattle.tl_types.specs.Entries.{commits_of};
+ghost use Rattle.tl_types.specs.Limits.{standard_limits};
+ghost use Rattle.tl_batch.specs.Made.{AreWithin};
+ghost use Rattle.tl_journal.specs.Answers.{CountsFaults, IsTooShort};
+ghost use Rattle.tl_journal.specs.Image.{IsJournalOf};
+ghost use Rattle.tl_journal.specs.Moments.{EachMoment, IsUntouched};
+ghost use Rattle.tl_journal.specs.Opening.{HasRead, IsAtEnd};
+ghost use Rattle.tl_journal.specs.declared.faults.JournalFault.TheVariants as journal_fault;
+ghost use Rattle.tl_engine.specs.Fitting.{FitInTurn, IsDamaged};
+ghost use Rattle.tl_engine.specs.Opening.{disk_begun, HasImage};
+
+use crate::replaying::{Replay, replay_all};
+use std::alloc::Global;
+use tl_device::Disk;
+use tl_journal::{FoundCommits, Journal, Refused};
+use tl_types::Limits;
+
+/// A journal all of whose commits were read, and what they make.
+#[derive(Drop)]
+pub(crate) struct Begun<D: Disk> {
+    /// The journal while it is opened.
+    pub opening: FoundCommits<D>,
+    /// The snapshot of its commits, and the keys.
+    pub replay: Replay,
+}
+
+/// Reads the journal on a disk and applies its commits. The refusals are those of
+/// `History::open`. The disk stays as it is.
+pub(crate) fn begin<D: Disk>(
+    alloc: Global,
+    disk: D,
+    limits: &Limits,
+) -> Result<Begun<D>, Refused<D>>
+    requires { AreWithin limits.now standard_limits }
+    ensures read { IfOk result (λ o. HasRead (commits_of o.replay) o.opening) }
+    ensures end { IfOk result (λ o. IsAtEnd o.opening) }
+    ensures fitting { IfOk result (λ o. FitInTurn limits.now (commits_of o.replay)) }
+    ensures whole { IfOk result (λ o. IsJournalOf (commits_of o.replay) o.opening.image) }
+    ensures image { (b : List ℕ) → D.reads disk ≡ Some b →
+        IfOk result (λ o. HasImage D.reads D.may_leave b o.opening) }
+    ensures untouched { IsUntouched D.reads D.may_leave disk (disk_begun result) }
+    ensures any_moment { EachMoment D.moment D.left_since disk (disk_begun result)
+        (D.may_leave disk) }
+    ensures sure { IfOk result (λ o. D.faults o.opening.disk ≡ D.faults disk) }
+    ensures faults { IfErr result (λ r.
+        CountsFaults r.fault (D.faults disk) (D.faults r.disk)) }
+    ensures too_short { (len : ℕ) → IfErr result (λ r.
+        r.fault ≡ journal_fault.NotInitialised len →
+        (len < 17) × IfSome (D.reads disk) (IsTooShort len)) }
+    ensures damaged { (at : ℕ) → IfErr result (λ r. r.fault ≡ journal_fault.Damaged at →
+        IfSome (D.reads disk) (IsDamaged limits.now at)) }
+    ensures not_long { (len : ℕ) → IfErr result (λ r.
+        r.fault ≡ journal_fault.AlreadyInitialised len → ⊥) }
+{
+    let mut opening = match Journal::open(alloc, disk) {
+        Ok(opening) => opening,
+        Err(refused) => return Err(refused),
+    };
+    match replay_all(alloc, &mut opening, limits) {
+        Ok(replay) => Ok(Begun { opening, replay }),
+        Err(fault) => Err(Refused {
+            fault,
+            disk: opening.into_disk(),
+        }),
+    }
+}

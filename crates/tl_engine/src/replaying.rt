@@ -1,0 +1,170 @@
+//! The commits of a journal, applied one by one while it is opened.
+ghost use Rattle.std.specs.Prelude.{◌≡◌, ◌+◌, ◌++◌, ◌∷◌, [], ℕ, List, Ok, Err, None, true, false, IsTrue, IfSome, IfOk, IfErr, OnOk, OnErr};
+ghost use Rattle.tl_types.specs.declared.commits.Commit.{Commit as CommitValue};
+ghost use Rattle.tl_types.specs.Entries.{commits_of};
+ghost use Rattle.tl_types.specs.History.{database_of, fits};
+ghost use Rattle.tl_types.specs.Limits.{standard_limits};
+ghost use Rattle.tl_batch.specs.Made.{AreWithin};
+ghost use Rattle.tl_index.specs.Snapshots.{commit_entry};
+ghost use Rattle.tl_journal.specs.Answers.{IsDamagedOrMemoryThere};
+ghost use Rattle.tl_journal.specs.Image.{IsJournalOf, IsDamagedOnlyAt};
+ghost use Rattle.tl_journal.specs.Opening.{HasRead, IsAtEnd};
+ghost use Rattle.tl_journal.specs.declared.faults.JournalFault.TheVariants as journal_fault;
+ghost use Rattle.tl_engine.specs.Fitting.{FitInTurn, IsDamaged};
+ghost use Rattle.tl_engine.specs.Replaying.{IsApplied, IsFirstUnfit};
+
+use std::alloc::Global;
+use std::marker::Model;
+use tl_batch::Keys;
+use tl_device::Disk;
+use tl_index::Snapshot;
+use tl_journal::{FoundCommits, JournalFault};
+use tl_types::{Commit, Limits, NoMemory};
+
+/// A snapshot of commits alone, and the keys of the tables that they make. Contracts see the
+/// entries.
+#[derive(Drop)]
+pub(crate) struct Replay {
+    pub(crate) snapshot: Snapshot,
+    pub(crate) keys: Keys,
+}
+
+impl Model for Replay {
+    ghost use Rattle.std.specs.Prelude.{List};
+    ghost use Rattle.tl_types.specs.declared.commits.Entry.{Entry};
+    ghost use Rattle.tl_engine.specs.Replaying.{IsReplay};
+
+    ghost Value = { List Entry };
+
+    ghost view = { λ r. r.snapshot };
+
+    ghost invariant = { λ r. IsReplay r.snapshot r.keys };
+}
+
+impl Replay {
+    /// No commits. The error is `NoMemory`.
+    pub(crate) fn new(alloc: Global) -> Result<Replay, NoMemory>
+        ensures { IfOk result (λ r. r ≡ []) }
+    {
+        Ok(Replay {
+            snapshot: Snapshot::empty(alloc)?,
+            keys: Keys::empty(alloc),
+        })
+    }
+
+    // Appends a commit that fits. The error is `NoMemory`, and leaves all as it was.
+    fn push(&mut self, alloc: Global, commit: &Commit) -> Result<(), NoMemory>
+        requires { IsTrue (fits standard_limits (database_of (commits_of self.old)) commit.now) }
+        ensures ok { OnOk result (self.new ≡ self.old ++ commit_entry commit.now ∷ []) }
+        ensures err { OnErr result (self.new ≡ self.old) }
+    {
+        let snapshot = self.snapshot.apply(alloc, commit)?;
+        self.keys.follow(alloc, self.snapshot.store(), commit)?;
+        self.snapshot = snapshot;
+        Ok(())
+    }
+
+    // Appends a commit if it fits with the limits, and answers whether it does. The error is
+    // `NoMemory`, and leaves all as it was.
+    fn push_fitting(
+        &mut self,
+        alloc: Global,
+        commit: &Commit,
+        limits: &Limits,
+    ) -> Result<bool, NoMemory>
+        requires { AreWithin limits.now standard_limits }
+        ensures ok { IfOk result (IsApplied limits.now self.old self.new commit.now) }
+        ensures err { OnErr result (self.new ≡ self.old) }
+    {
+        if !self.snapshot.store().fits(commit, limits) {
+            return Ok(false);
+        }
+        self.push(alloc, commit)?;
+        Ok(true)
+    }
+}
+
+// Applies the commits up to the first one that does not fit with the limits, and answers the offset
+// of that one's gate, or `None` where all are applied.
+fn replay_fitting<D: Disk>(
+    alloc: Global,
+    opening: &mut FoundCommits<D>,
+    replay: &mut Replay,
+    limits: &Limits,
+) -> Result<Option<u64>, JournalFault>
+    requires within { AreWithin limits.now standard_limits }
+    requires read { HasRead (commits_of replay.old) opening.old }
+    requires fitting { FitInTurn limits.now (commits_of replay.old) }
+    ensures disk { opening.new.disk ≡ opening.old.disk }
+    ensures image { opening.new.image ≡ opening.old.image }
+    ensures fitting { FitInTurn limits.now (commits_of replay.new) }
+    ensures read { result ≡ Ok None → HasRead (commits_of replay.new) opening.new }
+    ensures end { result ≡ Ok None → IsAtEnd opening.new }
+    ensures whole { result ≡ Ok None →
+        IsJournalOf (commits_of replay.new) opening.old.image }
+    ensures unfit { IfOk result (λ o. IfSome o
+        (IsFirstUnfit limits.now (commits_of replay.new) opening.new)) }
+    ensures damaged { (at : ℕ) → result ≡ Err (journal_fault.Damaged at) →
+        IsDamagedOnlyAt at opening.old.image }
+    ensures kinds { IfErr result IsDamagedOrMemoryThere }
+{
+    'commits: while let Some(found) = opening.next(alloc)? {
+        let Ok(fits) = replay.push_fitting(alloc, &found.commit, limits) else {
+            return Err(JournalFault::NoMemory);
+        };
+        if !fits {
+            return Ok(Some(found.at));
+        }
+    }
+    Ok(None)
+}
+
+// Passes over the commits that are left, so that a gate that no record follows is found.
+fn pass_over<D: Disk>(alloc: Global, opening: &mut FoundCommits<D>) -> Result<(), JournalFault>
+    requires { (found : List CommitValue) × HasRead found opening.old }
+    ensures disk { opening.new.disk ≡ opening.old.disk }
+    ensures image { opening.new.image ≡ opening.old.image }
+    ensures whole { (found : List CommitValue) → HasRead found opening.old →
+        OnOk result ((later : List CommitValue)
+        × IsJournalOf (found ++ later) opening.old.image) }
+    ensures damaged { (at : ℕ) → result ≡ Err (journal_fault.Damaged at) →
+        IsDamagedOnlyAt at opening.old.image }
+    ensures kinds { IfErr result IsDamagedOrMemoryThere }
+{
+    'commits: while let Some(found) = opening.next(alloc)? {
+        let _at = found.at;
+    }
+    Ok(())
+}
+
+/// Applies all commits of the journal that is opened. `Damaged` comes where a gate is damaged, and
+/// else where a commit does not fit those before it with the limits, at the first such gate.
+/// `NoMemory`: memory ran out. The disk stays as it is.
+pub(crate) fn replay_all<D: Disk>(
+    alloc: Global,
+    opening: &mut FoundCommits<D>,
+    limits: &Limits,
+) -> Result<Replay, JournalFault>
+    requires within { AreWithin limits.now standard_limits }
+    requires read { HasRead [] opening.old }
+    ensures disk { opening.new.disk ≡ opening.old.disk }
+    ensures image { opening.new.image ≡ opening.old.image }
+    ensures read { IfOk result (λ r. HasRead (commits_of r) opening.new) }
+    ensures end { OnOk result (IsAtEnd opening.new) }
+    ensures whole { IfOk result (λ r. IsJournalOf (commits_of r) opening.old.image) }
+    ensures fitting { IfOk result (λ r. FitInTurn limits.now (commits_of r)) }
+    ensures damaged { (at : ℕ) → result ≡ Err (journal_fault.Damaged at) →
+        IsDamaged limits.now at opening.old.image }
+    ensures kinds { IfErr result IsDamagedOrMemoryThere }
+{
+    let Ok(mut replay) = Replay::new(alloc) else {
+        return Err(JournalFault::NoMemory);
+    };
+    match replay_fitting(alloc, opening, &mut replay, limits)? {
+        None => Ok(replay),
+        Some(at) => {
+            pass_over(alloc, opening)?;
+            Err(JournalFault::Damaged { at })
+        }
+    }
+}

@@ -1,0 +1,3 @@
+pub mod PrefixLemmas
+pub mod ScriptLemmas
+pub mod Worked

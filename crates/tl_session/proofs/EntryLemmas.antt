@@ -1,0 +1,140 @@
+-- Lists of entries, and their beginnings.
+use Rattle.std.proofs.Common.{◌≡◌, ℕ, ◌+◌, ◌≤◌, Bool, true, false, true≢false, List, [], ◌∷◌, ◌++◌, length, take, Option, Some, None, slice_get, refl, sym, ap, ◌∙◌, subst, arith, append-nil, append_assoc, length-append}
+use Rattle.std.proofs.lemmas.List.{take-append-le}
+use Rattle.std.proofs.Math.Seq.{take-append_seam}
+use mathlib.Core.List.{IsPrefix}
+use Rattle.tl_types.specs.declared.commits.Commit.{Commit}
+use Rattle.tl_types.specs.declared.commits.Entry.{Entry}
+use Rattle.tl_types.specs.declared.commits.Entry.TheVariants as entry
+use Rattle.tl_types.specs.Entries.{commits_of, has_break}
+use Rattle.tl_session.specs.Turns.{break_of}
+use Rattle.tl_session.specs.Promises.{news, AreMarks, EndsAtBreak}
+
+pub begins_itself : (a : List Entry) → IsPrefix a a
+begins_itself a = ([], append-nil a)
+
+pub begins_on : (a b c : List Entry) → IsPrefix a b → IsPrefix b c → IsPrefix a c
+begins_on a b c p q = (p.0 ++ q.0, sym (append_assoc a p.0 q.0) ∙ (ap (λ z. z ++ q.0) p.1 ∙ q.1))
+
+pub commits_split : (a b : List Entry) → commits_of (a ++ b) ≡ commits_of a ++ commits_of b
+commits_split [] b = refl
+commits_split (entry.Commit c ∷ a) b = ap (λ l. c ∷ l) (commits_split a b)
+commits_split (entry.Mark n v ∷ a) b = commits_split a b
+commits_split (entry.Break c ∷ a) b = commits_split a b
+
+pub news_split : (a b : List Entry) → news (a ++ b) ≡ news a + news b
+news_split [] b = omega arith
+news_split (entry.Commit c ∷ a) b = omega (arith, news_split a b)
+news_split (entry.Mark n v ∷ a) b = news_split a b
+news_split (entry.Break c ∷ a) b = omega (arith, news_split a b)
+
+pub fewer_commits : (a b : List Entry) → IsPrefix a b → length (commits_of a) ≤ length (commits_of b)
+fewer_commits a b p = omega (arith, ap (λ l. length (commits_of l)) p.1, ap length (commits_split a p.0), length-append (commits_of a) (commits_of p.0))
+
+pub fewer_news : (a b : List Entry) → IsPrefix a b → news a ≤ news b
+fewer_news a b p = omega (arith, ap news p.1, news_split a p.0)
+
+pub break_stays : (a b : List Entry) → has_break a ≡ true → has_break (a ++ b) ≡ true
+break_stays [] b is = absurd (true≢false (sym is))
+break_stays (entry.Commit c ∷ a) b is = break_stays a b is
+break_stays (entry.Mark n v ∷ a) b is = break_stays a b is
+break_stays (entry.Break c ∷ a) b is = refl
+
+pub break_on : (a b : List Entry) → IsPrefix a b → has_break a ≡ true → has_break b ≡ true
+break_on a b p is = sym (ap has_break p.1) ∙ break_stays a p.0 is
+
+pub break_last : (a : List Entry) (c : Commit) → has_break (a ++ entry.Break c ∷ []) ≡ true
+break_last [] c = refl
+break_last (entry.Commit d ∷ a) c = break_last a c
+break_last (entry.Mark n v ∷ a) c = break_last a c
+break_last (entry.Break d ∷ a) c = refl
+
+-- the first commits are those of a beginning
+pub same_front : (a b : List Entry) (v : ℕ) → IsPrefix a b → v ≤ length (commits_of a) → take v (commits_of a) ≡ take v (commits_of b)
+same_front a b v p le = sym (take-append-le v (commits_of a) (commits_of p.0) le) ∙ ap (take v) (sym (commits_split a p.0) ∙ ap commits_of p.1)
+
+pub whole_front : (a b : List Entry) → IsPrefix a b → take (length (commits_of a)) (commits_of b) ≡ commits_of a
+whole_front a b p = ap (take (length (commits_of a))) (sym (ap commits_of p.1) ∙ commits_split a p.0) ∙ take-append_seam (commits_of a) (commits_of p.0)
+
+marks_rest : (a b : List Entry) → AreMarks (a ++ b) → AreMarks b
+marks_rest [] b m = m
+marks_rest (entry.Commit c ∷ a) b m = absurd m
+marks_rest (entry.Mark n v ∷ a) b m = marks_rest a b m
+marks_rest (entry.Break c ∷ a) b m = absurd m
+
+-- nothing but marks follows a break
+pub after_break : (a b : List Entry) → has_break a ≡ true → EndsAtBreak (a ++ b) → AreMarks b
+after_break [] b is l = absurd (true≢false (sym is))
+after_break (entry.Commit c ∷ a) b is l = after_break a b is l
+after_break (entry.Mark n v ∷ a) b is l = after_break a b is l
+after_break (entry.Break c ∷ a) b is l = marks_rest a b l
+
+pub no_commits : (b : List Entry) → AreMarks b → commits_of b ≡ []
+no_commits [] m = refl
+no_commits (entry.Commit c ∷ b) m = absurd m
+no_commits (entry.Mark n v ∷ b) m = no_commits b m
+no_commits (entry.Break c ∷ b) m = absurd m
+
+pub no_break : (b : List Entry) → AreMarks b → break_of b ≡ None
+no_break [] m = refl
+no_break (entry.Commit c ∷ b) m = absurd m
+no_break (entry.Mark n v ∷ b) m = no_break b m
+no_break (entry.Break c ∷ b) m = absurd m
+
+pub no_news : (b : List Entry) → AreMarks b → news b ≡ 0
+no_news [] m = refl
+no_news (entry.Commit c ∷ b) m = absurd m
+no_news (entry.Mark n v ∷ b) m = no_news b m
+no_news (entry.Break c ∷ b) m = absurd m
+
+-- all commits are there once a break is
+pub all_there : (a b : List Entry) → IsPrefix a b → has_break a ≡ true → EndsAtBreak b → commits_of a ≡ commits_of b
+all_there a b p is l =
+    let none = no_commits p.0 (after_break a p.0 is (subst EndsAtBreak (sym p.1) l)) in
+    sym (append-nil (commits_of a)) ∙ ap (λ z. commits_of a ++ z) (sym none) ∙ sym (commits_split a p.0) ∙ ap commits_of p.1
+
+-- no break stands before what is no mark
+pub unbroken : (a b : List Entry) → (AreMarks b → ⊥) → EndsAtBreak (a ++ b) → has_break a ≡ false
+unbroken a b marked l = by_test (has_break a) refl where
+  by_test : (t : Bool) → has_break a ≡ t → has_break a ≡ false
+  by_test true is = absurd (marked (after_break a b is l))
+  by_test false is = is
+
+pub news_are : (a : List Entry) → has_break a ≡ false → news a ≡ length (commits_of a)
+news_are [] none = refl
+news_are (entry.Commit c ∷ a) none = omega (arith, news_are a none)
+news_are (entry.Mark n v ∷ a) none = news_are a none
+news_are (entry.Break c ∷ a) none = absurd (true≢false none)
+
+pub break_found : (a : List Entry) (c : Commit) (b : List Entry) → has_break a ≡ false → break_of (a ++ entry.Break c ∷ b) ≡ Some c
+break_found [] c b none = refl
+break_found (entry.Commit d ∷ a) c b none = break_found a c b none
+break_found (entry.Mark n v ∷ a) c b none = break_found a c b none
+break_found (entry.Break d ∷ a) c b none = absurd (true≢false none)
+
+pub break_there : (a b : List Entry) → has_break a ≡ true → (c : Commit) × (break_of (a ++ b) ≡ Some c)
+break_there [] b is = absurd (true≢false (sym is))
+break_there (entry.Commit d ∷ a) b is = break_there a b is
+break_there (entry.Mark n v ∷ a) b is = break_there a b is
+break_there (entry.Break d ∷ a) b is = (d, refl)
+
+pub break_there_on : (a b : List Entry) → IsPrefix a b → has_break a ≡ true → (c : Commit) × (break_of b ≡ Some c)
+break_there_on a b p is = let r = break_there a p.0 is in (r.0, ap break_of (sym p.1) ∙ r.1)
+
+abbrev pub one_for : Option Commit → ℕ
+one_for None = 0
+one_for (Some c) = 1
+
+pub news_count : (a : List Entry) → EndsAtBreak a → news a ≡ length (commits_of a) + one_for (break_of a)
+news_count [] l = refl
+news_count (entry.Commit c ∷ a) l = omega (arith, news_count a l)
+news_count (entry.Mark n v ∷ a) l = news_count a l
+news_count (entry.Break c ∷ a) l = omega (arith, no_news a l, ap length (no_commits a l))
+
+pub place_of : (xs : List Commit) (c : Commit) (ys : List Commit) → slice_get (xs ++ c ∷ ys) (length xs) ≡ Some c
+place_of [] c ys = refl
+place_of (x ∷ xs) c ys = place_of xs c ys
+
+-- the commit of an entry stands at the number of commits before it
+pub placed : (a : List Entry) (c : Commit) (rest all : List Entry) → a ++ entry.Commit c ∷ rest ≡ all → slice_get (commits_of all) (length (commits_of a)) ≡ Some c
+placed a c rest all is = ap (λ l. slice_get l (length (commits_of a))) (sym (ap commits_of is) ∙ commits_split a (entry.Commit c ∷ rest)) ∙ place_of (commits_of a) c (commits_of rest)

@@ -1,0 +1,12 @@
+pub mod AuthorLemmas
+pub mod CountingLemmas
+pub mod EntryLemmas
+pub mod PlayLemmas
+pub mod ReadingLemmas
+pub mod ReplyLemmas
+pub mod RunLemmas
+pub mod SessionLemmas
+pub mod StoreLemmas
+pub mod TranscriptLemmas
+pub mod WrittenLemmas
+pub mod Worked

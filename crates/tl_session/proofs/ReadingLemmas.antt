@@ -1,0 +1,76 @@
+-- A job is one thing, and a block is read for the table that its name finds.
+use Rattle.std.proofs.Common.{◌≡◌, ◌⊎◌, inl, inr, ℕ, List, Some, None, Result, refl, ap, sym, ◌∙◌, slice_get, subst, true}
+use Rattle.std.specs.List.{list_all}
+use Rattle.std.specs.Option.{option_map}
+use Rattle.tl_types.specs.declared.batches.Batch.{Batch}
+use Rattle.tl_types.specs.declared.batches.Batch.TheVariants as batch
+use Rattle.tl_types.specs.declared.batches.BatchFault.TheVariants as batch_fault
+use Rattle.tl_types.specs.declared.commits.Commit.{Commit}
+use Rattle.tl_types.specs.declared.limits.Limits.{Limits}
+use Rattle.tl_types.specs.Limits.{standard_limits}
+use Rattle.tl_types.specs.Plain as plain
+use Rattle.tl_types.specs.History.{database_of, matches}
+use Rattle.tl_types.specs.Resolving.{find_table}
+use Rattle.tl_types.proofs.FoundTables.{table_found, schema_found, number_none, name_found}
+use Rattle.tl_batch.specs.Made.{batch_matches, rows_fit_found}
+use Rattle.tl_csv.specs.declared.faults.CsvFault.{CsvFault}
+use Rattle.tl_csv.specs.declared.needs.BatchKind.{BatchKind}
+use Rattle.tl_csv.specs.Block.{batch_of, IsBatchFor}
+use Rattle.tl_query.specs.declared.ast.Statement.{Statement}
+use Rattle.tl_query.specs.declared.faults.TextFault.{TextFault}
+use Rattle.tl_query.specs.Texts.{Spells, IsFault, HasOneMeaning}
+use Rattle.tl_query.proofs.Deciding.{one_meaning}
+use Rattle.tl_session.specs.declared.replies.Refusal.TheVariants as refusal
+use Rattle.tl_session.specs.declared.readings.Reading.{Reading}
+use Rattle.tl_session.specs.declared.readings.Reading.TheVariants as reading
+use Rattle.tl_session.specs.Jobs.{Job}
+use Rattle.tl_session.specs.Reading.{Reads, IsReading, HasOneReading, block_of, block_reading, load_into, load_reading, statement_reading}
+
+-- ONE READING
+
+one_text : (commits : List Commit) (text block : List ℕ) (a b : Reading) → HasOneMeaning text → IsReading commits text block a → IsReading commits text block b → a ≡ b
+one_text commits text block a b h (inl (f, is, e)) (inl (g, was, d)) = e ∙ (ap (λ x. reading.Fault (refusal.TextFault x)) (h.fault f g is was) ∙ sym d)
+one_text commits text block a b h (inl (f, is, e)) (inr (t, spells, d)) = absurd (h.never_both t f spells is)
+one_text commits text block a b h (inr (s, spells, e)) (inl (g, was, d)) = absurd (h.never_both s g spells was)
+one_text commits text block a b h (inr (s, spells, e)) (inr (t, spelt, d)) = e ∙ (ap (λ x. statement_reading commits x block) (h.statement s t spells spelt) ∙ sym d)
+
+some_text : (commits : List Commit) (text block : List ℕ) → ((s : Statement) × Spells text s) ⊎ ((e : TextFault) × IsFault text e) → (r : Reading) × IsReading commits text block r
+some_text commits text block (inl (s, spells)) = (statement_reading commits s block, inr (s, spells, refl))
+some_text commits text block (inr (f, is)) = (reading.Fault (refusal.TextFault f), inl (f, is, refl))
+
+pub one_reading : (commits : List Commit) (job : Job) (a b : Reading) → Reads commits job a → Reads commits job b → a ≡ b
+one_reading commits job a b = one_text commits job.text (block_of job.block) a b (one_meaning job.text)
+
+pub has_one_reading : (commits : List Commit) (job : Job) → HasOneReading commits job
+has_one_reading commits job = record {
+  read = some_text commits job.text (block_of job.block) (one_meaning job.text).either;
+  one = one_reading commits job;
+}
+
+-- BLOCKS
+
+-- a table that no name means
+pub load_unknown : (commits : List Commit) (name : List ℕ) (kind : BatchKind) (block : List ℕ) → option_map (λ found. found.0) (find_table name (database_of commits).tables) ≡ None → load_reading commits name kind block ≡ reading.Fault (refusal.BatchFault batch_fault.UnknownTable)
+load_unknown commits name kind block h = rw (number_none (find_table name (database_of commits).tables) h) refl
+
+load_of : (commits : List Commit) (name : List ℕ) (kind : BatchKind) (block : List ℕ) (number : ℕ) (schema : plain.Schema) (batch : Result Batch CsvFault) → option_map (λ found. found.0) (find_table name (database_of commits).tables) ≡ Some number → Some schema ≡ option_map (λ u. u.schema) (slice_get (database_of commits).tables number) → batch_of standard_limits schema kind block ≡ batch → load_reading commits name kind block ≡ block_reading batch
+load_of commits name kind block number schema batch h e is =
+    let f = table_found (database_of commits) name number h in
+    let s = schema_found (database_of commits) name number schema f e in
+    ap (λ o. load_into o kind block) f.named ∙ (ap (λ t. block_reading (batch_of standard_limits t kind block)) (sym s) ∙ ap block_reading is)
+
+-- what a block for the table with a name is, is what its batch is
+pub lent_load : (commits : List Commit) (name : List ℕ) (kind : BatchKind) (block : List ℕ) (number : ℕ) (schema : plain.Schema) (limits : Limits) (batch : Result Batch CsvFault) → limits ≡ standard_limits → option_map (λ found. found.0) (find_table name (database_of commits).tables) ≡ Some number → Some schema ≡ option_map (λ u. u.schema) (slice_get (database_of commits).tables number) → batch_of limits schema kind block ≡ batch → load_reading commits name kind block ≡ block_reading batch
+lent_load commits name kind block number schema limits batch std h e is =
+    load_of commits name kind block number schema batch h e (subst (λ (l : Limits). batch_of l schema kind block ≡ batch) std is)
+
+-- the batch of a block for the table with a name matches the tables
+pub batch_fits : (db : plain.Database) (name : List ℕ) (number : ℕ) (schema : plain.Schema) (limits : Limits) (kind : BatchKind) (b : Batch) → option_map (λ found. found.0) (find_table name db.tables) ≡ Some number → Some schema ≡ option_map (λ u. u.schema) (slice_get db.tables number) → IsBatchFor limits schema kind b → batch_matches db b ≡ true
+batch_fits db name number schema limits kind (batch.Create made) h e is = absurd is
+batch_fits db name number schema limits kind (batch.Put own rows) h e is =
+    let f = table_found db name number h in
+    let s = schema_found db name number schema f e in
+    let named : own ≡ name = is.1 ∙ (ap (λ (t : plain.Schema). t.name) s ∙ name_found 0 name db.tables number f.table f.named) in
+    let there : find_table own db.tables ≡ Some (number, f.table) = ap (λ n. find_table n db.tables) named ∙ f.named in
+    ap (rows_fit_found rows) there ∙ (ap (λ t. list_all (matches t) rows) (sym s) ∙ is.2.matching)
+batch_fits db name number schema limits kind (batch.Remove own keys) h e is = refl

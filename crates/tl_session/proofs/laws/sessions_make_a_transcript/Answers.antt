@@ -1,0 +1,6 @@
+use Rattle.tl_session.specs.Turns.{meant}
+use Rattle.tl_session.proofs.TranscriptLemmas.{is_transcript}
+use Rattle.tl_session.proofs.laws.sessions_make_a_transcript.Goals as goal
+
+pub returns : goal.returns
+returns c = is_transcript meant

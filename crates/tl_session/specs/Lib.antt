@@ -1,0 +1,9 @@
+pub mod Jobs
+pub mod Reading
+pub mod Turns
+pub mod Promises
+pub mod Transcript
+pub mod Replies
+pub mod Play
+pub mod Run
+pub mod Written

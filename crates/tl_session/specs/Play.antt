@@ -1,0 +1,39 @@
+-- The jobs done one after the other.
+use Rattle.std.specs.Prelude.{◌≡◌, ℕ, ◌+◌, List, [], ◌∷◌, ◌++◌, length}
+use Rattle.tl_types.specs.declared.commits.Commit.{Commit}
+use Rattle.tl_session.specs.declared.readings.Reading.TheVariants.{Query}
+use Rattle.tl_session.specs.declared.replies.ReplyBody.{ReplyBody}
+use Rattle.tl_session.specs.declared.replies.ReplyBody.TheVariants as body
+use Rattle.tl_session.specs.Jobs.{Job}
+use Rattle.tl_session.specs.Turns.{Turn, Meaning, HasFault, Makes}
+use Rattle.tl_session.specs.Transcript.{Each}
+
+-- what a job is answered with, at which version, over the commits so far, and the commits after it:
+-- a query and a refusal name the version that is there and change nothing, and a batch that becomes
+-- a commit appends it and names its version
+abbrev pub Acts : Meaning → Job → ℕ → ReplyBody → List Commit → List Commit → Type 0
+Acts m job v (body.Rows answer) commits after =
+    (v ≡ length commits) × m.reads commits job (Query answer) × (after ≡ commits)
+Acts m job v (body.Refused f) commits after =
+    (v ≡ length commits) × HasFault m commits job f × (after ≡ commits)
+Acts m job v body.Done commits after =
+    (c : Commit) × (v ≡ length commits + 1) × Makes m commits job c × (after ≡ commits ++ c ∷ [])
+Acts m job v body.DeviceFault commits after = ⊥
+Acts m job v body.BrokenJournal commits after = ⊥
+
+-- the turns are those of the jobs done one after the other, from these commits on, and all are
+-- there afterwards
+abbrev pub IsPlay : Meaning → List Commit → List Turn → List Commit → Type 0
+IsPlay m commits [] all = all ≡ commits
+IsPlay m commits (t ∷ ts) all =
+    (mid : List Commit) × Acts m t.job t.reply.version t.reply.body commits mid
+    × (t.reply.line ≡ t.job.line) × IsPlay m mid ts all
+
+-- the turns are of one session
+abbrev pub IsLone : List Turn → Type 0
+IsLone turns = (s : ℕ) × Each (λ t. t.job.session ≡ s) turns
+
+-- each phase has the turns of one session
+abbrev pub AreLone : List (List Turn) → Type 0
+AreLone [] = Unit {0}
+AreLone (phase ∷ phases) = IsLone phase × AreLone phases

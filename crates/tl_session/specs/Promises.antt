@@ -1,0 +1,109 @@
+-- What each session says by its replies, each over the entries that it had seen.
+use Rattle.std.specs.Prelude.{◌≡◌, ℕ, ◌+◌, ◌≤◌, true, false, List, [], ◌∷◌, ◌++◌, length, take}
+use mathlib.Core.List.{IsPrefix}
+use Rattle.tl_types.specs.declared.commits.Commit.{Commit}
+use Rattle.tl_types.specs.declared.commits.Entry.{Entry}
+use Rattle.tl_types.specs.declared.commits.Entry.TheVariants as entry
+use Rattle.tl_types.specs.Entries.{commits_of, has_break}
+use Rattle.tl_session.specs.declared.readings.Reading.TheVariants.{Query}
+use Rattle.tl_session.specs.declared.replies.ReplyBody.{ReplyBody}
+use Rattle.tl_session.specs.declared.replies.ReplyBody.TheVariants as body
+use Rattle.tl_session.specs.Jobs.{Job}
+use Rattle.tl_session.specs.Turns.{Turn, Meaning, HasFault, Makes, ReadsWell, of_session}
+
+-- what was seen begins a base; the base and one entry are seen now
+abbrev pub Appended : List Entry → List Entry → List Entry → Entry → Type 0
+Appended old base new e = IsPrefix old base × (new ≡ base ++ e ∷ [])
+
+-- what was seen begins what is seen now, and the version lies between
+abbrev pub Looked : List Entry → List Entry → ℕ → Type 0
+Looked old new v =
+    IsPrefix old new × (length (commits_of old) ≤ v) × (v ≤ length (commits_of new))
+
+-- what a reply's body says of the entries that were seen before it and after it
+abbrev pub BodySays : Meaning → Job → ℕ → ReplyBody → List Entry → List Entry → Type 0
+BodySays m job v (body.Rows answer) old new =
+    Looked old new v × m.reads (take v (commits_of new)) job (Query answer)
+BodySays m job v (body.Refused f) old new =
+    Looked old new v × HasFault m (take v (commits_of new)) job f
+BodySays m job v body.Done old new =
+    (base : List Entry) × (c : Commit) × Appended old base new (entry.Commit c)
+    × (v ≡ length (commits_of base) + 1) × Makes m (commits_of base) job c
+BodySays m job v body.DeviceFault old new =
+    (base : List Entry) × (c : Commit) × Appended old base new (entry.Break c)
+    × (v ≡ length (commits_of base)) × Makes m (commits_of base) job c
+BodySays m job v body.BrokenJournal old new =
+    IsPrefix old new × (has_break new ≡ true) × (v ≡ length (commits_of new))
+    × ReadsWell m (commits_of new) job
+
+-- the same of a turn, whose reply names the job's line; where a break had been seen, a batch that
+-- reads well is answered so
+abbrev pub Says : Meaning → Turn → List Entry → List Entry → Type 0
+Says m t old new =
+    BodySays m t.job t.reply.version t.reply.body old new × (t.reply.line ≡ t.job.line)
+    × (has_break old ≡ true → ReadsWell m (take t.reply.version (commits_of new)) t.job
+    → t.reply.body ≡ body.BrokenJournal)
+
+-- the turns of a session, one after the other
+abbrev pub Chain : Meaning → List Entry → List Turn → List Entry → Type 0
+Chain m old [] new = IsPrefix old new
+Chain m old (t ∷ ts) new = (mid : List Entry) × Says m t old mid × Chain m mid ts new
+
+-- the phases, one after the other: each session begins with what all had seen before the phase,
+-- and what it has seen after it begins what all have seen then
+abbrev pub Chains : Meaning → List Entry → List (List Turn) → List Entry → Type 0
+Chains m old [] new = IsPrefix old new
+Chains m old (phase ∷ phases) new =
+    (mid : List Entry) × IsPrefix old mid × ((s : ℕ) → Chain m old (of_session s phase) mid)
+    × Chains m mid phases new
+
+-- the sum of a number of each turn
+abbrev pub tally : (Turn → ℕ) → List Turn → ℕ
+tally f [] = 0
+tally f (t ∷ ts) = f t + tally f ts
+
+-- the same of all phases
+abbrev pub whole_tally : (Turn → ℕ) → List (List Turn) → ℕ
+whole_tally f [] = 0
+whole_tally f (phase ∷ phases) = tally f phase + whole_tally f phases
+
+-- 1 for a reply that stands for an entry of its own
+abbrev pub body_weight : ReplyBody → ℕ
+body_weight (body.Rows answer) = 0
+body_weight (body.Refused f) = 0
+body_weight body.Done = 1
+body_weight body.DeviceFault = 1
+body_weight body.BrokenJournal = 0
+
+-- the same of a turn
+abbrev pub weight : Turn → ℕ
+weight t = body_weight t.reply.body
+
+-- how many entries are commits or breaks
+abbrev pub news : List Entry → ℕ
+news [] = 0
+news (entry.Commit c ∷ rest) = 1 + news rest
+news (entry.Mark n v ∷ rest) = news rest
+news (entry.Break c ∷ rest) = 1 + news rest
+
+-- only marks are there
+abbrev pub AreMarks : List Entry → Type 0
+AreMarks [] = Unit {0}
+AreMarks (entry.Commit c ∷ rest) = ⊥
+AreMarks (entry.Mark n v ∷ rest) = AreMarks rest
+AreMarks (entry.Break c ∷ rest) = ⊥
+
+-- no commit and no break comes after a break
+abbrev pub EndsAtBreak : List Entry → Type 0
+EndsAtBreak [] = Unit {0}
+EndsAtBreak (entry.Commit c ∷ rest) = EndsAtBreak rest
+EndsAtBreak (entry.Mark n v ∷ rest) = EndsAtBreak rest
+EndsAtBreak (entry.Break c ∷ rest) = AreMarks rest
+
+-- what the sessions of all phases say, from the opening's entries to the last: each what it saw,
+-- and all together as many new entries as they were answered with
+pub record Promised (m : Meaning) (opening last : List Entry) (phases : List (List Turn)) : Type 0 where
+  pub legal : EndsAtBreak last
+  pub whole : has_break opening ≡ false
+  pub chains : Chains m opening phases last
+  pub count : news opening + whole_tally weight phases ≡ news last

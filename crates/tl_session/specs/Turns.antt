@@ -1,0 +1,71 @@
+-- Jobs with their replies, and what a job comes to.
+use Rattle.std.specs.Prelude.{◌≡◌, ◌⊎◌, ℕ, ◌==◌, List, [], ◌∷◌, ◌++◌, Option, Some, None, Result, Ok, Err}
+use Rattle.std.specs.List.{filter}
+use Rattle.tl_types.specs.declared.commits.Commit.{Commit}
+use Rattle.tl_types.specs.declared.commits.Entry.{Entry}
+use Rattle.tl_types.specs.declared.commits.Entry.TheVariants as entry
+use Rattle.tl_types.specs.declared.batches.Batch.{Batch}
+use Rattle.tl_types.specs.declared.batches.BatchFault.{BatchFault}
+use Rattle.tl_types.specs.Limits.{standard_limits}
+use Rattle.tl_types.specs.History.{database_of}
+use Rattle.tl_types.specs.Resolving.{resolved}
+use Rattle.tl_session.specs.declared.replies.Refusal.{Refusal}
+use Rattle.tl_session.specs.declared.replies.Refusal.TheVariants as refusal
+use Rattle.tl_session.specs.declared.replies.Reply.{Reply}
+use Rattle.tl_session.specs.declared.readings.Reading.{Reading}
+use Rattle.tl_session.specs.declared.readings.Reading.TheVariants.{Loads, Fault}
+use Rattle.tl_session.specs.Jobs.{Job}
+use Rattle.tl_session.specs.Reading.{Reads}
+
+-- a job and its reply
+pub record Turn : Type 0 where
+  pub job : Job
+  pub reply : Reply
+
+-- what jobs are over a list of commits
+pub record Meaning : Type 1 where
+  pub reads : List Commit → Job → Reading → Type 0
+
+-- what the jobs of a script are
+abbrev pub meant : Meaning
+meant = record { reads = Reads }
+
+-- a meaning that a function gives
+abbrev pub by_function : (List Commit → Job → Reading) → Meaning
+by_function reads = record { reads = λ commits job read. reads commits job ≡ read }
+
+-- the turns of a session, in order
+abbrev pub of_session : ℕ → List Turn → List Turn
+of_session s turns = filter (λ t. t.job.session == s) turns
+
+-- the turns of all phases, in order
+abbrev pub all_turns : List (List Turn) → List Turn
+all_turns [] = []
+all_turns (phase ∷ phases) = phase ++ all_turns phases
+
+-- the commit that an append failed with, where one did
+abbrev pub break_of : List Entry → Option Commit
+break_of [] = None
+break_of (entry.Commit commit ∷ rest) = break_of rest
+break_of (entry.Mark table version ∷ rest) = break_of rest
+break_of (entry.Break commit ∷ rest) = Some commit
+
+-- the commit of a batch by a session over these commits, or the batch's first fault
+abbrev pub made : List Commit → ℕ → Batch → Result Commit BatchFault
+made commits session batch = resolved standard_limits (database_of commits) session batch
+
+-- the job has the fault before its batch is there, or its batch has it
+abbrev pub HasFault : Meaning → List Commit → Job → Refusal → Type 0
+HasFault m commits job f =
+    m.reads commits job (Fault f)
+    ⊎ ((b : Batch) × (e : BatchFault) × m.reads commits job (Loads b)
+    × (made commits job.session b ≡ Err e) × (f ≡ refusal.BatchFault e))
+
+-- the job is a batch, and this is the commit that it becomes
+abbrev pub Makes : Meaning → List Commit → Job → Commit → Type 0
+Makes m commits job c =
+    (b : Batch) × m.reads commits job (Loads b) × (made commits job.session b ≡ Ok c)
+
+-- the job is a batch that reads well
+abbrev pub ReadsWell : Meaning → List Commit → Job → Type 0
+ReadsWell m commits job = (b : Batch) × m.reads commits job (Loads b)

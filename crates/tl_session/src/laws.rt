@@ -1,0 +1,50 @@
+//! The laws of what sessions are answered with. Each function's contract is its law; calling it does
+//! nothing.
+ghost use Rattle.std.specs.Prelude.{◌≡◌, ℕ, List, None, Option};
+ghost use Rattle.tl_types.specs.declared.commits.Commit.{Commit};
+ghost use Rattle.tl_types.specs.declared.commits.Entry.{Entry};
+ghost use Rattle.tl_types.specs.Entries.{commits_of};
+ghost use Rattle.tl_session.specs.Jobs.{Job};
+ghost use Rattle.tl_session.specs.Reading.{HasOneReading};
+ghost use Rattle.tl_session.specs.Turns.{Turn, meant, break_of, all_turns};
+ghost use Rattle.tl_session.specs.Promises.{Promised};
+ghost use Rattle.tl_session.specs.Transcript.{Transcript};
+ghost use Rattle.tl_session.specs.Play.{AreLone, IsPlay};
+ghost use Rattle.tl_session.specs.Written.{IsTranscript, IsRunOf, IsPlayOf, all_jobs};
+
+/// A job is one thing over a list of commits: a batch that reads well, a query with its answer, or
+/// its first fault.
+pub fn each_job_has_one_reading()
+    ensures { (commits : List Commit) (job : Job) → HasOneReading commits job }
+{}
+
+/// What each session's replies say by themselves makes a transcript of them all.
+pub fn sessions_make_a_transcript()
+    ensures { (opening last : List Entry) (phases : List (List Turn))
+        → Promised meant opening last phases
+        → Transcript meant (commits_of opening) (commits_of last) (break_of last) phases }
+{}
+
+/// Where each phase has jobs of one session and nothing broke, the jobs were done one after the
+/// other.
+pub fn lone_sessions_play()
+    ensures { (opening last : List Entry) (phases : List (List Turn))
+        → Promised meant opening last phases → break_of last ≡ None → AreLone phases
+        → IsPlay meant (commits_of opening) (all_turns phases) (commits_of last) }
+{}
+
+/// Jobs done one after the other, over a history that may break, write the bytes of a transcript.
+pub fn runs_make_a_transcript()
+    ensures { (names : List (List ℕ)) (phases : List (List Job)) (opening all : List Commit)
+        (broke : Option Commit) (bytes : List ℕ)
+        → IsRunOf names (all_jobs phases) opening None all broke bytes
+        → IsTranscript names phases opening all broke bytes }
+{}
+
+/// Where nothing broke, they write those of the play.
+pub fn whole_runs_play()
+    ensures { (names : List (List ℕ)) (jobs : List Job) (opening all : List Commit)
+        (bytes : List ℕ)
+        → IsRunOf names jobs opening None all None bytes
+        → IsPlayOf names jobs opening all bytes }
+{}

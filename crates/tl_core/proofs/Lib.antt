@@ -1,0 +1,6 @@
+pub mod EntryLemmas
+pub mod CheckpointLemmas
+pub mod LegalLemmas
+pub mod LawLemmas
+pub mod KeptLemmas
+mod Examples

@@ -1,0 +1,4 @@
+pub mod Checkpoints
+pub mod World
+pub mod Law
+pub mod Kept

@@ -1,0 +1,85 @@
+//! Lists of entries: their commits, as a store and as a number, and their marks.
+ghost use Rattle.std.specs.Prelude.{◌≡◌, ◌≤◌, ◌++◌, ◌∷◌, [], IsTrue, IfOk, drop, length};
+ghost use Rattle.tl_types.specs.Entries.{commits_of};
+ghost use Rattle.tl_core.specs.World.{are_legal, is_mark, has_mark};
+ghost use Rattle.tl_core.specs.Kept.{fits_store};
+
+use std::alloc::Global;
+use tl_store::Store;
+use tl_types::{Entry, NoMemory};
+
+// The store of the commits among the entries.
+#[tactic(auto, using(crate::proofs::EntryLemmas::commits_more, crate::proofs::KeptLemmas::fits_at))]
+pub(crate) fn store_of(alloc: Global, entries: &[Entry]) -> Result<Store, NoMemory>
+    requires { IsTrue (are_legal entries.now) }
+    ensures { IfOk result (λ store. store ≡ commits_of entries.now) }
+{
+    let mut store = Store::empty(alloc);
+    for entry in entries {
+        store = followed_by(alloc, store, entry)?;
+    }
+    Ok(store)
+}
+
+// The store once it has followed the entry.
+fn followed_by(alloc: Global, store: Store, entry: &Entry) -> Result<Store, NoMemory>
+    requires { IsTrue (fits_store store entry.now) }
+    ensures { IfOk result (λ next. next ≡ store ++ commits_of (entry.now ∷ [])) }
+{
+    match entry {
+        Entry::Commit(commit) => store.apply(alloc, commit),
+        _ => Ok(store),
+    }
+}
+
+// The number of commits behind the first entries, so many.
+pub(crate) fn count_behind(entries: &[Entry], first: usize) -> usize
+    requires { first ≤ length entries.now }
+    ensures { result ≡ length (commits_of (drop first entries.now)) }
+{
+    let (_, behind) = entries.split_at(first);
+    count_commits(behind)
+}
+
+// The number of commits among the entries.
+#[tactic(auto, using(crate::proofs::EntryLemmas::count_more))]
+fn count_commits(entries: &[Entry]) -> usize
+    ensures { result ≡ length (commits_of entries.now) }
+{
+    let mut count = 0;
+    for entry in entries {
+        count += count_commit(entry);
+    }
+    count
+}
+
+// 1 for a commit, 0 for another entry.
+fn count_commit(entry: &Entry) -> usize
+    ensures number { result ≡ length (commits_of (entry.now ∷ [])) }
+    ensures one { result ≤ 1 }
+{
+    match entry {
+        Entry::Commit(_) => 1,
+        _ => 0,
+    }
+}
+
+// Whether the entry is a mark of this table at this version.
+fn is_mark(entry: &Entry, table: u16, version: u32) -> bool
+    ensures { result ≡ is_mark table version entry.now }
+{
+    match entry {
+        Entry::Mark {
+            table: named,
+            version: at,
+        } => *named == table && *at == version,
+        _ => false,
+    }
+}
+
+// Whether a mark of this table at this version is among the entries.
+pub(crate) fn has_mark(entries: &[Entry], table: u16, version: u32) -> bool
+    ensures { result ≡ has_mark entries.now table version }
+{
+    entries.iter().any(|entry| is_mark(entry, table, version))
+}

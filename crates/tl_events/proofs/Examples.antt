@@ -1,6 +1,6 @@
 -- The definitions on a table of four rows: 0 from version 2 to 3, 1 from 2 to 4, 2 from 3 on, 3 from 5 on.
 use Rattle.std.proofs.Common.{◌≡◌, ℕ, List, [], ◌∷◌, ◌+◌, length, refl}
-use Rattle.std.specs.Prelude.{Option, None}
+use Rattle.std.specs.Prelude.{None}
 use Rattle.tl_types.specs.declared.events.Event.{Event}
 use Rattle.tl_types.specs.Plain as plain
 use Rattle.tl_types.specs.History.{open_end}

@@ -1,8 +1,8 @@
 -- Halving a stretch takes one binary digit, and the end of a version by the entries up to it.
-use Rattle.std.proofs.Common.{◌≡◌, ℕ, zero, suc, ◌+◌, ◌-◌, ◌*◌, ◌/◌, ◌^◌, ◌≤◌, ◌<◌, List, [], ◌∷◌, ◌++◌, length, get_or, take, drop, refl, sym, ◌∙◌, ap, subst, arith}
-use Rattle.std.specs.Int.Digits.{digits_of, number_from_digits}
+use Rattle.std.proofs.Common.{◌≡◌, ℕ, zero, suc, ◌+◌, ◌/◌, ◌^◌, ◌≤◌, ◌<◌, List, [], ◌∷◌, length, get_or, take, drop, refl, sym, ◌∙◌, ap, subst, arith}
+use Rattle.std.specs.Int.Digits.{digits_of}
 use Rattle.std.proofs.lemmas.Int.Digits.{length-digits_of_step, length-digits_of-le, number_lt, number_digits_of, all_below_base_digits_of}
-use Rattle.std.specs.Prelude.{◌⊎◌, Some, Option, slice_get, fold, nat_le, if◌then◌else◌}
+use Rattle.std.specs.Prelude.{◌⊎◌, Some, slice_get, fold, nat_le, if◌then◌else◌}
 use Rattle.std.proofs.Common.{inl, inr}
 use Rattle.std.proofs.lemmas.Bool.{cases_lt, cond-true, cond-false, le-leb, lt-leb, ne_eqb}
 use Rattle.std.proofs.lemmas.List.{take-append-drop}
@@ -12,7 +12,7 @@ use Rattle.tl_events.specs.declared.version_maps.VersionEnd.{VersionEnd}
 use Rattle.tl_events.specs.Timeline.{binary_digits, Ascend, IsSplit, end_of, ends_of}
 use Rattle.tl_types.specs.Plain as plain
 use Rattle.tl_types.specs.Events.{events_at, events_of, place_of}
-use Rattle.std.proofs.Common.{Bool, true, false, min, ◌==◌}
+use Rattle.std.proofs.Common.{Bool, false, min, ◌==◌}
 use Rattle.std.proofs.lemmas.List.{length-append}
 
 -- a number is below 2 to the number of its digits

@@ -11,77 +11,107 @@ use std::sync::ledger::Ledger;
 use tl_shared::{Shareable, SharedList};
 use tl_types::{Event, NoMemory, Seq, Steps};
 
-// An event as a list keeps it: the id of its row and a bit, in 8 bytes.
-#[derive(Clone, Copy)]
-pub(crate) struct Kept {
-    event: Event,
+// An event as a list keeps it, in 5 bytes: the id of its row, low byte first, and whether the row
+// begins. A contract sees the event.
+#[derive(Drop)]
+pub(crate) struct PackedEvent {
+    row: [u8; 4],
+    opens: bool,
 }
 
-const _: () = prove!(size_of::<Kept>() == 8);
+const _: () = prove!(size_of::<PackedEvent>() == 5);
 
-impl Shareable for Kept {
-    fn share(&self, _alloc: Global) -> Result<Kept, NoMemory> {
-        Ok(*self)
+impl Model for PackedEvent {
+    ghost use Rattle.std.specs.Int.{from_le_bytes, w32};
+    ghost use Rattle.tl_types.specs.declared.events.Event.{Event};
+
+    ghost Value = { Event };
+
+    ghost view = { λ e. record { row = from_le_bytes w32 e.row; opens = e.opens } };
+}
+
+impl PackedEvent {
+    // The event of a row, packed.
+    fn new(row: u32, opens: bool) -> PackedEvent
+        ensures { result ≡ record { row = row; opens = opens } }
+    {
+        PackedEvent {
+            row: row.to_le_bytes(),
+            opens,
+        }
+    }
+
+    // The event.
+    fn event(&self) -> Event
+        ensures { result ≡ self.now }
+    {
+        Event {
+            row: u32::from_le_bytes(self.row),
+            opens: self.opens,
+        }
     }
 }
 
-/// The events of a table. A contract sees it as the list of the events; it has fewer than 2^32.
+impl Shareable for PackedEvent {
+    fn share(&self, _alloc: Global) -> Result<PackedEvent, NoMemory> {
+        Ok(PackedEvent {
+            row: self.row,
+            opens: self.opens,
+        })
+    }
+}
+
+/// The events of a table, in 5 bytes each. A contract sees it as the list of the events; it has
+/// fewer than 2^32.
 #[derive(Drop)]
 pub struct EventList {
-    events: SharedList<Kept>,
+    events: SharedList<PackedEvent>,
 }
 
 impl Model for EventList {
-    ghost use Rattle.std.specs.Prelude.{◌<◌, ◌^◌, List, length, map};
+    ghost use Rattle.std.specs.Prelude.{◌<◌, ◌^◌, List, length};
     ghost use Rattle.tl_types.specs.declared.events.Event.{Event};
 
     ghost Value = { List Event };
 
-    ghost view = { λ l. map (λ kept. kept.event) l.events };
+    ghost view = { λ l. l.events };
 
     ghost invariant = { λ l. length l.events < 2 ^ 32 };
 }
 
 // Puts the ends of these rows behind the events.
-fn push_closes(events: &mut Vec<Kept>, closes: &[u32]) -> Result<(), NoMemory>
-    ensures { IfOk result (λ _. map (λ kept. kept.event) events.new.items
-        ≡ map (λ kept. kept.event) events.old.items ++ map invalidation closes.now) }
+fn push_closes(events: &mut Vec<PackedEvent>, closes: &[u32]) -> Result<(), NoMemory>
+    ensures { IfOk result
+        (λ _. events.new.items ≡ events.old.items ++ map invalidation closes.now) }
 {
     for row in closes {
-        events.push(Kept {
-            event: Event {
-                row: *row,
-                opens: false,
-            },
-        })?;
+        events.push(PackedEvent::new(*row, false))?;
     }
     Ok(())
 }
 
 // Puts the beginnings of so many rows from `first` on behind the events.
-fn push_opens(events: &mut Vec<Kept>, first: u32, opens: u32) -> Result<(), NoMemory>
+fn push_opens(events: &mut Vec<PackedEvent>, first: u32, opens: u32) -> Result<(), NoMemory>
     requires { first + opens < 2 ^ 32 }
-    ensures { IfOk result (λ _. map (λ kept. kept.event) events.new.items
-        ≡ map (λ kept. kept.event) events.old.items
-        ++ map activation (range_with_len first opens)) }
+    ensures { IfOk result (λ _. events.new.items
+        ≡ events.old.items ++ map activation (range_with_len first opens)) }
 {
     for k in 0..opens {
-        events.push(Kept {
-            event: Event {
-                row: first + k,
-                opens: true,
-            },
-        })?;
+        events.push(PackedEvent::new(first + k, true))?;
     }
     Ok(())
 }
 
 // The events of one version.
-fn kept_events(alloc: Global, closes: &[u32], first: u32, opens: u32) -> Result<Vec<Kept>, NoMemory>
+fn packed_events(
+    alloc: Global,
+    closes: &[u32],
+    first: u32,
+    opens: u32,
+) -> Result<Vec<PackedEvent>, NoMemory>
     requires ids { first + opens < 2 ^ 32 }
     requires few { length closes.now < 2 ^ 32 }
-    ensures { IfOk result (λ events. map (λ kept. kept.event) events.items
-        ≡ version_events closes.now first opens) }
+    ensures { IfOk result (λ events. events.items ≡ version_events closes.now first opens) }
 {
     let mut events = Vec::with_capacity(alloc, closes.len() + opens as usize)?;
     push_closes(&mut events, closes)?;
@@ -119,7 +149,7 @@ impl EventList {
             → AreEventsAt rows (suc version) closes.now first opens
             → IfOk result (λ list. list ≡ events_of rows (suc version)) }
     {
-        let events = kept_events(alloc, closes.as_slice(), first, opens)?;
+        let events = packed_events(alloc, closes.as_slice(), first, opens)?;
         Ok(EventList {
             events: self.events.push_all(alloc, &events)?,
         })
@@ -139,6 +169,6 @@ impl EventList {
         ensures steps { steps.new ≡ steps.old + 1 }
     {
         steps.tick();
-        self.events.at(u64::from(i)).event
+        self.events.at(u64::from(i)).event()
     }
 }

@@ -3,5 +3,4 @@ use Rattle.tl_types.specs.Events.{invalidation}
 use Rattle.tl_events.proofs.event_lists.push_closes.Given as goal
 
 abbrev pub invariant-loop-row : goal.invariant-loop-row
-invariant-loop-row l =
-    map (λ kept. kept.event) l.events.items ≡ map (λ kept. kept.event) l.initial.events.items ++ map invalidation (take l.row-index l.closes)
+invariant-loop-row l = l.events.items ≡ l.initial.events.items ++ map invalidation (take l.row-index l.closes)

@@ -1,7 +1,6 @@
-use Rattle.std.proofs.Common.{◌≡◌, ◌+◌, ◌-◌, ◌/◌, ◌≤◌, ◌<◌, refl, arith, length}
+use Rattle.std.proofs.Common.{◌≡◌, ◌+◌, ◌-◌, ◌/◌, refl, arith, length}
 use Rattle.std.specs.Prelude.{slice_get, Some}
 use Rattle.std.proofs.lemmas.Option.{slice_get_read}
-use Rattle.tl_events.specs.Timeline.{binary_digits}
 use Rattle.tl_events.proofs.SearchLemmas.{half_digits, front_more, back_more}
 use Rattle.tl_events.proofs.version_maps.entries_to.Goals as goal
 

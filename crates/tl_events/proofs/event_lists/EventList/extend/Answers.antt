@@ -1,20 +1,17 @@
-use Rattle.std.proofs.Common.{◌≡◌, ◌+◌, map, length, ap, sym, ◌∙◌, arith}
+use Rattle.std.proofs.Common.{map, length, ap, ◌∙◌, arith}
 use Rattle.std.proofs.lemmas.List.{length-append, length-map}
 use Rattle.std.proofs.lemmas.List.FromFn.{length-map-range_with_len}
 use Rattle.std.specs.List.{range_with_len}
-use Rattle.tl_types.specs.declared.events.Event.{Event}
 use Rattle.tl_types.specs.Events.{invalidation, activation}
-use Rattle.tl_events.specs.declared.event_lists.Kept.{Kept}
 use Rattle.tl_events.proofs.event_lists.EventList.extend.Goals as goal
 
 pub invariant_of-result : goal.invariant_of-result
 invariant_of-result c =
-    let of_kept : Kept → Event = λ kept. kept.event in
     let all = ap length c.in_ok-push_all.ensures ∙ length-append c.self.inside.events c.deref.result.now in
-    let new = ap length c.deref.ensures.value ∙ sym (length-map c.in_ok-events.events.items of_kept) ∙ ap length c.in_ok-events.ensures
+    let new = ap length c.deref.ensures.value ∙ ap length c.in_ok-events.ensures
     ∙ length-append (map invalidation c.as_slice.result.now) (map activation (range_with_len c.args.first c.args.opens)) in
     let closes = length-map c.as_slice.result.now invalidation ∙ ap length c.as_slice.ensures in
     let opens = length-map-range_with_len activation c.args.first c.args.opens in
-    let old = sym (length-map c.self.inside.events of_kept) ∙ ap length c.self.view_is in
+    let old = ap length c.self.view_is in
     let few = c.requires.few in
     omega arith

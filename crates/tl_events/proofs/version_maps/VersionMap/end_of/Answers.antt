@@ -1,8 +1,7 @@
-use Rattle.std.proofs.Common.{◌≡◌, ◌+◌, ◌-◌, ◌≤◌, ap, sym, ◌∙◌, subst, refl, arith, length, List}
+use Rattle.std.proofs.Common.{◌≡◌, ◌+◌, ◌-◌, ap, sym, ◌∙◌, refl, arith, length}
 use Rattle.std.specs.Prelude.{slice_get, Some}
 use Rattle.std.proofs.lemmas.Option.{slice_get_read}
-use Rattle.tl_events.specs.declared.version_maps.VersionEnd.{VersionEnd}
-use Rattle.tl_events.specs.Timeline.{binary_digits, end_of}
+use Rattle.tl_events.specs.Timeline.{end_of}
 use Rattle.tl_events.proofs.SearchLemmas.{fewer_digits, end_of_none, end_of_some, place_is}
 use Rattle.tl_events.proofs.version_maps.VersionMap.end_of.Goals as goal
 

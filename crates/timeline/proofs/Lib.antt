@@ -1,8 +1,12 @@
+pub mod AloneLemmas
+pub mod ClosingLemmas
 pub mod CommandLemmas
+pub mod EntryLemmas
+pub mod HeadlineLemmas
+pub mod HoldsLemmas
+pub mod OpeningLemmas
+pub mod PhaseLemmas
 pub mod PlayLemmas
-pub mod PrefixLemmas
+pub mod RunLemmas
 pub mod SampleLemmas
-pub mod ScriptLemmas
-pub mod StoreLemmas
 pub mod TopLemmas
-pub mod Worked

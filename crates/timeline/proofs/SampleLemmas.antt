@@ -1,13 +1,14 @@
--- The jobs of the sample.
+-- The blocks and the phases of the sample.
 use Rattle.std.proofs.Common.{◌≡◌, ℕ, zero, suc, ◌+◌, ◌-◌, ◌<◌, ◌≤◌, min, ◌==◌, Bool, true, false, List, [], ◌∷◌, ◌++◌, append-nil, append_assoc, length, map, drop, get_or, codes, Option, Some, None, refl, ap, sym, ◌∙◌, arith}
 use Rattle.std.proofs.lemmas.Bool.Decides.{nat_tests}
 use Rattle.std.proofs.lemmas.Grind.{common_steps}
 use Rattle.std.proofs.lemmas.List.{at_drop_more, drop_all, map-append}
 use Rattle.tl_csv.specs.Sample.{Sample, block_end, block_of}
-use Rattle.timeline.specs.declared.jobs.Job.{Job as LentJob}
-use Rattle.timeline.specs.Reading.{job_of}
-use Rattle.timeline.specs.Script.{Job}
-use Rattle.timeline.specs.Sample.{before_blocks, next_blocks, blocks_of, job_with, jobs_with, puts_from, queries_from, sum_text}
+use Rattle.tl_script.specs.declared.jobs.Job.{Job as LentJob}
+use Rattle.tl_script.specs.declared.jobs.Phase.{Phase as LentPhase}
+use Rattle.tl_script.specs.Steps.{job_of, phase_jobs}
+use Rattle.tl_script.specs.Script.{Job}
+use Rattle.timeline.specs.Sample.{before_blocks, next_blocks, blocks_of, job_with, phase_with, phases_with, puts_from, queries_from, sum_text}
 
 -- BLOCKS
 
@@ -80,39 +81,45 @@ pub all_blocks : (lines start : ℕ) (sample : Sample) (blocks : List (List ℕ)
 all_blocks lines start sample blocks next h is none =
     sym (append-nil blocks) ∙ (ap (λ bs. blocks ++ bs) (sym (none_next (sample.lines - sample.given) sample (sym is ∙ none))) ∙ h.all)
 
--- JOBS
+-- PHASES
 
-pub put_more : (blocks : List (List ℕ)) (i : ℕ) (b : List ℕ) (jobs more : List LentJob) (job : LentJob) (all : List Job) → i < length blocks → b ≡ get_or blocks i b → job_of job ≡ job_with (i + 2) (codes "PUT sample") (Some b) → more ≡ jobs ++ job ∷ []
-    → map job_of jobs ++ puts_from (i + 2) (drop i blocks) ≡ all → map job_of more ++ puts_from (i + 1 + 2) (drop (i + 1) blocks) ≡ all
-put_more blocks i b jobs more job all h at is grows start =
+pub put_more : (blocks : List (List ℕ)) (i : ℕ) (b : List ℕ) (phases more : List LentPhase) (phase : LentPhase) (all : List (List Job)) → i < length blocks → b ≡ get_or blocks i b → phase_jobs phase ≡ phase_with (i + 2) (codes "PUT sample") (Some b) → more ≡ phases ++ phase ∷ []
+    → map phase_jobs phases ++ puts_from (i + 2) (drop i blocks) ≡ all → map phase_jobs more ++ puts_from (i + 1 + 2) (drop (i + 1) blocks) ≡ all
+put_more blocks i b phases more phase all h at is grows start =
     let number : i + 1 + 2 ≡ i + 2 + 1 = omega arith in
-    let rest : List Job = puts_from (i + 2 + 1) (drop (i + 1) blocks) in
-    ap (λ n. map job_of more ++ puts_from n (drop (i + 1) blocks)) number
-    ∙ (ap (λ js. map job_of js ++ rest) grows
-    ∙ (ap (λ js. js ++ rest) (map-append job_of jobs (job ∷ []))
-    ∙ (append_assoc (map job_of jobs) (job_of job ∷ []) rest
-    ∙ (ap (λ j. map job_of jobs ++ j ∷ rest) is
-    ∙ (ap (λ c. map job_of jobs ++ puts_from (i + 2) (c ∷ drop (i + 1) blocks)) at
-    ∙ (sym (at_drop_more (λ bs. map job_of jobs ++ puts_from (i + 2) bs) blocks i b h) ∙ start))))))
+    let rest : List (List Job) = puts_from (i + 2 + 1) (drop (i + 1) blocks) in
+    ap (λ n. map phase_jobs more ++ puts_from n (drop (i + 1) blocks)) number
+    ∙ (ap (λ ps. map phase_jobs ps ++ rest) grows
+    ∙ (ap (λ ps. ps ++ rest) (map-append phase_jobs phases (phase ∷ []))
+    ∙ (append_assoc (map phase_jobs phases) (phase_jobs phase ∷ []) rest
+    ∙ (ap (λ p. map phase_jobs phases ++ p ∷ rest) is
+    ∙ (ap (λ c. map phase_jobs phases ++ puts_from (i + 2) (c ∷ drop (i + 1) blocks)) at
+    ∙ (sym (at_drop_more (λ bs. map phase_jobs phases ++ puts_from (i + 2) bs) blocks i b h) ∙ start))))))
 
-pub puts_end : (blocks : List (List ℕ)) (i n : ℕ) (jobs all : List Job) → length blocks ≤ i → jobs ++ puts_from n (drop i blocks) ≡ all → jobs ≡ all
-puts_end blocks i n jobs all h e = sym (append-nil jobs) ∙ (ap (λ bs. jobs ++ puts_from n bs) (sym (drop_all i blocks h)) ∙ e)
+pub puts_end : (blocks : List (List ℕ)) (i n : ℕ) (phases all : List (List Job)) → length blocks ≤ i → phases ++ puts_from n (drop i blocks) ≡ all → phases ≡ all
+puts_end blocks i n phases all h e = sym (append-nil phases) ∙ (ap (λ bs. phases ++ puts_from n bs) (sym (drop_all i blocks h)) ∙ e)
 
--- three jobs more
-pub three_more : (number last : ℕ) (text : List ℕ) (jobs one two three : List LentJob) (a b c : LentJob) → text ≡ sum_text last
+-- one job
+pub one_job : (number : ℕ) (text : List ℕ) (block : Option (List ℕ)) (none one : List LentJob) (job : LentJob) → none ≡ [] → one ≡ none ++ job ∷ [] → job_of job ≡ job_with number text block → map job_of one ≡ phase_with number text block
+one_job number text block none one job a b c = ap (map job_of) (b ∙ ap (λ js. js ++ job ∷ []) a) ∙ ap (λ j. j ∷ []) c
+
+-- three jobs
+pub three_jobs : (number last : ℕ) (text : List ℕ) (none one two three : List LentJob) (a b c : LentJob) → text ≡ sum_text last
     → job_of a ≡ job_with number (codes "MIN val FROM sample OVER SYSTEM ALL") None → job_of b ≡ job_with (number + 1) (codes "MAX val FROM sample OVER SYSTEM ALL") None → job_of c ≡ job_with (number + 2) text None
-    → one ≡ jobs ++ a ∷ [] → two ≡ one ++ b ∷ [] → three ≡ two ++ c ∷ [] → map job_of three ≡ map job_of jobs ++ queries_from number last
-three_more number last text jobs one two three a b c same p q r x y z =
-    let all : three ≡ jobs ++ a ∷ b ∷ c ∷ [] = z ∙ (ap (λ js. js ++ c ∷ []) (y ∙ ap (λ js. js ++ b ∷ []) x) ∙ (ap (λ js. js ++ c ∷ []) (append_assoc jobs (a ∷ []) (b ∷ [])) ∙ append_assoc jobs (a ∷ b ∷ []) (c ∷ []))) in
-    ap (map job_of) all ∙ (map-append job_of jobs (a ∷ b ∷ c ∷ [])
-    ∙ (ap (λ j. map job_of jobs ++ j ∷ job_of b ∷ job_of c ∷ []) p
-    ∙ (ap (λ j. map job_of jobs ++ job_with number (codes "MIN val FROM sample OVER SYSTEM ALL") None ∷ j ∷ job_of c ∷ []) q
-    ∙ (ap (λ j. map job_of jobs ++ job_with number (codes "MIN val FROM sample OVER SYSTEM ALL") None ∷ job_with (number + 1) (codes "MAX val FROM sample OVER SYSTEM ALL") None ∷ j ∷ []) r
-    ∙ ap (λ t. map job_of jobs ++ job_with number (codes "MIN val FROM sample OVER SYSTEM ALL") None ∷ job_with (number + 1) (codes "MAX val FROM sample OVER SYSTEM ALL") None ∷ job_with (number + 2) t None ∷ []) same))))
+    → none ≡ [] → one ≡ none ++ a ∷ [] → two ≡ one ++ b ∷ [] → three ≡ two ++ c ∷ [] → map job_of three ≡ queries_from number last
+three_jobs number last text none one two three a b c same p q r w x y z =
+    let all : three ≡ a ∷ b ∷ c ∷ [] = z ∙ ap (λ js. js ++ c ∷ []) (y ∙ ap (λ js. js ++ b ∷ []) (x ∙ ap (λ js. js ++ a ∷ []) w)) in
+    ap (map job_of) all
+    ∙ (ap (λ j. j ∷ job_of b ∷ job_of c ∷ []) p
+    ∙ (ap (λ j. job_with number (codes "MIN val FROM sample OVER SYSTEM ALL") None ∷ j ∷ job_of c ∷ []) q
+    ∙ (ap (λ j. job_with number (codes "MIN val FROM sample OVER SYSTEM ALL") None ∷ job_with (number + 1) (codes "MAX val FROM sample OVER SYSTEM ALL") None ∷ j ∷ []) r
+    ∙ ap (λ t. job_with number (codes "MIN val FROM sample OVER SYSTEM ALL") None ∷ job_with (number + 1) (codes "MAX val FROM sample OVER SYSTEM ALL") None ∷ job_with (number + 2) t None ∷ []) same)))
 
--- all jobs
-pub jobs_told : (blocks : List (List ℕ)) (none first second third : List LentJob) (table : LentJob) → none ≡ [] → first ≡ none ++ table ∷ [] → job_of table ≡ job_with 1 (codes "CREATE TABLE sample (id INT, grp INT, val INT) KEY id") None
-    → map job_of second ≡ map job_of first ++ puts_from 2 blocks → map job_of third ≡ map job_of second ++ queries_from (length blocks + 2) (length blocks + 1) → map job_of third ≡ jobs_with blocks
-jobs_told blocks none first second third table a b c d e =
-    e ∙ (ap (λ js. js ++ queries_from (length blocks + 2) (length blocks + 1)) (d ∙ ap (λ js. map job_of js ++ puts_from 2 blocks) (b ∙ ap (λ js. js ++ table ∷ []) a))
-    ∙ ap (λ j. j ∷ (puts_from 2 blocks ++ queries_from (length blocks + 2) (length blocks + 1))) c)
+-- all phases
+pub phases_told : (blocks : List (List ℕ)) (none first second third : List LentPhase) (table queries : LentPhase) → none ≡ [] → first ≡ none ++ table ∷ [] → phase_jobs table ≡ phase_with 1 (codes "CREATE TABLE sample (id INT, grp INT, val INT) KEY id") None
+    → map phase_jobs second ≡ map phase_jobs first ++ puts_from 2 blocks → third ≡ second ++ queries ∷ [] → phase_jobs queries ≡ queries_from (length blocks + 2) (length blocks + 1) → map phase_jobs third ≡ phases_with blocks
+phases_told blocks none first second third table queries a b c d e f =
+    let all = queries_from (length blocks + 2) (length blocks + 1) in
+    ap (map phase_jobs) e ∙ (map-append phase_jobs second (queries ∷ [])
+    ∙ (ap (λ ps. ps ++ phase_jobs queries ∷ []) (d ∙ ap (λ ps. map phase_jobs ps ++ puts_from 2 blocks) (b ∙ ap (λ ps. ps ++ table ∷ []) a))
+    ∙ (ap (λ p. (p ∷ puts_from 2 blocks) ++ phase_jobs queries ∷ []) c ∙ ap (λ q. (phase_with 1 (codes "CREATE TABLE sample (id INT, grp INT, val INT) KEY id") None ∷ puts_from 2 blocks) ++ q ∷ []) f)))

@@ -1,10 +1,10 @@
 -- What the words after the program's name ask for.
-use Rattle.std.specs.Prelude.{ℕ, ◌^◌, Bool, true, false, ◌&&◌, nat_le, nat_lt, List, [], ◌∷◌, length, map, codes, string_bytes, String, Option, Some, None, if◌then◌else◌}
+use Rattle.std.specs.Prelude.{ℕ, ◌^◌, Bool, true, false, ◌&&◌, nat_le, nat_lt, List, [], ◌∷◌, ◌++◌, length, map, codes, string_bytes, String, Option, Some, None, if◌then◌else◌}
 use Rattle.std.specs.Char.{is_ascii_digit}
 use Rattle.std.specs.List.{list_all}
 use Rattle.std.specs.Str.{is_utf8}
 use Rattle.std.specs.Str.Parse.{digits_value}
-use Rattle.tl_types.specs.Names.{same_bytes}
+use Rattle.tl_types.specs.Names.{same_bytes, is_name}
 use Rattle.timeline.specs.declared.commands.Command.{Command}
 use Rattle.timeline.specs.declared.commands.Command.TheVariants as command
 
@@ -34,18 +34,43 @@ sample_of None start = None
 sample_of (Some lines) None = None
 sample_of (Some lines) (Some start) = Some (command.Sample lines start)
 
--- the command that the words are: `run`, or `sample`, 1 to 1,000,000 and a number below 2 ^ 64
+-- the command that one word is: `init`, or `run`
+abbrev pub single_word : List ℕ → Option Command
+single_word word =
+    if same_bytes word (codes "init") then Some command.Init
+    else (if same_bytes word (codes "run") then Some command.Run else None)
+
+-- the loading of a table, where the word is a name
+abbrev pub load_of : List ℕ → Option Command
+load_of table = if is_name table then Some (command.Load table) else None
+
+-- the command that the words are: `init`; `run`; `load` and a name; or `sample`, 1 to 1,000,000 and
+-- a number below 2 ^ 64
 abbrev pub command_of : List (List ℕ) → Option Command
 command_of [] = None
-command_of (word ∷ []) = if same_bytes word (codes "run") then Some command.Run else None
-command_of (word ∷ lines ∷ []) = None
+command_of (word ∷ []) = single_word word
+command_of (word ∷ table ∷ []) = if same_bytes word (codes "load") then load_of table else None
 command_of (word ∷ lines ∷ start ∷ []) =
     if same_bytes word (codes "sample") then sample_of (within 1 1000000 (spelled_number lines))
     (spelled_number start) else None
 command_of (word ∷ lines ∷ start ∷ more ∷ words) = None
 
--- the source is read by `run` alone
+-- the source is read by `run` and `load` alone
 abbrev pub reads_source : Option Command → Bool
 reads_source None = false
+reads_source (Some command.Init) = false
 reads_source (Some command.Run) = true
+reads_source (Some (command.Load table)) = true
 reads_source (Some (command.Sample lines start)) = false
+
+-- the disk is used by `init`, `run` and `load` alone
+abbrev pub uses_disk : Option Command → Bool
+uses_disk None = false
+uses_disk (Some command.Init) = true
+uses_disk (Some command.Run) = true
+uses_disk (Some (command.Load table)) = true
+uses_disk (Some (command.Sample lines start)) = false
+
+-- the text of the statement that loads a table
+abbrev pub put_text : List ℕ → List ℕ
+put_text table = codes "PUT " ++ table

@@ -1,9 +1,8 @@
 pub mod Commands
 pub mod Ending
-pub mod Outcome
-pub mod Play
-pub mod Reading
-pub mod Replies
+pub mod Headline
+pub mod Jobs
+pub mod Outside
+pub mod Runs
 pub mod Sample
-pub mod Script
 pub mod Status

@@ -1,8 +1,9 @@
--- The jobs of the sample: a table, blocks of rows, and three queries.
-use Rattle.std.specs.Prelude.{ℕ, zero, suc, ◌+◌, List, [], ◌∷◌, ◌++◌, length, codes, Option, Some, None}
+-- The phases of the sample: a table, blocks of rows, and three queries.
+use Rattle.std.specs.Prelude.{ℕ, zero, suc, ◌+◌, List, [], ◌∷◌, ◌++◌, length, codes, Some, None}
+use Rattle.std.specs.declared.option.Option.{Option}
 use Rattle.std.specs.Fmt.{decimal}
 use Rattle.tl_csv.specs.Sample.{Sample, block_end, block_of}
-use Rattle.timeline.specs.Script.{Job}
+use Rattle.tl_script.specs.Script.{Job, Reading}
 
 -- a block, where there is one, and what comes behind it
 abbrev pub before_blocks : Option (List ℕ) → List (List ℕ) → List (List ℕ)
@@ -19,16 +20,19 @@ next_blocks (suc n) sample =
 abbrev pub blocks_of : ℕ → ℕ → List (List ℕ)
 blocks_of lines start = next_blocks lines (record { lines = lines; start = start; given = 0 })
 
--- a job of the session `sample`; its jobs are numbered from 1, as lines of a script are
+-- a job of the one session; its jobs are numbered from 1, as lines of a script are
 abbrev pub job_with : ℕ → List ℕ → Option (List ℕ) → Job
-job_with number text block =
-    record { session = codes "sample"; line = number; text = text; block = block }
+job_with number text block = record { session = 0; line = number; text = text; block = block }
 
--- the blocks are put, one after the other
-abbrev pub puts_from : ℕ → List (List ℕ) → List Job
+-- a phase of one job
+abbrev pub phase_with : ℕ → List ℕ → Option (List ℕ) → List Job
+phase_with number text block = job_with number text block ∷ []
+
+-- the blocks are put, one after the other, each in a phase of its own
+abbrev pub puts_from : ℕ → List (List ℕ) → List (List Job)
 puts_from number [] = []
 puts_from number (block ∷ blocks) =
-    job_with number (codes "PUT sample") (Some block) ∷ puts_from (number + 1) blocks
+    phase_with number (codes "PUT sample") (Some block) ∷ puts_from (number + 1) blocks
 
 -- the query for the sums of the groups at the last version
 abbrev pub sum_text : ℕ → List ℕ
@@ -45,12 +49,17 @@ queries_from number last =
     ∷ job_with (number + 2) (sum_text last) None
     ∷ []
 
--- all jobs that use these blocks
-abbrev pub jobs_with : List (List ℕ) → List Job
-jobs_with blocks =
-    job_with 1 (codes "CREATE TABLE sample (id INT, grp INT, val INT) KEY id") None
-    ∷ (puts_from 2 blocks ++ queries_from (length blocks + 2) (length blocks + 1))
+-- all phases that use these blocks
+abbrev pub phases_with : List (List ℕ) → List (List Job)
+phases_with blocks =
+    phase_with 1 (codes "CREATE TABLE sample (id INT, grp INT, val INT) KEY id") None
+    ∷ (puts_from 2 blocks ++ queries_from (length blocks + 2) (length blocks + 1) ∷ [])
 
--- the jobs of a sample of so many lines, whose generator begins with a number
-abbrev pub sample_jobs : ℕ → ℕ → List Job
-sample_jobs lines start = jobs_with (blocks_of lines start)
+-- a sample of these blocks, as a script of the session `sample`
+abbrev pub reading_with : List (List ℕ) → Reading
+reading_with blocks =
+    record { names = codes "sample" ∷ []; phases = phases_with blocks; fault = None }
+
+-- a sample of so many lines, whose generator begins with a number
+abbrev pub sample_reading : ℕ → ℕ → Reading
+sample_reading lines start = reading_with (blocks_of lines start)

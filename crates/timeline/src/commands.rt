@@ -1,14 +1,24 @@
-//! The words after the program's name.
-ghost use Rattle.std.specs.Prelude.{◌≡◌, ◌<◌, ◌^◌, IfSome, true};
+//! What the words after the program's name ask for.
+ghost use Rattle.std.specs.Prelude.{◌≡◌, ◌<◌, ◌^◌, IfOk, IfSome, Some, true};
 ghost use Rattle.std.specs.Char.{is_ascii_digit};
 ghost use Rattle.std.specs.List.{list_all};
-ghost use Rattle.timeline.specs.Commands.{spelled_number, within, sample_of, command_of, texts_of};
+ghost use Rattle.timeline.specs.Commands.{spelled_number, within, load_of, sample_of, single_word, command_of, texts_of};
+
+use std::alloc::Global;
+use tl_types::{NoMemory, Text, is_name};
 
 /// What the words ask for.
-#[derive(Clone, Copy, Debug, PartialEq, Eq)]
+#[derive(Debug, Drop, PartialEq, Eq)]
 pub enum Command {
+    /// `init`: an empty journal is made.
+    Init,
     /// `run`: the script that the source gives is run.
     Run,
+    /// `load TABLE`: all that the source gives is put as one block.
+    Load {
+        /// The table's name.
+        table: Text,
+    },
     /// `sample N START`: the jobs of the sample are run.
     Sample {
         /// How many lines the sample has, 1 to 1,000,000.
@@ -80,16 +90,39 @@ fn sample_with(lines: &str, start: &str) -> Option<Command>
     )
 }
 
-/// The command that the words are, `None` where they are none: `run`, or `sample N START` with N
-/// from 1 to 1,000,000 and START from 0 to 2^64 - 1, both spelled by ASCII digits alone.
-pub(crate) fn command_of(words: &[String]) -> Option<Command>
-    ensures { result ≡ command_of (texts_of words.now) }
+// The command to load a table, where the word is a name.
+fn load_of(alloc: Global, table: &str) -> Result<Option<Command>, NoMemory>
+    ensures { IfOk result (λ command. command ≡ load_of table.now) }
+{
+    if !is_name(table) {
+        return Ok(None);
+    }
+    let table = Text::new(alloc, table)?;
+    Ok(Some(Command::Load { table }))
+}
+
+fn single_word(word: &str) -> Option<Command>
+    ensures { result ≡ single_word word.now }
+{
+    match word {
+        "init" => Some(Command::Init),
+        "run" => Some(Command::Run),
+        _ => None,
+    }
+}
+
+/// The command that the words are, `None` where they are none: `init`, `run`, `load TABLE` with a
+/// name of the language, or `sample N START` with N from 1 to 1,000,000 and START from 0 to
+/// 2^64 - 1, both spelled by ASCII digits alone. The error is `NoMemory`.
+pub(crate) fn command_of(alloc: Global, words: &[String]) -> Result<Option<Command>, NoMemory>
+    ensures { IfOk result (λ command. command ≡ command_of (texts_of words.now)) }
 {
     match words {
-        [word] if word.as_str() == "run" => Some(Command::Run),
+        [word] => Ok(single_word(word.as_str())),
+        [word, table] if word.as_str() == "load" => load_of(alloc, table.as_str()),
         [word, lines, start] if word.as_str() == "sample" => {
-            sample_with(lines.as_str(), start.as_str())
+            Ok(sample_with(lines.as_str(), start.as_str()))
         }
-        _ => None,
+        _ => Ok(None),
     }
 }

@@ -1,17 +1,14 @@
-//! The engine for temporal tables as a program: it reads a script, runs its statements over the
-//! tables of one history of commits, and writes one reply for each. The top call `timeline` carries
-//! what is proved of it all.
+//! The engine for temporal tables as a program: it opens a journal of commits, reads a script, runs
+//! its statements over the tables of the commits, appends those that it makes, and writes one reply
+//! for each statement. The top call `timeline` carries what is proved of it all.
 #![tactic(auto)]
 
+mod alone;
+mod closing;
 mod commands;
-mod histories;
-mod jobs;
-mod outcomes;
 mod plays;
-mod rebuilding;
-mod replies;
+mod runs;
 mod samples;
-mod scripts;
 mod statuses;
 #[cfg(test)]
 mod tests;
@@ -21,10 +18,13 @@ mod words;
 use statuses::Status;
 use std::process::ExitCode;
 use std::rt::Env;
-use tl_device::{OpenGate, RealSink, RealSource, SureDisk};
+use tl_device::{FileDisk, OpenGate, RealSink, RealSource};
 use tl_types::NoMemory;
 use top::timeline;
 use words::{given_words, words_of};
+
+// The file of the journal, in the folder where the program is run.
+const JOURNAL: &str = "timeline.tlj";
 
 // The words that the program goes by.
 fn own_words(rt: &(impl Env + AllocGlobal)) -> Result<Vec<String>, NoMemory> {
@@ -36,9 +36,12 @@ fn main(rt: HostRuntime) -> ExitCode {
     let Ok(words) = own_words(&rt) else {
         return ExitCode::from(Status::NoMemory.number());
     };
+    let Ok(path) = String::from_str(alloc, JOURNAL) else {
+        return ExitCode::from(Status::NoMemory.number());
+    };
     let mut source = RealSource::new(rt.stdin());
     let mut sink = RealSink::new(rt.stdout());
-    let disk = SureDisk::new(Vec::new(alloc));
+    let disk = FileDisk::new(&rt, path);
     let ending = timeline(&rt, alloc, &words, &mut source, &mut sink, disk, &OpenGate);
     ExitCode::from(ending.status.number())
 }

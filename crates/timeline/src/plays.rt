@@ -1,104 +1,120 @@
-//! What the jobs of a script do, one after the other.
-ghost use Rattle.std.specs.Prelude.{◌⊎◌, ◌≡◌, ◌≢◌, [], IfOk, IfErr, OnOk, map, Some};
-ghost use Rattle.tl_query.specs.Parsed.{IsParsed};
-ghost use Rattle.tl_query.specs.declared.faults.TextFault.TheVariants as text_fault;
-ghost use Rattle.timeline.specs.Outcome.{turn_of, MayBe};
-ghost use Rattle.timeline.specs.Play.{Does, IsTurn, IsPlay};
-ghost use Rattle.timeline.specs.Reading.{job_of};
-ghost use Rattle.timeline.specs.declared.replies.Refusal.TheVariants as refusal;
-ghost use Rattle.timeline.specs.declared.replies.ReplyBody.TheVariants as body;
+//! A script that is read from a source and run over a history.
+ghost use Rattle.std.specs.Prelude.{◌≡◌, ◌++◌, ℕ, List, [], IfOk, IfErr, OnOk, OnErr, Some, None, false};
+ghost use Rattle.std.specs.String.{string_bytes};
+ghost use Rattle.tl_types.specs.Limits.{standard_limits};
+ghost use Rattle.tl_script.specs.Steps.{reading_in};
+ghost use Rattle.timeline.specs.Ending.{stop_of};
+ghost use Rattle.timeline.specs.Jobs.{jobs_asked};
+ghost use Rattle.timeline.specs.Runs.{read_as, GoesOn, Plays, PlaysGiven, RunsFront, StopsGiven};
 
-use crate::histories::History;
-use crate::jobs::Job;
-use crate::outcomes::{AUTHOR, Outcome, outcome_of};
-use crate::replies::{Refusal, Reply, ReplyBody, put_reply};
+use crate::runs::run_phases;
+use crate::statuses::Status;
 use std::alloc::{AllocError, Global};
-use tl_device::{Gate, Place};
-use tl_query::{Statement, TextFault, parse};
-use tl_types::NoMemory;
+use tl_device::{Disk, Gate, ReadError, Source};
+use tl_engine::History;
+use tl_script::{Script, ScriptFault, load_script, read_script, take_script};
+use tl_types::{Limits, NoMemory};
 
-// Makes the commit that a statement comes to, where it comes to one.
-fn settle(alloc: Global, history: &mut History, outcome: Outcome) -> Result<Reply, NoMemory>
-    requires { MayBe history.old outcome }
-    ensures { IfOk result (λ reply.
-        record { reply = reply; after = history.new } ≡ turn_of history.old outcome) }
+/// What the bytes of a source are.
+#[derive(Clone, Copy, Debug, Drop)]
+pub(crate) enum Input<'a> {
+    /// A script.
+    Script,
+    /// The block of the statement with this text.
+    Block(&'a str),
+}
+
+/// What the jobs of a script were answered with.
+#[derive(Drop)]
+pub(crate) struct Played {
+    /// The bytes of their replies, in order.
+    pub replies: Vec<u8>,
+    /// How the run is to end where a fault of the source or of the script ended it.
+    pub stop: Option<Status>,
+}
+
+// What is read of the bytes.
+fn read_input<'a>(alloc: Global, input: Input<'a>, bytes: &'a [u8]) -> Result<Script<'a>, NoMemory>
+    ensures { IfOk result (λ script. reading_in script ≡ read_as input.entry bytes.now) }
 {
-    let commit = match outcome {
-        Outcome::Commits(commit) => commit,
-        Outcome::Replies(reply) => return Ok(reply),
-    };
-    history.push(alloc, &commit)?;
-    Ok(Reply {
-        version: history.store().versions(),
-        body: ReplyBody::Done,
+    let limits = Limits::standard();
+    match input {
+        Input::Script => read_script(alloc, bytes, &limits),
+        Input::Block(text) => load_script(alloc, text, bytes, &limits),
+    }
+}
+
+fn stop_of(fault: Option<ScriptFault>) -> Option<Status>
+    ensures { result ≡ stop_of fault }
+{
+    match fault {
+        Some(fault) => Some(Status::ScriptFault(fault)),
+        None => None,
+    }
+}
+
+/// Runs what is read of a script over a history. `NoMemory`: memory ran out; some of the first jobs
+/// are done.
+pub(crate) fn play_script<D: Disk, G: Gate>(
+    alloc: Global,
+    history: &mut History<D>,
+    script: &Script,
+    gate: &G,
+) -> Result<Played, NoMemory>
+    requires { history.old.limits ≡ standard_limits }
+    ensures ok { IfOk result (PlaysGiven (reading_in script.now)
+        history.old.entries history.new.entries) }
+    ensures err { OnErr result (RunsFront (reading_in script.now).names
+        (jobs_asked (reading_in script.now)) history.old.entries history.new.entries) }
+    ensures on { GoesOn D.reads D.may_leave history.old history.new }
+{
+    let replies = run_phases(alloc, history, script, gate)?;
+    Ok(Played {
+        replies,
+        stop: stop_of(script.fault),
     })
 }
 
-// What a statement does to the commits, and what it is answered with.
-fn answer(
+// Runs bytes of a source over a history.
+fn play_bytes<D: Disk, G: Gate>(
     alloc: Global,
-    history: &mut History,
-    statement: &Statement,
-    block: &[u8],
-) -> Result<Reply, NoMemory>
-    requires { IsParsed statement.now }
-    ensures { IfOk result (λ reply.
-        Does history.old statement.now (Some block.now)
-        (record { reply = reply; after = history.new })) }
+    history: &mut History<D>,
+    input: Input,
+    bytes: &[u8],
+    gate: &G,
+) -> Result<Played, NoMemory>
+    requires { history.old.limits ≡ standard_limits }
+    ensures ok { IfOk result (PlaysGiven (read_as input.entry bytes.now)
+        history.old.entries history.new.entries) }
+    ensures err { OnErr result (StopsGiven (read_as input.entry bytes.now)
+        history.old.entries history.new.entries) }
+    ensures on { GoesOn D.reads D.may_leave history.old history.new }
 {
-    let outcome = outcome_of(alloc, history, statement, block)?;
-    settle(alloc, history, outcome)
+    let script = read_input(alloc, input, bytes)?;
+    play_script(alloc, history, &script, gate)
 }
 
-// The refusal of a text; being out of memory is none.
-fn text_refusal(fault: TextFault) -> Result<Refusal, NoMemory>
-    ensures why { IfOk result (λ why. why ≡ refusal.TextFault fault) }
-    ensures told { OnOk result (fault ≢ text_fault.NoMemory) }
+/// Reads what a source has as a script, and runs it over a history. Where the source fails no job
+/// is run. `NoMemory`: memory ran out; some of the first jobs are done.
+pub(crate) fn play<S: Source, D: Disk, G: Gate>(
+    alloc: Global,
+    history: &mut History<D>,
+    input: Input,
+    source: &mut S,
+    gate: &G,
+) -> Result<Played, NoMemory>
+    requires { history.old.limits ≡ standard_limits }
+    ensures plays { Plays (read_as input.entry) (S.left source.old) (S.left source.new)
+        (S.faults source.old) (S.faults source.new) history.old.entries history.new.entries
+        result }
+    ensures on { GoesOn D.reads D.may_leave history.old history.new }
 {
-    match fault {
-        TextFault::NoMemory => Err(AllocError),
-        _ => Ok(Refusal::TextFault(fault)),
+    match take_script(alloc, source, &Limits::standard()) {
+        Err(ReadError::NoMemory) => Err(AllocError),
+        Err(ReadError::Source { faults }) => Ok(Played {
+            replies: Vec::new(alloc),
+            stop: Some(Status::SourceFault { faults }),
+        }),
+        Ok(bytes) => play_bytes(alloc, history, input, bytes.as_slice(), gate),
     }
-}
-
-// The reply to a job, whose block is empty where it has none.
-fn turn(alloc: Global, history: &mut History, job: &Job) -> Result<Reply, NoMemory>
-    ensures { IfOk result (λ reply.
-        IsTurn history.old (job_of job.now) (record { reply = reply; after = history.new })) }
-{
-    match parse(alloc, job.text) {
-        Ok(statement) => answer(alloc, history, &statement, job.block.unwrap_or(&[])),
-        Err(fault) => {
-            let version = history.store().versions();
-            Ok(Reply {
-                version,
-                body: ReplyBody::Refused(text_refusal(fault)?),
-            })
-        }
-    }
-}
-
-/// What the jobs of a script did.
-#[derive(Drop)]
-pub(crate) struct Play {
-    /// The bytes of their replies, in order.
-    pub replies: Vec<u8>,
-    /// The commits that are there afterwards, with their authors.
-    pub history: History,
-}
-
-/// Does the jobs one after the other, from no commits on. The gate is passed before each. The error
-/// is `NoMemory`.
-pub(crate) fn play_jobs<G: Gate>(alloc: Global, jobs: &[Job], gate: &G) -> Result<Play, NoMemory>
-    ensures { IfOk result
-        (λ play. IsPlay [] (map job_of jobs.now) play.replies.items play.history) }
-{
-    let mut history = History::empty(alloc);
-    let mut replies = Vec::new(alloc);
-    'jobs: for job in jobs {
-        gate.pass(Place::Statement(AUTHOR));
-        let reply = turn(alloc, &mut history, job)?;
-        put_reply(alloc, &mut replies, job.session, &reply)?;
-    }
-    Ok(Play { replies, history })
 }

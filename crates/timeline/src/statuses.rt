@@ -1,14 +1,18 @@
 //! How a run ends.
-ghost use Rattle.std.specs.Prelude.{◌≡◌};
+ghost use Rattle.std.specs.Prelude.{◌≡◌, IfOk};
+ghost use Rattle.std.specs.String.{string_bytes};
+ghost use Rattle.timeline.specs.Status.{script_fault_words, script_line, closing_line};
 
-use crate::jobs::ScriptFault;
+use std::alloc::Global;
+use tl_script::ScriptFault;
+use tl_types::NoMemory;
 
 /// How a run ends. Its number is the program's exit status.
 #[derive(Clone, Copy, Debug, PartialEq, Eq)]
 pub enum Status {
     /// The input was read to its end, and all replies are written.
     Done,
-    /// Memory ran out; nothing was written.
+    /// Memory ran out, and nothing was written.
     NoMemory,
     /// The words are no command.
     Usage,
@@ -22,25 +26,26 @@ pub enum Status {
         /// The count.
         faults: u64,
     },
-    /// The disk failed. `faults` is its count of faults, which rose in this call. It does not come
-    /// yet.
+    /// The disk failed: while the journal was made or opened, or when a commit was appended; the
+    /// later statements were run all the same. `faults` is its count of faults, which rose in this
+    /// call.
     DiskFault {
         /// The count.
         faults: u64,
     },
-    /// The script has this fault, and none of its statements is run.
+    /// The script has this fault, and no statement of its phase is run.
     ScriptFault(ScriptFault),
-    /// The journal has `len` bytes, which are too few. It does not come yet.
+    /// The disk has `len` bytes, which are too few for a journal.
     NotInitialised {
         /// The number of bytes.
         len: u64,
     },
-    /// The journal has `len` bytes already. It does not come yet.
+    /// The disk has `len` bytes already, more than the empty journal.
     AlreadyInitialised {
         /// The number of bytes.
         len: u64,
     },
-    /// The journal is damaged at a byte offset. It does not come yet.
+    /// The disk's bytes are no journal. `at` is the offset where they are damaged.
     Damaged {
         /// The byte offset.
         at: u64,
@@ -66,5 +71,44 @@ impl Status {
             Status::AlreadyInitialised { .. } => 8,
             Status::Damaged { .. } => 9,
         }
+    }
+}
+
+fn script_fault_words(alloc: Global, fault: &ScriptFault) -> Result<String, NoMemory>
+    ensures { IfOk result (λ text. string_bytes text ≡ script_fault_words fault.now) }
+{
+    match fault {
+        ScriptFault::PhaseTooLong { line } => format!(in alloc; "PhaseTooLong {line}"),
+        ScriptFault::NotUtf8 { line } => format!(in alloc; "NotUtf8 {line}"),
+        ScriptFault::NoSession { line } => format!(in alloc; "NoSession {line}"),
+        ScriptFault::BlockOpen { line } => format!(in alloc; "BlockOpen {line}"),
+    }
+}
+
+fn script_line(alloc: Global, fault: &ScriptFault) -> Result<String, NoMemory>
+    ensures { IfOk result (λ text. string_bytes text ≡ script_line fault.now) }
+{
+    let words = script_fault_words(alloc, fault)?;
+    format!(in alloc; "! script {words}\n")
+}
+
+/// The line that is written last where a run ends so; it is empty where none is. The error is
+/// `NoMemory`.
+pub(crate) fn closing_line(alloc: Global, status: &Status) -> Result<String, NoMemory>
+    ensures { IfOk result (λ text. string_bytes text ≡ closing_line status.now) }
+{
+    match status {
+        Status::Done => Ok(String::new(alloc)),
+        Status::NoMemory => Ok(String::new(alloc)),
+        Status::Usage => String::from_str(alloc, "! usage\n"),
+        Status::SourceFault { .. } => String::from_str(alloc, "! source\n"),
+        Status::SinkFault { .. } => Ok(String::new(alloc)),
+        Status::DiskFault { .. } => String::from_str(alloc, "! device\n"),
+        Status::ScriptFault(fault) => script_line(alloc, fault),
+        Status::NotInitialised { len } => format!(in alloc; "! journal NotInitialised {len}\n"),
+        Status::AlreadyInitialised { len } => {
+            format!(in alloc; "! journal AlreadyInitialised {len}\n")
+        }
+        Status::Damaged { at } => format!(in alloc; "! journal Damaged {at}\n"),
     }
 }

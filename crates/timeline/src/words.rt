@@ -4,10 +4,10 @@ ghost use Rattle.std.specs.List.{list_all};
 ghost use Rattle.std.specs.Str.{is_utf8};
 ghost use Rattle.timeline.specs.Commands.{texts_of, words_of};
 
-use crate::scripts::{as_text, is_utf8};
 use std::alloc::{AllocError, Global};
 use std::env::FillError;
 use std::rt::Env;
+use tl_script::{as_text, is_utf8};
 use tl_types::{Bytes, NoMemory};
 
 // How many bytes a word is taken to have at first; where it has more the room is doubled.

@@ -1,0 +1,97 @@
+-- The outside of a run: where its bytes come from, where they go, and the disk that keeps its
+-- journal.
+use Rattle.std.specs.Prelude.{◌≡◌, ◌⊎◌, ℕ, List, [], ◌∷◌, ◌++◌, length, Some, None, IfSome}
+use Rattle.std.specs.declared.option.Option.{Option}
+use Rattle.tl_types.specs.declared.commits.Commit.{Commit}
+use Rattle.tl_types.specs.Limits.{standard_limits}
+use Rattle.tl_device.specs.Known.{Rose}
+use Rattle.tl_device.specs.Disk.{Only}
+use Rattle.tl_journal.specs.Image.{StandsFor, IsJournalOf, BeforeOrAfter}
+use Rattle.tl_journal.specs.Moments.{OldOr}
+use Rattle.tl_journal.specs.Stands.{SameOrTrimmed}
+use Rattle.tl_engine.specs.Fitting.{FitInTurn}
+
+-- what the source has left, what is written to the sink, and what a read of the disk gives, where
+-- each tells that; what a crash now may leave of the disk; and the counts of faults of the three
+pub record Outside : Type 1 where
+  pub left : Option (List ℕ)
+  pub source_faults : ℕ
+  pub written : Option (List ℕ)
+  pub sink_faults : ℕ
+  pub reads : Option (List ℕ)
+  pub may_leave : List ℕ → Type 0
+  pub disk_faults : ℕ
+
+-- the outside of a sink, a disk and a source that has so much left and so many faults, by what the
+-- traits say of them
+abbrev pub outside_from : {K D : Type 0} → (K → Option (List ℕ)) → (K → ℕ)
+    → (D → Option (List ℕ)) → (D → List ℕ → Type 0) → (D → ℕ)
+    → Option (List ℕ) → ℕ → K → D → Outside
+outside_from written sink_faults reads may_leave disk_faults left faults sink disk =
+    record {
+      left = left;
+      source_faults = faults;
+      written = written sink;
+      sink_faults = sink_faults sink;
+      reads = reads disk;
+      may_leave = may_leave disk;
+      disk_faults = disk_faults disk;
+    }
+
+-- the same of a source
+abbrev pub outside : {S K D : Type 0} → (S → Option (List ℕ)) → (S → ℕ)
+    → (K → Option (List ℕ)) → (K → ℕ) → (D → Option (List ℕ)) → (D → List ℕ → Type 0) → (D → ℕ)
+    → S → K → D → Outside
+outside left source_faults written sink_faults reads may_leave disk_faults source sink disk =
+    outside_from written sink_faults reads may_leave disk_faults
+    (left source) (source_faults source) sink disk
+
+-- nothing was taken from the source
+abbrev pub IsUnread : Outside → Outside → Type 0
+IsUnread before after = (after.left ≡ before.left) × (after.source_faults ≡ before.source_faults)
+
+-- THE DISK
+
+-- a read of the disk gives what it gave, and a crash leaves nothing that it could not leave before
+pub record IsSameDisk (before after : Outside) : Type 0 where
+  pub reads_same : after.reads ≡ before.reads
+  pub no_more : (c : List ℕ) → after.may_leave c → before.may_leave c
+
+-- a journal that the disk was stays one of the same commits: it is read as before, or without what
+-- stood past its closed gate
+pub record KeepsJournal (before after : Outside) : Type 0 where
+  pub same_or_trimmed : (b : List ℕ) → before.reads ≡ Some b
+      → (c : List ℕ) × (after.reads ≡ Some c) × SameOrTrimmed b c
+  pub leaves : (b : List ℕ) (cs : List Commit) → before.reads ≡ Some b → StandsFor cs b
+      → (c : List ℕ) → after.may_leave c → OldOr before.may_leave (StandsFor cs) c
+
+-- a history opens with these commits: they fit one after the other, and where the disk tells its
+-- bytes it is a journal of them, and of no others
+pub record OpensWith (opening : List Commit) (before : Outside) : Type 0 where
+  pub fitting : FitInTurn standard_limits opening
+  pub stands : (b : List ℕ) → before.reads ≡ Some b → IsJournalOf opening b
+
+-- the image is a journal of the commits, or, where a break came, of these and the break's
+abbrev pub IsImageOf : List Commit → Option Commit → List ℕ → Type 0
+IsImageOf commits None image = StandsFor commits image
+IsImageOf commits (Some c) image = BeforeOrAfter commits c image
+
+-- without a break a crash leaves what a read gives and nothing else
+abbrev pub IsSettled : Option Commit → Outside → Type 0
+IsSettled None outside = (image : List ℕ) × (outside.reads ≡ Some image) × Only image outside.may_leave
+IsSettled (Some c) outside = Unit {0}
+
+-- a break comes only where the disk's count of faults rose
+abbrev pub CountsBreak : Option Commit → ℕ → ℕ → Type 0
+CountsBreak None before now = now ≡ before
+CountsBreak (Some c) before now = Rose before now
+
+-- The disk holds the journal of the commits: where it told its bytes, what a read gives and what a
+-- crash now leaves stand for them, or, with a break, for these and the break's.
+pub record HoldsJournal (commits : List Commit) (broke : Option Commit) (before after : Outside) : Type 0 where
+  pub counts : CountsBreak broke before.disk_faults after.disk_faults
+  pub leaves : (b : List ℕ) → before.reads ≡ Some b
+      → (image : List ℕ) → after.may_leave image → IsImageOf commits broke image
+  pub reads : (b : List ℕ) → before.reads ≡ Some b
+      → (image : List ℕ) → after.reads ≡ Some image → IsImageOf commits broke image
+  pub settled : (b : List ℕ) → before.reads ≡ Some b → IsSettled broke after

@@ -16,6 +16,3 @@ mod replaying;
 
 pub use faults::CommitFault;
 pub use histories::{Closed, History};
-
-#[cfg(test)]
-mod tests;

@@ -8,6 +8,3 @@
 mod snapshots;
 
 pub use snapshots::Snapshot;
-
-#[cfg(test)]
-mod tests;

@@ -10,10 +10,13 @@ use Rattle.tl_device.specs.declared.call.Call.TheVariants.{Wrote, Tore, Cut, May
 
 -- the bytes and the log before a call
 abbrev pub undone : List ℕ → List ℕ → Call → List ℕ × List ℕ
-undone bytes log (Wrote at n over) =
-    (take at bytes ++ drop (length log - over) log ++ drop (at + n) bytes, take (length log - over) log)
+undone bytes log (Wrote at n over) = (
+  take at bytes ++ drop (length log - over) log ++ drop (at + n) bytes,
+  take (length log - over) log,
+)
 undone bytes log (Tore at n) = (bytes, log)
-undone bytes log (Cut len over) = (bytes ++ drop (length log - over) log, take (length log - over) log)
+undone bytes log (Cut len over) =
+    (bytes ++ drop (length log - over) log, take (length log - over) log)
 undone bytes log (Fell len) = (bytes, log)
 undone bytes log Synced = (bytes, log)
 
@@ -49,7 +52,8 @@ abbrev pub IsReady : Kept → ℕ → ℕ → Type 0
 IsReady kept b n = (b ≤ kept.spare) × (n ≤ kept.spare_calls)
 
 -- since the last moment only what may be left now
-since_last : (calls : List Call) (s : List ℕ × List ℕ) (c : List ℕ) → Since calls s (length calls) c → Left calls s c
+since_last : (calls : List Call) (s : List ℕ × List ℕ) (c : List ℕ)
+    → Since calls s (length calls) c → Left calls s c
 since_last [] s c left = left
 since_last (call ∷ calls) s c (inl now) = now
 since_last (call ∷ calls) s c (inr past) = absurd (omega (arith, past.0))
@@ -68,5 +72,6 @@ pub as_told : (kept : Kept) (c : List ℕ) → Some kept.bytes ≡ Some c → Le
 as_told kept c told = as_read kept.done (kept.bytes, kept.log) c cc
 
 -- room for more is room for less
-pub fewer_ready : (kept : Kept) (b n less few : ℕ) → less ≤ b → few ≤ n → IsReady kept b n → IsReady kept less few
+pub fewer_ready : (kept : Kept) (b n less few : ℕ) → less ≤ b → few ≤ n
+    → IsReady kept b n → IsReady kept less few
 fewer_ready kept b n less few bytes calls ready = (omega (arith, ready.0), omega (arith, ready.1))

@@ -5,7 +5,9 @@ use Rattle.tl_record.specs.Spelling.{spelling, IsCommit}
 
 -- the 16 bytes that a journal begins with: the text "timeline journal"
 abbrev pub header : List ℕ
-header = 116 ∷ 105 ∷ 109 ∷ 101 ∷ 108 ∷ 105 ∷ 110 ∷ 101 ∷ 32 ∷ 106 ∷ 111 ∷ 117 ∷ 114 ∷ 110 ∷ 97 ∷ 108 ∷ []
+header =
+    116 ∷ 105 ∷ 109 ∷ 101 ∷ 108 ∷ 105 ∷ 110 ∷ 101 ∷ 32
+    ∷ 106 ∷ 111 ∷ 117 ∷ 114 ∷ 110 ∷ 97 ∷ 108 ∷ []
 
 -- open gates, each followed by the record of its commit
 abbrev pub Opens : List Commit → List ℕ → Type 0

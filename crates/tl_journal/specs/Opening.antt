@@ -29,8 +29,8 @@ HasRead found opening = HasReadTo found opening.at opening.image
 abbrev pub IsAtEnd : {D : Type 0} → plain.FoundCommits D → Type 0
 IsAtEnd opening = (tail : List ℕ) × (drop opening.at opening.image ≡ 0 ∷ tail)
 
--- what every opening keeps: a gate comes next, the bytes are the disk's where it tells them, and the
--- disk's room is taken for a cut and a sync
+-- what every opening keeps: a gate comes next, the bytes are the disk's where it tells them, and
+-- the disk's room is taken for a cut and a sync
 pub record IsOpening {D : Type 0} (reads : D → Option (List ℕ)) (ready : D → ℕ → ℕ → Type 0) (opening : plain.FoundCommits D) : Type 0 where
   pub within : opening.at < length opening.image
   pub told : IfSome (reads opening.disk) (λ b. opening.image ≡ b)

@@ -26,7 +26,8 @@ pub record StandsAs {D : Type 0} (reads : D → Option (List ℕ)) (may_leave : 
 -- the disk's room for a body as long as its spare and a gate, in four calls
 pub record IsReady {D : Type 0} (reads : D → Option (List ℕ)) (ready : D → ℕ → ℕ → Type 0) (journal : plain.Journal D) : Type 0 where
   pub gate : journal.broken ≡ None → journal.gate + 1 < 2 ^ 64
-  pub within : journal.broken ≡ None → IfSome (reads journal.disk) (λ b. journal.gate + 1 ≤ length b)
+  pub within : journal.broken ≡ None
+      → IfSome (reads journal.disk) (λ b. journal.gate + 1 ≤ length b)
   pub room : 1 ≤ journal.spare → ready journal.disk (journal.spare + 1) 4
 
 -- as it was, or without what stood past the closed gate

@@ -58,8 +58,8 @@ impl<D: Disk> Journal<D> {
     /// nothing, writes the journal and syncs. A crash up to the first sync leaves what it could
     /// before, and from then on at most 17 bytes, of which a journal can be made again.
     ///
-    /// `AlreadyInitialised`: the disk has more than 17 bytes, and stays as it is. `Device`: the disk
-    /// failed in this call. `NoMemory`: memory ran out.
+    /// `AlreadyInitialised`: the disk has more than 17 bytes, and stays as it is. `Device`: the
+    /// disk failed in this call. `NoMemory`: memory ran out.
     pub fn init(disk: D) -> InitRun<D>
         ensures stored { (b : List ℕ) → D.reads disk ≡ Some b →
             OnOk result.done (IsStored D.reads D.may_leave result.disk empty_journal) }
@@ -120,9 +120,10 @@ impl<D: Disk> Journal<D> {
     /// it, and cuts off what stands past its closed gate. It never writes a gate. A journal that it
     /// gives is not broken, and has no room for an append.
     ///
-    /// `NotInitialised`: the disk has fewer than 17 bytes. `Damaged`: its bytes are no journal; `at`
-    /// is the offset where they are damaged. Both leave the disk as it is. `Device`: the disk failed
-    /// in this call. `NoMemory`: memory ran out. After both a journal stands for the same commits.
+    /// `NotInitialised`: the disk has fewer than 17 bytes. `Damaged`: its bytes are no journal;
+    /// `at` is the offset where they are damaged. Both leave the disk as it is. `Device`: the disk
+    /// failed in this call. `NoMemory`: memory ran out. After both a journal stands for the same
+    /// commits.
     pub fn attach(alloc: Global, disk: D) -> Result<Attached<D>, Refused<D>>
         ensures stands { (b : List ℕ) → D.reads disk ≡ Some b →
             IfOk result (λ a. StandsAs D.reads D.may_leave a.journal (commits_of a.found)) }

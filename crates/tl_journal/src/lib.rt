@@ -2,8 +2,8 @@
 //! commit whole or not at all.
 //!
 //! A journal is 16 bytes that name it, then gates. A gate is one byte. A gate of 0 is closed and
-//! ends the journal; what stands past it is not looked at. Any other gate is open and is followed by
-//! the record of one commit and the next gate.
+//! ends the journal; what stands past it is not looked at. Any other gate is open and is followed
+//! by the record of one commit and the next gate.
 //!
 //! An append writes the record and a closed gate behind the journal's last gate, syncs, then opens
 //! that gate and syncs. So what a crash leaves holds the commit where the gate stands open, and is

@@ -202,8 +202,8 @@ unfoldable pub name_at : List Column → Reader (List ℕ)
 name_at columns bytes =
     behind (byte_between 1 64) (block (is_new_name columns) begins_name) bytes
 
--- with so many bytes more the bytes are not longer than a text of n bytes, and they are a text where
--- these are the least or the greatest that may stand within a letter
+-- with so many bytes more the bytes are not longer than a text of n bytes, and they are a text
+-- where these are the least or the greatest that may stand within a letter
 abbrev pub goes_on_by : ℕ → List ℕ → ℕ → Bool
 goes_on_by n bytes more =
     nat_le (length bytes + more) n

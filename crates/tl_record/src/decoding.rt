@@ -89,7 +89,8 @@ pub fn decode(alloc: Global, bytes: &[u8], at: usize) -> Result<Decoded, RecordF
     // What is spelled is read, and what is cut is told, unless memory runs out.
     ensures found { (c : CommitValue) (rest : List ℕ) → BeginsWith (drop at bytes.now) c rest →
         FindsUnlessMemory c result }
-    ensures cut { IsCutRecord (drop at bytes.now) → FailsUnlessMemory (RecordFault.Short at) result }
+    ensures cut { IsCutRecord (drop at bytes.now) →
+        FailsUnlessMemory (RecordFault.Short at) result }
     ensures none { IsNoRecord (drop at bytes.now) → FailsUnlessMemory (RecordFault.Bad at) result }
 {
     read(alloc, bytes, at)

@@ -13,8 +13,8 @@
 //!   period (8 bytes each);
 //! - a cell: 1 and a number (8 bytes), or 2, a length (2 bytes) and so many bytes of text.
 //!
-//! `encode` writes a record and `decode` reads one. What `decode` tells is exact: bytes that end too
-//! early are told from bytes that no record begins with.
+//! `encode` writes a record and `decode` reads one. What `decode` tells is exact: bytes that end
+//! too early are told from bytes that no record begins with.
 #![tactic(auto)]
 
 mod changes;

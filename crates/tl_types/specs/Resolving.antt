@@ -45,7 +45,8 @@ affects schema line working =
 
 -- old cells over a period, as a row of the working list that has no id yet
 abbrev pub over_period : List Cell → plain.Period → WorkingRow
-over_period cells period = record { id = None; row = record { cells = cells; period = Some period } }
+over_period cells period =
+    record { id = None; row = record { cells = cells; period = Some period } }
 
 -- the old cells over a part of the old period, where that part is not empty
 abbrev pub remainder : List Cell → ℤ → ℤ → List WorkingRow

@@ -1,21 +1,20 @@
 -- The rows that lines affect.
-use Rattle.std.proofs.Common.{◌≡◌, ℕ, zero, suc, ◌+◌, ◌<◌, ◌≤◌, Bool, true, false, ◌&&◌, ◌||◌, nat_eq, List, [], ◌∷◌, ◌++◌, length, take, get_or, slice_get, Option, Some, None, is_some, option_map, unwrap_or, subst, refl, sym, ap, ◌∙◌, arith}
+use Rattle.std.proofs.Common.{◌≡◌, ℕ, zero, suc, ◌+◌, ◌<◌, ◌≤◌, Bool, true, false, ◌&&◌, ◌||◌, nat_eq, List, [], ◌∷◌, ◌++◌, length, take, get_or, slice_get, Option, Some, None, is_some, option_map, subst, refl, sym, ap, ◌∙◌, arith}
 use Rattle.std.specs.List.{list_any, list_all, All}
 use Rattle.std.specs.Bool.{beq}
 use Rattle.std.proofs.lemmas.Bool.{and_parts}
 use Rattle.std.proofs.lemmas.Bool.Decides.{nat_tests}
 use Rattle.std.proofs.lemmas.List.{take_more}
 use Rattle.std.proofs.lemmas.List.Folds.{list_any-append}
-use Rattle.std.proofs.lemmas.Option.{get_or_from_slice_get}
 use Rattle.tl_types.specs.declared.cells.Cell.{Cell}
-use Rattle.tl_types.specs.declared.schemas.Column.{Column}
-use Rattle.tl_store.specs.Reading.{cell_of_row}
 use Rattle.tl_types.specs.Plain as plain
-use Rattle.tl_types.specs.History.{has_id, matches, match_columns, is_of_kind}
+use Rattle.tl_types.specs.History.{has_id, matches, match_columns}
 use Rattle.tl_types.specs.Resolving.{BatchLine}
 use Rattle.tl_batch.specs.Pieces.{affects_period, cuts, periods_with, over, pieces_at, affected_by}
 use Rattle.std.specs.Cmp.{nat_eq_equiv}
 use Rattle.tl_batch.specs.Standing.{is_open_with, rows_match}
+use Rattle.tl_batch.proofs.BehindLemmas.{left_of}
+use Rattle.tl_batch.proofs.FollowLemmas.{cells_number}
 
 -- ROWS OF A KEY
 
@@ -80,73 +79,31 @@ all_affected place x ids given i affects rows start now same h members e n =
 
 -- CELLS OF ROWS
 
--- what is known of a row that is there
-pub record Known (rows : List plain.Row) (schema : plain.Schema) (row : ℕ) : Type 0 where
-  pub it : plain.Row
-  pub at : slice_get rows row ≡ Some it
-  pub cells : length it.cells ≡ length schema.columns
+-- a row of a table has a cell for each column
+pub row-cells : (table : plain.Table) (row : ℕ) (cells : List Cell) → rows_match (Some table) ≡ true → Some cells ≡ option_map (λ (r : plain.Row). r.cells) (slice_get table.rows row) → length cells ≡ length table.schema.columns
+row-cells table row cells matching e = at table.rows row matching e where
+  fits : plain.Row → Bool
+  fits r = matches table.schema (record { cells = r.cells; period = r.period })
 
-pub known-row : (table : plain.Table) (row : ℕ) → rows_match (Some table) ≡ true → row < length table.rows → Known table.rows table.schema row
-known-row table row matching h =
-    let f = find table.rows row h matching in
-    record {
-      it = f.0;
-      at = f.1;
-      cells = sym (number_of table.schema.columns f.0.cells (and_parts (match_columns table.schema.columns f.0.cells) (beq table.schema.valid (is_some f.0.period)) f.2).0);
-    } where
-      Fine : Option plain.Row → Type 0
-      Fine o = (r : plain.Row) × (o ≡ Some r) × (matches table.schema (record { cells = r.cells; period = r.period }) ≡ true)
-
-      find : (rs : List plain.Row) (i : ℕ) → i < length rs → list_all (λ r. matches table.schema (record { cells = r.cells; period = r.period })) rs ≡ true → Fine (slice_get rs i)
-      find [] i l all = absurd (omega arith)
-      find (r ∷ rs) zero l all = (r, refl, (and_parts (matches table.schema (record { cells = r.cells; period = r.period })) (list_all (λ s. matches table.schema (record { cells = s.cells; period = s.period })) rs) all).0)
-      find (r ∷ rs) (suc i) l all = find rs i (omega arith) (and_parts (matches table.schema (record { cells = r.cells; period = r.period })) (list_all (λ s. matches table.schema (record { cells = s.cells; period = s.period })) rs) all).1
-
-      number_of : (columns : List Column) (cells : List Cell) → match_columns columns cells ≡ true → length columns ≡ length cells
-      number_of [] [] m = refl
-      number_of [] (x ∷ cells) m = absurd (cc)
-      number_of (c ∷ columns) [] m = absurd (cc)
-      number_of (c ∷ columns) (x ∷ cells) m = ap suc (number_of columns cells (and_parts (is_of_kind c.kind x) (match_columns columns cells) m).1)
-
--- a cell more
-pub cell_more : (rows : List plain.Row) (row column : ℕ) (schema : plain.Schema) (k : Known rows schema row) (cell : Cell) (before after : List Cell) → column < length schema.columns → Some cell ≡ cell_of_row column (slice_get rows row) → after ≡ before ++ cell ∷ []
-    → Some before ≡ option_map (λ (r : plain.Row). take column r.cells) (slice_get rows row) → Some after ≡ option_map (λ (r : plain.Row). take (column + 1) r.cells) (slice_get rows row)
-cell_more rows row column schema k cell before after h is made e =
-    let same : before ≡ take column k.it.cells = inside (e ∙ ap (option_map (λ (r : plain.Row). take column r.cells)) k.at) in
-    let there : slice_get k.it.cells column ≡ Some cell = sym (is ∙ ap (cell_of_row column) k.at) in
-    let within : column < length k.it.cells = let c = k.cells in omega arith in
-    let read : get_or k.it.cells column cell ≡ cell = get_or_from_slice_get k.it.cells column cell cell there in
-    ap Some (made ∙ (ap (λ cs. cs ++ cell ∷ []) same ∙ (ap (λ c. take column k.it.cells ++ c ∷ []) (sym read) ∙ sym (take_more k.it.cells column cell within)))) ∙ ap (option_map (λ (r : plain.Row). take (column + 1) r.cells)) (sym k.at) where
-      inside : {x y : List Cell} → Some x ≡ Some y → x ≡ y
-      inside {x} {y} f = ap (λ (o : Option (List Cell)). unwrap_or o x) f
-
-pub cells_all : (rows : List plain.Row) (row n : ℕ) (schema : plain.Schema) (k : Known rows schema row) (cells : List Cell) → length schema.columns ≤ n → Some cells ≡ option_map (λ (r : plain.Row). take n r.cells) (slice_get rows row)
-    → Some cells ≡ option_map (λ (r : plain.Row). r.cells) (slice_get rows row)
-cells_all rows row n schema k cells h e = e ∙ (ap (option_map (λ (r : plain.Row). take n r.cells)) k.at ∙ (ap Some (whole k.it.cells n (let c = k.cells in omega arith)) ∙ ap (option_map (λ (r : plain.Row). r.cells)) (sym k.at))) where
-  whole : (xs : List Cell) (i : ℕ) → length xs ≤ i → take i xs ≡ xs
-  whole [] zero h = refl
-  whole [] (suc i) h = refl
-  whole (x ∷ xs) zero h = absurd (omega arith)
-  whole (x ∷ xs) (suc i) h = ap (λ ys. x ∷ ys) (whole xs i (omega arith))
-
-pub cells_number : (rows : List plain.Row) (row n : ℕ) (schema : plain.Schema) (k : Known rows schema row) (cells : List Cell) → length schema.columns ≤ n → Some cells ≡ option_map (λ (r : plain.Row). take n r.cells) (slice_get rows row)
-    → length cells ≡ length schema.columns
-cells_number rows row n schema k cells h e = ap length (inside (cells_all rows row n schema k cells h e ∙ ap (option_map (λ (r : plain.Row). r.cells)) k.at)) ∙ k.cells where
-  inside : {x y : List Cell} → Some x ≡ Some y → x ≡ y
-  inside {x} {y} f = ap (λ (o : Option (List Cell)). unwrap_or o x) f
+  at : (rs : List plain.Row) (i : ℕ) → list_all fits rs ≡ true → Some cells ≡ option_map (λ (r : plain.Row). r.cells) (slice_get rs i) → length cells ≡ length table.schema.columns
+  at [] i all f = absurd (cc)
+  at (r ∷ rs) zero all f =
+      let same : cells ≡ r.cells = cc in
+      let this : fits r ≡ true = (and_parts (fits r) (list_all fits rs) all).0 in
+      ap length same ∙ sym (cells_number table.schema.columns r.cells (and_parts (match_columns table.schema.columns r.cells) (beq table.schema.valid (is_some r.period)) this).0)
+  at (r ∷ rs) (suc i) all f = at rs i (and_parts (fits r) (list_all fits rs) all).1 f
 
 -- WHAT IS LEFT OF A ROW
 
-pub left_pieces : (schema : plain.Schema) (lines : List BatchLine) (o : Option plain.Row) (key : Cell) (place : ℕ) (whole : Option plain.Period) (parts given_parts : List (Option plain.Period)) (cells given : List Cell) (old new : List plain.Opened) → schema.valid ≡ true → place ≡ schema.key
-    → Some key ≡ cell_of_row place o → Some whole ≡ option_map (λ (r : plain.Row). r.period) o → Some cells ≡ option_map (λ (r : plain.Row). r.cells) o → parts ≡ cuts true (periods_with (Some key) lines) whole
-    → given_parts ≡ parts → given ≡ cells → new ≡ old ++ over given given_parts → new ≡ old ++ pieces_at schema lines o
-left_pieces schema lines None key place whole parts given_parts cells given old new valid at keyed timed celled left lent same made = absurd (cc)
-left_pieces schema lines (Some r) key place whole parts given_parts cells given old new valid at keyed timed celled left lent same made =
+pub left_pieces : (schema : plain.Schema) (lines : List BatchLine) (o : Option plain.Row) (at : ℕ) (cells given : List Cell) (key : Cell) (whole : Option plain.Period) (parts given_parts : List (Option plain.Period)) (old new : List plain.Opened) → schema.valid ≡ true → at ≡ schema.key → schema.key < length cells
+    → Some cells ≡ option_map (λ (r : plain.Row). r.cells) o → Some whole ≡ option_map (λ (r : plain.Row). r.period) o → given ≡ cells → key ≡ get_or given at key → parts ≡ cuts true (periods_with (Some key) lines) whole
+    → given_parts ≡ parts → new ≡ old ++ over given given_parts → new ≡ old ++ pieces_at schema lines o
+left_pieces schema lines None at cells given key whole parts given_parts old new valid is there celled timed same e left lent made = absurd (cc)
+left_pieces schema lines (Some r) at cells given key whole parts given_parts old new valid is there celled timed same e left lent made =
     let row : cells ≡ r.cells = cc in
     let span : whole ≡ r.period = cc in
-    let there : Some key ≡ slice_get r.cells schema.key = keyed ∙ ap (slice_get r.cells) at in
-    let all : parts ≡ cuts schema.valid (periods_with (slice_get r.cells schema.key) lines) r.period = left ∙ (ap (λ b. cuts b (periods_with (Some key) lines) whole) (sym valid) ∙ (ap (λ k. cuts schema.valid (periods_with k lines) whole) there ∙ ap (cuts schema.valid (periods_with (slice_get r.cells schema.key) lines)) span)) in
-    made ∙ (ap (λ cs. old ++ over cs given_parts) (same ∙ row) ∙ ap (λ ps. old ++ over r.cells ps) (lent ∙ all))
+    let within : schema.key < length r.cells = let n = ap length row in omega arith in
+    made ∙ (ap (λ cs. old ++ over cs given_parts) (same ∙ row) ∙ ap (λ ps. old ++ over r.cells ps) (lent ∙ left_of schema lines at r.cells given key r.period whole parts valid span (same ∙ row) is within e left))
 
 -- A ROW THAT A LINE OVERLAPS
 

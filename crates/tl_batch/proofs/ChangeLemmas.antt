@@ -8,7 +8,8 @@ use Rattle.tl_types.specs.Plain as plain
 use Rattle.tl_types.specs.Facts.{AscendFrom}
 use Rattle.tl_types.specs.History.{is_open, has_id}
 use Rattle.tl_types.specs.Resolving.{WorkingRow, BatchLine, open_rows, working_list, ids_of, new_rows, change_of}
-use Rattle.tl_batch.specs.Pieces.{cuts, periods_with, is_affected, affected_ids, over, row_pieces, old_pieces, put_pieces}
+use Rattle.tl_batch.specs.Pieces.{cuts, periods_with, is_affected, affected_ids, over, row_pieces, old_pieces, put_pieces, is_open_affected}
+use Rattle.tl_batch.proofs.RowIds.{ids_at, ids_at-ascend}
 use Rattle.tl_batch.proofs.Rows.{filter_map-flat_map, rows_left, puts_left, worked_by_rows, fresh, rows_left-old, fresh-ids, fresh-rows, puts_left-ids, puts_left-rows}
 
 -- the open rows, from an id on
@@ -159,17 +160,14 @@ change_by_rows number t lines = ap (λ cs. made cs (new_rows (working_list t lin
 
 -- ASCENDING LISTS
 
--- the ids that are closed ascend
-pub affected_ids-ascend : (schema : plain.Schema) (lines : List BatchLine) (n : ℕ) (rows : List plain.Row) → AscendFrom n (affected_ids schema lines n rows)
-affected_ids-ascend schema lines n [] = tt
-affected_ids-ascend schema lines n (r ∷ rows) = split (is_open r && is_affected schema lines r) (affected_ids-ascend schema lines (n + 1) rows) where
-  lower : (low high : ℕ) (ids : List ℕ) → low ≤ high → AscendFrom high ids → AscendFrom low ids
-  lower low high [] h all = tt
-  lower low high (id ∷ ids) h all = (let l = all.0 in omega arith, all.1)
+-- the ids that are closed are those of the current rows that a line affects
+pub affected_ids-at : (schema : plain.Schema) (lines : List BatchLine) (n : ℕ) (rows : List plain.Row) → affected_ids schema lines n rows ≡ ids_at (is_open_affected schema lines) n rows
+affected_ids-at schema lines n [] = refl
+affected_ids-at schema lines n (r ∷ rows) = ap (λ ids. cond (is_open r && is_affected schema lines r) (n ∷ ids) ids) (affected_ids-at schema lines (n + 1) rows)
 
-  split : (b : Bool) → AscendFrom (n + 1) (affected_ids schema lines (n + 1) rows) → AscendFrom n (cond b (n ∷ affected_ids schema lines (n + 1) rows) (affected_ids schema lines (n + 1) rows))
-  split true later = (let h : n ≤ n = omega arith in h, later)
-  split false later = lower n (n + 1) (affected_ids schema lines (n + 1) rows) (omega arith) later
+-- they ascend
+pub affected_ids-ascend : (schema : plain.Schema) (lines : List BatchLine) (n : ℕ) (rows : List plain.Row) → AscendFrom n (affected_ids schema lines n rows)
+affected_ids-ascend schema lines n rows = subst (AscendFrom n) (sym (affected_ids-at schema lines n rows)) (ids_at-ascend (is_open_affected schema lines) n rows)
 
 ascend_past : (low : ℕ) (ids : List ℕ) (n : ℕ) → AscendFrom low ids → n < low → has_id ids n ≡ false
 ascend_past low [] n all h = refl

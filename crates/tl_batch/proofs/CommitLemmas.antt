@@ -1,12 +1,11 @@
 -- The commit that a batch resolves to.
-use Rattle.std.proofs.Common.{◌≡◌, ℕ, suc, ◌+◌, ◌-◌, ◌<◌, ◌≤◌, Bool, true, false, ◌&&◌, ◌||◌, not, cond, nat_le, nat_lt, List, [], ◌∷◌, ◌++◌, append-nil, length, map, get_or, slice_get, Option, Some, None, is_some, Result, Ok, Err, ◌⊎◌, inr, refl, sym, ap, ◌∙◌, subst, arith}
+use Rattle.std.proofs.Common.{◌≡◌, ℕ, suc, ◌+◌, ◌<◌, ◌≤◌, Bool, true, false, ◌&&◌, ◌||◌, not, cond, nat_le, nat_lt, List, [], ◌∷◌, ◌++◌, append-nil, length, map, get_or, slice_get, Option, Some, None, is_some, Result, Ok, Err, ◌⊎◌, inr, refl, sym, ap, ◌∙◌, subst, arith}
 use Rattle.std.specs.Option.{option_map, IfSome}
 use Rattle.std.specs.Result.{IfOk, IfErr}
 use Rattle.std.specs.List.{list_any, list_all, All}
 use Rattle.std.specs.Bool.{beq, OnTrue}
 use Rattle.std.proofs.lemmas.Bool.{and_parts, and_from}
 use Rattle.std.proofs.lemmas.Bool.Decides.{nat_tests}
-use Rattle.std.proofs.lemmas.Option.{slice_get_within}
 use Rattle.std.proofs.lemmas.List.Folds.{list_any-append}
 use Rattle.std.proofs.lemmas.List.Sums.{AllPass-from_list_all}
 use Rattle.tl_types.specs.declared.cells.Cell.{Cell}
@@ -17,9 +16,10 @@ use Rattle.tl_types.specs.declared.batches.BatchFault.TheVariants as fault
 use Rattle.tl_types.specs.declared.limits.Limits.{Limits}
 use Rattle.tl_types.specs.Plain as plain
 use Rattle.tl_types.specs.Facts.{AscendFrom}
-use Rattle.tl_types.specs.History.{is_open, has_name, matches, match_columns, fits, fits_body, fits_table, rows_of}
+use Rattle.tl_types.specs.History.{database_of, is_open, has_name, matches, match_columns, fits, fits_body, fits_table, rows_of}
 use Rattle.tl_types.specs.Resolving.{BatchLine, same_key, open_rows, line_fault, put_lines, removal_lines, find_from, find_table, resolved_change}
 use Rattle.tl_types.specs.declared.batches.KeyLine.{KeyLine}
+use Rattle.tl_types.proofs.FoundTables.{IsFound, table_found}
 use Rattle.tl_batch.specs.Faults.{fault_from}
 use Rattle.tl_batch.specs.Made.{change_by, unless_fault, made_by, change_made, committed, rows_fit_found, AreWithin, IsMade}
 use Rattle.tl_batch.specs.Pieces.{is_affected, affected_ids, old_pieces, put_pieces}
@@ -46,54 +46,6 @@ created author schema = record { author = author; body = body.Create schema }
 
 -- A TABLE FOUND BY NAME
 
-abbrev number_of : Option (ℕ × plain.Table) → ℕ
-number_of None = 0
-number_of (Some x) = x.0
-
-abbrev table_of : plain.Table → Option (ℕ × plain.Table) → plain.Table
-table_of d None = d
-table_of d (Some x) = x.1
-
-at_first : (k n : ℕ) (x t : plain.Table) (xs : List plain.Table) → k ≡ n → x ≡ t → (k ≤ n) × (slice_get (x ∷ xs) (n - k) ≡ Some t)
-at_first k n x t xs same one = let none : n - k ≡ 0 = omega arith in (omega arith, rw none (ap Some one))
-
-first_found : (k n : ℕ) (x t : plain.Table) (xs : List plain.Table) (o : Option (ℕ × plain.Table)) → o ≡ Some (k, x) → o ≡ Some (n, t) → (k ≤ n) × (slice_get (x ∷ xs) (n - k) ≡ Some t)
-first_found k n x t xs o e f = at_first k n x t xs (ap number_of (sym e ∙ f)) (ap (table_of x) (sym e ∙ f))
-
--- the table with a name is the one at its number
-found_from : (k : ℕ) (name : List ℕ) (ts : List plain.Table) (n : ℕ) (t : plain.Table) → find_from k name ts ≡ Some (n, t) → (k ≤ n) × (slice_get ts (n - k) ≡ Some t)
-found_from k name [] n t h = absurd (cc)
-found_from k name (x ∷ xs) n t h = by_test (has_name name x) refl (found_from (k + 1) name xs n t) where
-  by_test : (b : Bool) → has_name name x ≡ b → (find_from (k + 1) name xs ≡ Some (n, t) → (k + 1 ≤ n) × (slice_get xs (n - (k + 1)) ≡ Some t)) → (k ≤ n) × (slice_get (x ∷ xs) (n - k) ≡ Some t)
-  by_test true e more = first_found k n x t xs (find_from k name (x ∷ xs)) (ap (λ b. cond b (Some (k, x)) (find_from (k + 1) name xs)) e) h
-  by_test false e more =
-      let later = more (rw e at h) in
-      let next : n - k ≡ suc (n - (k + 1)) = omega (arith, later.0) in
-      (omega (arith, later.0), rw next later.1)
-
--- a table that is found by name, and stands at its number
-pub record IsNamed (db : plain.Database) (name : List ℕ) (number : ℕ) : Type 0 where
-  pub table : plain.Table
-  pub named : find_table name db.tables ≡ Some (number, table)
-  pub at : slice_get db.tables number ≡ Some table
-  pub within : number < length db.tables
-
-numbered_some : (o : Option (ℕ × plain.Table)) (n : ℕ) → option_map (λ found. found.0) o ≡ Some n → (t : plain.Table) × (o ≡ Some (n, t))
-numbered_some None n h = absurd (cc)
-numbered_some (Some x) n h = let e : x.0 ≡ n = cc in (x.1, ap (λ m. Some (m, x.1)) e)
-
-pub table_named : (db : plain.Database) (name : List ℕ) (number : ℕ) → option_map (λ found. found.0) (find_table name db.tables) ≡ Some number → IsNamed db name number
-table_named db name number h =
-    let there = numbered_some (find_table name db.tables) number h in
-    let found = found_from 0 name db.tables number there.0 there.1 in
-    let place : number - 0 ≡ number = omega arith in
-    let at : slice_get db.tables number ≡ Some there.0 = rw place at found.1 in
-    record { table = there.0; named = there.1; at = at; within = slice_get_within db.tables number there.0 at }
-
-none_named : (o : Option (ℕ × plain.Table)) → option_map (λ found. found.0) o ≡ None → o ≡ None
-none_named None h = refl
-none_named (Some x) h = absurd (cc)
-
 if_at : (P : plain.Table → Type 0) (o : Option plain.Table) (t : plain.Table) → o ≡ Some t → P t → IfSome o P
 if_at P None t e p = tt
 if_at P (Some u) t e p = let same : t ≡ u = cc in subst P same p
@@ -102,22 +54,29 @@ at_some : (P : plain.Table → Type 0) (o : Option plain.Table) (t : plain.Table
 at_some P None t e p = absurd (cc)
 at_some P (Some u) t e p = let same : u ≡ t = cc in subst P same p
 
-named-shape : (db : plain.Database) (name : List ℕ) (number : ℕ) (lines : List plain.Opened) → IsNamed db name number → IfSome (slice_get db.tables number) (λ t. list_all (matches t.schema) lines ≡ true) → rows_fit_found lines (find_table name db.tables) ≡ true
+named-shape : (db : plain.Database) (name : List ℕ) (number : ℕ) (lines : List plain.Opened) → IsFound db name number → IfSome (slice_get db.tables number) (λ t. list_all (matches t.schema) lines ≡ true) → rows_fit_found lines (find_table name db.tables) ≡ true
 named-shape db name number lines n m = ap (rows_fit_found lines) n.named ∙ at_some (λ t. list_all (matches t.schema) lines ≡ true) (slice_get db.tables number) n.table n.at m
 
-pub named-may : (db : plain.Database) (name : List ℕ) (number : ℕ) (lines : List plain.Opened) (may : Bool) → IsNamed db name number → OnTrue may (IfSome (slice_get db.tables number) (λ t. list_all (matches t.schema) lines ≡ true)) → OnTrue may (rows_fit_found lines (find_table name db.tables) ≡ true)
+pub named-may : (db : plain.Database) (name : List ℕ) (number : ℕ) (lines : List plain.Opened) (may : Bool) → IsFound db name number → OnTrue may (IfSome (slice_get db.tables number) (λ t. list_all (matches t.schema) lines ≡ true)) → OnTrue may (rows_fit_found lines (find_table name db.tables) ≡ true)
 named-may db name number lines true n m = named-shape db name number lines n m
 named-may db name number lines false n m = tt
 
--- the name that was looked for
-pub name_is : (db : plain.Database) (given name : List ℕ) (number : ℕ) → given ≡ name → Some number ≡ option_map (λ found. found.0) (find_table given db.tables) → option_map (λ found. found.0) (find_table name db.tables) ≡ Some number
-name_is db given name number same e = sym (e ∙ ap (λ n. option_map (λ (found : ℕ × plain.Table). found.0) (find_table n db.tables)) same)
+-- the table that was looked for by a name, in a store that was lent
+pub found_now : (commits lent : List Commit) (given name : List ℕ) (number : ℕ) → lent ≡ commits → given ≡ name → Some number ≡ option_map (λ found. found.0) (find_table given (database_of lent).tables) → IsFound (database_of commits) name number
+found_now commits lent given name number store same e =
+    table_found (database_of commits) name number
+    (sym (e ∙ (ap (λ n. option_map (λ (found : ℕ × plain.Table). found.0) (find_table n (database_of lent).tables)) same
+    ∙ ap (λ cs. option_map (λ (found : ℕ × plain.Table). found.0) (find_table name (database_of cs).tables)) store)))
 
-pub found-match : (db : plain.Database) (name : List ℕ) (number : ℕ) (lines : List plain.Opened) → (n : IsNamed db name number) → rows_fit_found lines (find_table name db.tables) ≡ true → list_all (matches n.table.schema) lines ≡ true
+-- a store that was lent has room for a commit
+pub room_now : (commits lent : List Commit) (versions : ℕ) (full : Bool) → lent ≡ commits → full ≡ nat_le versions (database_of lent).version → full ≡ false → (database_of commits).version < versions
+room_now commits lent versions full store e none = let room : nat_le versions (database_of commits).version ≡ false = ap (λ cs. nat_le versions (database_of cs).version) (sym store) ∙ (sym e ∙ none) in grind (arith, nat_tests)
+
+pub found-match : (db : plain.Database) (name : List ℕ) (number : ℕ) (lines : List plain.Opened) → (n : IsFound db name number) → rows_fit_found lines (find_table name db.tables) ≡ true → list_all (matches n.table.schema) lines ≡ true
 found-match db name number lines n m = sym (ap (rows_fit_found lines) n.named) ∙ m
 
 -- rows match the table that was found
-pub named-match : (db : plain.Database) (name : List ℕ) (number : ℕ) (lines : List plain.Opened) → IsNamed db name number → rows_fit_found lines (find_table name db.tables) ≡ true → IfSome (slice_get db.tables number) (λ t. list_all (matches t.schema) lines ≡ true)
+pub named-match : (db : plain.Database) (name : List ℕ) (number : ℕ) (lines : List plain.Opened) → IsFound db name number → rows_fit_found lines (find_table name db.tables) ≡ true → IfSome (slice_get db.tables number) (λ t. list_all (matches t.schema) lines ≡ true)
 named-match db name number lines n m = if_at (λ t. list_all (matches t.schema) lines ≡ true) (slice_get db.tables number) n.table n.at (found-match db name number lines n m)
 
 -- THE TABLE THAT KEYS STAND FOR
@@ -179,9 +138,9 @@ fault-rows schema rows rec some more (o ∷ lines) same =
     ap (λ b. cond (not schema.valid && b) (Some (fault.KeyTwice rec)) (fault_from schema false rows (rec + 1) (some ++ one ∷ []) (map (line_of_row schema.key) lines))) (same key)
     ∙ ap (λ f. cond (not schema.valid && list_any (any key) more) (Some (fault.KeyTwice rec)) f) later
 
-pub rows-first : (schema : plain.Schema) (rows : List plain.Row) (strokes given : List KeyLine) (lines : List plain.Opened) (place : ℕ) (found : Option BatchFault) → place ≡ schema.key → given ≡ strokes → lines_of strokes ≡ map (line_of_row place) lines
+pub rows-first : (schema : plain.Schema) (rows : List plain.Row) (key_lines given : List KeyLine) (lines : List plain.Opened) (place : ℕ) (found : Option BatchFault) → place ≡ schema.key → given ≡ key_lines → lines_of key_lines ≡ map (line_of_row place) lines
     → found ≡ fault_from schema false rows 2 [] (lines_of given) → found ≡ fault_from schema false rows 2 [] (put_lines schema lines)
-rows-first schema rows strokes given lines place found at same e f =
+rows-first schema rows key_lines given lines place found at same e f =
     f ∙ (ap (λ ss. fault_from schema false rows 2 [] (lines_of ss)) same ∙ (ap (fault_from schema false rows 2 []) (e ∙ ap (λ p. map (line_of_row p) lines) at) ∙ fault-rows schema rows 2 [] [] lines (λ k. refl)))
 
 -- what was made of lines, and the change of it
@@ -231,7 +190,7 @@ some_at : (limit number : ℕ) (removes : Bool) (lines : plain.Schema → List B
 some_at limit number removes lines made None t at e = absurd (cc)
 some_at limit number removes lines made (Some u) t at e = let here : made ≡ made_by limit number removes u.schema u.rows (lines u.schema) = cc in let same : u ≡ t = cc in here ∙ ap (λ (v : plain.Table). made_by limit number removes v.schema v.rows (lines v.schema)) same
 
-pub named-made : (limits : Limits) (db : plain.Database) (author number : ℕ) (name : List ℕ) (removes : Bool) (lines : plain.Schema → List BatchLine) (made : Result plain.Change BatchFault) → ReadsRows removes lines → IsNamed db name number → db.version < limits.versions
+pub named-made : (limits : Limits) (db : plain.Database) (author number : ℕ) (name : List ℕ) (removes : Bool) (lines : plain.Schema → List BatchLine) (made : Result plain.Change BatchFault) → ReadsRows removes lines → IsFound db name number → db.version < limits.versions
     → Some made ≡ option_map (λ t. made_by limits.rows number removes t.schema t.rows (lines t.schema)) (slice_get db.tables number)
     → resolved_change limits db author (find_table name db.tables) lines ≡ committed author made
 named-made limits db author number name removes lines made reads n next e =
@@ -253,13 +212,13 @@ made-fits limits db author number t lines at next rows puts None c e = by_room (
       let same : c ≡ record { author = author; body = body.Change (change_by number t.schema t.rows lines) } = cc in
       ap (fits limits db) same ∙ change-fits limits db author number t lines at next rows puts few
 
-pub named-fits : (keys : List IdsByKey) (limits : Limits) (db : plain.Database) (author number : ℕ) (name : List ℕ) (removes : Bool) (lines : plain.Schema → List BatchLine) (made : Result plain.Change BatchFault) → StandFor keys db → (n : IsNamed db name number) → db.version < limits.versions
+pub named-fits : (limits : Limits) (db : plain.Database) (author number : ℕ) (name : List ℕ) (removes : Bool) (lines : plain.Schema → List BatchLine) (made : Result plain.Change BatchFault) → ((table : ℕ) → rows_match (slice_get db.tables table) ≡ true) → (n : IsFound db name number) → db.version < limits.versions
     → list_all (matches n.table.schema) (put_pieces n.table.schema (lines n.table.schema)) ≡ true
     → Some made ≡ option_map (λ t. made_by limits.rows number removes t.schema t.rows (lines t.schema)) (slice_get db.tables number)
     → (r : Result Commit BatchFault) → r ≡ committed author made → IfOk r (λ c. fits limits db c ≡ true)
-named-fits keys limits db author number name removes lines made s n next puts e (Err f) is = tt
-named-fits keys limits db author number name removes lines made s n next puts e (Ok c) is =
-    made-fits limits db author number n.table (lines n.table.schema) n.at next (sym (ap rows_match n.at) ∙ s.matching number) puts (fault_from n.table.schema removes n.table.rows 2 [] (lines n.table.schema)) c
+named-fits limits db author number name removes lines made matching n next puts e (Err f) is = tt
+named-fits limits db author number name removes lines made matching n next puts e (Ok c) is =
+    made-fits limits db author number n.table (lines n.table.schema) n.at next (sym (ap rows_match n.at) ∙ matching number) puts (fault_from n.table.schema removes n.table.rows 2 [] (lines n.table.schema)) c
     (is ∙ ap (committed author) (some_at limits.rows number removes lines made (slice_get db.tables number) n.table n.at e))
 
 -- a result that is what the definition says

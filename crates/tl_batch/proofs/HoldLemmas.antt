@@ -16,18 +16,13 @@ use Rattle.tl_batch.specs.Pieces.{cuts, periods_with}
 use Rattle.tl_batch.specs.Covers.{Full, HoldLines, cover_at, is_between, is_covered, is_in, stretches_or}
 use Rattle.tl_batch.specs.Lines.{line_of, lines_of}
 use Rattle.tl_batch.proofs.CellLemmas.{cell_order}
-use Rattle.tl_batch.proofs.KeyIndexLemmas.{cell_sym}
-use Rattle.tl_batch.proofs.AdjacentLemmas.{cell_congr}
+use Rattle.tl_batch.proofs.KeyIndexLemmas.{cell_sym, finds_same}
 
 -- LOOKING UP A KEY
 
 found : {X : Type 0} (x : Cell) (entries : List (Cell × X)) → lookup (is_at (cells.cmp-value.it x)) entries ≡ lookup (same_cell x) entries
 found x [] = refl
 found x (e ∷ entries) = ap (λ b. cond b (Some e.1) (lookup (is_at (cells.cmp-value.it x)) entries)) (cell_order x e.0) ∙ ap (λ o. cond (same_cell x e.0) (Some e.1) o) (found x entries)
-
-same_found : {X : Type 0} (x y : Cell) (entries : List (Cell × X)) → same_cell x y ≡ true → lookup (same_cell y) entries ≡ lookup (same_cell x) entries
-same_found x y [] e = refl
-same_found x y (f ∷ entries) e = ap (λ b. cond b (Some f.1) (lookup (same_cell y) entries)) (sym (cell_congr x y f.0 e)) ∙ ap (λ o. cond (same_cell x f.0) (Some f.1) o) (same_found x y entries e)
 
 -- the cover that is found at a key
 pub found_is : (x : Cell) (entries all : List (Cell × List (ℤ × ℤ))) (o : Option (List (ℤ × ℤ))) → o ≡ lookup (is_at (cells.cmp-value.it x)) entries → entries ≡ all → stretches_or o ≡ cover_at x all
@@ -50,7 +45,7 @@ pub period_added : (key : Cell) (from to : ℤ) (cover more : List (ℤ × ℤ))
     → (x : Cell) (t : ℤ) → is_covered t (cover_at x after) ≡ ((same_cell x key && is_between t from to) || is_covered t (cover_at x before))
 period_added key from to cover more before out after taken others added put x t = ap (is_covered t) (put x) ∙ by_test (same_cell x key) refl where
   by_test : (b : Bool) → same_cell x key ≡ b → is_covered t (cond b more (cover_at x out)) ≡ ((b && is_between t from to) || is_covered t (cover_at x before))
-  by_test true e = added t ∙ ap (λ c. is_between t from to || is_covered t c) (taken ∙ ap stretches_or (same_found x key before e))
+  by_test true e = added t ∙ ap (λ c. is_between t from to || is_covered t c) (taken ∙ ap stretches_or (sym (finds_same x key before e)))
   by_test false e = ap (is_covered t) (others x ∙ ap (λ b. cond b [] (cover_at x before)) e)
 
 -- no line leaves anything of no period
@@ -120,10 +115,10 @@ hold_behind before after lines key period puts h adds full = record {
   one_any t false = refl
 
 -- a line of a loop over lines
-pub stroke_held : (before after : List (Cell × List (ℤ × ℤ))) (strokes : List KeyLine) (i : ℕ) (s : KeyLine) → i < length strokes → s ≡ get_or strokes i s → HoldLines before (lines_of (take i strokes)) → Adds s.key s.period before after → Full (s.period ∷ [])
-    → HoldLines after (lines_of (take (i + 1) strokes))
-stroke_held before after strokes i s h at held adds full =
-    subst (HoldLines after) (sym (ap lines_of (take_more strokes i s h ∙ ap (λ q. take i strokes ++ q ∷ []) (sym at)) ∙ map-append line_of (take i strokes) (s ∷ []))) (hold_behind before after (lines_of (take i strokes)) s.key s.period None held adds full)
+pub line_held : (before after : List (Cell × List (ℤ × ℤ))) (key_lines : List KeyLine) (i : ℕ) (s : KeyLine) → i < length key_lines → s ≡ get_or key_lines i s → HoldLines before (lines_of (take i key_lines)) → Adds s.key s.period before after → Full (s.period ∷ [])
+    → HoldLines after (lines_of (take (i + 1) key_lines))
+line_held before after key_lines i s h at held adds full =
+    subst (HoldLines after) (sym (ap lines_of (take_more key_lines i s h ∙ ap (λ q. take i key_lines ++ q ∷ []) (sym at)) ∙ map-append line_of (take i key_lines) (s ∷ []))) (hold_behind before after (lines_of (take i key_lines)) s.key s.period None held adds full)
 
 -- PERIODS THAT MAY BE NONE
 

@@ -14,31 +14,31 @@ use Rattle.tl_batch.specs.Untimed.{has_cell}
 use Rattle.tl_batch.specs.Pieces.{affects_period, periods_with, is_affected, affected_by, is_open_affected}
 use Rattle.tl_batch.specs.Standing.{is_open_with}
 use Rattle.tl_batch.specs.Lines.{line_of, lines_of}
-use Rattle.tl_batch.proofs.AdjacentLemmas.{key_congr, periods-same}
+use Rattle.tl_batch.proofs.LineFaultLemmas.{key_congr, periods-same}
 
-front_is : (strokes : List KeyLine) (i : ℕ) (s : KeyLine) → i < length strokes → s ≡ get_or strokes i s → lines_of (take (i + 1) strokes) ≡ lines_of (take i strokes) ++ line_of s ∷ []
-front_is strokes i s h at = ap lines_of (take_more strokes i s h ∙ ap (λ q. take i strokes ++ q ∷ []) (sym at)) ∙ map-append line_of (take i strokes) (s ∷ [])
+front_is : (key_lines : List KeyLine) (i : ℕ) (s : KeyLine) → i < length key_lines → s ≡ get_or key_lines i s → lines_of (take (i + 1) key_lines) ≡ lines_of (take i key_lines) ++ line_of s ∷ []
+front_is key_lines i s h at = ap lines_of (take_more key_lines i s h ∙ ap (λ q. take i key_lines ++ q ∷ []) (sym at)) ∙ map-append line_of (take i key_lines) (s ∷ [])
 
-pub said_more : (key : Option Cell) (strokes : List KeyLine) (i : ℕ) (s : KeyLine) → i < length strokes → s ≡ get_or strokes i s → is_said key (lines_of (take (i + 1) strokes)) ≡ (is_said key (lines_of (take i strokes)) || same_key key (Some s.key))
-said_more key strokes i s h at = ap (is_said key) (front_is strokes i s h at) ∙ (list_any-append (λ (e : BatchLine). same_key key e.key) (lines_of (take i strokes)) (line_of s ∷ []) ∙ ap (λ b. is_said key (lines_of (take i strokes)) || b) (none (same_key key (Some s.key)))) where
+pub said_more : (key : Option Cell) (key_lines : List KeyLine) (i : ℕ) (s : KeyLine) → i < length key_lines → s ≡ get_or key_lines i s → is_said key (lines_of (take (i + 1) key_lines)) ≡ (is_said key (lines_of (take i key_lines)) || same_key key (Some s.key))
+said_more key key_lines i s h at = ap (is_said key) (front_is key_lines i s h at) ∙ (list_any-append (λ (e : BatchLine). same_key key e.key) (lines_of (take i key_lines)) (line_of s ∷ []) ∙ ap (λ b. is_said key (lines_of (take i key_lines)) || b) (none (same_key key (Some s.key)))) where
   none : (b : Bool) → (b || false) ≡ b
   none true = refl
   none false = refl
 
 -- a key more
-pub seen_stroke : (strokes : List KeyLine) (i : ℕ) (s : KeyLine) (before after : List Cell) → i < length strokes → s ≡ get_or strokes i s → ((x : Cell) → has_cell before x ≡ is_said (Some x) (lines_of (take i strokes))) → ((x : Cell) → has_cell after x ≡ (same_cell x s.key || has_cell before x))
-    → (x : Cell) → has_cell after x ≡ is_said (Some x) (lines_of (take (i + 1) strokes))
-seen_stroke strokes i s before after h at e f x = f x ∙ (or_comm (same_cell x s.key) (has_cell before x) ∙ (ap (λ b. b || same_cell x s.key) (e x) ∙ sym (said_more (Some x) strokes i s h at)))
+pub seen_line : (key_lines : List KeyLine) (i : ℕ) (s : KeyLine) (before after : List Cell) → i < length key_lines → s ≡ get_or key_lines i s → ((x : Cell) → has_cell before x ≡ is_said (Some x) (lines_of (take i key_lines))) → ((x : Cell) → has_cell after x ≡ (same_cell x s.key || has_cell before x))
+    → (x : Cell) → has_cell after x ≡ is_said (Some x) (lines_of (take (i + 1) key_lines))
+seen_line key_lines i s before after h at e f x = f x ∙ (or_comm (same_cell x s.key) (has_cell before x) ∙ (ap (λ b. b || same_cell x s.key) (e x) ∙ sym (said_more (Some x) key_lines i s h at)))
 
 -- the rows of a key that was not seen
-pub fresh_affected : (schema : plain.Schema) (rows : List plain.Row) (strokes : List KeyLine) (i : ℕ) (s : KeyLine) (before after : List ℕ) → schema.valid ≡ true → i < length strokes → s ≡ get_or strokes i s
-    → ((n : ℕ) → has_id before n ≡ affected_so_far schema (lines_of strokes) (lines_of (take i strokes)) (slice_get rows n))
-    → ((n : ℕ) → has_id after n ≡ ((is_open_with schema.key s.key (slice_get rows n) && affected_by true (periods_with (Some s.key) (lines_of strokes)) (slice_get rows n)) || has_id before n))
-    → (n : ℕ) → has_id after n ≡ affected_so_far schema (lines_of strokes) (lines_of (take (i + 1) strokes)) (slice_get rows n)
-fresh_affected schema rows strokes i s before after valid h at e f n =
+pub fresh_affected : (schema : plain.Schema) (rows : List plain.Row) (key_lines : List KeyLine) (i : ℕ) (s : KeyLine) (before after : List ℕ) → schema.valid ≡ true → i < length key_lines → s ≡ get_or key_lines i s
+    → ((n : ℕ) → has_id before n ≡ affected_so_far schema (lines_of key_lines) (lines_of (take i key_lines)) (slice_get rows n))
+    → ((n : ℕ) → has_id after n ≡ ((is_open_with schema.key s.key (slice_get rows n) && affected_by true (periods_with (Some s.key) (lines_of key_lines)) (slice_get rows n)) || has_id before n))
+    → (n : ℕ) → has_id after n ≡ affected_so_far schema (lines_of key_lines) (lines_of (take (i + 1) key_lines)) (slice_get rows n)
+fresh_affected schema rows key_lines i s before after valid h at e f n =
     f n ∙ (ap (λ v. (is_open_with schema.key s.key (slice_get rows n) && affected_by true own (slice_get rows n)) || v) (e n) ∙ row_affected (slice_get rows n)) where
       own : List (Option plain.Period)
-      own = periods_with (Some s.key) (lines_of strokes)
+      own = periods_with (Some s.key) (lines_of key_lines)
 
       table : (o a m : Bool) → (((o && true) && m) || (o && (a && m))) ≡ (o && ((a || true) && m))
       table true true true = refl
@@ -52,30 +52,30 @@ fresh_affected schema rows strokes i s before after valid h at e f n =
       other true w false m = refl
       other false w a m = refl
 
-      row_affected : (o : Option plain.Row) → ((is_open_with schema.key s.key o && affected_by true own o) || affected_so_far schema (lines_of strokes) (lines_of (take i strokes)) o) ≡ affected_so_far schema (lines_of strokes) (lines_of (take (i + 1) strokes)) o
+      row_affected : (o : Option plain.Row) → ((is_open_with schema.key s.key o && affected_by true own o) || affected_so_far schema (lines_of key_lines) (lines_of (take i key_lines)) o) ≡ affected_so_far schema (lines_of key_lines) (lines_of (take (i + 1) key_lines)) o
       row_affected None = refl
-      row_affected (Some r) = by_key (same_key key (Some s.key)) refl ∙ ap (λ v. is_open r && (v && is_affected schema (lines_of strokes) r)) (sym (said_more key strokes i s h at)) where
+      row_affected (Some r) = by_key (same_key key (Some s.key)) refl ∙ ap (λ v. is_open r && (v && is_affected schema (lines_of key_lines) r)) (sym (said_more key key_lines i s h at)) where
         key : Option Cell
         key = slice_get r.cells schema.key
 
         by_key : (k : Bool) → same_key key (Some s.key) ≡ k
-            → (((is_open r && same_key key (Some s.key)) && list_any (λ line. affects_period true line r.period) own) || (is_open r && (is_said key (lines_of (take i strokes)) && is_affected schema (lines_of strokes) r))) ≡ (is_open r && ((is_said key (lines_of (take i strokes)) || same_key key (Some s.key)) && is_affected schema (lines_of strokes) r))
+            → (((is_open r && same_key key (Some s.key)) && list_any (λ line. affects_period true line r.period) own) || (is_open r && (is_said key (lines_of (take i key_lines)) && is_affected schema (lines_of key_lines) r))) ≡ (is_open r && ((is_said key (lines_of (take i key_lines)) || same_key key (Some s.key)) && is_affected schema (lines_of key_lines) r))
         by_key true g =
-            let is : list_any (λ line. affects_period true line r.period) own ≡ is_affected schema (lines_of strokes) r = ap (λ v. list_any (λ line. affects_period v line r.period) own) (sym valid) ∙ ap (list_any (λ line. affects_period schema.valid line r.period)) (sym (periods-same key s.key (lines_of strokes) g)) in
-            ap (λ k. ((is_open r && k) && list_any (λ line. affects_period true line r.period) own) || (is_open r && (is_said key (lines_of (take i strokes)) && is_affected schema (lines_of strokes) r))) g
-            ∙ (ap (λ m. ((is_open r && true) && m) || (is_open r && (is_said key (lines_of (take i strokes)) && is_affected schema (lines_of strokes) r))) is
-            ∙ (table (is_open r) (is_said key (lines_of (take i strokes))) (is_affected schema (lines_of strokes) r) ∙ ap (λ k. is_open r && ((is_said key (lines_of (take i strokes)) || k) && is_affected schema (lines_of strokes) r)) (sym g)))
+            let is : list_any (λ line. affects_period true line r.period) own ≡ is_affected schema (lines_of key_lines) r = ap (λ v. list_any (λ line. affects_period v line r.period) own) (sym valid) ∙ ap (list_any (λ line. affects_period schema.valid line r.period)) (sym (periods-same key s.key (lines_of key_lines) g)) in
+            ap (λ k. ((is_open r && k) && list_any (λ line. affects_period true line r.period) own) || (is_open r && (is_said key (lines_of (take i key_lines)) && is_affected schema (lines_of key_lines) r))) g
+            ∙ (ap (λ m. ((is_open r && true) && m) || (is_open r && (is_said key (lines_of (take i key_lines)) && is_affected schema (lines_of key_lines) r))) is
+            ∙ (table (is_open r) (is_said key (lines_of (take i key_lines))) (is_affected schema (lines_of key_lines) r) ∙ ap (λ k. is_open r && ((is_said key (lines_of (take i key_lines)) || k) && is_affected schema (lines_of key_lines) r)) (sym g)))
         by_key false g =
-            ap (λ k. ((is_open r && k) && list_any (λ line. affects_period true line r.period) own) || (is_open r && (is_said key (lines_of (take i strokes)) && is_affected schema (lines_of strokes) r))) g
-            ∙ (other (is_open r) (list_any (λ line. affects_period true line r.period) own) (is_said key (lines_of (take i strokes))) (is_affected schema (lines_of strokes) r) ∙ ap (λ k. is_open r && ((is_said key (lines_of (take i strokes)) || k) && is_affected schema (lines_of strokes) r)) (sym g))
+            ap (λ k. ((is_open r && k) && list_any (λ line. affects_period true line r.period) own) || (is_open r && (is_said key (lines_of (take i key_lines)) && is_affected schema (lines_of key_lines) r))) g
+            ∙ (other (is_open r) (list_any (λ line. affects_period true line r.period) own) (is_said key (lines_of (take i key_lines))) (is_affected schema (lines_of key_lines) r) ∙ ap (λ k. is_open r && ((is_said key (lines_of (take i key_lines)) || k) && is_affected schema (lines_of key_lines) r)) (sym g))
 
 -- a key that was seen
-pub known_affected : (schema : plain.Schema) (rows : List plain.Row) (strokes : List KeyLine) (i : ℕ) (s : KeyLine) (seen : List Cell) (affected : List ℕ) (fresh : Bool) → i < length strokes → s ≡ get_or strokes i s → fresh ≡ not (has_cell seen s.key) → fresh ≡ false
-    → ((x : Cell) → has_cell seen x ≡ is_said (Some x) (lines_of (take i strokes)))
-    → ((n : ℕ) → has_id affected n ≡ affected_so_far schema (lines_of strokes) (lines_of (take i strokes)) (slice_get rows n))
-    → (n : ℕ) → has_id affected n ≡ affected_so_far schema (lines_of strokes) (lines_of (take (i + 1) strokes)) (slice_get rows n)
-known_affected schema rows strokes i s seen affected fresh h at new gone e f n = f n ∙ row (slice_get rows n) where
-  has : is_said (Some s.key) (lines_of (take i strokes)) ≡ true
+pub known_affected : (schema : plain.Schema) (rows : List plain.Row) (key_lines : List KeyLine) (i : ℕ) (s : KeyLine) (seen : List Cell) (affected : List ℕ) (fresh : Bool) → i < length key_lines → s ≡ get_or key_lines i s → fresh ≡ not (has_cell seen s.key) → fresh ≡ false
+    → ((x : Cell) → has_cell seen x ≡ is_said (Some x) (lines_of (take i key_lines)))
+    → ((n : ℕ) → has_id affected n ≡ affected_so_far schema (lines_of key_lines) (lines_of (take i key_lines)) (slice_get rows n))
+    → (n : ℕ) → has_id affected n ≡ affected_so_far schema (lines_of key_lines) (lines_of (take (i + 1) key_lines)) (slice_get rows n)
+known_affected schema rows key_lines i s seen affected fresh h at new gone e f n = f n ∙ row (slice_get rows n) where
+  has : is_said (Some s.key) (lines_of (take i key_lines)) ≡ true
   has = sym (e s.key) ∙ turn (has_cell seen s.key) (sym new ∙ gone) where
     turn : (b : Bool) → not b ≡ false → b ≡ true
     turn true g = refl
@@ -85,9 +85,9 @@ known_affected schema rows strokes i s seen affected fresh h at new gone e f n =
   said_same key [] g = refl
   said_same key (l ∷ lines) g = ap (λ b. b || is_said key lines) (key_congr key s.key l.key g) ∙ ap (λ b. same_key (Some s.key) l.key || b) (said_same key lines g)
 
-  row : (o : Option plain.Row) → affected_so_far schema (lines_of strokes) (lines_of (take i strokes)) o ≡ affected_so_far schema (lines_of strokes) (lines_of (take (i + 1) strokes)) o
+  row : (o : Option plain.Row) → affected_so_far schema (lines_of key_lines) (lines_of (take i key_lines)) o ≡ affected_so_far schema (lines_of key_lines) (lines_of (take (i + 1) key_lines)) o
   row None = refl
-  row (Some r) = ap (λ v. is_open r && (v && is_affected schema (lines_of strokes) r)) (by_key (same_key key (Some s.key)) refl ∙ sym (said_more key strokes i s h at)) where
+  row (Some r) = ap (λ v. is_open r && (v && is_affected schema (lines_of key_lines) r)) (by_key (same_key key (Some s.key)) refl ∙ sym (said_more key key_lines i s h at)) where
     key : Option Cell
     key = slice_get r.cells schema.key
 
@@ -95,14 +95,14 @@ known_affected schema rows strokes i s seen affected fresh h at new gone e f n =
     or_none true = refl
     or_none false = refl
 
-    by_key : (k : Bool) → same_key key (Some s.key) ≡ k → is_said key (lines_of (take i strokes)) ≡ (is_said key (lines_of (take i strokes)) || same_key key (Some s.key))
-    by_key true g = let t : is_said key (lines_of (take i strokes)) ≡ true = said_same key (lines_of (take i strokes)) g ∙ has in t ∙ ap (λ b. b || same_key key (Some s.key)) (sym t)
-    by_key false g = or_none (is_said key (lines_of (take i strokes))) ∙ ap (λ b. is_said key (lines_of (take i strokes)) || b) (sym g)
+    by_key : (k : Bool) → same_key key (Some s.key) ≡ k → is_said key (lines_of (take i key_lines)) ≡ (is_said key (lines_of (take i key_lines)) || same_key key (Some s.key))
+    by_key true g = let t : is_said key (lines_of (take i key_lines)) ≡ true = said_same key (lines_of (take i key_lines)) g ∙ has in t ∙ ap (λ b. b || same_key key (Some s.key)) (sym t)
+    by_key false g = or_none (is_said key (lines_of (take i key_lines))) ∙ ap (λ b. is_said key (lines_of (take i key_lines)) || b) (sym g)
 
 -- all lines
-pub all_affected : (schema : plain.Schema) (rows : List plain.Row) (strokes : List KeyLine) (i : ℕ) (affected : List ℕ) → length strokes ≤ i → ((n : ℕ) → has_id affected n ≡ affected_so_far schema (lines_of strokes) (lines_of (take i strokes)) (slice_get rows n))
-    → (n : ℕ) → has_id affected n ≡ is_open_affected schema (lines_of strokes) (slice_get rows n)
-all_affected schema rows strokes i affected h e n = e n ∙ (ap (λ ss. affected_so_far schema (lines_of strokes) (lines_of ss) (slice_get rows n)) (whole strokes i h) ∙ row (slice_get rows n)) where
+pub all_affected : (schema : plain.Schema) (rows : List plain.Row) (key_lines : List KeyLine) (i : ℕ) (affected : List ℕ) → length key_lines ≤ i → ((n : ℕ) → has_id affected n ≡ affected_so_far schema (lines_of key_lines) (lines_of (take i key_lines)) (slice_get rows n))
+    → (n : ℕ) → has_id affected n ≡ is_open_affected schema (lines_of key_lines) (slice_get rows n)
+all_affected schema rows key_lines i affected h e n = e n ∙ (ap (λ ss. affected_so_far schema (lines_of key_lines) (lines_of ss) (slice_get rows n)) (whole key_lines i h) ∙ row (slice_get rows n)) where
   whole : (xs : List KeyLine) (i : ℕ) → length xs ≤ i → take i xs ≡ xs
   whole [] zero h = refl
   whole [] (suc i) h = refl
@@ -117,6 +117,6 @@ all_affected schema rows strokes i affected h e n = e n ∙ (ap (λ ss. affected
     split true later = refl
     split false later = later
 
-  row : (o : Option plain.Row) → affected_so_far schema (lines_of strokes) (lines_of strokes) o ≡ is_open_affected schema (lines_of strokes) o
+  row : (o : Option plain.Row) → affected_so_far schema (lines_of key_lines) (lines_of key_lines) o ≡ is_open_affected schema (lines_of key_lines) o
   row None = refl
-  row (Some r) = ap (λ v. is_open r && v) (said_affected schema.valid (slice_get r.cells schema.key) r.period (lines_of strokes))
+  row (Some r) = ap (λ v. is_open r && v) (said_affected schema.valid (slice_get r.cells schema.key) r.period (lines_of key_lines))

@@ -3,7 +3,7 @@ pub mod CellLemmas
 pub mod ChangeLemmas
 pub mod ClosingLemmas
 pub mod CommitLemmas
-pub mod CoverLemmas
+pub mod PeriodSetLemmas
 pub mod Examples
 pub mod FaultLemmas
 pub mod FollowLemmas
@@ -18,10 +18,11 @@ pub mod AffectLemmas
 pub mod OpenTableLemmas
 pub mod RemovalLemmas
 pub mod ResolvedLemmas
+pub mod RowIds
 pub mod Rows
 pub mod SwapLemmas
-pub mod TakenLemmas
-pub mod AdjacentLemmas
+pub mod RowChangesLemmas
+pub mod LineFaultLemmas
 pub mod UntimedLemmas
 pub mod UntimedLines
 pub mod WholeLemmas

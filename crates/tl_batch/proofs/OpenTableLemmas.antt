@@ -4,10 +4,12 @@ use Rattle.std.specs.Option.{option_map, unwrap_or}
 use Rattle.tl_types.specs.declared.cells.Cell.{Cell}
 use Rattle.tl_types.specs.declared.commits.Commit.{Commit}
 use Rattle.tl_types.specs.Plain as plain
-use Rattle.tl_types.specs.History.{database_of, new_table}
+use Rattle.tl_types.specs.History.{database_of, new_table, rows_of}
+use Rattle.tl_store.specs.Reading.{row_of}
 use Rattle.tl_batch.specs.KeyIndex.{IdsByKey, has_row}
 use Rattle.tl_batch.specs.OpenTables.{table_at, IsOpenTable}
 use Rattle.tl_batch.specs.Standing.{table_has, rows_match}
+use Rattle.tl_batch.proofs.AffectLemmas.{row-cells}
 
 there : (tables : List plain.Table) (n : ℕ) (d : plain.Table) → n < length tables → slice_get tables n ≡ Some (unwrap_or (slice_get tables n) d)
 there [] n d h = absurd (omega arith)
@@ -32,3 +34,9 @@ table_there commits number schema index within matching ids known = record {
 
   same : schema ≡ (table_at commits number schema).schema
   same = schema_same (slice_get (database_of commits).tables number) (table_at commits number schema) schema at known
+
+-- the cells of a row of the table, by the store's number of it
+pub cells_at : (db : plain.Database) (number row : ℕ) (t : plain.Table) (cells : List Cell) → slice_get db.tables number ≡ Some t → rows_match (Some t) ≡ true → Some cells ≡ option_map (λ (r : plain.Row). r.cells) (row_of db number row) → length cells ≡ length t.schema.columns
+cells_at db number row t cells at matching e = row-cells t row cells matching (e ∙ ap (λ rs. option_map (λ (r : plain.Row). r.cells) (slice_get rs row)) rows) where
+  rows : rows_of db number ≡ t.rows
+  rows = rw at refl

@@ -1,13 +1,10 @@
--- Lines that remove rows of a table with valid time: what they are adjacent, by the periods of the current rows of their keys.
+-- Lines that remove rows of a table with valid time: what they affect, by the periods of the current rows of their keys.
 use Rattle.std.proofs.Common.{◌≡◌, ℕ, ℤ, zero, suc, ◌+◌, ◌<◌, ◌≤◌, Bool, true, false, ◌&&◌, ◌||◌, not, cond, List, [], ◌∷◌, ◌++◌, length, map, take, get_or, slice_get, Option, Some, None, option_map, subst, refl, sym, ap, ◌∙◌, arith}
 use Rattle.std.specs.List.{list_any}
 use Rattle.std.proofs.lemmas.List.{take_more, map-append}
 use Rattle.std.proofs.lemmas.List.Folds.{list_any-append}
 use Rattle.tl_types.specs.declared.cells.Cell.{Cell}
 use Rattle.tl_types.specs.declared.batches.BatchFault.TheVariants as fault
-use Rattle.std.specs.Cmp.{int_eq_equiv}
-use Rattle.std.specs.Cmp.Lexicographic.{nat_list_eq_equiv}
-use Rattle.tl_types.specs.declared.cells.Cell.TheVariants as cell
 use Rattle.tl_types.specs.Plain as plain
 use Rattle.tl_types.specs.Facts.{AscendFrom}
 use Rattle.tl_types.specs.History.{is_open, has_id, same_cell}
@@ -20,10 +17,11 @@ use Rattle.tl_batch.specs.Covers.{Full, HoldLines, cover_at, is_covered, is_in, 
 use Rattle.tl_batch.specs.Untimed.{has_cell}
 use Rattle.tl_batch.specs.Faults.{HoldRows, fault_of, is_row_affected, period_of, open_periods}
 use Rattle.tl_batch.proofs.HoldLemmas.{full_both}
-use Rattle.tl_batch.proofs.AdjacentLemmas.{cell_congr, key_congr, periods-same, key_ids, key_ascend, key_holds}
+use Rattle.tl_batch.proofs.LineFaultLemmas.{key_congr, periods-same}
 use Rattle.tl_batch.proofs.ChangeLemmas.{ascend_same}
 use Rattle.tl_batch.proofs.KeyLemmas.{said_more}
-use Rattle.tl_batch.proofs.KeyIndexLemmas.{cell_sym}
+use Rattle.tl_batch.proofs.KeyIndexLemmas.{cell_self, cell_sym, same_as}
+use Rattle.tl_batch.proofs.RowIds.{ids_at, ids_at-ascend, ids_at-has}
 use Rattle.tl_batch.proofs.SwapLemmas.{affects_rest}
 
 -- a line affects a row where it affects what earlier lines left of the periods of the rows of its key
@@ -47,23 +45,23 @@ open_row_affected schema earlier s (r ∷ rows) valid = by_key (is_open r) (same
   by_key true false g later = later
   by_key false k g later = later
 
-id_periods : (place : ℕ) (x : Cell) (all : List plain.Row) (n : ℕ) (rows : List plain.Row) → ((i : ℕ) → slice_get all (n + i) ≡ slice_get rows i) → map (λ id. period_of (slice_get all id)) (key_ids place x n rows) ≡ open_periods place x rows
+id_periods : (place : ℕ) (x : Cell) (all : List plain.Row) (n : ℕ) (rows : List plain.Row) → ((i : ℕ) → slice_get all (n + i) ≡ slice_get rows i) → map (λ id. period_of (slice_get all id)) (ids_at (is_open_with place x) n rows) ≡ open_periods place x rows
 id_periods place x all n [] stands = refl
 id_periods place x all n (r ∷ rows) stands = split (is_open r && same_key (slice_get r.cells place) (Some x)) (id_periods place x all (n + 1) rows (λ i. let e : n + 1 + i ≡ n + suc i = omega arith in ap (slice_get all) e ∙ stands (suc i))) where
   first : slice_get all n ≡ Some r
   first = let e : n ≡ n + 0 = omega arith in ap (slice_get all) e ∙ stands 0
 
-  split : (b : Bool) → map (λ id. period_of (slice_get all id)) (key_ids place x (n + 1) rows) ≡ open_periods place x rows
-      → map (λ id. period_of (slice_get all id)) (cond b (n ∷ key_ids place x (n + 1) rows) (key_ids place x (n + 1) rows)) ≡ cond b (r.period ∷ open_periods place x rows) (open_periods place x rows)
-  split true later = ap (λ p. p ∷ map (λ id. period_of (slice_get all id)) (key_ids place x (n + 1) rows)) (ap period_of first) ∙ ap (λ ps. r.period ∷ ps) later
+  split : (b : Bool) → map (λ id. period_of (slice_get all id)) (ids_at (is_open_with place x) (n + 1) rows) ≡ open_periods place x rows
+      → map (λ id. period_of (slice_get all id)) (cond b (n ∷ ids_at (is_open_with place x) (n + 1) rows) (ids_at (is_open_with place x) (n + 1) rows)) ≡ cond b (r.period ∷ open_periods place x rows) (open_periods place x rows)
+  split true later = ap (λ p. p ∷ map (λ id. period_of (slice_get all id)) (ids_at (is_open_with place x) (n + 1) rows)) (ap period_of first) ∙ ap (λ ps. r.period ∷ ps) later
   split false later = later
 
 -- the periods of the rows of a key, by their ids
 pub key_periods : (place : ℕ) (x : Cell) (rows : List plain.Row) (ids : List ℕ) → AscendFrom 0 ids → ((n : ℕ) → has_id ids n ≡ is_open_with place x (slice_get rows n)) → map (λ id. period_of (slice_get rows id)) ids ≡ open_periods place x rows
 key_periods place x rows ids ascend members =
-    ap (map (λ id. period_of (slice_get rows id))) (ascend_same 0 ids (key_ids place x 0 rows) ascend (key_ascend place x 0 rows) equal) ∙ id_periods place x rows 0 rows (λ i. ap (slice_get rows) (let e : 0 + i ≡ i = omega arith in e)) where
-      equal : (n : ℕ) → has_id ids n ≡ has_id (key_ids place x 0 rows) n
-      equal n = members n ∙ (sym (key_holds place x 0 rows n) ∙ (let q : 0 + n ≡ n = omega arith in ap (has_id (key_ids place x 0 rows)) q))
+    ap (map (λ id. period_of (slice_get rows id))) (ascend_same 0 ids (ids_at (is_open_with place x) 0 rows) ascend (ids_at-ascend (is_open_with place x) 0 rows) equal) ∙ id_periods place x rows 0 rows (λ i. ap (slice_get rows) (let e : 0 + i ≡ i = omega arith in e)) where
+      equal : (n : ℕ) → has_id ids n ≡ has_id (ids_at (is_open_with place x) 0 rows) n
+      equal n = members n ∙ (sym (ids_at-has (is_open_with place x) refl 0 rows n) ∙ (let q : 0 + n ≡ n = omega arith in ap (has_id (ids_at (is_open_with place x) 0 rows)) q))
 
 pub whole_periods : (place : ℕ) (x : Cell) (rows : List plain.Row) (ids given : List ℕ) (i : ℕ) → given ≡ ids → length given ≤ i → AscendFrom 0 ids → ((n : ℕ) → has_id ids n ≡ is_open_with place x (slice_get rows n)) → map (λ id. period_of (slice_get rows id)) (take i given) ≡ open_periods place x rows
 whole_periods place x rows ids given i same h ascend members = ap (map (λ id. period_of (slice_get rows id))) (whole given i h ∙ same) ∙ key_periods place x rows ids ascend members where
@@ -112,16 +110,16 @@ same_open place x y (r ∷ rows) e =
     ap (λ b. cond (is_open r && b) (r.period ∷ open_periods place y rows) (open_periods place y rows)) (of_key (slice_get r.cells place)) ∙ ap (λ ps. cond (is_open r && same_key (slice_get r.cells place) (Some x)) (r.period ∷ ps) ps) (same_open place x y rows e) where
       of_key : (k : Option Cell) → same_key k (Some y) ≡ same_key k (Some x)
       of_key None = refl
-      of_key (Some z) = cell_sym z y ∙ (sym (cell_congr x y z e) ∙ cell_sym x z)
+      of_key (Some z) = cell_sym z y ∙ (sym (same_as x y z e) ∙ cell_sym x z)
 
-pub fresh_rows : (place : ℕ) (rows : List plain.Row) (strokes : List KeyLine) (i : ℕ) (s : KeyLine) (ps : List (Option plain.Period)) (before after : List (Cell × List (ℤ × ℤ))) → i < length strokes → s ≡ get_or strokes i s → ps ≡ open_periods place s.key rows
-    → HoldRows place before (lines_of (take i strokes)) rows
-    → ((x : Cell) (t : ℤ) → is_covered t (cover_at x after) ≡ ((same_cell x s.key && list_any (is_in t) ps) || is_covered t (cover_at x before))) → Full ps → HoldRows place after (lines_of (take (i + 1) strokes)) rows
-fresh_rows place rows strokes i s ps before after h at made held adds full = record {
-  full = λ x e. all_full x (same_cell x s.key) refl (is_said (Some x) (lines_of (take i strokes))) refl (sym (said_more (Some x) strokes i s h at) ∙ e);
-  same = λ x t. adds x t ∙ (ap (λ b. (same_cell x s.key && list_any (is_in t) ps) || b) (held.same x t) ∙ (by_key x t (same_cell x s.key) refl ∙ ap (λ b. b && list_any (is_in t) (open_periods place x rows)) (sym (said_more (Some x) strokes i s h at))));
+pub fresh_rows : (place : ℕ) (rows : List plain.Row) (key_lines : List KeyLine) (i : ℕ) (s : KeyLine) (ps : List (Option plain.Period)) (before after : List (Cell × List (ℤ × ℤ))) → i < length key_lines → s ≡ get_or key_lines i s → ps ≡ open_periods place s.key rows
+    → HoldRows place before (lines_of (take i key_lines)) rows
+    → ((x : Cell) (t : ℤ) → is_covered t (cover_at x after) ≡ ((same_cell x s.key && list_any (is_in t) ps) || is_covered t (cover_at x before))) → Full ps → HoldRows place after (lines_of (take (i + 1) key_lines)) rows
+fresh_rows place rows key_lines i s ps before after h at made held adds full = record {
+  full = λ x e. all_full x (same_cell x s.key) refl (is_said (Some x) (lines_of (take i key_lines))) refl (sym (said_more (Some x) key_lines i s h at) ∙ e);
+  same = λ x t. adds x t ∙ (ap (λ b. (same_cell x s.key && list_any (is_in t) ps) || b) (held.same x t) ∙ (by_key x t (same_cell x s.key) refl ∙ ap (λ b. b && list_any (is_in t) (open_periods place x rows)) (sym (said_more (Some x) key_lines i s h at))));
 } where
-  all_full : (x : Cell) (k : Bool) → same_cell x s.key ≡ k → (a : Bool) → is_said (Some x) (lines_of (take i strokes)) ≡ a → (is_said (Some x) (lines_of (take i strokes)) || same_cell x s.key) ≡ true → Full (open_periods place x rows)
+  all_full : (x : Cell) (k : Bool) → same_cell x s.key ≡ k → (a : Bool) → is_said (Some x) (lines_of (take i key_lines)) ≡ a → (is_said (Some x) (lines_of (take i key_lines)) || same_cell x s.key) ≡ true → Full (open_periods place x rows)
   all_full x true g a f e = subst Full (made ∙ same_open place x s.key rows g) full
   all_full x false g true f e = held.full x f
   all_full x false g false f e = absurd (let bad : false ≡ true = sym (ap (λ b. b || same_cell x s.key) f ∙ g) ∙ e in cc)
@@ -137,22 +135,22 @@ fresh_rows place rows strokes i s ps before after h at made held adds full = rec
   other false p = refl
 
   by_key : (x : Cell) (t : ℤ) (k : Bool) → same_cell x s.key ≡ k
-      → ((same_cell x s.key && list_any (is_in t) ps) || (is_said (Some x) (lines_of (take i strokes)) && list_any (is_in t) (open_periods place x rows))) ≡ ((is_said (Some x) (lines_of (take i strokes)) || same_cell x s.key) && list_any (is_in t) (open_periods place x rows))
+      → ((same_cell x s.key && list_any (is_in t) ps) || (is_said (Some x) (lines_of (take i key_lines)) && list_any (is_in t) (open_periods place x rows))) ≡ ((is_said (Some x) (lines_of (take i key_lines)) || same_cell x s.key) && list_any (is_in t) (open_periods place x rows))
   by_key x t true g =
-      ap (λ b. (b && list_any (is_in t) ps) || (is_said (Some x) (lines_of (take i strokes)) && list_any (is_in t) (open_periods place x rows))) g
-      ∙ (ap (λ qs. list_any (is_in t) qs || (is_said (Some x) (lines_of (take i strokes)) && list_any (is_in t) (open_periods place x rows))) (made ∙ same_open place x s.key rows g)
-      ∙ (table (is_said (Some x) (lines_of (take i strokes))) (list_any (is_in t) (open_periods place x rows)) ∙ ap (λ b. (is_said (Some x) (lines_of (take i strokes)) || b) && list_any (is_in t) (open_periods place x rows)) (sym g)))
+      ap (λ b. (b && list_any (is_in t) ps) || (is_said (Some x) (lines_of (take i key_lines)) && list_any (is_in t) (open_periods place x rows))) g
+      ∙ (ap (λ qs. list_any (is_in t) qs || (is_said (Some x) (lines_of (take i key_lines)) && list_any (is_in t) (open_periods place x rows))) (made ∙ same_open place x s.key rows g)
+      ∙ (table (is_said (Some x) (lines_of (take i key_lines))) (list_any (is_in t) (open_periods place x rows)) ∙ ap (λ b. (is_said (Some x) (lines_of (take i key_lines)) || b) && list_any (is_in t) (open_periods place x rows)) (sym g)))
   by_key x t false g =
-      ap (λ b. (b && list_any (is_in t) ps) || (is_said (Some x) (lines_of (take i strokes)) && list_any (is_in t) (open_periods place x rows))) g
-      ∙ (other (is_said (Some x) (lines_of (take i strokes))) (list_any (is_in t) (open_periods place x rows)) ∙ ap (λ b. (is_said (Some x) (lines_of (take i strokes)) || b) && list_any (is_in t) (open_periods place x rows)) (sym g))
+      ap (λ b. (b && list_any (is_in t) ps) || (is_said (Some x) (lines_of (take i key_lines)) && list_any (is_in t) (open_periods place x rows))) g
+      ∙ (other (is_said (Some x) (lines_of (take i key_lines))) (list_any (is_in t) (open_periods place x rows)) ∙ ap (λ b. (is_said (Some x) (lines_of (take i key_lines)) || b) && list_any (is_in t) (open_periods place x rows)) (sym g))
 
-pub known_rows : (place : ℕ) (rows : List plain.Row) (strokes : List KeyLine) (i : ℕ) (s : KeyLine) (seen : List Cell) (fresh : Bool) (covers : List (Cell × List (ℤ × ℤ))) → i < length strokes → s ≡ get_or strokes i s → fresh ≡ not (has_cell seen s.key) → fresh ≡ false
-    → ((x : Cell) → has_cell seen x ≡ is_said (Some x) (lines_of (take i strokes))) → HoldRows place covers (lines_of (take i strokes)) rows → HoldRows place covers (lines_of (take (i + 1) strokes)) rows
-known_rows place rows strokes i s seen fresh covers h at new gone e held = record {
+pub known_rows : (place : ℕ) (rows : List plain.Row) (key_lines : List KeyLine) (i : ℕ) (s : KeyLine) (seen : List Cell) (fresh : Bool) (covers : List (Cell × List (ℤ × ℤ))) → i < length key_lines → s ≡ get_or key_lines i s → fresh ≡ not (has_cell seen s.key) → fresh ≡ false
+    → ((x : Cell) → has_cell seen x ≡ is_said (Some x) (lines_of (take i key_lines))) → HoldRows place covers (lines_of (take i key_lines)) rows → HoldRows place covers (lines_of (take (i + 1) key_lines)) rows
+known_rows place rows key_lines i s seen fresh covers h at new gone e held = record {
   full = λ x f. held.full x (sym (more x) ∙ f);
   same = λ x t. held.same x t ∙ ap (λ b. b && list_any (is_in t) (open_periods place x rows)) (sym (more x));
 } where
-  has : is_said (Some s.key) (lines_of (take i strokes)) ≡ true
+  has : is_said (Some s.key) (lines_of (take i key_lines)) ≡ true
   has = sym (e s.key) ∙ turn (has_cell seen s.key) (sym new ∙ gone) where
     turn : (b : Bool) → not b ≡ false → b ≡ true
     turn true g = refl
@@ -166,22 +164,18 @@ known_rows place rows strokes i s seen fresh covers h at new gone e held = recor
   or_none true = refl
   or_none false = refl
 
-  more : (x : Cell) → is_said (Some x) (lines_of (take (i + 1) strokes)) ≡ is_said (Some x) (lines_of (take i strokes))
-  more x = said_more (Some x) strokes i s h at ∙ by_key (same_cell x s.key) refl where
-    by_key : (k : Bool) → same_cell x s.key ≡ k → (is_said (Some x) (lines_of (take i strokes)) || same_cell x s.key) ≡ is_said (Some x) (lines_of (take i strokes))
-    by_key true g = let t : is_said (Some x) (lines_of (take i strokes)) ≡ true = said_same x (lines_of (take i strokes)) g ∙ has in ap (λ b. b || same_cell x s.key) t ∙ sym t
-    by_key false g = ap (λ b. is_said (Some x) (lines_of (take i strokes)) || b) g ∙ or_none (is_said (Some x) (lines_of (take i strokes)))
+  more : (x : Cell) → is_said (Some x) (lines_of (take (i + 1) key_lines)) ≡ is_said (Some x) (lines_of (take i key_lines))
+  more x = said_more (Some x) key_lines i s h at ∙ by_key (same_cell x s.key) refl where
+    by_key : (k : Bool) → same_cell x s.key ≡ k → (is_said (Some x) (lines_of (take i key_lines)) || same_cell x s.key) ≡ is_said (Some x) (lines_of (take i key_lines))
+    by_key true g = let t : is_said (Some x) (lines_of (take i key_lines)) ≡ true = said_same x (lines_of (take i key_lines)) g ∙ has in ap (λ b. b || same_cell x s.key) t ∙ sym t
+    by_key false g = ap (λ b. is_said (Some x) (lines_of (take i key_lines)) || b) g ∙ or_none (is_said (Some x) (lines_of (take i key_lines)))
 
 -- ONE LINE MORE
 
-same_self : (x : Cell) → same_cell x x ≡ true
-same_self (cell.Int i) = int_eq_equiv.refl i
-same_self (cell.Text t) = nat_list_eq_equiv.refl t
-
-said_at : (strokes : List KeyLine) (i : ℕ) (s : KeyLine) → i < length strokes → s ≡ get_or strokes i s → is_said (Some s.key) (lines_of strokes) ≡ true
+said_at : (key_lines : List KeyLine) (i : ℕ) (s : KeyLine) → i < length key_lines → s ≡ get_or key_lines i s → is_said (Some s.key) (lines_of key_lines) ≡ true
 said_at [] i s h at = absurd (omega arith)
-said_at (r ∷ strokes) zero s h at = ap (λ q. same_cell s.key q.key || is_said (Some s.key) (lines_of strokes)) (sym at) ∙ ap (λ b. b || is_said (Some s.key) (lines_of strokes)) (same_self s.key)
-said_at (r ∷ strokes) (suc i) s h at = ap (λ b. same_cell s.key r.key || b) (said_at strokes i s (omega arith) at) ∙ either (same_cell s.key r.key) where
+said_at (r ∷ key_lines) zero s h at = ap (λ q. same_cell s.key q.key || is_said (Some s.key) (lines_of key_lines)) (sym at) ∙ ap (λ b. b || is_said (Some s.key) (lines_of key_lines)) (cell_self s.key)
+said_at (r ∷ key_lines) (suc i) s h at = ap (λ b. same_cell s.key r.key || b) (said_at key_lines i s (omega arith) at) ∙ either (same_cell s.key r.key) where
   either : (b : Bool) → (b || true) ≡ true
   either true = refl
   either false = refl
@@ -190,16 +184,16 @@ said_at (r ∷ strokes) (suc i) s h at = ap (λ b. same_cell s.key r.key || b) (
 abbrev pub Tells : Bool → KeyLine → List (Cell × List (ℤ × ℤ)) → List (Cell × List (ℤ × ℤ)) → Type 0
 Tells affected s earlier covers = (lines : List BatchLine) (wholes : List (Option plain.Period)) → HoldLines earlier lines → Full wholes → ((t : ℤ) → is_covered t (cover_at s.key covers) ≡ list_any (is_in t) wholes) → affected ≡ affects_rest s.period (periods_with (Some s.key) lines) wholes
 
-pub row_affected_fault : (schema : plain.Schema) (rows : List plain.Row) (strokes : List KeyLine) (i rec : ℕ) (s : KeyLine) (affected : Bool) (earlier covers : List (Cell × List (ℤ × ℤ))) → schema.valid ≡ true → i < length strokes → s ≡ get_or strokes i s → HoldRows schema.key covers (lines_of strokes) rows → HoldLines earlier (lines_of (take i strokes))
-    → Tells affected s earlier covers → cond affected None (Some (fault.NoRow rec)) ≡ fault_of schema true rows (lines_of (take i strokes)) (line_of s) rec
-row_affected_fault schema rows strokes i rec s affected earlier covers valid h at held lines tells =
-    ap (λ b. cond b None (Some (fault.NoRow rec))) is ∙ (turned (list_any (is_row_affected schema (lines_of (take i strokes)) (line_of s)) rows)
-    ∙ ap (λ v. cond (not v && list_any (λ (e : BatchLine). same_key e.key (Some s.key)) (lines_of (take i strokes))) (Some (fault.KeyTwice rec)) (cond (true && not (list_any (is_row_affected schema (lines_of (take i strokes)) (line_of s)) rows)) (Some (fault.NoRow rec)) None)) (sym valid)) where
-      has : is_said (Some s.key) (lines_of strokes) ≡ true
-      has = said_at strokes i s h at
+pub row_affected_fault : (schema : plain.Schema) (rows : List plain.Row) (key_lines : List KeyLine) (i rec : ℕ) (s : KeyLine) (affected : Bool) (earlier covers : List (Cell × List (ℤ × ℤ))) → schema.valid ≡ true → i < length key_lines → s ≡ get_or key_lines i s → HoldRows schema.key covers (lines_of key_lines) rows → HoldLines earlier (lines_of (take i key_lines))
+    → Tells affected s earlier covers → cond affected None (Some (fault.NoRow rec)) ≡ fault_of schema true rows (lines_of (take i key_lines)) (line_of s) rec
+row_affected_fault schema rows key_lines i rec s affected earlier covers valid h at held lines tells =
+    ap (λ b. cond b None (Some (fault.NoRow rec))) is ∙ (turned (list_any (is_row_affected schema (lines_of (take i key_lines)) (line_of s)) rows)
+    ∙ ap (λ v. cond (not v && list_any (λ (e : BatchLine). same_key e.key (Some s.key)) (lines_of (take i key_lines))) (Some (fault.KeyTwice rec)) (cond (true && not (list_any (is_row_affected schema (lines_of (take i key_lines)) (line_of s)) rows)) (Some (fault.NoRow rec)) None)) (sym valid)) where
+      has : is_said (Some s.key) (lines_of key_lines) ≡ true
+      has = said_at key_lines i s h at
 
-      is : affected ≡ list_any (is_row_affected schema (lines_of (take i strokes)) (line_of s)) rows
-      is = tells (lines_of (take i strokes)) (open_periods schema.key s.key rows) lines (held.full s.key has) (λ t. held.same s.key t ∙ ap (λ b. b && list_any (is_in t) (open_periods schema.key s.key rows)) has) ∙ open_row_affected schema (lines_of (take i strokes)) s rows valid
+      is : affected ≡ list_any (is_row_affected schema (lines_of (take i key_lines)) (line_of s)) rows
+      is = tells (lines_of (take i key_lines)) (open_periods schema.key s.key rows) lines (held.full s.key has) (λ t. held.same s.key t ∙ ap (λ b. b && list_any (is_in t) (open_periods schema.key s.key rows)) has) ∙ open_row_affected schema (lines_of (take i key_lines)) s rows valid
 
       turned : (b : Bool) → cond b None (Some (fault.NoRow rec)) ≡ cond (true && not b) (Some (fault.NoRow rec)) None
       turned true = refl

@@ -24,8 +24,8 @@ use Rattle.tl_batch.specs.declared.changing.RowChanges.{RowChanges}
 use Rattle.tl_batch.specs.Made.{IsMade, IsClosed}
 use Rattle.tl_batch.specs.Untimed.{has_cell, has_open, key_fault}
 use Rattle.tl_batch.proofs.KeyIndexLemmas.{cell_sym, cell_self, same_as}
-use Rattle.tl_batch.proofs.TakenLemmas.{closes_are, nothing_left}
-use Rattle.tl_batch.proofs.AdjacentLemmas.{row_affected_keyed, never_fault}
+use Rattle.tl_batch.proofs.RowChangesLemmas.{closes_are, nothing_left}
+use Rattle.tl_batch.proofs.LineFaultLemmas.{row_affected_keyed, never_fault}
 
 -- THE FIRST FAULT
 

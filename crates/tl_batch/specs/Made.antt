@@ -44,7 +44,8 @@ abbrev pub IsMade : Bool → plain.Schema → List plain.Row → List BatchLine
     → Result RowChanges BatchFault → Type 0
 IsMade removes schema rows lines (Err f) = fault_from schema removes rows 2 [] lines ≡ Some f
 IsMade removes schema rows lines (Ok c) =
-    (fault_from schema removes rows 2 [] lines ≡ None) × (c.closes ≡ affected_ids schema lines 0 rows)
+    (fault_from schema removes rows 2 [] lines ≡ None)
+    × (c.closes ≡ affected_ids schema lines 0 rows)
     × (c.opens.items ≡ old_pieces schema lines rows ++ put_pieces schema lines)
 
 -- the same of the rows that lines close alone

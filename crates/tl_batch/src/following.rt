@@ -2,7 +2,7 @@
 ghost use Rattle.std.specs.Prelude.{◌≡◌, ◌||◌, ◌&&◌, not, ◌+◌, ◌<◌, ◌≤◌, ◌^◌, ℕ, Some, true, false, OnOk, OnErr, IfOk, All, length, slice_get};
 ghost use Rattle.tl_types.specs.declared.cells.Cell.{Cell};
 ghost use Rattle.tl_types.specs.History.{database_of, rows_of, has_id};
-ghost use Rattle.tl_store.specs.Reading.{cell_of, columns_of};
+ghost use Rattle.tl_store.specs.Reading.{columns_of};
 ghost use Rattle.tl_batch.specs.ClosedRows.{has_keyed};
 ghost use Rattle.tl_batch.specs.KeyIndex.{has_row};
 ghost use Rattle.tl_batch.specs.Standing.{has_key, opens_with};
@@ -19,22 +19,6 @@ use tl_types::{Cell, Change, NoMemory, Opened, Steps};
 pub(crate) struct KeyedRow {
     key: Cell,
     id: u32,
-}
-
-// The cell of a row of a table. The error is `NoMemory`.
-fn cell_at<L: Ledger>(
-    alloc: Global,
-    store: &Store,
-    table: u16,
-    row: u32,
-    column: u8,
-    steps: &mut Steps<L>,
-) -> Result<Cell, NoMemory>
-    requires row { row < length (rows_of (database_of store.now) table) }
-    requires column { column < length (columns_of (database_of store.now) table) }
-    ensures { IfOk result (λ cell. Some cell ≡ cell_of (database_of store.now) table row column) }
-{
-    store.cell(table, row, column, steps).to_cell(alloc)
 }
 
 // As `closed_rows`, by a ledger of its caller's.
@@ -58,7 +42,8 @@ fn closed_from<L: Ledger>(
     let mut steps = Steps::<L>::new(blank);
     let mut closed = Vec::new(alloc);
     for id in change.closes() {
-        let key = cell_at(alloc, store, change.table(), *id, place, &mut steps)?;
+        let cell = store.cell(change.table(), *id, place, &mut steps);
+        let key = cell.to_cell(alloc)?;
         closed.push(KeyedRow { key, id: *id })?;
     }
     Ok(closed)

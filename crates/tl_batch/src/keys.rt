@@ -12,6 +12,7 @@ ghost use Rattle.tl_batch.specs.Standing.{StandFor};
 
 use crate::following::{change_index, closed_rows};
 use crate::key_index::KeyIndex;
+use crate::open_tables::OpenTables;
 use crate::put_rows::PutRows;
 use crate::resolving::{resolve_create, resolve_put, resolve_remove};
 use std::alloc::Global;
@@ -99,13 +100,13 @@ impl Keys {
             }
             Batch::Put { table, lines } => {
                 let rows = PutRows::Lent(lines.as_slice());
-                let keys = self.tables.as_slice();
-                resolve_put(alloc, keys, store, author, table, rows, limits)
+                let tables = OpenTables::new(store, self.tables.as_slice());
+                resolve_put(alloc, &tables, author, table, rows, limits)
             }
             Batch::Remove { table, lines } => {
                 let lines = lines.as_slice();
-                let keys = self.tables.as_slice();
-                resolve_remove(alloc, keys, store, author, table, lines, limits)
+                let tables = OpenTables::new(store, self.tables.as_slice());
+                resolve_remove(alloc, &tables, author, table, lines, limits)
             }
         }
     }
@@ -134,13 +135,13 @@ impl Keys {
             Batch::Create(schema) => resolve_create(store, author, schema, limits),
             Batch::Put { table, lines } => {
                 let rows = PutRows::Owned(lines.into_vec());
-                let keys = self.tables.as_slice();
-                resolve_put(alloc, keys, store, author, &table, rows, limits)
+                let tables = OpenTables::new(store, self.tables.as_slice());
+                resolve_put(alloc, &tables, author, &table, rows, limits)
             }
             Batch::Remove { table, lines } => {
                 let lines = lines.as_slice();
-                let keys = self.tables.as_slice();
-                resolve_remove(alloc, keys, store, author, &table, lines, limits)
+                let tables = OpenTables::new(store, self.tables.as_slice());
+                resolve_remove(alloc, &tables, author, &table, lines, limits)
             }
         }
     }

@@ -13,6 +13,7 @@ mod key_set;
 mod keys;
 mod lines;
 mod open_table;
+mod open_tables;
 mod opening;
 mod period_set;
 mod periods_by_key;

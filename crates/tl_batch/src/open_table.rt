@@ -3,7 +3,6 @@ ghost use Rattle.std.specs.Prelude.{◌≡◌, ◌<◌, ◌≤◌, ◌^◌, ℕ,
 ghost use Rattle.tl_types.specs.declared.cells.Cell.{Cell};
 ghost use Rattle.tl_types.specs.Facts.{AscendFrom};
 ghost use Rattle.tl_types.specs.History.{database_of, has_id};
-ghost use Rattle.tl_store.specs.Reading.{cell_of_row};
 ghost use Rattle.tl_batch.specs.KeyIndex.{has_row};
 ghost use Rattle.tl_batch.specs.OpenTables.{IsIndexOf};
 ghost use Rattle.tl_batch.specs.Standing.{is_open_with, rows_match, table_has};
@@ -86,22 +85,17 @@ impl<'a> OpenTable<'a> {
         self.index.ids(alloc, key)
     }
 
-    /// The cell of a row in a column. The error is `NoMemory`.
-    pub(crate) fn cell<L: Ledger>(
-        &self,
-        alloc: Global,
-        row: u32,
-        column: u8,
-        steps: &mut Steps<L>,
-    ) -> Result<Cell, NoMemory>
+    /// The cells of a row, one for each column. The error is `NoMemory`.
+    pub(crate) fn row_cells(&self, alloc: Global, row: u32) -> Result<Seq<Cell>, NoMemory>
         requires row { row < length self.now.rows }
-        requires column { column < length self.now.schema.columns }
-        ensures { IfOk result (λ cell. Some cell
-            ≡ cell_of_row column (slice_get self.now.rows row)) }
+        ensures value { IfOk result (λ cells. Some cells
+            ≡ option_map (λ r. r.cells) (slice_get self.now.rows row)) }
+        ensures number { IfOk result (λ cells. length cells ≡ length self.now.schema.columns) }
+        ensures few { IfOk result (λ cells. length cells ≤ 16) }
     {
-        self.store
-            .cell(self.number, row, column, steps)
-            .to_cell(alloc)
+        let _columns = self.schema.columns();
+        let cells = self.store.row_cells(alloc, self.number, row)?;
+        Ok(cells)
     }
 
     /// The valid period of a row of a table with valid time.

@@ -13,28 +13,6 @@ use std::alloc::Global;
 use std::sync::ledger::Ledger;
 use tl_types::{Cell, NoMemory, Opened, Period, Schema, Seq, Steps};
 
-// The cells of a row.
-fn row_cells<L: Ledger>(
-    alloc: Global,
-    table: &OpenTable<'_>,
-    row: u32,
-    steps: &mut Steps<L>,
-) -> Result<Vec<Cell>, NoMemory>
-    requires { row < length table.now.rows }
-    ensures value { IfOk result (λ cells. Some cells.items
-        ≡ option_map (λ r. r.cells) (slice_get table.now.rows row)) }
-    ensures some { IfOk result (λ cells. 1 ≤ length cells.items) }
-    ensures few { IfOk result (λ cells. length cells.items ≤ 16) }
-{
-    let schema = table.schema();
-    let mut cells = Vec::new(alloc);
-    for column in 0..schema.columns().len() {
-        let cell = table.cell(alloc, row, column as u8, steps)?;
-        cells.push(cell)?;
-    }
-    Ok(cells)
-}
-
 // Appends a row of the cells, of which there are 1 to 16, over each of the periods.
 fn push_over(
     alloc: Global,
@@ -68,11 +46,12 @@ fn push_left<L: Ledger>(
         ≡ opens.old.items ++ pieces_at table.now.schema lines (slice_get table.now.rows row)) }
 {
     let schema = table.schema();
-    let key = table.cell(alloc, row, schema.key(), steps)?;
+    let row_cells = table.row_cells(alloc, row)?;
+    let cells = row_cells.as_slice();
+    let key = &cells[schema.key() as usize];
     let whole = table.period(row, steps);
-    let parts = periods.left(alloc, &key, &whole)?;
-    let cells = row_cells(alloc, table, row, steps)?;
-    push_over(alloc, opens, &cells, &parts)?;
+    let parts = periods.left(alloc, key, &whole)?;
+    push_over(alloc, opens, cells, &parts)?;
     Ok(())
 }
 

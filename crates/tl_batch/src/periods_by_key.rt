@@ -159,7 +159,8 @@ impl PeriodsByKey {
         ensures lines { IfOk result (λ affected. (lines : List BatchLine) → HoldLines self.now lines
             → affected ≡ list_any (λ line. affects_period true line whole.now)
             (periods_with (Some key.now) lines)) }
-        ensures periods { IfOk result (λ affected. (periods : List (Option plain.Period)) → Full periods
+        ensures periods { IfOk result (λ affected. (periods : List (Option plain.Period))
+            → Full periods
             → ((t : ℤ) → is_covered t (cover_at key.now self.now) ≡ list_any (is_in t) periods)
             → affected ≡ list_any (λ line. affects_period true line whole.now) periods) }
     {
@@ -213,8 +214,8 @@ fn affects_part(
     parts: &[Option<Period>],
 ) -> Result<bool, NoMemory>
     ensures { IfOk result (λ affected. (wholes : List (Option plain.Period)) → Full wholes
-        → ((t : ℤ) → is_covered t (cover_at key.now rows.now) ≡ list_any (is_in t) wholes) → affected
-        ≡ list_any (λ g. list_any (λ p. affects_period true p g) wholes) parts.now) }
+        → ((t : ℤ) → is_covered t (cover_at key.now rows.now) ≡ list_any (is_in t) wholes)
+        → affected ≡ list_any (λ g. list_any (λ p. affects_period true p g) wholes) parts.now) }
 {
     for part in parts {
         let affected = rows.affects_period(alloc, key, part)?;
@@ -225,8 +226,8 @@ fn affects_part(
     Ok(false)
 }
 
-/// Whether a line of a key affects what earlier lines left of some periods of the key, by the moments
-/// that the earlier lines and the periods cover. The error is `NoMemory`.
+/// Whether a line of a key affects what earlier lines left of some periods of the key, by the
+/// moments that the earlier lines and the periods cover. The error is `NoMemory`.
 pub(crate) fn affects_rest(
     alloc: Global,
     earlier: &PeriodsByKey,
@@ -234,10 +235,10 @@ pub(crate) fn affects_rest(
     key: &Cell,
     line: &Option<Period>,
 ) -> Result<bool, NoMemory>
-    ensures { IfOk result (λ affected. (lines : List BatchLine) (wholes : List (Option plain.Period))
-        → HoldLines earlier.now lines → Full wholes
-        → ((t : ℤ) → is_covered t (cover_at key.now rows.now) ≡ list_any (is_in t) wholes) → affected
-        ≡ list_any (λ p. list_any (λ q. affects_period true line.now q)
+    ensures { IfOk result (λ affected. (lines : List BatchLine)
+        (wholes : List (Option plain.Period)) → HoldLines earlier.now lines → Full wholes
+        → ((t : ℤ) → is_covered t (cover_at key.now rows.now) ≡ list_any (is_in t) wholes)
+        → affected ≡ list_any (λ p. list_any (λ q. affects_period true line.now q)
         (cuts true (periods_with (Some key.now) lines) p)) wholes) }
 {
     let parts = earlier.left(alloc, key, line)?;

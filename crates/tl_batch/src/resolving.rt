@@ -9,11 +9,11 @@ ghost use Rattle.tl_types.specs.History.{database_of, fits, has_name, matches, r
 ghost use Rattle.tl_types.specs.Resolving.{find_table, resolved, removal_lines, put_lines};
 ghost use Rattle.tl_batch.specs.Made.{made_by, change_made, committed, rows_fit_found, IsMade, IsClosed};
 ghost use Rattle.tl_batch.specs.PutRows.{rows_put};
-ghost use Rattle.tl_batch.specs.Standing.{StandFor, rows_match};
+ghost use Rattle.tl_batch.specs.Standing.{rows_match};
 
 use crate::changing::{RowChanges, put_timed, remove_timed};
-use crate::key_index::KeyIndex;
 use crate::open_table::OpenTable;
+use crate::open_tables::OpenTables;
 use crate::put_rows::PutRows;
 use crate::untimed::{closes_of_keys, keys_of_lines, keys_of_rows};
 use std::alloc::{AllocError, Global};
@@ -193,23 +193,21 @@ fn remove_made(
 // The change that rows make which are put into the table with this number, or their first fault.
 fn rows_change(
     alloc: Global,
-    keys: &[KeyIndex],
-    store: &Store,
+    tables: &OpenTables<'_>,
     number: u16,
     rows: PutRows<'_>,
     limit: u64,
 ) -> Result<Result<Change, BatchFault>, NoMemory>
-    requires stands { StandFor keys.now (database_of store.now) }
-    requires there { number < length (database_of store.now).tables }
+    requires there { number < length (database_of tables.now).tables }
     requires few { length (rows_put rows) + 1 < 2 ^ 32 }
-    requires matching { IfSome (slice_get (database_of store.now).tables number)
+    requires matching { IfSome (slice_get (database_of tables.now).tables number)
         (λ t. IsTrue (list_all (matches t.schema) (rows_put rows))) }
     ensures { IfOk result (λ made. Some made
         ≡ option_map (λ t. made_by limit number false t.schema t.rows
         (put_lines t.schema (rows_put rows.entry)))
-        (slice_get (database_of store.now).tables number)) }
+        (slice_get (database_of tables.now).tables number)) }
 {
-    let table = OpenTable::new(store, number, &keys[number as usize]);
+    let table = tables.table(number);
     let made = put_made(alloc, &table, rows)?;
     let change = change_within(number, table.rows(), made, limit)?;
     Ok(change)
@@ -218,20 +216,18 @@ fn rows_change(
 // The change that the lines of a removal make in the table with this number, or their first fault.
 fn keys_change(
     alloc: Global,
-    keys: &[KeyIndex],
-    store: &Store,
+    tables: &OpenTables<'_>,
     number: u16,
     lines: &[KeyLine],
     limit: u64,
 ) -> Result<Result<Change, BatchFault>, NoMemory>
-    requires stands { StandFor keys.now (database_of store.now) }
-    requires there { number < length (database_of store.now).tables }
+    requires there { number < length (database_of tables.now).tables }
     requires few { length lines.now + 1 < 2 ^ 32 }
     ensures { IfOk result (λ made. Some made
         ≡ option_map (λ t. made_by limit number true t.schema t.rows (removal_lines lines.now))
-        (slice_get (database_of store.now).tables number)) }
+        (slice_get (database_of tables.now).tables number)) }
 {
-    let table = OpenTable::new(store, number, &keys[number as usize]);
+    let table = tables.table(number);
     let made = remove_made(alloc, &table, lines)?;
     let change = change_within(number, table.rows(), made, limit)?;
     Ok(change)
@@ -253,24 +249,23 @@ fn commit_of(author: u32, made: Result<Change, BatchFault>) -> Result<Commit, Ba
 /// The commit of this author that puts rows into the table with this name, or its first fault.
 pub(crate) fn resolve_put(
     alloc: Global,
-    keys: &[KeyIndex],
-    store: &Store,
+    tables: &OpenTables<'_>,
     author: u32,
     name: &Text,
     rows: PutRows<'_>,
     limits: &Limits,
 ) -> Result<Commit, BatchFault>
-    requires stands { StandFor keys.now (database_of store.now) }
     requires matching { IsTrue (rows_fit_found (rows_put rows)
-        (find_table name.now (database_of store.now).tables)) }
-    ensures ok { IfOk result (λ c. resolved limits.now (database_of store.now) author
+        (find_table name.now (database_of tables.now).tables)) }
+    ensures ok { IfOk result (λ c. resolved limits.now (database_of tables.now) author
         (batch.Put name.now (rows_put rows.entry)) ≡ Ok c) }
-    ensures fit { IfOk result (λ c. IsTrue (fits limits.now (database_of store.now) c)) }
+    ensures fit { IfOk result (λ c. IsTrue (fits limits.now (database_of tables.now) c)) }
     ensures err { IfErr result (λ e. (e ≡ fault.NoMemory)
-        ⊎ (resolved limits.now (database_of store.now) author
+        ⊎ (resolved limits.now (database_of tables.now) author
         (batch.Put name.now (rows_put rows.entry)) ≡ Err e)) }
 {
-    let Some(table) = store.find(name.as_str()) else {
+    let store = tables.store();
+    let Some(number) = store.find(name.as_str()) else {
         return Err(BatchFault::UnknownTable);
     };
     if has_all_versions(store, limits) {
@@ -279,7 +274,7 @@ pub(crate) fn resolve_put(
     if rows.as_slice().len() >= TOO_MANY_LINES {
         return Err(BatchFault::NoMemory);
     }
-    let Ok(made) = rows_change(alloc, keys, store, table, rows, limits.rows) else {
+    let Ok(made) = rows_change(alloc, tables, number, rows, limits.rows) else {
         return Err(BatchFault::NoMemory);
     };
     commit_of(author, made)
@@ -288,22 +283,21 @@ pub(crate) fn resolve_put(
 /// The commit of this author that removes rows from the table with this name, or its first fault.
 pub(crate) fn resolve_remove(
     alloc: Global,
-    keys: &[KeyIndex],
-    store: &Store,
+    tables: &OpenTables<'_>,
     author: u32,
     name: &Text,
     lines: &[KeyLine],
     limits: &Limits,
 ) -> Result<Commit, BatchFault>
-    requires stands { StandFor keys.now (database_of store.now) }
-    ensures ok { IfOk result (λ c. resolved limits.now (database_of store.now) author
+    ensures ok { IfOk result (λ c. resolved limits.now (database_of tables.now) author
         (batch.Remove name.now lines.now) ≡ Ok c) }
-    ensures fit { IfOk result (λ c. IsTrue (fits limits.now (database_of store.now) c)) }
+    ensures fit { IfOk result (λ c. IsTrue (fits limits.now (database_of tables.now) c)) }
     ensures err { IfErr result (λ e. (e ≡ fault.NoMemory)
-        ⊎ (resolved limits.now (database_of store.now) author (batch.Remove name.now lines.now)
+        ⊎ (resolved limits.now (database_of tables.now) author (batch.Remove name.now lines.now)
         ≡ Err e)) }
 {
-    let Some(table) = store.find(name.as_str()) else {
+    let store = tables.store();
+    let Some(number) = store.find(name.as_str()) else {
         return Err(BatchFault::UnknownTable);
     };
     if has_all_versions(store, limits) {
@@ -312,7 +306,7 @@ pub(crate) fn resolve_remove(
     if lines.len() >= TOO_MANY_LINES {
         return Err(BatchFault::NoMemory);
     }
-    let Ok(made) = keys_change(alloc, keys, store, table, lines, limits.rows) else {
+    let Ok(made) = keys_change(alloc, tables, number, lines, limits.rows) else {
         return Err(BatchFault::NoMemory);
     };
     commit_of(author, made)

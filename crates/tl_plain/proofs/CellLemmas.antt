@@ -49,7 +49,7 @@ alike (cell.Text r) (cell.Text s) (cell.Text t) h = nat_list_cmp_total.congr r s
 pub cell_total : IsTotalOrder cells.cmp-value.it
 cell_total = record { antisymm = turned; trans = before_both; congr = alike }
 
-int_before : (x y : ℤ) → is_lt (int_cmp x y) ≡ int_lt x y
+pub int_before : (x y : ℤ) → is_lt (int_cmp x y) ≡ int_lt x y
 int_before x y = by_tests (int_lt x y) (int_lt y x) where
   by_tests : (a b : Bool) → is_lt (cond a Less (cond b Greater Equal)) ≡ a
   by_tests true b = refl

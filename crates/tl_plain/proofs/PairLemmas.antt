@@ -20,7 +20,7 @@ use Rattle.tl_query.specs.Ordered.{in_order, pair_before}
 use Rattle.tl_query.specs.Joins.{common_pair, match_rows, pair_of, pairs_of, times_of}
 use Rattle.tl_plain.specs.declared.keyed_rows.KeyedRow.{KeyedRow}
 use Rattle.tl_plain.specs.Keyed.{row_with_id, has_key, AreByKey}
-use Rattle.tl_plain.proofs.CellLemmas.{given_by_key}
+use Rattle.tl_plain.proofs.CellLemmas.{given_by_key, int_before}
 use Rattle.tl_plain.proofs.Sorting.{sorted_is}
 
 -- THE ORDER OF PAIRS
@@ -38,13 +38,6 @@ before_then Greater b c = refl
 before_then Equal Less c = refl
 before_then Equal Equal c = refl
 before_then Equal Greater c = refl
-
-int_before : (x y : ℤ) → is_lt (int_cmp x y) ≡ int_lt x y
-int_before x y = by_tests (int_lt x y) (int_lt y x) where
-  by_tests : (a b : Bool) → is_lt (cond a Less (cond b Greater Equal)) ≡ a
-  by_tests true b = refl
-  by_tests false true = refl
-  by_tests false false = refl
 
 nat_before : (x y : ℕ) → is_lt (nat_cmp x y) ≡ nat_lt x y
 nat_before x y = by_tests (nat_lt x y) (x == y) where

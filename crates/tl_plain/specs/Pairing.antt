@@ -11,19 +11,19 @@ use Rattle.tl_plain.specs.declared.joins.Sides.{Sides}
 -- the rows of the two sides pass and have equal cells
 abbrev pub match_sides : Sides → plain.Row → plain.Row → Bool
 match_sides sides left right =
-    match_rows sides.left_pred.now sides.right_pred.now sides.left_on sides.right_on left right
+    match_rows sides.left.pred.now sides.right.pred.now sides.left.on sides.right.on left right
 
 -- the pair of a left and a right row, where they make one
 abbrev pub pair_on : Sides → ℕ × plain.Row → ℕ × plain.Row → Option Pair
 pair_on sides left right =
-    pair_of sides.left_pred.now sides.right_pred.now sides.left_on sides.right_on sides.span
+    pair_of sides.left.pred.now sides.right.pred.now sides.left.on sides.right.on sides.span
     left right
 
 -- the pairs of the two sides, left row by left row
 abbrev pub pairs_by_row : Sides → List Pair
 pairs_by_row sides =
-    pairs_of sides.left_pred.now sides.right_pred.now sides.left_on sides.right_on sides.span
-    sides.lefts.now sides.rights.now
+    pairs_of sides.left.pred.now sides.right.pred.now sides.left.on sides.right.on sides.span
+    sides.left.rows.now sides.right.rows.now
 
 -- the pairs of the two sides, in order
 abbrev pub pairs_on : Sides → List Pair
@@ -31,4 +31,4 @@ pairs_on sides = in_order pair_before (pairs_by_row sides)
 
 -- a pair as a row
 abbrev pub fields_on : Sides → Pair → List Field
-fields_on sides pair = pair_fields sides.lefts.now sides.rights.now pair
+fields_on sides pair = pair_fields sides.left.rows.now sides.right.rows.now pair

@@ -1,14 +1,39 @@
 //! What a query is answered with.
-ghost use Rattle.std.specs.Prelude.{◌≡◌, IfOk};
+ghost use Rattle.std.specs.Prelude.{◌≡◌, ◌<◌, ◌^◌, IfOk, length};
+ghost use Rattle.tl_types.specs.History.{rows_of};
 ghost use Rattle.tl_query.specs.Answers.{answer_of};
 
 use crate::aggregates::aggregate;
 use crate::database::Tables;
-use crate::joins::{Sides, join_rows};
+use crate::joins::{Side, Sides, join_rows};
 use crate::selects::select;
 use std::alloc::Global;
-use tl_query::{AggPlan, Typed};
+use tl_query::{AggKind, AggPlan, Typed, TypedPred};
 use tl_types::{Answer, Field, NoMemory, Seq};
+
+// What an aggregate over the table with a number works out: its kind, its column, and the column
+// of its groups.
+fn plan_of(table: u16, kind: AggKind, column: Option<u8>, by: Option<u8>) -> AggPlan
+    ensures { result ≡ record { table = table; kind = kind; column = column; by = by } }
+{
+    AggPlan {
+        table,
+        kind,
+        column,
+        by,
+    }
+}
+
+// The side of a join that the table with a number stands on.
+fn side_of<'a>(tables: &'a Tables, table: u16, pred: &'a TypedPred, on: u8) -> Side<'a>
+    ensures rows { result.rows.now ≡ rows_of tables.now table }
+    ensures few { length result.rows.now < 2 ^ 32 }
+    ensures pred { result.pred.now ≡ pred.now }
+    ensures on { result.on ≡ on }
+{
+    let rows = tables.rows(table);
+    Side { rows, pred, on }
+}
 
 /// The rows of the answer to a query. The error is out of memory.
 fn answer_rows(alloc: Global, tables: &Tables, query: &Typed) -> Result<Vec<Seq<Field>>, NoMemory>
@@ -21,14 +46,10 @@ fn answer_rows(alloc: Global, tables: &Tables, query: &Typed) -> Result<Vec<Seq<
             pred,
             valid_at,
             version,
-        } => select(
-            alloc,
-            tables.rows(*table),
-            items.as_slice(),
-            pred,
-            *valid_at,
-            *version,
-        )?,
+        } => {
+            let rows = tables.rows(*table);
+            select(alloc, rows, items.as_slice(), pred, *valid_at, *version)?
+        }
         Typed::Agg {
             table,
             kind,
@@ -37,12 +58,7 @@ fn answer_rows(alloc: Global, tables: &Tables, query: &Typed) -> Result<Vec<Seq<
             pred,
             span,
         } => {
-            let plan = AggPlan {
-                table: *table,
-                kind: *kind,
-                column: *column,
-                by: *by,
-            };
+            let plan = plan_of(*table, *kind, *column, *by);
             aggregate(alloc, plan, pred, *span, tables.rows(*table))?
         }
         Typed::Join {
@@ -54,16 +70,10 @@ fn answer_rows(alloc: Global, tables: &Tables, query: &Typed) -> Result<Vec<Seq<
             right_on,
             span,
         } => {
-            let sides = Sides {
-                lefts: tables.rows(*left),
-                left_pred,
-                left_on: *left_on,
-                rights: tables.rows(*right),
-                right_pred,
-                right_on: *right_on,
-                span: *span,
-            };
-            join_rows(alloc, &sides)?
+            let left = side_of(tables, *left, left_pred, *left_on);
+            let right = side_of(tables, *right, right_pred, *right_on);
+            let span = *span;
+            join_rows(alloc, &Sides { left, right, span })?
         }
     };
     Ok(rows)

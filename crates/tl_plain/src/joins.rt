@@ -1,4 +1,4 @@
-//! Answers to querys for the pairs of rows that hold at one time.
+//! Answers to queries for the pairs of rows that hold at one time.
 ghost use Rattle.std.specs.Prelude.{◌≡◌, ◌++◌, ◌<◌, ◌^◌, ℕ, length, map, IfOk, OnOk};
 ghost use Rattle.std.specs.List.{filter_map};
 ghost use Rattle.tl_types.specs.History.{with_ids, cell_at};
@@ -20,22 +20,24 @@ use std::alloc::Global;
 use tl_query::{Span, TypedPred};
 use tl_types::{Field, NoMemory, Pair, Seq};
 
-/// What is joined: the rows of two tables, the predicates that they pass, the columns in which
-/// their cells are equal, and the range of time.
+/// One side of a join: the rows of a table, what they pass, and a column.
+#[derive(Clone, Copy)]
+pub(crate) struct Side<'a> {
+    /// The table's rows.
+    pub rows: &'a [Row],
+    /// What they pass.
+    pub pred: &'a TypedPred,
+    /// The place of the column whose cells are equal to the other side's.
+    pub on: u8,
+}
+
+/// What is joined: two sides, and the range of time.
 #[derive(Clone, Copy)]
 pub(crate) struct Sides<'a> {
-    /// The left table's rows.
-    pub lefts: &'a [Row],
-    /// What they pass.
-    pub left_pred: &'a TypedPred,
-    /// The place of the left table's column.
-    pub left_on: u8,
-    /// The right table's rows.
-    pub rights: &'a [Row],
-    /// What they pass.
-    pub right_pred: &'a TypedPred,
-    /// The place of the right table's column.
-    pub right_on: u8,
+    /// The left side.
+    pub left: Side<'a>,
+    /// The right side.
+    pub right: Side<'a>,
     /// The range of time.
     pub span: Span,
 }
@@ -93,9 +95,9 @@ fn same_key(left: &Row, left_on: u8, right: &Row, right_on: u8) -> bool
 fn match_rows(sides: &Sides, left: &Row, right: &Row) -> bool
     ensures { result ≡ match_sides sides.now left.now right.now }
 {
-    passes(sides.left_pred, left)
-        && passes(sides.right_pred, right)
-        && same_key(left, sides.left_on, right, sides.right_on)
+    passes(sides.left.pred, left)
+        && passes(sides.right.pred, right)
+        && same_key(left, sides.left.on, right, sides.right.on)
 }
 
 fn pair_of(sides: &Sides, left_id: u32, left: &Row, right_id: u32, right: &Row) -> Option<Pair>
@@ -116,12 +118,12 @@ fn matching_rows<'a, 'b>(
     left: &Row,
     by_key: &'b [KeyedRow<'a>],
 ) -> &'b [KeyedRow<'a>]
-    requires { AreByKey sides.now.right_on sides.now.rights.now by_key.now }
+    requires { AreByKey sides.now.right.on sides.now.right.rows.now by_key.now }
     ensures { (id : ℕ) →
         filter_map (pair_on sides.now (id, left.now)) (map row_with_id result.now) ≡
-        filter_map (pair_on sides.now (id, left.now)) (with_ids sides.now.rights.now) }
+        filter_map (pair_on sides.now (id, left.now)) (with_ids sides.now.right.rows.now) }
 {
-    match cell_in(sides.left_on, left) {
+    match cell_in(sides.left.on, left) {
         Some(key) => rows_with_key(by_key, key),
         None => &[],
     }
@@ -148,13 +150,13 @@ fn add_pairs(
 
 /// The pairs of all rows, left row by left row. The error is out of memory.
 fn pairs_by_row(alloc: Global, sides: &Sides) -> Result<Vec<Pair>, NoMemory>
-    requires lefts { length sides.now.lefts.now < 2 ^ 32 }
-    requires rights { length sides.now.rights.now < 2 ^ 32 }
+    requires lefts { length sides.now.left.rows.now < 2 ^ 32 }
+    requires rights { length sides.now.right.rows.now < 2 ^ 32 }
     ensures { IfOk result (λ pairs. pairs.items ≡ pairs_by_row sides.now) }
 {
-    let by_key = rows_by_key(alloc, sides.right_on, sides.rights)?;
+    let by_key = rows_by_key(alloc, sides.right.on, sides.right.rows)?;
     let mut pairs = Vec::new(alloc);
-    for (left_id, left) in sides.lefts.iter().enumerate() {
+    for (left_id, left) in sides.left.rows.iter().enumerate() {
         let rights = matching_rows(sides, left, by_key.as_slice());
         add_pairs(&mut pairs, sides, left_id as u32, left, rights)?;
     }
@@ -163,8 +165,8 @@ fn pairs_by_row(alloc: Global, sides: &Sides) -> Result<Vec<Pair>, NoMemory>
 
 /// The pairs of all rows, in order. The error is out of memory.
 fn joined_pairs(alloc: Global, sides: &Sides) -> Result<Vec<Pair>, NoMemory>
-    requires lefts { length sides.now.lefts.now < 2 ^ 32 }
-    requires rights { length sides.now.rights.now < 2 ^ 32 }
+    requires lefts { length sides.now.left.rows.now < 2 ^ 32 }
+    requires rights { length sides.now.right.rows.now < 2 ^ 32 }
     ensures { IfOk result (λ pairs. pairs.items ≡ pairs_on sides.now) }
 {
     let mut pairs = pairs_by_row(alloc, sides)?;
@@ -189,15 +191,15 @@ fn pair_fields(alloc: Global, sides: &Sides, pair: Pair) -> Result<Seq<Field>, N
     let mut fields = Vec::new(alloc);
     fields.push(moment_field(pair.from))?;
     fields.push(moment_field(pair.to))?;
-    add_row(&mut fields, sides.lefts, pair.left)?;
-    add_row(&mut fields, sides.rights, pair.right)?;
+    add_row(&mut fields, sides.left.rows, pair.left)?;
+    add_row(&mut fields, sides.right.rows, pair.right)?;
     Ok(Seq::from_vec(fields))
 }
 
 /// The answer to a query for pairs of rows. The error is out of memory.
 pub(crate) fn join_rows(alloc: Global, sides: &Sides) -> Result<Vec<Seq<Field>>, NoMemory>
-    requires lefts { length sides.now.lefts.now < 2 ^ 32 }
-    requires rights { length sides.now.rights.now < 2 ^ 32 }
+    requires lefts { length sides.now.left.rows.now < 2 ^ 32 }
+    requires rights { length sides.now.right.rows.now < 2 ^ 32 }
     ensures { IfOk result (λ answer.
         answer.items ≡ map (fields_on sides.now) (pairs_on sides.now)) }
 {

@@ -1,13 +1,13 @@
 use Rattle.std.proofs.Common.{arith, ap, ◌∙◌}
 use Rattle.tl_types.specs.History.{has_id}
 use Rattle.tl_batch.specs.Lines.{lines_of}
-use Rattle.tl_batch.proofs.KeyLemmas.{seen_stroke, fresh_affected, known_affected, all_affected}
+use Rattle.tl_batch.proofs.KeyLemmas.{seen_line, fresh_affected, known_affected, all_affected}
 use Rattle.tl_batch.proofs.affected.affected_rows.Goals as goal
 use Rattle.tl_batch.proofs.affected.affected_rows.Goals.{then-fresh+in_ok-add_rows, else-fresh}
 
 pub loop-line-preserved : goal.loop-line-preserved
 loop-line-preserved g c = record {
-  seen = seen_stroke c.args.lines.now c.loop-line.line-index c.line-item.result c.loop-line.seen c.add.new.self (omega arith) c.line-item.is c.loop-line.invariant.seen c.in_ok-fresh.ensures.added;
+  seen = seen_line c.args.lines.now c.loop-line.line-index c.line-item.result c.loop-line.seen c.add.new.self (omega arith) c.line-item.is c.loop-line.invariant.seen c.in_ok-fresh.ensures.added;
   affected = elim c.if-fresh.branch [
     | then-fresh+in_ok-add_rows w ↦ λ n. ap (λ ids. has_id ids n) w.affected-is ∙ fresh_affected c.args.table.now.schema c.args.table.now.rows c.args.lines.now c.loop-line.line-index c.line-item.result c.loop-line.affected w.add_rows.new.affected
         c.requires.valid (omega arith) c.line-item.is c.loop-line.invariant.affected (w.in_ok-add_rows.ensures (lines_of c.args.lines.now) c.requires.held) n

@@ -1,6 +1,6 @@
 use Rattle.std.proofs.Common.{◌∙◌}
 use Rattle.tl_batch.specs.Lines.{lines_of}
-use Rattle.tl_batch.proofs.TakenLemmas.{closes_within, closes_are, opens_are}
+use Rattle.tl_batch.proofs.RowChangesLemmas.{closes_within, closes_are, opens_are}
 use Rattle.tl_batch.proofs.changing.cut_rows.Goals as goal
 
 pub old_pieces-requires-clause-rows : goal.old_pieces-requires-clause-rows

@@ -1,7 +1,7 @@
 use Rattle.std.proofs.Common.{◌+◌, true, false, None, Some, refl, arith}
 use Rattle.tl_types.specs.declared.batches.BatchFault.TheVariants as fault
-use Rattle.tl_batch.proofs.HoldLemmas.{stroke_held}
-use Rattle.tl_batch.proofs.AdjacentLemmas.{fault_here, fault_later}
+use Rattle.tl_batch.proofs.HoldLemmas.{line_held}
+use Rattle.tl_batch.proofs.LineFaultLemmas.{fault_here, fault_later}
 use Rattle.tl_batch.proofs.RemovalLemmas.{row_affected_fault, told}
 use Rattle.tl_batch.proofs.faults.first_fault.Goals as goal
 
@@ -12,7 +12,7 @@ returns-then-not-affected g c = fault_here c.args.table.now.schema true c.args.t
 
 pub loop-i-preserved : goal.loop-i-preserved
 loop-i-preserved g c = record {
-  held = stroke_held c.loop-i.earlier c.add.new.self c.args.lines.now c.loop-i.i c.index-lines-i.result (omega arith) c.index-lines-i.is c.loop-i.invariant.held c.in_ok-add.ensures.held c.in_ok-add.ensures.full;
+  held = line_held c.loop-i.earlier c.add.new.self c.args.lines.now c.loop-i.i c.index-lines-i.result (omega arith) c.index-lines-i.is c.loop-i.invariant.held c.in_ok-add.ensures.held c.in_ok-add.ensures.full;
   none = fault_later c.args.table.now.schema true c.args.table.now.rows c.args.lines.now c.loop-i.i c.index-lines-i.result None _ (omega arith) c.index-lines-i.is
       (told c.in_ok-affected.affected true None (Some (fault.NoRow (c.loop-i.i + 2))) _ (row_affected_fault c.args.table.now.schema c.args.table.now.rows c.args.lines.now c.loop-i.i (c.loop-i.i + 2) c.index-lines-i.result c.in_ok-affected.affected c.loop-i.earlier c.in_ok-rows.rows c.requires.valid (omega arith) c.index-lines-i.is c.in_ok-rows.ensures c.loop-i.invariant.held c.in_ok-affected.ensures) c.if-not-affected.false)
       refl c.loop-i.invariant.none;

@@ -2,7 +2,7 @@ use Rattle.std.proofs.Common.{◌||◌, sym, ap, ◌∙◌, w64, rules, FitsSign
 use Rattle.std.specs.Int.{int_min, int_max}
 use Rattle.std.proofs.lemmas.Int.{to_z-of_z}
 use Rattle.tl_batch.specs.Covers.{is_between, is_covered}
-use Rattle.tl_batch.proofs.CoverLemmas.{swallow_fewer, swallow_more}
+use Rattle.tl_batch.proofs.PeriodSetLemmas.{swallow_fewer, swallow_more}
 use Rattle.tl_batch.proofs.period_set.absorbed.Goals as goal
 
 pub absorbing-smaller : goal.absorbing-smaller

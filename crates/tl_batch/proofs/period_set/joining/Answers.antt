@@ -1,6 +1,6 @@
 use Rattle.std.proofs.Common.{w64, arith}
 use Rattle.std.proofs.lemmas.Int.{to_z-of_z, ints}
-use Rattle.tl_batch.proofs.CoverLemmas.{near_none, near_some, near_past}
+use Rattle.tl_batch.proofs.PeriodSetLemmas.{near_none, near_some, near_past}
 use Rattle.tl_batch.proofs.period_set.joining.Goals as goal
 
 pub returns-then-start-to : goal.returns-then-start-to

@@ -13,7 +13,7 @@ loop-right-preserved c =
     let right = c.right-item.result in
     let here : i < length c.args.rights.now = omega arith in
     let grown = behind_more row_with_id c.args.rights.now i right here c.right-item.is in
-    let h = pair_of sides.left_pred.now sides.right_pred.now sides.left_on sides.right_on sides.span (c.args.left_id, c.args.left.now) in
+    let h = pair_of sides.left.pred.now sides.right.pred.now sides.left.on sides.right.on sides.span (c.args.left_id, c.args.left.now) in
     elim c.match-pair_of.branch [
       | in-Some+in_ok-push w ↦
           pair_taken h c.args.pairs.now.items c.loop-right.pairs.items c.match-pair_of.pairs.items (take i rights) (take (i + 1) rights) (row_with_id right) w.in-Some.pair (cc (w.pairs-is, w.in_ok-push.ensures.items)) grown w.in-Some.ensures c.loop-right.invariant

@@ -5,4 +5,4 @@ use Rattle.tl_query.specs.Joins.{pair_of}
 use Rattle.tl_plain.proofs.joins.pairs_by_row.Given as goal
 
 abbrev pub invariant-loop-left_id : goal.invariant-loop-left_id
-invariant-loop-left_id l = l.pairs.items ≡ flat_map (λ r. filter_map (pair_of l.sides.left_pred.now l.sides.right_pred.now l.sides.left_on l.sides.right_on l.sides.span r) (with_ids l.sides.rights.now)) (enumerate_from 0 (take l.left_id l.sides.lefts.now))
+invariant-loop-left_id l = l.pairs.items ≡ flat_map (λ r. filter_map (pair_of l.sides.left.pred.now l.sides.right.pred.now l.sides.left.on l.sides.right.on l.sides.span r) (with_ids l.sides.right.rows.now)) (enumerate_from 0 (take l.left_id l.sides.left.rows.now))

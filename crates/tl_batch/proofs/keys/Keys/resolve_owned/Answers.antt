@@ -7,7 +7,7 @@ pub returns-in-Create-clause-standard : goal.returns-in-Create-clause-standard
 returns-in-Create-clause-standard c = ok_within c.args.limits.now standard_limits (database_of c.args.store.now) c.resolve_create.result c.resolve_create.ensures.fit
 
 pub returns-in-Put-clause-standard : goal.returns-in-Put-clause-standard
-returns-in-Put-clause-standard c = ok_within c.args.limits.now standard_limits (database_of c.args.store.now) c.resolve_put.result c.resolve_put.ensures.fit
+returns-in-Put-clause-standard c = ok_within c.args.limits.now standard_limits (database_of c.args.store.now) c.resolve_put.result (rw c.new-tables.ensures at c.resolve_put.ensures.fit)
 
 pub returns-in-Remove-clause-standard : goal.returns-in-Remove-clause-standard
-returns-in-Remove-clause-standard c = ok_within c.args.limits.now standard_limits (database_of c.args.store.now) c.resolve_remove.result c.resolve_remove.ensures.fit
+returns-in-Remove-clause-standard c = ok_within c.args.limits.now standard_limits (database_of c.args.store.now) c.resolve_remove.result (rw c.new-tables-in-Remove.ensures at c.resolve_remove.ensures.fit)

@@ -1,7 +1,7 @@
 use Rattle.std.proofs.Common.{◌||◌, ap, ◌∙◌, w64, rules, FitsSigned, of_z, to_z}
 use Rattle.std.proofs.lemmas.Int.{to_z-of_z}
 use Rattle.tl_batch.specs.Covers.{is_between, is_covered}
-use Rattle.tl_batch.proofs.CoverLemmas.{after_all, put_beyond, put_covers}
+use Rattle.tl_batch.proofs.PeriodSetLemmas.{after_all, put_beyond, put_covers}
 use Rattle.tl_batch.proofs.period_set.PeriodSet.add.Goals as goal
 
 pub invariant_of-self-2 : goal.invariant_of-self-2

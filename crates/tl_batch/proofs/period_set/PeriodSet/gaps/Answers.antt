@@ -1,7 +1,7 @@
 use Rattle.std.proofs.Common.{sym, ◌∙◌, w64, arith, rules, FitsSigned, of_z, to_z}
 use Rattle.std.proofs.lemmas.Int.{to_z-of_z, ints}
 use Rattle.tl_batch.specs.Covers.{walk}
-use Rattle.tl_batch.proofs.CoverLemmas.{range_gaps, gaps_stop, gaps_next, gaps_past, left_by_lines}
+use Rattle.tl_batch.proofs.PeriodSetLemmas.{range_gaps, gaps_stop, gaps_next, gaps_past, left_by_lines}
 use Rattle.tl_batch.proofs.period_set.PeriodSet.gaps.Goals as goal
 
 pub returns-then-start-to-clause-value : goal.returns-then-start-to-clause-value

@@ -1,7 +1,6 @@
 -- What lines take from the current rows, and what they put.
-use Rattle.std.proofs.Common.{◌≡◌, ℕ, zero, suc, ◌+◌, ◌<◌, ◌≤◌, Bool, true, false, ◌&&◌, ◌||◌, cond, nat_eq, List, [], ◌∷◌, ◌++◌, length, map, get_or, slice_get, Option, Some, None, subst, refl, sym, ap, ◌∙◌, arith}
+use Rattle.std.proofs.Common.{◌≡◌, ℕ, zero, suc, ◌+◌, ◌<◌, ◌≤◌, Bool, true, false, ◌&&◌, cond, List, [], ◌∷◌, ◌++◌, length, map, get_or, slice_get, Option, Some, None, subst, refl, sym, ap, ◌∙◌, arith}
 use Rattle.std.specs.List.{list_any, flat_map, All}
-use Rattle.std.proofs.lemmas.Bool.Decides.{nat_tests}
 use Rattle.tl_types.specs.declared.cells.Cell.{Cell}
 use Rattle.tl_types.specs.Plain as plain
 use Rattle.tl_types.specs.Facts.{AscendFrom}
@@ -10,7 +9,8 @@ use Rattle.tl_types.specs.Resolving.{BatchLine, same_key, put_lines}
 use Rattle.tl_types.specs.declared.batches.KeyLine.{KeyLine}
 use Rattle.tl_batch.specs.Pieces.{affects_period, cuts, periods_with, is_affected, affected_ids, over, row_pieces, old_pieces, is_open_affected, pieces_at}
 use Rattle.tl_batch.specs.Lines.{lines_of, line_of_row}
-use Rattle.tl_batch.proofs.ChangeLemmas.{affected_ids-ascend, ascend_same}
+use Rattle.tl_batch.proofs.ChangeLemmas.{affected_ids-at, affected_ids-ascend, ascend_same}
+use Rattle.tl_batch.proofs.RowIds.{ids_at, ids_at-has}
 use Rattle.tl_batch.proofs.AffectLemmas.{holds_at}
 
 -- lines leave nothing of a row that has no period
@@ -19,37 +19,15 @@ nothing_left [] h = absurd (omega arith)
 nothing_left (None ∷ lines) h = refl
 nothing_left (Some l ∷ lines) h = refl
 
-affected_past : (schema : plain.Schema) (lines : List BatchLine) (n : ℕ) (rows : List plain.Row) (m : ℕ) → m < n → has_id (affected_ids schema lines n rows) m ≡ false
-affected_past schema lines n [] m h = refl
-affected_past schema lines n (r ∷ rows) m h = split (is_open r && is_affected schema lines r) (affected_past schema lines (n + 1) rows m (omega arith)) where
-  apart : nat_eq n m ≡ false
-  apart = grind (arith, nat_tests)
-
-  split : (b : Bool) → has_id (affected_ids schema lines (n + 1) rows) m ≡ false → has_id (cond b (n ∷ affected_ids schema lines (n + 1) rows) (affected_ids schema lines (n + 1) rows)) m ≡ false
-  split true later = ap (λ v. v || has_id (affected_ids schema lines (n + 1) rows) m) apart ∙ later
-  split false later = later
-
 -- the ids that are affected, by rows
-affected_has : (schema : plain.Schema) (lines : List BatchLine) (n : ℕ) (rows : List plain.Row) (i : ℕ) → has_id (affected_ids schema lines n rows) (n + i) ≡ is_open_affected schema lines (slice_get rows i)
-affected_has schema lines n [] i = refl
-affected_has schema lines n (r ∷ rows) zero =
-    let here : nat_eq n (n + 0) ≡ true = grind (arith, nat_tests) in
-    let next : n + 0 < n + 1 = omega arith in
-    split here (affected_past schema lines (n + 1) rows (n + 0) next) (is_open r && is_affected schema lines r) where
-      split : nat_eq n (n + 0) ≡ true → has_id (affected_ids schema lines (n + 1) rows) (n + 0) ≡ false → (b : Bool) → has_id (cond b (n ∷ affected_ids schema lines (n + 1) rows) (affected_ids schema lines (n + 1) rows)) (n + 0) ≡ b
-      split here past true = ap (λ v. v || has_id (affected_ids schema lines (n + 1) rows) (n + 0)) here
-      split here past false = past
-affected_has schema lines n (r ∷ rows) (suc i) =
-    let number : n + 1 + i ≡ n + suc i = omega arith in
-    let apart : nat_eq n (n + suc i) ≡ false = grind (arith, nat_tests) in
-    split apart (ap (has_id (affected_ids schema lines (n + 1) rows)) (sym number) ∙ affected_has schema lines (n + 1) rows i) (is_open r && is_affected schema lines r) where
-      split : nat_eq n (n + suc i) ≡ false → has_id (affected_ids schema lines (n + 1) rows) (n + suc i) ≡ is_open_affected schema lines (slice_get rows i) → (b : Bool) → has_id (cond b (n ∷ affected_ids schema lines (n + 1) rows) (affected_ids schema lines (n + 1) rows)) (n + suc i) ≡ is_open_affected schema lines (slice_get rows i)
-      split apart later true = ap (λ v. v || has_id (affected_ids schema lines (n + 1) rows) (n + suc i)) apart ∙ later
-      split apart later false = later
+affected_has : (schema : plain.Schema) (lines : List BatchLine) (rows : List plain.Row) (n : ℕ) → has_id (affected_ids schema lines 0 rows) n ≡ is_open_affected schema lines (slice_get rows n)
+affected_has schema lines rows n =
+    let e : n ≡ 0 + n = omega arith in
+    ap (λ ids. has_id ids n) (affected_ids-at schema lines 0 rows) ∙ (ap (has_id (ids_at (is_open_affected schema lines) 0 rows)) e ∙ ids_at-has (is_open_affected schema lines) refl 0 rows n)
 
 -- an ascending list of the rows that lines affect is that of the ids that are affected
 pub closes_are : (schema : plain.Schema) (lines : List BatchLine) (rows : List plain.Row) (ids : List ℕ) → AscendFrom 0 ids → ((n : ℕ) → has_id ids n ≡ is_open_affected schema lines (slice_get rows n)) → ids ≡ affected_ids schema lines 0 rows
-closes_are schema lines rows ids ascend members = ascend_same 0 ids (affected_ids schema lines 0 rows) ascend (affected_ids-ascend schema lines 0 rows) (λ n. members n ∙ (sym (affected_has schema lines 0 rows n) ∙ ap (has_id (affected_ids schema lines 0 rows)) (let e : 0 + n ≡ n = omega arith in e)))
+closes_are schema lines rows ids ascend members = ascend_same 0 ids (affected_ids schema lines 0 rows) ascend (affected_ids-ascend schema lines 0 rows) (λ n. members n ∙ sym (affected_has schema lines rows n))
 
 affected_within : (schema : plain.Schema) (lines : List BatchLine) (rows : List plain.Row) (n : ℕ) → is_open_affected schema lines (slice_get rows n) ≡ true → n < length rows
 affected_within schema lines [] n e = absurd (cc)
@@ -82,8 +60,8 @@ periods-rows schema key [] = refl
 periods-rows schema key (o ∷ lines) = ap (λ ps. cond (same_key key (slice_get o.cells schema.key)) (o.period ∷ ps) ps) (periods-rows schema key lines)
 
 -- the periods of lines that put rows, read off their keys and periods
-pub periods-strokes : (schema : plain.Schema) (strokes : List KeyLine) (lines : List plain.Opened) (key : Option Cell) → lines_of strokes ≡ map (line_of_row schema.key) lines → periods_with key (lines_of strokes) ≡ periods_with key (put_lines schema lines)
-periods-strokes schema strokes lines key same = ap (periods_with key) same ∙ periods-rows schema key lines
+pub periods-key_lines : (schema : plain.Schema) (key_lines : List KeyLine) (lines : List plain.Opened) (key : Option Cell) → lines_of key_lines ≡ map (line_of_row schema.key) lines → periods_with key (lines_of key_lines) ≡ periods_with key (put_lines schema lines)
+periods-key_lines schema key_lines lines key same = ap (periods_with key) same ∙ periods-rows schema key lines
 
 -- LINES WITH THE SAME PERIODS
 

@@ -1,12 +1,11 @@
 -- Commits that fit one after the other.
-use Rattle.std.proofs.Common.{◌≡◌, ℕ, Bool, true, false, List, [], ◌∷◌, ◌++◌, refl, sym, ap, ◌∙◌, subst, IsTrue}
-use Rattle.std.specs.Prelude.{Ok, IfOk}
+use Rattle.std.proofs.Common.{◌≡◌, true, false, List, [], ◌∷◌, ◌++◌, sym, ap, ◌∙◌, subst}
+use Rattle.std.specs.Prelude.{Ok}
 use Rattle.std.specs.List.{fold}
 use Rattle.tl_types.specs.declared.commits.Commit.{Commit}
 use Rattle.tl_types.specs.declared.commits.Entry.{Entry}
-use Rattle.tl_types.specs.declared.batches.BatchFault.{BatchFault}
 use Rattle.tl_types.specs.declared.limits.Limits.{Limits}
-use Rattle.tl_types.specs.Entries.{commits_of, has_break}
+use Rattle.tl_types.specs.Entries.{commits_of}
 use Rattle.tl_types.specs.History.{database_of, nothing, after_commit, fits}
 use Rattle.tl_types.specs.Limits.{standard_limits}
 use Rattle.tl_types.specs.Plain as plain

@@ -5,3 +5,7 @@ pub mod MomentLemmas
 pub mod StandingLemmas
 pub mod RoomLemmas
 pub mod OpenLemmas
+pub mod CountLemmas
+pub mod MatchLemmas
+pub mod SayLemmas
+pub mod WriteLemmas

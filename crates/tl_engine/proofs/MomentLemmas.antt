@@ -1,6 +1,5 @@
 -- What a crash leaves at each moment of several calls.
-use Rattle.std.proofs.Common.{◌≡◌, ◌⊎◌, ℕ, ◌≤◌, List, refl, sym, ap, ◌∙◌, subst, arith, inl, inr}
-use Rattle.tl_device.specs.Disk.{LeavesOnly}
+use Rattle.std.proofs.Common.{◌⊎◌, ℕ, ◌≤◌, List, arith, inl, inr}
 use Rattle.tl_journal.specs.Moments.{EachMoment}
 
 -- no call at all

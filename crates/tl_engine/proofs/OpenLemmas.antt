@@ -1,11 +1,11 @@
 -- The end of the opening of a history.
-use Rattle.std.proofs.Common.{◌≡◌, ◌⊎◌, inl, inr, ℕ, Bool, true, false, List, [], ◌∷◌, ◌++◌, refl, sym, ap, ◌∙◌, subst}
+use Rattle.std.proofs.Common.{◌≡◌, inr, ℕ, Bool, false, List, sym, ◌∙◌, subst}
 use Rattle.std.specs.Prelude.{Some}
 use Rattle.std.specs.declared.option.Option.{Option}
 use Rattle.tl_types.specs.declared.commits.Commit.{Commit}
 use Rattle.tl_types.specs.declared.commits.Entry.{Entry}
 use Rattle.tl_types.specs.declared.limits.Limits.{Limits}
-use Rattle.tl_types.specs.Entries.{commits_of, has_break}
+use Rattle.tl_types.specs.Entries.{commits_of}
 use Rattle.tl_device.specs.Disk.{IsStored}
 use Rattle.tl_journal.specs.Image.{StandsFor, IsJournalOf}
 use Rattle.tl_journal.specs.Moments.{EachMoment, EachMomentBySync, OldOr}

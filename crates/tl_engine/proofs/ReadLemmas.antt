@@ -1,13 +1,13 @@
 -- What has been read of a journal's image.
-use Rattle.std.proofs.Common.{◌≡◌, ◌≢◌, inl, inr, true, false, ℕ, ◌+◌, ◌≤◌, ◌<◌, ◌-◌, List, [], ◌∷◌, ◌++◌, length, drop, refl, sym, ap, ◌∙◌, subst, arith, append_assoc, length-append}
+use Rattle.std.proofs.Common.{◌≡◌, inl, inr, true, false, ℕ, ◌+◌, ◌≤◌, ◌<◌, ◌-◌, List, [], ◌∷◌, ◌++◌, length, drop, refl, sym, ap, ◌∙◌, subst, arith, append_assoc, length-append}
 use Rattle.tl_types.specs.declared.commits.Commit.{Commit}
 use Rattle.tl_types.specs.declared.commits.Entry.{Entry}
 use Rattle.tl_types.specs.declared.limits.Limits.{Limits}
 use Rattle.tl_types.specs.Entries.{commits_of}
-use Rattle.tl_types.specs.History.{database_of, fits}
+use Rattle.tl_types.specs.History.{fits}
 use Rattle.tl_index.specs.Snapshots.{commit_entry}
 use Rattle.tl_record.specs.Spelling.{spelling}
-use Rattle.std.specs.Prelude.{Option, Some, None, IfSome, Result, Ok, Err}
+use Rattle.std.specs.Prelude.{Option, Some, None, IfSome, Result, Err}
 use Rattle.tl_journal.specs.Answers.{IsTooShort, IsDeviceOrMemory}
 use Rattle.tl_journal.specs.Image.{header, Opens, StandsFor, IsJournalOf, IsDamagedOnlyAt, size_of}
 use Rattle.tl_journal.specs.declared.found.Found.{Found}

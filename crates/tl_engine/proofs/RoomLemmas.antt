@@ -1,8 +1,6 @@
 -- A journal whose disk takes room.
-use Rattle.std.proofs.Common.{◌≡◌, ℕ, List, refl}
+use Rattle.std.proofs.Common.{ℕ, List, refl}
 use Rattle.std.specs.declared.option.Option.{Option}
-use Rattle.tl_types.specs.declared.commits.Commit.{Commit}
-use Rattle.tl_journal.specs.Moments.{EachMoment, IsUntouched}
 use Rattle.tl_journal.specs.Plain as journal
 use Rattle.tl_engine.specs.Committing.{TakesRoom}
 use Rattle.tl_engine.proofs.MomentLemmas.{no_moment}

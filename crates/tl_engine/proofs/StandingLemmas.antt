@@ -1,13 +1,13 @@
 -- What the disk of a history stands for after a commit.
-use Rattle.std.proofs.Common.{◌≡◌, ◌⊎◌, ℕ, ◌+◌, Bool, true, false, List, [], ◌∷◌, ◌++◌, length, refl, sym, ap, ◌∙◌, subst, inl, inr, arith, length-append}
+use Rattle.std.proofs.Common.{◌≡◌, ℕ, true, false, List, [], ◌∷◌, ◌++◌, sym, ap, ◌∙◌, subst, inl, inr}
 use Rattle.std.specs.declared.option.Option.{Option}
 use Rattle.tl_types.specs.declared.commits.Commit.{Commit}
 use Rattle.tl_types.specs.declared.commits.Entry.{Entry}
 use Rattle.tl_types.specs.Entries.{commits_of, has_break}
 use Rattle.tl_index.specs.Snapshots.{commit_entry, break_entry}
-use Rattle.tl_journal.specs.Image.{header, Opens, Ends, StandsFor, BeforeOrAfter}
-use Rattle.tl_journal.specs.Moments.{EachMoment, IsUntouched}
-use Rattle.tl_journal.specs.Stands.{IsJournal, StandsAs}
+use Rattle.tl_journal.specs.Image.{StandsFor, BeforeOrAfter}
+use Rattle.tl_journal.specs.Moments.{EachMoment}
+use Rattle.tl_journal.specs.Stands.{StandsAs}
 use Rattle.tl_journal.specs.Plain as journal
 use Rattle.tl_engine.specs.Lists.{tried_commits}
 use Rattle.tl_engine.specs.Standing.{IsImageOf, IsOneOf, StandsOnDisk}

@@ -1,28 +1,17 @@
 -- The steps of a commit.
-use Rattle.std.specs.Prelude.{◌≡◌, ℕ, List, [], ◌∷◌, ◌++◌, length, Err}
+use Rattle.std.specs.Prelude.{◌≡◌, ℕ, List, length, Err}
 use Rattle.std.specs.declared.option.Option.{Option}
 use Rattle.tl_types.specs.declared.batches.Batch.{Batch}
 use Rattle.tl_types.specs.declared.commits.Commit.{Commit}
-use Rattle.tl_types.specs.declared.commits.Entry.{Entry}
 use Rattle.tl_types.specs.declared.limits.Limits.{Limits}
 use Rattle.tl_types.specs.History.{database_of}
 use Rattle.tl_types.specs.Resolving.{resolved}
 use Rattle.tl_device.specs.Known.{Rose}
-use Rattle.tl_index.specs.Snapshots.{commit_entry, break_entry}
-use Rattle.tl_journal.specs.Image.{IsBodyOf}
 use Rattle.tl_journal.specs.Moments.{EachMoment, IsUntouched}
 use Rattle.tl_journal.specs.Plain as journal
 use Rattle.tl_journal.specs.Stands.{StandsAs}
-use Rattle.tl_engine.specs.declared.committing.Ready.{Ready}
 use Rattle.tl_engine.specs.declared.faults.CommitFault.{CommitFault}
 use Rattle.tl_engine.specs.declared.faults.CommitFault.TheVariants as fault
-
--- what is ready for a commit over these entries: the entries with it, those with its break, and its
--- record with a closed gate
-pub record IsReady (entries : List Entry) (commit : Commit) (ready : Ready) : Type 0 where
-  pub next : ready.next ≡ entries ++ commit_entry commit ∷ []
-  pub broken : ready.broken ≡ entries ++ break_entry commit ∷ []
-  pub body : IsBodyOf commit ready.body
 
 -- the batch becomes no commit over these commits, by this fault, or memory ran out
 abbrev pub IsRefusal : Limits → List Commit → ℕ → Batch → CommitFault → Type 0

@@ -1,8 +1,12 @@
 pub mod Answers
 pub mod Committing
+pub mod Counting
 pub mod Fitting
 pub mod Lists
+pub mod Naming
 pub mod Opening
 pub mod Plain
 pub mod Replaying
+pub mod Saying
 pub mod Standing
+pub mod Writing

@@ -1,5 +1,6 @@
 -- What contracts see of a history.
 use Rattle.std.specs.Prelude.{ℕ, List}
+use Rattle.atomic_table.specs.Seated.{TableId}
 use Rattle.tl_types.specs.declared.commits.Entry.{Entry}
 use Rattle.tl_types.specs.declared.limits.Limits.{Limits}
 use Rattle.tl_journal.specs.Plain as journal
@@ -11,3 +12,11 @@ pub record History (D : Type 0) : Type 0 where
   pub journal : journal.Journal D
   pub first_count : ℕ
   pub limits : Limits
+
+-- a history that is to be an engine's, the table of its head, and the name and the parts of the
+-- ledger of its commits
+pub record Opening (D : Type 0) : Type 0 where
+  pub history : History D
+  pub table : TableId
+  pub ledger : ℕ
+  pub parts : ℕ

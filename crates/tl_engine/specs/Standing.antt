@@ -1,7 +1,6 @@
 -- What a history keeps, and what its disk stands for.
-use Rattle.std.specs.Prelude.{◌≡◌, ◌⊎◌, ℕ, Bool, true, false, List, [], ◌∷◌, ◌++◌, None}
+use Rattle.std.specs.Prelude.{◌≡◌, ◌⊎◌, ℕ, Bool, true, false, List, None}
 use Rattle.std.specs.declared.option.Option.{Option}
-use Rattle.tl_types.specs.declared.commits.Commit.{Commit}
 use Rattle.tl_types.specs.declared.commits.Entry.{Entry}
 use Rattle.tl_types.specs.Entries.{commits_of, has_break}
 use Rattle.tl_types.specs.History.{database_of}
@@ -17,7 +16,8 @@ use Rattle.tl_journal.specs.Stands.{StandsAs}
 use Rattle.tl_engine.specs.Lists.{tried_commits}
 use Rattle.tl_engine.specs.Plain as plain
 
--- the count of faults is as at the opening while there is no break, and above that once there is one
+-- the count of faults is as at the opening while there is no break, and above that once there is
+-- one
 abbrev pub IsCount : Bool → ℕ → ℕ → Type 0
 IsCount false first now = now ≡ first
 IsCount true first now = Rose first now

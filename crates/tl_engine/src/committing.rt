@@ -12,7 +12,8 @@ ghost use Rattle.tl_index.specs.Snapshots.{IsLegal};
 ghost use Rattle.tl_journal.specs.Image.{BeforeOrAfter, IsBodyOf};
 ghost use Rattle.tl_journal.specs.Moments.{EachMoment};
 ghost use Rattle.tl_journal.specs.Stands.{StandsAs};
-ghost use Rattle.tl_engine.specs.Committing.{IsReady, IsRefusal, TakesRoom, HasFailed};
+ghost use Rattle.tl_engine.specs.Committing.{IsRefusal, TakesRoom, HasFailed};
+ghost use Rattle.tl_engine.specs.Writing.{IsDraft};
 
 use crate::faults::CommitFault;
 use std::alloc::Global;
@@ -52,8 +53,11 @@ pub(crate) fn resolve(
     }
 }
 
-/// What a commit needs, made before its first byte is written.
-pub(crate) struct Ready {
+/// A commit that is ready: all that it needs but its keys, made before its first byte is written.
+#[derive(Drop)]
+pub(crate) struct Draft {
+    /// The commit.
+    pub commit: Shared<Commit>,
     /// The snapshot with the commit.
     pub next: Snapshot,
     /// The snapshot with the break of the commit.
@@ -78,24 +82,18 @@ fn body_for<D: Disk>(
     Ok(body)
 }
 
-/// Takes all memory for a commit that fits: for the store, the break, the record, the disk's room
-/// and, last, the keys, which then stand for the tables with the commit. The error is `NoMemory`,
-/// after which the keys stand for the tables before it.
-pub(crate) fn prepare<D: Disk>(
+/// Takes the memory for a commit that fits: for the store, the break, the record and the disk's
+/// room. The error is `NoMemory`.
+pub(crate) fn draft_of<D: Disk>(
     alloc: Global,
     snapshot: &Snapshot,
-    keys: &mut Keys,
     journal: &mut Journal<D>,
     commit: Commit,
-) -> Result<Ready, NoMemory>
+) -> Result<Draft, NoMemory>
     requires whole { has_break snapshot.now ≡ false }
-    requires stands { StandFor keys.old (database_of (commits_of snapshot.now)) }
     requires fit { IsTrue (fits standard_limits (database_of (commits_of snapshot.now)) commit) }
-    ensures ready { IfOk result (IsReady snapshot.now commit) }
-    ensures room { IfOk result (λ ready. length ready.body ≤ journal.new.spare) }
-    ensures ok { OnOk result
-        (StandFor keys.new (database_of (commits_of snapshot.now ++ commit ∷ []))) }
-    ensures err { OnErr result (StandFor keys.new (database_of (commits_of snapshot.now))) }
+    ensures draft { IfOk result (IsDraft snapshot.now journal.new.spare) }
+    ensures commit { IfOk result (λ draft. draft.commit ≡ commit) }
     ensures journal { TakesRoom D.reads D.may_leave D.moment D.left_since D.faults
         journal.old journal.new }
 {
@@ -103,8 +101,12 @@ pub(crate) fn prepare<D: Disk>(
     let commit = Shared::new(alloc, commit)?;
     let broken = snapshot.broken(alloc, commit.share(alloc)?)?;
     let body = body_for(alloc, journal, commit.get())?;
-    keys.follow(alloc, snapshot.store(), commit.get())?;
-    Ok(Ready { next, broken, body })
+    Ok(Draft {
+        commit,
+        next,
+        broken,
+        body,
+    })
 }
 
 /// Appends a record for which there is room to a journal that is not broken. The error is the

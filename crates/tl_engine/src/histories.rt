@@ -1,9 +1,10 @@
 //! The history.
-ghost use Rattle.std.specs.Prelude.{◌≡◌, ◌+◌, ◌<◌, ◌++◌, ◌∷◌, [], ℕ, List, Some, None, map, false, IsTrue, IfSome, IfOk, IfErr};
+ghost use Rattle.std.specs.Prelude.{◌≡◌, ◌+◌, ◌<◌, ◌++◌, ◌∷◌, [], ℕ, List, Some, None, map, false, Ok, IsTrue, IfSome, IfOk, IfErr};
 ghost use Rattle.tl_types.specs.declared.commits.Commit.{Commit as CommitValue};
 ghost use Rattle.tl_types.specs.Entries.{commits_of, has_break};
 ghost use Rattle.tl_types.specs.History.{database_of};
 ghost use Rattle.tl_types.specs.Limits.{standard_limits};
+ghost use Rattle.tl_types.specs.Resolving.{resolved};
 ghost use Rattle.tl_batch.specs.Made.{AreWithin, batch_matches};
 ghost use Rattle.tl_index.specs.Snapshots.{commit_entry, IsLegal};
 ghost use Rattle.tl_journal.specs.Answers.{CountsFaults, IsTooShort, IsDeviceOrMemory};
@@ -14,10 +15,11 @@ ghost use Rattle.tl_journal.specs.Moments.{EachMoment, EachMomentBySync, IsUntou
 ghost use Rattle.tl_journal.specs.Stands.{IsJournal, SameOrTrimmed};
 ghost use Rattle.tl_journal.specs.declared.faults.JournalFault.TheVariants as journal_fault;
 ghost use Rattle.tl_engine.specs.Answers.{disk_opened, IsOpened, Appends, Fails, version_of};
+ghost use Rattle.tl_engine.specs.Writing.{IsDraft, DraftFails, WriteFails};
 ghost use Rattle.tl_engine.specs.Fitting.{FitInTurn, IsDamaged};
-ghost use Rattle.tl_engine.specs.Standing.{IsCount, IsImageOf, IsOneOf, StandsOnDisk};
+ghost use Rattle.tl_engine.specs.Standing.{IsCount, IsImageOf, HasRoomAlone, IsOneOf, StandsOnDisk};
 
-use crate::committing::{Ready, append, prepare, resolve};
+use crate::committing::{Draft, append, draft_of, resolve};
 use crate::faults::CommitFault;
 use crate::opening::{Begun, begin};
 use crate::replaying::Replay;
@@ -180,6 +182,33 @@ impl<D: Disk> History<D> {
             EachMoment D.moment D.left_since self.old.journal.disk self.new.journal.disk
             (IsOneOf self.old.entries self.new.entries) }
     {
+        let draft = self.draft(alloc, author, batch)?;
+        self.write(alloc, draft)
+    }
+
+    /// Makes a commit of a batch of an author ready to be written: it is resolved over the tables,
+    /// and the memory is taken for all but the keys. Only the disk's room has then changed. The
+    /// faults are those of `commit`, but for `Device`.
+    pub(crate) fn draft(
+        &mut self,
+        alloc: Global,
+        author: u32,
+        batch: Batch,
+    ) -> Result<Draft, CommitFault>
+        requires { IsTrue (batch_matches (database_of (commits_of self.old.entries)) batch) }
+        ensures ok { IfOk result (IsDraft self.new.entries self.new.journal.spare) }
+        ensures resolves { IfOk result (λ draft. resolved self.old.limits
+            (database_of (commits_of self.old.entries)) author batch ≡ Ok draft.commit) }
+        ensures err { IfErr result
+            (DraftFails D.reads D.may_leave D.faults author batch self.old self.new) }
+        ensures room { HasRoomAlone D.reads D.may_leave D.faults self.old self.new }
+        ensures settings { (self.new.limits ≡ self.old.limits)
+            × (self.new.first_count ≡ self.old.first_count) }
+        ensures stands { StandsOnDisk D.reads D.may_leave self.old →
+            StandsOnDisk D.reads D.may_leave self.new }
+        ensures any_moment { EachMoment D.moment D.left_since self.old.journal.disk
+            self.new.journal.disk (D.may_leave self.old.journal.disk) }
+    {
         let version = self.snapshot.store().versions();
         if self.snapshot.has_break() {
             return Err(CommitFault::Broken { version });
@@ -192,10 +221,45 @@ impl<D: Disk> History<D> {
             ..
         } = self;
         let commit = resolve(alloc, snapshot, keys, author, batch, limits)?;
-        let Ok(ready) = prepare(alloc, snapshot, keys, journal, commit) else {
+        let Ok(draft) = draft_of(alloc, snapshot, journal, commit) else {
             return Err(CommitFault::NoMemory);
         };
-        let Ready { next, broken, body } = ready;
+        Ok(draft)
+    }
+
+    /// Writes a commit that is ready, and answers the version that it makes. The memory for the
+    /// keys is taken first; the commit is on the disk before it is among the entries. The faults
+    /// are `NoMemory`, which leaves the history as it is, and `Device`, as in `commit`.
+    pub(crate) fn write(&mut self, alloc: Global, draft: Draft) -> Result<u32, CommitFault>
+        requires { IsDraft self.old.entries self.old.journal.spare draft }
+        ensures ok { IfOk result (λ version.
+            (self.new.entries ≡ self.old.entries ++ commit_entry draft.commit ∷ [])
+            × (version ≡ version_of self.old + 1)) }
+        ensures err { IfErr result (WriteFails D.faults draft.commit self.old self.new) }
+        ensures settings { (self.new.limits ≡ self.old.limits)
+            × (self.new.first_count ≡ self.old.first_count) }
+        ensures stands { StandsOnDisk D.reads D.may_leave self.old →
+            StandsOnDisk D.reads D.may_leave self.new }
+        ensures any_moment { StandsOnDisk D.reads D.may_leave self.old →
+            EachMoment D.moment D.left_since self.old.journal.disk self.new.journal.disk
+            (IsOneOf self.old.entries self.new.entries) }
+    {
+        let version = self.snapshot.store().versions();
+        let History {
+            journal,
+            snapshot,
+            keys,
+            ..
+        } = self;
+        let Draft {
+            commit,
+            next,
+            broken,
+            body,
+        } = draft;
+        let Ok(()) = keys.follow(alloc, snapshot.store(), commit.get()) else {
+            return Err(CommitFault::NoMemory);
+        };
         if let Err(faults) = append(journal, &body) {
             *snapshot = broken;
             return Err(CommitFault::Device { version, faults });

@@ -1,7 +1,5 @@
 -- The commits that were read are those that the disk stood for.
-use Rattle.std.proofs.Common.{sym, subst}
 use Rattle.tl_types.specs.Entries.{commits_of}
-use Rattle.tl_journal.specs.Image.{StandsFor}
 use Rattle.tl_engine.specs.Answers.{disk_opened}
 use Rattle.tl_engine.proofs.OpenLemmas.{found_there, some_there, now_there, opened_moments}
 use Rattle.tl_engine.proofs.ReadLemmas.{honest_fault}

@@ -1,0 +1,17 @@
+-- How many commits and breaks a list of entries has.
+use Rattle.std.specs.Prelude.{◌≡◌, ℕ, ◌+◌, List, [], ◌∷◌}
+use mathlib.Core.List.{IsPrefix}
+use Rattle.tl_types.specs.declared.commits.Entry.{Entry}
+use Rattle.tl_types.specs.declared.commits.Entry.TheVariants as entry
+
+-- how many entries are commits or breaks
+abbrev pub news : List Entry → ℕ
+news [] = 0
+news (entry.Commit c ∷ rest) = 1 + news rest
+news (entry.Mark n v ∷ rest) = news rest
+news (entry.Break c ∷ rest) = 1 + news rest
+
+-- the list begins with the opening's entries, and has so many commits and breaks more
+pub record GoesOn (opening list : List Entry) (count : ℕ) : Type 0 where
+  pub begins : IsPrefix opening list
+  pub counted : news opening + count ≡ news list

@@ -1,0 +1,28 @@
+-- What carries the name of an engine.
+use Rattle.std.specs.Prelude.{◌≡◌, ℕ, List, Result, Ok, Err}
+use Rattle.atomic_table.specs.Seated.{TableId}
+use Rattle.tl_types.specs.declared.commits.Entry.{Entry}
+use Rattle.tl_types.specs.declared.limits.Limits.{Limits}
+use Rattle.tl_journal.specs.declared.opening.Refused.{Refused}
+use Rattle.tl_engine.specs.Counting.{GoesOn}
+use Rattle.tl_engine.specs.Plain as plain
+
+-- the disk in the answer of an opening that becomes an engine
+abbrev pub disk_attached : {D : Type 0} → Result (plain.Opening D) (Refused D) → D
+disk_attached (Ok opening) = opening.history.journal.disk
+disk_attached (Err refused) = refused.disk
+
+-- these are the table, the entries, the count of faults and the limits of the opening
+pub record IsNameOf {D : Type 0} (table : TableId) (entries : List Entry) (count : ℕ) (limits : Limits) (opening : plain.Opening D) : Type 0 where
+  pub table_is : opening.table ≡ table
+  pub entries_are : opening.history.entries ≡ entries
+  pub count_is : opening.history.first_count ≡ count
+  pub limits_are : opening.history.limits ≡ limits
+
+-- what a committer keeps: its history is what is written, it goes on from the named entries by as
+-- many commits and breaks as are counted, and count and limits are the named ones
+pub record IsCommitting {D : Type 0} (opening : List Entry) (count : ℕ) (limits : Limits) (written : List Entry) (total : ℕ) (history : plain.History D) : Type 0 where
+  pub entries_are : history.entries ≡ written
+  pub count_is : history.first_count ≡ count
+  pub limits_are : history.limits ≡ limits
+  pub goes_on : GoesOn opening written total

@@ -1,0 +1,185 @@
+//! What lies behind the lock of an engine.
+ghost use Rattle.std.specs.Prelude.{◌≡◌, ◌+◌, ◌<◌, ◌++◌, ◌∷◌, [], IsTrue, IfOk};
+ghost use mathlib.Core.List.{IsPrefix};
+ghost use Rattle.tl_types.specs.declared.commits.Entry.{Entry};
+ghost use Rattle.tl_types.specs.Entries.{commits_of};
+ghost use Rattle.tl_types.specs.History.{database_of};
+ghost use Rattle.tl_batch.specs.Made.{batch_matches};
+ghost use Rattle.tl_engine.specs.Saying.{CommitSays, becomes, names_table};
+ghost use Rattle.tl_engine.specs.Writing.{shown_at, shown_by};
+
+use crate::committing::Draft;
+use crate::faults::CommitFault;
+use crate::histories::History;
+use crate::names::Named;
+use std::alloc::Global;
+use std::marker::Model;
+use std::mem;
+use std::sync::Wait;
+use std::sync::ledger::{Book, Share};
+use tl_device::Disk;
+use tl_head::{Head, Pass, WriterPass};
+use tl_index::Snapshot;
+use tl_types::{Batch, NoMemory, Published};
+
+/// The pass with which entries are published, and the book in which they are counted.
+#[derive(Drop)]
+pub(crate) struct Publisher<J: Named> {
+    /// The pass.
+    pub writer: WriterPass<Snapshot>,
+    /// The book.
+    pub book: Book<J>,
+}
+
+impl<J: Named> Publisher<J> {
+    // Lets a pass of the head see all that is written.
+    fn show(&mut self, head: &Head<Snapshot>, pass: &mut Pass<Snapshot>)
+        requires own { (self.old.writer.table ≡ head.now) × (pass.old.table ≡ head.now) }
+        ensures same { self.new ≡ self.old }
+        ensures own { pass.new.table ≡ head.now }
+        ensures seen { pass.new.seen ≡ self.old.writer.written }
+        ensures begins { IsPrefix pass.old.seen self.old.writer.written }
+    {
+        let old = mem::replace(pass, self.writer.reader(head));
+        self.writer.meet(head, old);
+    }
+
+    // Publishes a snapshot with one entry more, counts the entry, and lets the pass see it.
+    fn publish<R: Wait>(
+        &mut self,
+        rt: &R,
+        head: &Head<Snapshot>,
+        pass: &mut Pass<Snapshot>,
+        share: &mut Share<J>,
+        next: Snapshot,
+    )
+        requires own { (self.old.writer.table ≡ head.now) × (pass.old.table ≡ head.now) }
+        requires one_more { (e : Entry) × (next ≡ self.old.writer.written ++ e ∷ []) }
+        requires part { 0 < share.old.parts }
+        ensures own { (self.new.writer.table ≡ head.now) × (pass.new.table ≡ head.now) }
+        ensures written { (self.new.writer.written ≡ next) × (pass.new.seen ≡ next) }
+        ensures counted { (self.new.book.total ≡ self.old.book.total + 1)
+            × (share.new.amount ≡ share.old.amount + 1) }
+        ensures parts { share.new.parts ≡ share.old.parts }
+    {
+        drop(head.publish(rt, &mut self.writer, next));
+        self.book.add(share, 1);
+        self.show(head, pass);
+    }
+}
+
+/// The history that commits, with what publishes it. Contracts see the entries that are written.
+///
+/// The history has just these entries; they begin with those at the opening, and the book counts
+/// the commits and the breaks past them. Count and limits are the named ones. Where the disk told
+/// its contents at the opening, it stands for the history.
+#[derive(Drop)]
+pub(crate) struct Committer<D: Disk, J: Named> {
+    /// The history.
+    pub history: History<D>,
+    /// What publishes it.
+    pub publisher: Publisher<J>,
+}
+
+impl<D: Disk, J: Named> Model for Committer<D, J> {
+    ghost use Rattle.std.specs.Prelude.{◌≡◌, List, true};
+    ghost use Rattle.tl_types.specs.declared.commits.Entry.{Entry};
+    ghost use Rattle.tl_engine.specs.Naming.{IsCommitting};
+    ghost use Rattle.tl_engine.specs.Standing.{StandsOnDisk};
+
+    ghost Value = { List Entry };
+
+    ghost view = { λ c. c.publisher.writer.written };
+
+    ghost invariant = { λ c. (c.publisher.writer.table ≡ J.table) × (J.parts ≡ 65536)
+        × IsCommitting J.opening J.first_count J.limits
+        c.publisher.writer.written c.publisher.book.total c.history
+        × (J.told ≡ true → StandsOnDisk D.reads D.may_leave c.history) };
+}
+
+/// The snapshots of which one is published, made before the first byte is written.
+struct Copies {
+    next: Snapshot,
+    broken: Snapshot,
+}
+
+// Further snapshots of what is ready.
+fn copies_of(draft: &Draft) -> Result<Copies, NoMemory>
+    ensures { IfOk result (λ c. (c.next ≡ draft.now.next) × (c.broken ≡ draft.now.broken)) }
+{
+    let next = draft.next.share()?;
+    let broken = draft.broken.share()?;
+    Ok(Copies { next, broken })
+}
+
+// The snapshot with the break, where the disk failed.
+fn shown_at(fault: CommitFault, broken: Snapshot) -> Option<Snapshot>
+    ensures { result ≡ shown_at fault broken }
+{
+    match fault {
+        CommitFault::Broken { .. } => None,
+        CommitFault::Refused { .. } => None,
+        CommitFault::NoMemory => None,
+        CommitFault::Device { .. } => Some(broken),
+    }
+}
+
+impl Copies {
+    // The one that is published where the commit is answered so.
+    fn shown_by(self, answer: &Result<u32, CommitFault>) -> Option<Snapshot>
+        ensures { result ≡ shown_by answer.now self.next self.broken }
+    {
+        let Copies { next, broken } = self;
+        match answer {
+            Ok(_) => Some(next),
+            Err(fault) => shown_at(*fault, broken),
+        }
+    }
+}
+
+/// What an author wants to commit.
+#[derive(Drop)]
+pub(crate) struct Offer {
+    /// The author.
+    pub author: u32,
+    /// The batch.
+    pub batch: Batch,
+}
+
+impl<D: Disk, J: Named> Committer<D, J> {
+    /// Commits, publishes and counts, as `Engine::commit` says.
+    pub fn commit<R: Wait>(
+        &mut self,
+        rt: &R,
+        alloc: Global,
+        head: &Head<Snapshot>,
+        pass: &mut Pass<Snapshot>,
+        share: &mut Share<J>,
+        offer: Offer,
+    ) -> Result<u32, CommitFault>
+        requires own { (head.now ≡ J.table) × (pass.old.table ≡ J.table) }
+        requires part { 0 < share.old.parts }
+        requires known { IsTrue
+            (names_table (database_of (commits_of pass.old.seen)) offer.batch) }
+        requires matching { IsTrue
+            (batch_matches (database_of (commits_of pass.old.seen)) offer.batch) }
+        ensures own { pass.new.table ≡ J.table }
+        ensures parts { share.new.parts ≡ share.old.parts }
+        ensures says { CommitSays (becomes J.limits offer.author offer.batch) J.first_count
+            pass.old.seen pass.new.seen share.old.amount share.new.amount result }
+    {
+        let Committer { history, publisher } = self;
+        publisher.show(head, pass);
+        let Offer { author, batch } = offer;
+        let draft = history.draft(alloc, author, batch)?;
+        let Ok(copies) = copies_of(&draft) else {
+            return Err(CommitFault::NoMemory);
+        };
+        let answer = history.write(alloc, draft);
+        let Some(shown) = copies.shown_by(&answer) else {
+            return answer;
+        };
+        publisher.publish(rt, head, pass, share, shown);
+        answer
+    }
+}

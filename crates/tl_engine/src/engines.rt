@@ -1,0 +1,124 @@
+//! The engine.
+ghost use Rattle.std.specs.Prelude.{◌≡◌, ◌+◌, ◌<◌, ℕ, List, Some, true, false, IsTrue, IfOk};
+ghost use mathlib.Core.List.{IsPrefix};
+ghost use Rattle.tl_types.specs.Entries.{commits_of, has_break};
+ghost use Rattle.tl_types.specs.History.{database_of};
+ghost use Rattle.tl_batch.specs.Made.{batch_matches};
+ghost use Rattle.tl_index.specs.Snapshots.{IsLegal};
+ghost use Rattle.tl_journal.specs.Stands.{IsJournal};
+ghost use Rattle.tl_engine.specs.Counting.{news};
+ghost use Rattle.tl_engine.specs.Saying.{CommitSays, becomes, names_table};
+ghost use Rattle.tl_engine.specs.Standing.{IsCount, IsImageOf};
+
+use crate::committer::{Committer, Offer, Publisher};
+use crate::faults::CommitFault;
+use crate::histories::Closed;
+use crate::names::Named;
+use std::alloc::Global;
+use std::sync::ledger::Share;
+use std::sync::{Mutex, Wait};
+use tl_device::Disk;
+use tl_head::{Head, Pass};
+use tl_index::Snapshot;
+use tl_types::{Batch, NoMemory};
+
+/// One history for many threads: a head, from which they read, and behind a lock what commits.
+/// It is not let go but by `close`, which hands the disk back.
+pub struct Engine<D: Disk, J: Named> {
+    /// The head, by which passes are copied and taken in.
+    pub head: Head<Snapshot>,
+    committer: Mutex<Committer<D, J>>,
+    pub ghost named: { head ≡ J.table },
+}
+
+/// An engine, with its first pass and the share that has all parts.
+pub struct Started<D: Disk, J: Named> {
+    /// The engine.
+    pub engine: Engine<D, J>,
+    /// A pass that has seen the entries at the opening.
+    pub pass: Pass<Snapshot>,
+    /// The share.
+    pub share: Share<J>,
+}
+
+impl<D: Disk, J: Named> Engine<D, J> {
+    // The engine of this head, which is the named one.
+    pub(crate) fn new(head: Head<Snapshot>, committer: Mutex<Committer<D, J>>) -> Engine<D, J>
+        requires { head ≡ J.table }
+    {
+        Engine { head, committer }
+    }
+
+    /// A snapshot of what the pass has then seen; what it had seen is a prefix of that. It takes a
+    /// turn and no lock. The error is `NoMemory`, and the latter holds after it too.
+    pub fn read<R: Wait>(&self, rt: &R, pass: &mut Pass<Snapshot>) -> Result<Snapshot, NoMemory>
+        requires own { pass.old.table ≡ J.table }
+        ensures own { pass.new.table ≡ J.table }
+        ensures value { IfOk result (λ snapshot. snapshot ≡ pass.new.seen) }
+        ensures later { IsPrefix pass.old.seen pass.new.seen }
+    {
+        self.head.read(rt, pass)
+    }
+
+    /// Commits a batch of an author over all that is written, and answers the version that it
+    /// makes: the number of the commits with it. It takes the lock. In every answer but `NoMemory`
+    /// the pass has then seen all that is written.
+    ///
+    /// Rows that the batch puts match the schema of the table that it names, which is among those
+    /// of what the pass has seen. The faults are tried in this order. `Broken`: there is a break.
+    /// `Refused`: the batch becomes no commit over the tables, by this fault. `NoMemory`: memory
+    /// ran out, and nothing was written. These leave the share as it is. `Device`: the disk failed
+    /// in this call; the break of the commit is then the last entry, and the share counts it, as it
+    /// counts a commit.
+    pub fn commit<R: Wait>(
+        &self,
+        rt: &R,
+        alloc: Global,
+        pass: &mut Pass<Snapshot>,
+        share: &mut Share<J>,
+        author: u32,
+        batch: Batch,
+    ) -> Result<u32, CommitFault>
+        requires own { pass.old.table ≡ J.table }
+        requires part { 0 < share.old.parts }
+        requires known { IsTrue (names_table (database_of (commits_of pass.old.seen)) batch) }
+        requires matching { IsTrue
+            (batch_matches (database_of (commits_of pass.old.seen)) batch) }
+        ensures own { pass.new.table ≡ J.table }
+        ensures parts { share.new.parts ≡ share.old.parts }
+        ensures says { CommitSays (becomes J.limits author batch) J.first_count
+            pass.old.seen pass.new.seen share.old.amount share.new.amount result }
+    {
+        let offer = Offer { author, batch };
+        let mut committer = self.committer.lock(rt);
+        committer.commit(rt, alloc, &self.head, pass, share, offer)
+    }
+
+    /// Ends with the engine: a snapshot of all that is written, and the disk. The share that has
+    /// all parts counts the commits and the breaks since the opening. It takes no memory.
+    pub fn close<R: Wait>(self, rt: &R, pass: Pass<Snapshot>, mut share: Share<J>) -> Closed<D>
+        requires own { pass.table ≡ J.table }
+        requires whole { share.parts ≡ 65536 }
+        ensures seen { IsPrefix pass.seen result.snapshot }
+        ensures opening { IsPrefix J.opening result.snapshot }
+        ensures counted { news J.opening + share.amount ≡ news result.snapshot }
+        ensures legal { IsLegal result.snapshot }
+        ensures whole { J.told ≡ true → has_break result.snapshot ≡ false →
+            (gate : ℕ) × IsJournal D.reads D.may_leave result.disk
+            (commits_of result.snapshot) gate }
+        ensures leaves { J.told ≡ true → (image : List ℕ) →
+            D.may_leave result.disk image → IsImageOf result.snapshot image }
+        ensures reads { J.told ≡ true → (image : List ℕ) →
+            D.reads result.disk ≡ Some image → IsImageOf result.snapshot image }
+        ensures count { IsCount (has_break result.snapshot) J.first_count (D.faults result.disk) }
+    {
+        let Engine { head, committer } = self;
+        let Committer { history, publisher } = committer.into_inner();
+        let Publisher { writer, mut book } = publisher;
+        book.audit(&mut share);
+        drop(head.close(rt, writer, pass));
+        let closed = history.close();
+        let _legal = closed.snapshot.has_break();
+        closed
+    }
+}

@@ -1,3 +1,8 @@
-pub mod PrefixLemmas
+pub mod BetweenLemmas
+pub mod InHandLemmas
+pub mod LoadLemmas
+pub mod NameLemmas
+pub mod RunLemmas
 pub mod ScriptLemmas
+pub mod SpotLemmas
 pub mod Worked

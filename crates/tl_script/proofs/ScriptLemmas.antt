@@ -1,41 +1,22 @@
 -- What the definitions of a script say of the pieces that the code takes.
-use Rattle.std.proofs.Common.{◌≡◌, ℕ, ◌+◌, ◌<◌, ◌≤◌, ◌==◌, Bool, true, false, cond, ltb, List, [], ◌∷◌, ◌++◌, length, take, drop, get_or, Option, Some, None, refl, ap, sym, ◌∙◌, arith, tests, suc, not, ◌&&◌}
+use Rattle.std.proofs.Common.{◌≡◌, ℕ, ◌+◌, ◌<◌, ◌==◌, Bool, true, false, cond, ltb, List, [], ◌∷◌, ◌++◌, length, take, drop, get_or, Some, None, refl, ap, sym, ◌∙◌, arith, tests, suc, not, ◌&&◌}
 use Rattle.std.specs.List.{position_or_len, prefix_len, before_first, after_first, position}
 use Rattle.std.specs.Str.{IsUtf8, is_utf8}
 use Rattle.std.proofs.lemmas.Str.{is_utf8-from_IsUtf8, IsUtf8-from_is_utf8, IsUtf8-take, IsUtf8-drop, IsCharBoundary-before_ascii, IsCharBoundary-after_ascii}
 use Rattle.std.proofs.Common.{length-append, subst}
 use Rattle.std.proofs.lemmas.List.{drop-drop}
 use Rattle.std.proofs.lemmas.Bool.{ltb-true, ltb-false, lt-ltb, ltb_from_iff, eqb-true}
-use Rattle.std.proofs.Math.Seq.{take-length, drop-length, take-append_seam, get_or-append_seam}
+use Rattle.std.proofs.Math.Seq.{take-append_seam, get_or-append_seam}
 use Rattle.std.proofs.lemmas.List.Sums.{prefix_len-le-length, passes_at_first}
-use Rattle.std.proofs.Common.{append_assoc, Result, Ok, Err}
-use Rattle.tl_script.specs.declared.jobs.ScriptFault.{ScriptFault}
-use Rattle.tl_script.specs.Script.{Job, Phase, is_blank, Stand, Inside, and_then, after_line, ends_block, with_jobs, lines_of, is_session_name, trimmed, statement_of, without_last, without_blanks_before, without_blanks_after, stands_in}
+use Rattle.tl_script.specs.Script.{is_blank, lines_of, is_session_name, trimmed, statement_of, without_last, without_blanks_before, without_blanks_after, stands_in}
 
 -- LINES
 
 abbrev pub is_lf : ℕ → Bool
 is_lf b = b == 10
 
-pub line_ends : (b : ℕ) (bytes : List ℕ) → is_lf b ≡ true → lines_of (b ∷ bytes) ≡ (b ∷ []) ∷ lines_of bytes
-line_ends b bytes e = rw e
-
 pub line_goes_on : (b : ℕ) (bytes line : List ℕ) (lines : List (List ℕ)) → is_lf b ≡ false → lines_of bytes ≡ line ∷ lines → lines_of (b ∷ bytes) ≡ (b ∷ line) ∷ lines
 line_goes_on b bytes line lines e h = rw (e, h)
-
--- the first line ends with the first LF
-abbrev EndsFirst : List ℕ → Type 0
-EndsFirst xs = lines_of xs ≡ take (position_or_len is_lf xs + 1) xs ∷ lines_of (drop (position_or_len is_lf xs + 1) xs)
-
-pub first_line_found : (bytes : List ℕ) → position_or_len is_lf bytes < length bytes → lines_of bytes ≡ take (position_or_len is_lf bytes + 1) bytes ∷ lines_of (drop (position_or_len is_lf bytes + 1) bytes)
-first_line_found [] h = absurd (omega arith)
-first_line_found (b ∷ bytes) h = by_test (is_lf b) refl (first_line_found bytes) where
-  by_test : (t : Bool) → is_lf b ≡ t → (position_or_len is_lf bytes < length bytes → EndsFirst bytes) → EndsFirst (b ∷ bytes)
-  by_test true e more = rw (e)
-  by_test false e more =
-      let h' : position_or_len is_lf bytes < length bytes = omega (arith, rw e at h) in
-      let n : position_or_len is_lf (b ∷ bytes) + 1 ≡ suc (position_or_len is_lf bytes + 1) = rw e (omega arith) in
-      line_goes_on b bytes _ _ e (more h') ∙ ap (λ n. take n (b ∷ bytes) ∷ lines_of (drop n (b ∷ bytes))) (sym n)
 
 -- without an LF
 pub last_line : (b : ℕ) (bytes : List ℕ) → position_or_len is_lf (b ∷ bytes) ≡ length (b ∷ bytes) → lines_of (b ∷ bytes) ≡ (b ∷ bytes) ∷ []
@@ -59,11 +40,6 @@ position_some p xs at h = by_test (ltb (position_or_len p xs) (length xs)) refl 
   by_test : (t : Bool) → ltb (position_or_len p xs) (length xs) ≡ t → (position_or_len p xs ≡ at) × (at < length xs)
   by_test true e = let f : position_or_len p xs ≡ at = (let g = rw e at h in cc) in (f, omega (arith, ltb-true _ _ e))
   by_test false e = absurd (let f = rw e at h in cc)
-
-pub no_lf : (bytes front rest : List ℕ) → position is_lf bytes ≡ None → 0 < length bytes → front ≡ take (length bytes) bytes → rest ≡ drop (length bytes) bytes → lines_of bytes ≡ front ∷ lines_of rest
-no_lf [] front rest h some f r = absurd (omega arith)
-no_lf (b ∷ bytes) front rest h some f r =
-    rw (f, r, take-length (b ∷ bytes), drop-length (b ∷ bytes)) (last_line b bytes (position_none is_lf (b ∷ bytes) h))
 
 pub drops_last : (b x : ℕ) (xs : List ℕ) → (x == b) ≡ true → without_last b (xs ++ (x ∷ [])) ≡ xs
 drops_last b x [] e = rw e
@@ -151,6 +127,12 @@ utf8_behind text at h u =
     let P : List ℕ → Type 0 = λ xs. IsUtf8 xs in
     subst P (sym (drop-drop 1 at text)) (IsUtf8-drop text (at + 1) u (IsCharBoundary-after_ascii text at u p.1 (omega arith)))
 
+pub utf8_before : (text : List ℕ) (at : ℕ) → position is_arrow text ≡ Some at → IsUtf8 text → IsUtf8 (take at text)
+utf8_before text at h u =
+    let p = position_some is_arrow text at h in
+    let arrow : get_or text at 0 ≡ 62 = ap (λ k. get_or text k 0) (sym p.0) ∙ eqb-true _ _ (passes_at_first is_arrow text 0 (omega (arith, p.0, p.1))) in
+    IsUtf8-take text at u (IsCharBoundary-before_ascii text at p.1 (omega arith))
+
 pub is_text : (bytes : List ℕ) → IsUtf8 bytes → is_utf8 bytes ≡ true
 is_text bytes u = is_utf8-from_IsUtf8 bytes u
 
@@ -159,35 +141,3 @@ is_no_text bytes h = by_test (is_utf8 bytes) refl where
   by_test : (t : Bool) → is_utf8 bytes ≡ t → is_utf8 bytes ≡ false
   by_test true e = absurd (h (IsUtf8-from_is_utf8 bytes e))
   by_test false e = e
-
--- FROM LINE TO LINE
-
--- a phase with these names and jobs
-abbrev with_these : List (List ℕ) → List Job → Result Phase ScriptFault
-with_these names jobs = Ok (record { names = names; jobs = jobs })
-
-pub with_jobs_twice : (first second : List Job) (more : Result Phase ScriptFault) → with_jobs (first ++ second) more ≡ with_jobs first (with_jobs second more)
-with_jobs_twice first second (Ok more) = ap (with_these more.names) (append_assoc first second more.jobs)
-with_jobs_twice first second (Err e) = refl
-
-pub with_no_jobs : (more : Result Phase ScriptFault) → with_jobs [] more ≡ more
-with_no_jobs (Ok more) = refl
-with_no_jobs (Err e) = refl
-
--- a line inside a block that does not end it
-pub goes_on : (session : Option (List ℕ)) (begun n : ℕ) (text block line : List ℕ) (ahead : Stand → Result Phase ScriptFault) → ends_block line ≡ false
-    → and_then (after_line (record { session = session; place = Inside begun text block }) n line) (λ s. with_jobs s.1 (ahead s.0)) ≡ ahead (record { session = session; place = Inside begun text (block ++ line) })
-goes_on session begun n text block line ahead e = rw e (with_no_jobs _)
-
--- the front of the bytes with one more line
-pub prefix_with_line : (whole front line rest : List ℕ) (n : ℕ) → whole ≡ (front ++ line) ++ rest → length front ≡ n → take (n + length line) whole ≡ front ++ line
-prefix_with_line whole front line rest n e h =
-    let len : n + length line ≡ length (front ++ line) = simp length-append (omega arith) in
-    ap (λ w. take (n + length line) w) e ∙ (ap (λ k. take k ((front ++ line) ++ rest)) len ∙ take-append_seam (front ++ line) rest)
-
-pub prefix_with_line_fits : (whole front line rest : List ℕ) (n : ℕ) → whole ≡ (front ++ line) ++ rest → length front ≡ n → n + length line ≤ length whole
-prefix_with_line_fits whole front line rest n e h = omega (arith, simp length-append at (ap length e))
-
--- a job more in front of what is ahead
-pub one_more_job : (jobs : List Job) (job : Job) (all ahead behind rest : Result Phase ScriptFault) → with_jobs jobs ahead ≡ all → ahead ≡ behind → behind ≡ with_jobs (job ∷ []) rest → with_jobs (jobs ++ (job ∷ [])) rest ≡ all
-one_more_job jobs job all ahead behind rest h a b = with_jobs_twice jobs (job ∷ []) rest ∙ (ap (with_jobs jobs) (sym b ∙ sym a) ∙ h)

@@ -1,3 +1,5 @@
+pub mod InHand
+pub mod Phases
+pub mod Reader
 pub mod Script
-pub mod Steps
 pub mod Taking

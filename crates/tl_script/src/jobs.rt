@@ -1,46 +1,21 @@
-//! What a script is: phases of jobs, each a statement with its block.
+//! Why the jobs of a script are not handed out.
 ghost use Rattle.std.specs.Prelude.{◌≡◌};
 
 use std::alloc::{AllocError, AllocFailed};
 
-// The number of a script's one session.
-pub(crate) const ONLY_SESSION: u32 = 0;
-
-/// One statement of a script.
-#[derive(Clone, Copy, Debug, Drop, PartialEq, Eq)]
-pub struct Job<'a> {
-    /// The number of its session, from 0: the place of its name among those of the script.
-    pub session: u32,
-    /// The number of the line that it stands on, from 1.
-    pub line: u64,
-    /// The statement's text.
-    pub text: &'a str,
-    /// The bytes of its block, where its first word is `PUT` or `REMOVE`.
-    pub block: Option<&'a [u8]>,
-}
-
-/// The jobs that are run before the replies to them are written, in the order of their lines.
-#[derive(Debug, Drop)]
-pub struct Phase<'a> {
-    /// The jobs, at least one.
-    pub jobs: Vec<Job<'a>>,
-}
-
-/// What is read of a script. It borrows from the script's bytes.
-#[derive(Debug, Drop)]
-pub struct Script<'a> {
-    /// The names of the sessions of its phases, in order of number: 1 to 32 ASCII letters, digits
-    /// or `_` each.
-    pub names: Vec<&'a [u8]>,
-    /// The phases before its first fault, in order.
-    pub phases: Vec<Phase<'a>>,
-    /// Its first fault, where it has one.
-    pub fault: Option<ScriptFault>,
-}
-
 /// Why the rest of a script is not run. `line` is the number of a line, from 1.
 #[derive(Clone, Copy, Debug, PartialEq, Eq)]
 pub enum ScriptFault {
+    /// A line stands behind as many `GO` lines as a script may have.
+    PhasesFull {
+        /// The line.
+        line: u64,
+    },
+    /// A line has too many bytes without its LF.
+    LineTooLong {
+        /// The line.
+        line: u64,
+    },
     /// The lines of the phase up to and with this one have too many bytes.
     PhaseTooLong {
         /// The line.
@@ -51,8 +26,14 @@ pub enum ScriptFault {
         /// The line.
         line: u64,
     },
-    /// A line outside a block is neither blank, nor a comment, nor a statement of the session.
+    /// A line outside a block is neither blank, nor a comment, nor `GO`, nor a statement of a
+    /// session.
     NoSession {
+        /// The line.
+        line: u64,
+    },
+    /// A line names a session past those that a script may have.
+    SessionsFull {
         /// The line.
         line: u64,
     },

@@ -1,18 +1,25 @@
-//! Scripts: the jobs that a session or more put one after the other, and the phases that these make.
+//! Scripts: the jobs that sessions put one after the other, and the phases that these make.
 //! Contracts see what is read of a script as the names of its sessions, the phases before its first
-//! fault, and the fault where it has one. `take_script` takes as many bytes of a source as reading a
-//! script wants, and `read_script` reads them.
+//! fault, and the fault where it has one. A `Script` reads its phases from a source, one after the
+//! other, and the lemmas of `RunLemmas` say that these are the phases of the whole script;
+//! `load_phase` reads a whole input as one block.
 #![tactic(auto)]
 
 mod jobs;
-mod lines;
-mod reading;
-mod sources;
+mod lines_in_hand;
+mod loading;
+mod open_phase;
+mod pending;
+mod phases;
+mod reader;
+mod script;
+mod session_names;
 #[cfg(test)]
 mod tests;
 mod texts;
 
-pub use jobs::{Job, Phase, Script, ScriptFault};
-pub use reading::{load_script, read_script};
-pub use sources::take_script;
+pub use jobs::ScriptFault;
+pub use loading::load_phase;
+pub use phases::{Job, NextError, Phase};
+pub use script::Script;
 pub use texts::{as_text, is_utf8};

@@ -1,8 +1,8 @@
-//! The lines of a script, and what one line says.
-ghost use Rattle.std.specs.Prelude.{◌≡◌, ◌<◌, ◌++◌, ◌∷◌, ◌==◌, length, position, not, MatchOption, IsUtf8, IsTrue, Some, None};
+//! What one line of a script says.
+ghost use Rattle.std.specs.Prelude.{◌≡◌, ◌==◌, position, not, MatchOption, IsUtf8, IsTrue, Some, None};
 ghost use Rattle.std.specs.Str.{is_utf8};
 ghost use Rattle.std.specs.List.{list_all};
-ghost use Rattle.tl_script.specs.Script.{lines_of, without_last, text_of, is_blank, without_blanks_before, without_blanks_after, trimmed, is_passed_over, is_session_name, statement_of, first_word, has_block, ends_block};
+ghost use Rattle.tl_script.specs.Script.{without_last, text_of, is_blank, without_blanks_before, without_blanks_after, trimmed, is_passed_over, is_session_name, statement_of, first_word, has_block, ends_block};
 ghost use Rattle.tl_types.specs.Names.{continues_word};
 
 use tl_types::continues_word;
@@ -30,29 +30,15 @@ pub fn as_text(bytes: &[u8]) -> &str
     }
 }
 
-fn position_of(bytes: &[u8], byte: u8) -> Option<usize>
+pub(crate) fn position_of(bytes: &[u8], byte: u8) -> Option<usize>
     ensures { result ≡ position (λ b. b == byte) bytes.now }
 {
     bytes.iter().position(|b| *b == byte)
 }
 
-// The first line of the bytes, with its LF where it has one, and what stands behind it.
-#[tactic(auto, using(crate::proofs::ScriptLemmas::first_line_found, crate::proofs::ScriptLemmas::last_line))]
-pub(crate) fn first_line(bytes: &[u8]) -> (&[u8], &[u8])
-    ensures joined { bytes.now ≡ result.0.now ++ result.1.now }
-    ensures line { 0 < length bytes.now → lines_of bytes.now
-        ≡ result.0.now ∷ lines_of result.1.now }
-    ensures some { 0 < length bytes.now → 0 < length result.0.now }
-{
-    match position_of(bytes, b'\n') {
-        Some(at) => bytes.split_at(at + 1),
-        None => bytes.split_at(bytes.len()),
-    }
-}
-
 // The line without its last byte where that is this one.
 #[tactic(auto, using(crate::proofs::ScriptLemmas::drops_last, crate::proofs::ScriptLemmas::keeps_last))]
-fn without_last(line: &[u8], byte: u8) -> &[u8]
+pub(crate) fn without_last(line: &[u8], byte: u8) -> &[u8]
     ensures { result.now ≡ without_last byte line.now }
 {
     match line.split_last() {
@@ -145,6 +131,7 @@ pub(crate) fn statement_of(text: &[u8]) -> Option<(&[u8], &[u8])>
     ensures said { MatchOption result (statement_of text.now ≡ None)
         (λ s. statement_of text.now ≡ Some (s.0.now, s.1.now)) }
     ensures utf8 { IsUtf8 text.now → MatchOption result Unit (λ s. IsUtf8 s.1.now) }
+    ensures name_utf8 { IsUtf8 text.now → MatchOption result Unit (λ s. IsUtf8 s.0.now) }
 {
     let (name, rest) = text.split_at(position_of(text, b'>')?);
     if !is_session_name(name) {

@@ -8,7 +8,8 @@ use Rattle.tl_types.specs.declared.commits.Entry.{Entry}
 use Rattle.tl_types.specs.declared.commits.Entry.TheVariants as entry
 use Rattle.tl_types.specs.Entries.{commits_of, has_break}
 use Rattle.tl_session.specs.Turns.{break_of}
-use Rattle.tl_session.specs.Promises.{news, AreMarks, EndsAtBreak}
+use Rattle.tl_engine.specs.Counting.{news}
+use Rattle.tl_session.specs.Promises.{AreMarks, EndsAtBreak}
 
 pub begins_itself : (a : List Entry) → IsPrefix a a
 begins_itself a = ([], append-nil a)

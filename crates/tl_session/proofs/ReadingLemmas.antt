@@ -1,5 +1,5 @@
 -- A job is one thing, and a block is read for the table that its name finds.
-use Rattle.std.proofs.Common.{◌≡◌, ◌⊎◌, inl, inr, ℕ, List, Some, None, Result, refl, ap, sym, ◌∙◌, slice_get, subst, true}
+use Rattle.std.proofs.Common.{◌≡◌, ◌⊎◌, inl, inr, ℕ, List, Some, None, Result, refl, ap, sym, ◌∙◌, slice_get, is_some, subst, true}
 use Rattle.std.specs.List.{list_all}
 use Rattle.std.specs.Option.{option_map}
 use Rattle.tl_types.specs.declared.batches.Batch.{Batch}
@@ -13,6 +13,7 @@ use Rattle.tl_types.specs.History.{database_of, matches}
 use Rattle.tl_types.specs.Resolving.{find_table}
 use Rattle.tl_types.proofs.FoundTables.{table_found, schema_found, number_none, name_found}
 use Rattle.tl_batch.specs.Made.{batch_matches, rows_fit_found}
+use Rattle.tl_engine.specs.Saying.{names_table}
 use Rattle.tl_csv.specs.declared.faults.CsvFault.{CsvFault}
 use Rattle.tl_csv.specs.declared.needs.BatchKind.{BatchKind}
 use Rattle.tl_csv.specs.Block.{batch_of, IsBatchFor}
@@ -74,3 +75,14 @@ batch_fits db name number schema limits kind (batch.Put own rows) h e is =
     let there : find_table own db.tables ≡ Some (number, f.table) = ap (λ n. find_table n db.tables) named ∙ f.named in
     ap (rows_fit_found rows) there ∙ (ap (λ t. list_all (matches t) rows) (sym s) ∙ is.2.matching)
 batch_fits db name number schema limits kind (batch.Remove own keys) h e is = refl
+
+-- and it names a table that is there
+pub batch_known : (db : plain.Database) (name : List ℕ) (number : ℕ) (schema : plain.Schema) (limits : Limits) (kind : BatchKind) (b : Batch) → option_map (λ found. found.0) (find_table name db.tables) ≡ Some number → Some schema ≡ option_map (λ u. u.schema) (slice_get db.tables number) → IsBatchFor limits schema kind b → names_table db b ≡ true
+batch_known db name number schema limits kind (batch.Create made) h e is = absurd is
+batch_known db name number schema limits kind (batch.Put own rows) h e is =
+    let f = table_found db name number h in
+    let s = schema_found db name number schema f e in
+    let named : own ≡ name = is.1 ∙ (ap (λ (t : plain.Schema). t.name) s ∙ name_found 0 name db.tables number f.table f.named) in
+    let there : find_table own db.tables ≡ Some (number, f.table) = ap (λ n. find_table n db.tables) named ∙ f.named in
+    ap is_some there
+batch_known db name number schema limits kind (batch.Remove own keys) h e is = refl

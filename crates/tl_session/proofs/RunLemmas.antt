@@ -12,7 +12,8 @@ use Rattle.tl_session.specs.declared.replies.ReplyBody.{ReplyBody}
 use Rattle.tl_session.specs.declared.replies.ReplyBody.TheVariants as body
 use Rattle.tl_session.specs.Jobs.{Job}
 use Rattle.tl_session.specs.Turns.{Turn, Meaning, break_of, of_session, all_turns, HasFault, Makes, ReadsWell}
-use Rattle.tl_session.specs.Promises.{BodySays, Says, Looked, Chain, Chains, Promised, tally, whole_tally, news, EndsAtBreak, body_weight, weight}
+use Rattle.tl_engine.specs.Counting.{news}
+use Rattle.tl_session.specs.Promises.{BodySays, Says, Looked, Chain, Chains, Promised, tally, whole_tally, EndsAtBreak, body_weight, weight}
 use Rattle.tl_session.specs.Transcript.{Transcript}
 use Rattle.tl_session.specs.Run.{Stands, ActsOver, IsTurn, IsRun}
 use Rattle.tl_session.proofs.EntryLemmas.{begins_itself, begins_on, fewer_commits, break_on, one_for}

@@ -13,7 +13,8 @@ use Rattle.tl_session.specs.declared.replies.ReplyBody.{ReplyBody}
 use Rattle.tl_session.specs.declared.replies.ReplyBody.TheVariants as body
 use Rattle.tl_session.specs.Jobs.{Job}
 use Rattle.tl_session.specs.Turns.{Turn, Meaning, break_of, of_session}
-use Rattle.tl_session.specs.Promises.{BodySays, Says, Chain, Chains, Promised, tally, whole_tally, news, EndsAtBreak}
+use Rattle.tl_engine.specs.Counting.{news}
+use Rattle.tl_session.specs.Promises.{BodySays, Says, Chain, Chains, Promised, tally, whole_tally, EndsAtBreak}
 use Rattle.tl_session.specs.Transcript.{Each, EachOfAll, OwnLine, RowsRight, RefusedRight, DoneRight, DeviceRight, BrokenRight, Between, NeverFalls, DoneRises, Above, highest, done_at, done_with, device, body_device, body_breaks, breaks, StaysBroken, AllStayBroken, OneDone, OneDevice, Transcript}
 use Rattle.tl_session.proofs.AuthorLemmas.{signed}
 use Rattle.tl_session.proofs.EntryLemmas.{begins_itself, begins_on, news_split, fewer_commits, fewer_news, break_on, unbroken, news_are, break_there_on, news_count, one_for}

@@ -1,5 +1,6 @@
 -- What a session is asked to do.
-use Rattle.std.specs.Prelude.{ℕ, List, Option}
+use Rattle.std.specs.Prelude.{ℕ, List, Option, option_map}
+use Rattle.tl_session.specs.declared.jobs.Job.{Job as LentJob}
 
 -- a statement: its session's number, the line that it stands on, its text, and the bytes of its
 -- block where it has one
@@ -8,3 +9,13 @@ pub record Job : Type 0 where
   pub line : ℕ
   pub text : List ℕ
   pub block : Option (List ℕ)
+
+-- what a job says that borrows its text and its block
+abbrev pub job_of : LentJob → Job
+job_of job =
+    record {
+      session = job.session;
+      line = job.line;
+      text = job.text.now;
+      block = option_map (λ b. b.now) job.block;
+    }

@@ -37,3 +37,13 @@ IsLone turns = (s : ℕ) × Each (λ t. t.job.session ≡ s) turns
 abbrev pub AreLone : List (List Turn) → Type 0
 AreLone [] = Unit {0}
 AreLone (phase ∷ phases) = IsLone phase × AreLone phases
+
+-- the jobs are of this session
+abbrev pub AreOfOne : ℕ → List Job → Type 0
+AreOfOne s [] = Unit {0}
+AreOfOne s (job ∷ jobs) = (job.session ≡ s) × AreOfOne s jobs
+
+-- the jobs of each phase are of one session
+abbrev pub AreLonePhases : List (List Job) → Type 0
+AreLonePhases [] = Unit {0}
+AreLonePhases (jobs ∷ phases) = ((s : ℕ) × AreOfOne s jobs) × AreLonePhases phases

@@ -5,6 +5,7 @@ use Rattle.tl_types.specs.declared.commits.Commit.{Commit}
 use Rattle.tl_types.specs.declared.commits.Entry.{Entry}
 use Rattle.tl_types.specs.declared.commits.Entry.TheVariants as entry
 use Rattle.tl_types.specs.Entries.{commits_of, has_break}
+use Rattle.tl_engine.specs.Counting.{news}
 use Rattle.tl_session.specs.declared.readings.Reading.TheVariants.{Query}
 use Rattle.tl_session.specs.declared.replies.ReplyBody.{ReplyBody}
 use Rattle.tl_session.specs.declared.replies.ReplyBody.TheVariants as body
@@ -78,13 +79,6 @@ body_weight body.BrokenJournal = 0
 -- the same of a turn
 abbrev pub weight : Turn → ℕ
 weight t = body_weight t.reply.body
-
--- how many entries are commits or breaks
-abbrev pub news : List Entry → ℕ
-news [] = 0
-news (entry.Commit c ∷ rest) = 1 + news rest
-news (entry.Mark n v ∷ rest) = news rest
-news (entry.Break c ∷ rest) = 1 + news rest
 
 -- only marks are there
 abbrev pub AreMarks : List Entry → Type 0

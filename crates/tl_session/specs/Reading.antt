@@ -10,6 +10,7 @@ use Rattle.tl_types.specs.Plain as plain
 use Rattle.tl_types.specs.History.{database_of}
 use Rattle.tl_types.specs.Resolving.{find_table}
 use Rattle.tl_batch.specs.Made.{batch_matches}
+use Rattle.tl_engine.specs.Saying.{names_table}
 use Rattle.tl_csv.specs.declared.faults.CsvFault.{CsvFault}
 use Rattle.tl_csv.specs.declared.faults.CsvFault.TheVariants as csv_fault
 use Rattle.tl_csv.specs.declared.needs.BatchKind.{BatchKind}
@@ -101,6 +102,12 @@ abbrev pub DoesMatch : plain.Database → Reading → Type 0
 DoesMatch db (reading.Loads batch) = IsTrue (batch_matches db batch)
 DoesMatch db (reading.Query answer) = Unit {0}
 DoesMatch db (reading.Fault why) = Unit {0}
+
+-- a batch of rows names a table that is there
+abbrev pub IsKnown : plain.Database → Reading → Type 0
+IsKnown db (reading.Loads batch) = IsTrue (names_table db batch)
+IsKnown db (reading.Query answer) = Unit {0}
+IsKnown db (reading.Fault why) = Unit {0}
 
 -- a job is one thing over the commits
 pub record HasOneReading (commits : List Commit) (job : Job) : Type 0 where

@@ -1,5 +1,6 @@
-//! What a job is over the commits of a store: a batch, an answered query, or the first fault.
+//! What a job is over the commits of a snapshot: a batch, an answered query, or the first fault.
 ghost use Rattle.std.specs.Prelude.{◌≡◌, ◌≢◌, ◌<◌, IfOk, OnOk, length, Some, None};
+ghost use Rattle.tl_types.specs.Entries.{commits_of};
 ghost use Rattle.tl_types.specs.History.{database_of};
 ghost use Rattle.tl_types.specs.declared.batches.Batch.TheVariants as batch;
 ghost use Rattle.tl_types.specs.declared.batches.BatchFault.TheVariants as batch_fault;
@@ -9,16 +10,17 @@ ghost use Rattle.tl_query.specs.Parsed.{IsNewTable, IsParsed, IsQuery};
 ghost use Rattle.tl_query.specs.declared.check_faults.CheckFault.TheVariants as check_fault;
 ghost use Rattle.tl_query.specs.declared.faults.TextFault.TheVariants as text_fault;
 ghost use Rattle.tl_csv.specs.declared.faults.CsvFault.TheVariants as csv_fault;
-ghost use Rattle.tl_session.specs.Reading.{IsReading, IsFaultTold, DoesMatch, create_reading, load_reading, query_reading, statement_reading};
+ghost use Rattle.tl_session.specs.Reading.{IsReading, IsFaultTold, DoesMatch, IsKnown, create_reading, load_reading, query_reading, statement_reading};
 ghost use Rattle.tl_session.specs.declared.readings.Reading.TheVariants as reading;
 ghost use Rattle.tl_session.specs.declared.replies.Refusal.TheVariants as refusal;
 
-use crate::rebuilding::tables_of;
 use crate::replies::Refusal;
 use std::alloc::{AllocError, Global};
 use tl_check::{check, check_create};
 use tl_csv::{BatchKind, CsvFault, read_batch};
-use tl_plain::answer_plain;
+use tl_device::Gate;
+use tl_exec::answer;
+use tl_index::Snapshot;
 use tl_query::{CheckFault, CreateForm, Name, Query, Statement, TextFault, parse};
 use tl_store::Store;
 use tl_types::{Answer, Batch, BatchFault, Limits, NoMemory};
@@ -80,6 +82,7 @@ fn load(
         (λ read. read ≡ load_reading store.now name.now.text kind block.now) }
     ensures told { IfOk result IsFaultTold }
     ensures matching { IfOk result (DoesMatch (database_of store.now)) }
+    ensures known { IfOk result (IsKnown (database_of store.now)) }
 {
     let Some(number) = store.find(name.text.as_str()) else {
         let unknown = Refusal::BatchFault(BatchFault::UnknownTable);
@@ -93,39 +96,50 @@ fn load(
     }
 }
 
-// What a query is: the rows that answer it over the tables, which are made for it.
-fn ask(alloc: Global, store: &Store, query: &Query) -> Result<Reading, NoMemory>
+// The number of threads that may share the work of a query.
+const WORKERS: u32 = 1;
+
+// What a query is: the rows that answer it over the tables.
+fn ask<G: Gate>(
+    alloc: Global,
+    snapshot: &Snapshot,
+    query: &Query,
+    gate: &G,
+) -> Result<Reading, NoMemory>
     requires { IsQuery query.now }
-    ensures reads { IfOk result (λ read. read ≡ query_reading store.now
-        (checked (length store.now) (database_of store.now) query.now)) }
+    ensures reads { IfOk result (λ read. read ≡ query_reading (commits_of snapshot.now)
+        (checked (length (commits_of snapshot.now)) (database_of (commits_of snapshot.now))
+        query.now)) }
     ensures told { IfOk result IsFaultTold }
 {
-    let typed = match check(alloc, query, store) {
+    let typed = match check(alloc, query, snapshot.store()) {
         Ok(typed) => typed,
         Err(fault) => return Ok(Reading::Fault(check_refusal(fault)?)),
     };
-    let tables = tables_of(alloc, store)?;
-    Ok(Reading::Query(answer_plain(alloc, &tables, &typed)?))
+    Ok(Reading::Query(answer(alloc, snapshot, &typed, WORKERS, gate)?))
 }
 
 // What a statement is.
-fn read_statement(
+fn read_statement<G: Gate>(
     alloc: Global,
-    store: &Store,
+    snapshot: &Snapshot,
     statement: &Statement,
     block: &[u8],
+    gate: &G,
 ) -> Result<Reading, NoMemory>
     requires { IsParsed statement.now }
-    ensures reads { IfOk result
-        (λ read. read ≡ statement_reading store.now statement.now block.now) }
+    ensures reads { IfOk result (λ read. read ≡ statement_reading
+        (commits_of snapshot.now) statement.now block.now) }
     ensures told { IfOk result IsFaultTold }
-    ensures matching { IfOk result (DoesMatch (database_of store.now)) }
+    ensures matching { IfOk result (DoesMatch (database_of (commits_of snapshot.now))) }
+    ensures known { IfOk result (IsKnown (database_of (commits_of snapshot.now))) }
 {
+    let store = snapshot.store();
     match statement {
         Statement::Create(form) => create(alloc, form),
         Statement::Put(name) => load(alloc, store, name, BatchKind::PutKind, block),
         Statement::Remove(name) => load(alloc, store, name, BatchKind::RemoveKind, block),
-        Statement::Ask(query) => ask(alloc, store, query),
+        Statement::Ask(query) => ask(alloc, snapshot, query, gate),
     }
 }
 
@@ -140,17 +154,26 @@ fn text_refusal(fault: TextFault) -> Result<Refusal, NoMemory>
     }
 }
 
-/// What a job is over the commits of a store: its text is parsed; a new table or a query is checked,
-/// and a query answered; a batch finds its table, and its block is read. The version that a query or
-/// a fault names is the number of the store's commits. The block is empty where there is none. A
-/// batch of rows matches the schema of its table. The error is `NoMemory`.
-pub fn read_job(alloc: Global, store: &Store, text: &str, block: &[u8]) -> Result<Reading, NoMemory>
-    ensures reads { IfOk result (λ read. IsReading store.now text.now block.now read) }
+/// What a job is over the commits of a snapshot: its text is parsed; a new table or a query is
+/// checked, and a query answered; a batch finds its table, and its block is read. The version that
+/// a query or a fault names is the number of the commits. The block is empty where there is none.
+/// A batch of rows matches the schema of its table, which is there. The pieces of a query's work
+/// pass the gate. The error is `NoMemory`.
+pub fn read_job<G: Gate>(
+    alloc: Global,
+    snapshot: &Snapshot,
+    text: &str,
+    block: &[u8],
+    gate: &G,
+) -> Result<Reading, NoMemory>
+    ensures reads { IfOk result
+        (λ read. IsReading (commits_of snapshot.now) text.now block.now read) }
     ensures told { IfOk result IsFaultTold }
-    ensures matching { IfOk result (DoesMatch (database_of store.now)) }
+    ensures matching { IfOk result (DoesMatch (database_of (commits_of snapshot.now))) }
+    ensures known { IfOk result (IsKnown (database_of (commits_of snapshot.now))) }
 {
     match parse(alloc, text) {
-        Ok(statement) => read_statement(alloc, store, &statement, block),
+        Ok(statement) => read_statement(alloc, snapshot, &statement, block, gate),
         Err(fault) => Ok(Reading::Fault(text_refusal(fault)?)),
     }
 }

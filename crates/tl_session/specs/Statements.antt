@@ -1,0 +1,87 @@
+-- What a session does with one job.
+use Rattle.std.specs.Prelude.{◌≡◌, ℕ, ◌+◌, true, [], ◌∷◌, ◌++◌, length, take, Option, Some, None, Result, Ok, Err}
+use mathlib.Core.List.{IsPrefix}
+use Rattle.tl_types.specs.declared.batches.Batch.{Batch}
+use Rattle.tl_types.specs.Entries.{commits_of, has_break}
+use Rattle.tl_engine.specs.declared.faults.CommitFault.{CommitFault}
+use Rattle.tl_engine.specs.declared.faults.CommitFault.TheVariants as fault
+use Rattle.tl_session.specs.declared.readings.Reading.{Reading}
+use Rattle.tl_session.specs.declared.readings.Reading.TheVariants.{Loads}
+use Rattle.tl_session.specs.declared.replies.Refusal.TheVariants as refusal
+use Rattle.tl_session.specs.declared.replies.Reply.{Reply}
+use Rattle.tl_session.specs.declared.replies.ReplyBody.{ReplyBody}
+use Rattle.tl_session.specs.declared.replies.ReplyBody.TheVariants as body
+use Rattle.tl_session.specs.declared.statements.Settled.{Settled}
+use Rattle.tl_session.specs.Jobs.{Job}
+use Rattle.tl_session.specs.Plain as plain
+use Rattle.tl_session.specs.Reading.{Reads}
+use Rattle.tl_session.specs.Turns.{Turn, meant, ReadsWell}
+use Rattle.tl_session.specs.Promises.{BodySays, Says, body_weight}
+
+-- the turn of a job that has this reply
+abbrev pub turn_of : Job → Reply → Turn
+turn_of job reply = record { job = job; reply = reply }
+
+-- it is the access of the same session: its author, its table and the parts of its share
+pub record IsSame (old new : plain.Access) : Type 0 where
+  pub author : new.author ≡ old.author
+  pub table : new.table ≡ old.table
+  pub parts : new.parts ≡ old.parts
+
+-- at most more has been seen: the share counts no more
+pub record SeesMore (old new : plain.Access) : Type 0 where
+  pub same : IsSame old new
+  pub later : IsPrefix old.seen new.seen
+  pub amount : new.amount ≡ old.amount
+
+-- the reading is the job's over what has been seen, whose commits the version counts
+pub record IsLook (job : Job) (version : ℕ) (reading : Reading) (now : plain.Access) : Type 0 where
+  pub version_is : version ≡ length (commits_of now.seen)
+  pub reads : Reads (commits_of now.seen) job reading
+
+-- a batch is answered so: this holds for any job of the session that is the batch over what had
+-- been seen; and the share counts the answer
+pub record Settles (batch : Batch) (version : ℕ) (answer : ReplyBody) (old new : plain.Access) : Type 0 where
+  pub same : IsSame old new
+  pub says : (job : Job) → job.session ≡ old.author → Reads (commits_of old.seen) job (Loads batch)
+      → BodySays meant job version answer old.seen new.seen
+  pub broken : has_break old.seen ≡ true → answer ≡ body.BrokenJournal
+  pub amount : new.amount ≡ old.amount + body_weight answer
+
+-- what the engine's answer to a batch is told as: a version, and a reply's body
+abbrev pub outcome_of : Result ℕ CommitFault → Option Settled
+outcome_of (Ok v) = Some (record { version = v; body = body.Done })
+outcome_of (Err (fault.Broken v)) = Some (record { version = v; body = body.BrokenJournal })
+outcome_of (Err (fault.Refused v f)) =
+    Some (record { version = v; body = body.Refused (refusal.BatchFault f) })
+outcome_of (Err fault.NoMemory) = None
+outcome_of (Err (fault.Device v count)) =
+    Some (record { version = v; body = body.DeviceFault })
+
+-- a job is answered so, and the share counts the answer
+pub record Tells (job : Job) (version : ℕ) (answer : ReplyBody) (old new : plain.Access) : Type 0 where
+  pub same : IsSame old new
+  pub says : BodySays meant job version answer old.seen new.seen
+  pub broken : has_break old.seen ≡ true
+      → ReadsWell meant (take version (commits_of new.seen)) job → answer ≡ body.BrokenJournal
+  pub amount : new.amount ≡ old.amount + body_weight answer
+
+-- a reply to the job says what had been seen and is seen now, and the share counts it
+pub record IsTold (job : Job) (reply : Reply) (old new : plain.Access) : Type 0 where
+  pub same : IsSame old new
+  pub says : Says meant (turn_of job reply) old.seen new.seen
+  pub amount : new.amount ≡ old.amount + body_weight reply.body
+
+-- the session answered the job by exactly one reply
+pub record Answers (job : Job) (old new : plain.Session) : Type 0 where
+  pub reply : Reply
+  pub told : IsTold job reply old.access new.access
+  pub replies : new.replies ≡ old.replies ++ reply ∷ []
+  pub ran_out : new.ran_out ≡ old.ran_out
+
+-- memory ran out before the session answered: it has no reply more, its share counts no more, and
+-- at most more has been seen
+pub record Stops (old new : plain.Session) : Type 0 where
+  pub more : SeesMore old.access new.access
+  pub replies : new.replies ≡ old.replies
+  pub ran_out : new.ran_out ≡ old.ran_out

@@ -1,56 +1,41 @@
 -- What a run that is done, or that a break came into, printed and keeps.
-use Rattle.std.proofs.Common.{◌≡◌, ℕ, Bool, true, false, List, [], ◌∷◌, ◌++◌, Some, None, is_some, IfSome, refl, ap, subst, sym, ◌∙◌, inl, inr, ◌⊎◌}
+use Rattle.std.proofs.Common.{◌≡◌, ℕ, Bool, true, false, List, [], ◌∷◌, ◌++◌, map, Some, None, is_some, IfSome, refl, ap, subst, sym, ◌∙◌, inl, inr, ◌⊎◌}
 use Rattle.std.specs.declared.option.Option.{Option}
 use Rattle.tl_types.specs.declared.commits.Commit.{Commit}
-use Rattle.tl_device.specs.Known.{append_known, Rose}
+use Rattle.tl_device.specs.Known.{append_known, prepend_known, Rose}
 use Rattle.tl_script.specs.declared.jobs.ScriptFault.{ScriptFault}
-use Rattle.tl_script.specs.Script.{Reading, reading_of, load_of}
+use Rattle.tl_script.specs.Script.{Reading}
+use Rattle.tl_script.specs.Taking.{IsAtEnd}
 use Rattle.tl_session.specs.Jobs.{Job}
-use Rattle.tl_session.specs.Written.{IsTranscript, IsRunOf, IsPlayOf, all_jobs}
+use Rattle.tl_session.specs.Turns.{Turn, all_turns}
+use Rattle.tl_session.specs.Transcript.{Each}
+use Rattle.tl_session.specs.Play.{AreLone}
+use Rattle.tl_session.specs.Written.{all_jobs, jobs_of, transcript_bytes}
 use Rattle.tl_journal.specs.Image.{StandsFor}
 use Rattle.tl_journal.specs.declared.faults.JournalFault.{JournalFault}
 use Rattle.tl_journal.specs.declared.faults.JournalFault.TheVariants as journal
 use Rattle.timeline.specs.declared.statuses.Status.{Status}
 use Rattle.timeline.specs.declared.statuses.Status.TheVariants as status
+use Rattle.timeline.specs.declared.stops.Stop.{Stop}
+use Rattle.timeline.specs.declared.stops.Stop.TheVariants as stop
 use Rattle.timeline.specs.declared.commands.Command.{Command}
 use Rattle.timeline.specs.declared.commands.Command.TheVariants as command
 use Rattle.timeline.specs.Status.{closing_line}
 use Rattle.timeline.specs.Commands.{command_of, put_text}
-use Rattle.timeline.specs.Jobs.{jobs_asked, phases_asked}
-use Rattle.timeline.specs.Ending.{most_bytes, stop_of, wanted_status, Writes, Closes, ClosesWith, EndsFor, EndsRefused, StopsShort, RunsAll, ReadsScript, OpenedEnds, RunEnds, EndsBy, Ends}
-use Rattle.timeline.specs.Headline.{PrintsTranscript, PrintsPlay, FailsToOpen, PrintsBreak, RunTells, RunHeadline, HeadlineBy, Headline}
-use Rattle.timeline.specs.Outside.{Outside, OpensWith, HoldsJournal}
+use Rattle.timeline.specs.Coming.{script_reads, block_reads}
+use Rattle.timeline.specs.Jobs.{phases_asked}
+use Rattle.timeline.specs.Ending.{status_for, wanted_by, Writes, Closes, EndsFor, EndsRefused, Told, ClosesAfter, PhasesEnd, OpenedEnds, RunEnds, EndsBy, Ends}
+use Rattle.timeline.specs.Headline.{AreOf, AreLoneJobs, PrintsTranscript, FailsToOpen, PrintsAll, PrintsBreak, PrintsToFault, PrintsClosed, RunTells, RunHeadline, HeadlineBy, Headline}
+use Rattle.timeline.specs.Outside.{Outside, Streams, streams_of, OpensWith, HoldsJournal}
+use Rattle.timeline.specs.Stopping.{RunsAll, Stops}
+use Rattle.timeline.proofs.RunningLemmas.{written_more}
 use Rattle.timeline.proofs.TopLemmas.{told_script}
-
--- a run of one job after the other writes a transcript
-abbrev MakesTranscript : Type 0
-MakesTranscript =
-    (names : List (List ℕ)) (phases : List (List Job)) (opening all : List Commit)
-    (broke : Option Commit) (bytes : List ℕ) → IsRunOf names (all_jobs phases) opening None all broke bytes
-    → IsTranscript names phases opening all broke bytes
-
--- and where nothing broke the play
-abbrev MakesPlay : Type 0
-MakesPlay =
-    (names : List (List ℕ)) (jobs : List Job) (opening all : List Commit) (bytes : List ℕ)
-    → IsRunOf names jobs opening None all None bytes → IsPlayOf names jobs opening all bytes
 
 -- what was written where the run ended as it was to: neither memory nor the sink ends a run so
 all_written : (bytes : List ℕ) (wanted seen : Status) (old new : Option (List ℕ)) (before after : ℕ) (ended : Status) → Writes bytes wanted old new before after ended → ended ≡ seen → (seen ≡ status.NoMemory → ⊥) → ((n : ℕ) → seen ≡ status.SinkFault n → ⊥) → (ended ≡ wanted) × (new ≡ append_known old bytes)
 all_written bytes wanted seen old new before after ended (inl h) e memory sink = (h.0, h.1)
 all_written bytes wanted seen old new before after ended (inr (inl h)) e memory sink = absurd (memory (sym e ∙ h.0))
 all_written bytes wanted seen old new before after ended (inr (inr h)) e memory sink = absurd (sink after (sym e ∙ h.0))
-
--- a status that a fault of the disk, or its want, gives
-wanted_done : (fault : Option ScriptFault) (broke : Option Commit) (n : ℕ) → status.Done ≡ wanted_status fault (is_some broke) n → broke ≡ None
-wanted_done (Some f) broke n h = absurd (cc)
-wanted_done None None n h = refl
-wanted_done None (Some c) n h = absurd (cc)
-
-wanted_device : (fault : Option ScriptFault) (broke : Option Commit) (n faults : ℕ) → status.DiskFault faults ≡ wanted_status fault (is_some broke) n → (c : Commit) × (broke ≡ Some c)
-wanted_device (Some f) broke n faults h = absurd (cc)
-wanted_device None None n faults h = absurd (cc)
-wanted_device None (Some c) n faults h = (c, refl)
 
 no_memory_done : status.Done ≡ status.NoMemory → ⊥
 no_memory_done h = cc
@@ -96,102 +81,241 @@ refused_device (journal.Damaged at) old new before after ended faults h e =
     let w = all_written (closing_line (status.Damaged at)) (status.Damaged at) (status.DiskFault faults) old new before after ended h e (no_memory_device faults) (no_sink_device faults) in
     w.1 ∙ ap (λ s. append_known old (closing_line s)) (sym w.0)
 
-refused_tells : (reading : Reading) (opening : List Commit) (before after : Outside) (ended : Status) → EndsRefused before after ended → RunTells reading opening before after ended
-refused_tells reading opening before after ended h =
+-- a closing line that no fault of a journal gives
+refused_other : (fault : JournalFault) (seen : Status) (old new : Option (List ℕ)) (before after : ℕ) (ended : Status) → EndsFor fault old new before after ended → ended ≡ seen → (seen ≡ status.NoMemory → ⊥) → ((n : ℕ) → seen ≡ status.SinkFault n → ⊥) → seen ≡ status_for fault
+refused_other journal.NoMemory seen old new before after ended h e memory sink = absurd (memory (sym e ∙ h.0))
+refused_other (journal.Device n) seen old new before after ended h e memory sink = sym e ∙ (all_written (closing_line (status.DiskFault n)) (status.DiskFault n) seen old new before after ended h e memory sink).0
+refused_other (journal.NotInitialised len) seen old new before after ended h e memory sink = sym e ∙ (all_written (closing_line (status.NotInitialised len)) (status.NotInitialised len) seen old new before after ended h e memory sink).0
+refused_other (journal.AlreadyInitialised len) seen old new before after ended h e memory sink = sym e ∙ (all_written (closing_line (status.AlreadyInitialised len)) (status.AlreadyInitialised len) seen old new before after ended h e memory sink).0
+refused_other (journal.Damaged at) seen old new before after ended h e memory sink = sym e ∙ (all_written (closing_line (status.Damaged at)) (status.Damaged at) seen old new before after ended h e memory sink).0
+
+no_journal_script : (fault : JournalFault) (f : ScriptFault) → status.ScriptFault f ≡ status_for fault → ⊥
+no_journal_script journal.NoMemory f e = cc
+no_journal_script (journal.Device n) f e = cc
+no_journal_script (journal.NotInitialised len) f e = cc
+no_journal_script (journal.AlreadyInitialised len) f e = cc
+no_journal_script (journal.Damaged at) f e = cc
+
+no_journal_source : (fault : JournalFault) (n : ℕ) → status.SourceFault n ≡ status_for fault → ⊥
+no_journal_source journal.NoMemory n e = cc
+no_journal_source (journal.Device m) n e = cc
+no_journal_source (journal.NotInitialised len) n e = cc
+no_journal_source (journal.AlreadyInitialised len) n e = cc
+no_journal_source (journal.Damaged at) n e = cc
+
+refused_tells : (reads : Bool → List ℕ → Reading) (script : List ℕ) (opening : List Commit) (before after : Outside) (ended : Status) → EndsRefused before after ended → RunTells reads script opening before after ended
+refused_tells reads script opening before after ended h =
     record {
       done = λ e. absurd (refused_not_done h.fault before.written after.written before.sink_faults after.sink_faults ended h.ends e);
       device = λ faults e. inl (record { unread = h.unread; written = refused_device h.fault before.written after.written before.sink_faults after.sink_faults ended faults h.ends e; keeps = h.keeps });
+      faulty = λ f e. absurd (no_journal_script h.fault f (refused_other h.fault (status.ScriptFault f) before.written after.written before.sink_faults after.sink_faults ended h.ends e (λ x. cc) (λ n x. cc)));
+      failing = λ faults e. absurd (no_journal_source h.fault faults (refused_other h.fault (status.SourceFault faults) before.written after.written before.sink_faults after.sink_faults ended h.ends e (λ x. cc) (λ n x. cc)));
     }
 
 -- A JOURNAL THAT IS OPENED
 
--- the transcript of a run that wrote all and ended so
-prints : (reading : Reading) (opening all : List Commit) (broke : Option Commit) (wanted : Status) (bytes : List ℕ) (before after : Outside) → MakesTranscript → IsRunOf reading.names (jobs_asked reading) opening None all broke bytes → HoldsJournal all broke before after → after.written ≡ append_known before.written (bytes ++ closing_line wanted) → PrintsTranscript reading opening all broke wanted before after
-prints reading opening all broke wanted bytes before after law run holds written =
-    record { bytes = bytes; transcript = law reading.names (phases_asked reading.phases) opening all broke bytes run; written = written; holds = holds }
+-- how a run is to end, by why its phases stopped
+abbrev wanted_of : Stop → Bool → ℕ → Status
+wanted_of stop.Ended broke faults = wanted_by broke faults
+wanted_of (stop.Fault f) broke faults = status.ScriptFault f
+wanted_of (stop.Source n) broke faults = status.SourceFault n
+wanted_of (stop.Sink n) broke faults = status.SinkFault n
+wanted_of stop.NoMemory broke faults = status.NoMemory
 
-done_tells : (reading : Reading) (opening : List Commit) (before after : Outside) (ended : Status) → MakesTranscript → MakesPlay → RunsAll reading opening before after ended → ended ≡ status.Done → PrintsPlay reading opening before after
-unfolding prints
-done_tells reading opening before after ended law play h e =
-    let wanted = wanted_status reading.fault (is_some h.broke) after.disk_faults in
-    let w = all_written (h.bytes ++ closing_line wanted) wanted status.Done before.written after.written before.sink_faults after.sink_faults ended h.closes e no_memory_done no_sink_done in
-    let is : status.Done ≡ wanted = sym e ∙ w.0 in
-    let none = wanted_done reading.fault h.broke after.disk_faults is in
-    let run = subst (λ (o : Option Commit). IsRunOf reading.names (jobs_asked reading) opening None h.all o h.bytes) none h.run in
+-- what was written behind the replies where the run ended as it was to
+closed_as : (why : Stop) (broke : Bool) (faults : ℕ) (seen : Status) (old new : Option (List ℕ)) (before after : ℕ) (ended : Status) → ClosesAfter why broke faults old new before after ended → ended ≡ seen → (seen ≡ status.NoMemory → ⊥) → ((n : ℕ) → seen ≡ status.SinkFault n → ⊥) → (seen ≡ wanted_of why broke faults) × (new ≡ append_known old (closing_line seen))
+closed_as stop.Ended broke faults seen old new before after ended h e memory sink =
+    let w = all_written (closing_line (wanted_by broke faults)) (wanted_by broke faults) seen old new before after ended h e memory sink in
+    let is : seen ≡ wanted_by broke faults = sym e ∙ w.0 in (is, w.1 ∙ ap (λ s. append_known old (closing_line s)) (sym is))
+closed_as (stop.Fault f) broke faults seen old new before after ended h e memory sink =
+    let w = all_written (closing_line (status.ScriptFault f)) (status.ScriptFault f) seen old new before after ended h e memory sink in
+    let is : seen ≡ status.ScriptFault f = sym e ∙ w.0 in (is, w.1 ∙ ap (λ s. append_known old (closing_line s)) (sym is))
+closed_as (stop.Source n) broke faults seen old new before after ended h e memory sink =
+    let w = all_written (closing_line (status.SourceFault n)) (status.SourceFault n) seen old new before after ended h e memory sink in
+    let is : seen ≡ status.SourceFault n = sym e ∙ w.0 in (is, w.1 ∙ ap (λ s. append_known old (closing_line s)) (sym is))
+closed_as (stop.Sink n) broke faults seen old new before after ended h e memory sink = absurd (sink n (sym e ∙ h.0))
+closed_as stop.NoMemory broke faults seen old new before after ended h e memory sink = absurd (memory (sym e ∙ h.0))
+
+-- what was written first, and then more
+then_written : (first old new : Option (List ℕ)) (xs ys : List ℕ) → old ≡ append_known first xs → new ≡ append_known old ys → new ≡ append_known first (xs ++ ys)
+then_written first old new xs ys e f = written_more first old new xs ys e f
+
+-- the turns of a phase of one session's jobs
+lone_turns : (s : ℕ) (ts : List Turn) → AreOf s (jobs_of ts) → Each (λ t. t.job.session ≡ s) ts
+lone_turns s [] h = tt
+lone_turns s (t ∷ ts) h = (h.0, lone_turns s ts h.1)
+
+lone_phases : (turns : List (List Turn)) → AreLoneJobs (map jobs_of turns) → AreLone turns
+lone_phases [] h = tt
+lone_phases (q ∷ turns) h = ((h.0.0, lone_turns h.0.0 q h.0.1), lone_phases turns h.1)
+
+jobs_on : (xs ys : List Turn) → jobs_of (xs ++ ys) ≡ jobs_of xs ++ jobs_of ys
+jobs_on [] ys = refl
+jobs_on (t ∷ ts) ys = ap (λ js. t.job ∷ js) (jobs_on ts ys)
+
+all_jobs_of : (turns : List (List Turn)) → jobs_of (all_turns turns) ≡ all_jobs (map jobs_of turns)
+all_jobs_of [] = refl
+all_jobs_of (q ∷ turns) = jobs_on q (all_turns turns) ∙ ap (λ js. jobs_of q ++ js) (all_jobs_of turns)
+
+-- a transcript was printed
+prints : (reading : Reading) (opening all : List Commit) (broke : Option Commit) (closing : Status) (before after : Outside) (at : Option (List ℕ)) (turns : List (List Turn)) → map jobs_of turns ≡ phases_asked reading.phases → Told opening all broke turns
+    → at ≡ append_known before.written (transcript_bytes reading.names turns) → after.written ≡ append_known at (closing_line closing) → HoldsJournal all broke before after → PrintsTranscript reading opening all broke closing before after
+prints reading opening all broke closing before after at turns answers told first then_ holds =
     record {
-      all = h.all;
-      prints = prints reading opening h.all None status.Done h.bytes before after law run (subst (λ (o : Option Commit). HoldsJournal h.all o before after) none h.holds) (w.1 ∙ ap (λ s. append_known before.written (h.bytes ++ closing_line s)) (sym is));
-      play = play reading.names (jobs_asked reading) opening h.all h.bytes run;
+      bytes = transcript_bytes reading.names turns;
+      begins = told.begins;
+      transcript = (turns, answers, told.transcript, refl);
+      written = then_written before.written at after.written (transcript_bytes reading.names turns) (closing_line closing) first then_;
+      holds = holds;
+      play = λ none lone. (
+        all_turns turns,
+        all_jobs_of turns ∙ ap all_jobs answers,
+        told.play none (lone_phases turns (subst AreLoneJobs (sym answers) lone)),
+        refl,
+      );
     }
 
-break_tells : (reading : Reading) (opening : List Commit) (before after : Outside) (ended : Status) (faults : ℕ) → MakesTranscript → RunsAll reading opening before after ended → ended ≡ status.DiskFault faults → PrintsBreak reading opening ended before after
-break_tells reading opening before after ended faults law h e =
-    let wanted = wanted_status reading.fault (is_some h.broke) after.disk_faults in
-    let w = all_written (h.bytes ++ closing_line wanted) wanted (status.DiskFault faults) before.written after.written before.sink_faults after.sink_faults ended h.closes e (no_memory_device faults) (no_sink_device faults) in
-    let some = wanted_device reading.fault h.broke after.disk_faults faults (sym e ∙ w.0) in
-    let run = subst (λ (o : Option Commit). IsRunOf reading.names (jobs_asked reading) opening None h.all o h.bytes) some.1 h.run in
+some_broke : (o : Option Commit) (faults count : ℕ) → status.DiskFault faults ≡ wanted_by (is_some o) count → (c : Commit) × (o ≡ Some c)
+some_broke None faults count e = absurd (cc)
+some_broke (Some c) faults count e = (c, refl)
+
+none_broke : (o : Option Commit) (count : ℕ) → status.Done ≡ wanted_by (is_some o) count → o ≡ None
+none_broke None count e = refl
+none_broke (Some c) count e = absurd (cc)
+
+not_wanted : (b : Bool) (count : ℕ) (f : ScriptFault) → status.ScriptFault f ≡ wanted_by b count → ⊥
+not_wanted true count f e = cc
+not_wanted false count f e = cc
+
+not_wanted_source : (b : Bool) (count n : ℕ) → status.SourceFault n ≡ wanted_by b count → ⊥
+not_wanted_source true count n e = cc
+not_wanted_source false count n e = cc
+
+-- the run of a script that the source told
+module _ (reads : Bool → List ℕ → Reading) (script : List ℕ) (opening : List Commit) (before after : Outside) (ended : Status) (told : before.left ≡ Some script) (h : OpenedEnds reads opening before after ended) where
+  abbrev Own : List (List Turn) → Type 0
+  Own = Told opening h.all h.broke
+
+  abbrev At : Stop → Type 0
+  At why = Stops Own reads why (streams_of before) h.ends.at
+
+  abbrev Ends_ : Stop → Type 0
+  Ends_ why = ClosesAfter why (is_some h.broke) after.disk_faults h.ends.at.written after.written h.ends.at.sink_faults after.sink_faults ended
+
+  same_script : (own : List ℕ) → IfSome before.left (λ l. l ≡ own) → own ≡ script
+  same_script own t = sym (told_script before.left own script told t)
+
+  all_prints : (fault : Option ScriptFault) (closing : Status) (r : RunsAll Own (reads true) fault (streams_of before) h.ends.at) → after.written ≡ append_known h.ends.at.written (closing_line closing) → PrintsTranscript (reads true script) opening h.all h.broke closing before after
+  all_prints fault closing r line =
+      subst (λ (s : List ℕ). PrintsTranscript (reads true s) opening h.all h.broke closing before after) (same_script r.script r.told)
+      (prints (reads true r.script) opening h.all h.broke closing before after h.ends.at.written r.turns r.answers r.ran r.written line h.holds)
+
+  all_fault : (fault : Option ScriptFault) (r : RunsAll Own (reads true) fault (streams_of before) h.ends.at) → (reads true script).fault ≡ fault
+  all_fault fault r = subst (λ (s : List ℕ). (reads true s).fault ≡ fault) (same_script r.script r.told) r.fault_is
+
+  at_end : (r : RunsAll Own (reads true) None (streams_of before) h.ends.at) → IsAtEnd after.left
+  at_end r = subst (λ (o : Option (List ℕ)). IsAtEnd o) (sym h.ends.left_same) (r.whole refl)
+
+  pub done_tells : ended ≡ status.Done → PrintsAll (reads true script) opening before after
+  done_tells e = by_why h.ends.why h.ends.stops h.ends.closes where
+    by_why : (why : Stop) → At why → Ends_ why → PrintsAll (reads true script) opening before after
+    by_why stop.Ended stops closes =
+        let w = closed_as stop.Ended (is_some h.broke) after.disk_faults status.Done h.ends.at.written after.written h.ends.at.sink_faults after.sink_faults ended closes e no_memory_done no_sink_done in
+        record { faultless = all_fault None stops; read = at_end stops; all = h.all; prints = subst (λ (o : Option Commit). PrintsTranscript (reads true script) opening h.all o status.Done before after) (none_broke h.broke after.disk_faults w.0) (all_prints None status.Done stops w.1) }
+    by_why (stop.Fault f) stops closes =
+        let w = closed_as (stop.Fault f) (is_some h.broke) after.disk_faults status.Done h.ends.at.written after.written h.ends.at.sink_faults after.sink_faults ended closes e no_memory_done no_sink_done in absurd (let x = w.0 in cc)
+    by_why (stop.Source n) stops closes =
+        let w = closed_as (stop.Source n) (is_some h.broke) after.disk_faults status.Done h.ends.at.written after.written h.ends.at.sink_faults after.sink_faults ended closes e no_memory_done no_sink_done in absurd (let x = w.0 in cc)
+    by_why (stop.Sink n) stops closes = absurd (no_sink_done n (sym e ∙ closes.0))
+    by_why stop.NoMemory stops closes = absurd (no_memory_done (sym e ∙ closes.0))
+
+  pub device_tells : (faults : ℕ) → ended ≡ status.DiskFault faults → PrintsBreak (reads true script) opening ended before after
+  device_tells faults e = by_why h.ends.why h.ends.stops h.ends.closes where
+    by_why : (why : Stop) → At why → Ends_ why → PrintsBreak (reads true script) opening ended before after
+    by_why stop.Ended stops closes =
+        let w = closed_as stop.Ended (is_some h.broke) after.disk_faults (status.DiskFault faults) h.ends.at.written after.written h.ends.at.sink_faults after.sink_faults ended closes e (no_memory_device faults) (no_sink_device faults) in
+        let c = some_broke h.broke faults after.disk_faults w.0 in
+        record { faultless = all_fault None stops; read = at_end stops; all = h.all; broke = c.0; prints = subst (λ (o : Option Commit). PrintsTranscript (reads true script) opening h.all o ended before after) c.1 (subst (λ (s : Status). PrintsTranscript (reads true script) opening h.all h.broke s before after) (sym e) (all_prints None (status.DiskFault faults) stops w.1)) }
+    by_why (stop.Fault f) stops closes =
+        let w = closed_as (stop.Fault f) (is_some h.broke) after.disk_faults (status.DiskFault faults) h.ends.at.written after.written h.ends.at.sink_faults after.sink_faults ended closes e (no_memory_device faults) (no_sink_device faults) in absurd (let x = w.0 in cc)
+    by_why (stop.Source n) stops closes =
+        let w = closed_as (stop.Source n) (is_some h.broke) after.disk_faults (status.DiskFault faults) h.ends.at.written after.written h.ends.at.sink_faults after.sink_faults ended closes e (no_memory_device faults) (no_sink_device faults) in absurd (let x = w.0 in cc)
+    by_why (stop.Sink n) stops closes = absurd (no_sink_device faults n (sym e ∙ closes.0))
+    by_why stop.NoMemory stops closes = absurd (no_memory_device faults (sym e ∙ closes.0))
+
+  pub fault_tells : (f : ScriptFault) → ended ≡ status.ScriptFault f → PrintsToFault (reads true script) f opening before after
+  fault_tells f e = by_why h.ends.why h.ends.stops h.ends.closes where
+    by_why : (why : Stop) → At why → Ends_ why → PrintsToFault (reads true script) f opening before after
+    by_why stop.Ended stops closes =
+        let w = closed_as stop.Ended (is_some h.broke) after.disk_faults (status.ScriptFault f) h.ends.at.written after.written h.ends.at.sink_faults after.sink_faults ended closes e (λ x. cc) (λ n x. cc) in absurd (not_wanted (is_some h.broke) after.disk_faults f w.0)
+    by_why (stop.Fault g) stops closes =
+        let w = closed_as (stop.Fault g) (is_some h.broke) after.disk_faults (status.ScriptFault f) h.ends.at.written after.written h.ends.at.sink_faults after.sink_faults ended closes e (λ x. cc) (λ n x. cc) in
+        let same : g ≡ f = let x = w.0 in cc in
+        record { fault_is = all_fault (Some g) stops ∙ ap Some same; all = h.all; broke = h.broke; prints = all_prints (Some g) (status.ScriptFault f) stops w.1 }
+    by_why (stop.Source n) stops closes =
+        let w = closed_as (stop.Source n) (is_some h.broke) after.disk_faults (status.ScriptFault f) h.ends.at.written after.written h.ends.at.sink_faults after.sink_faults ended closes e (λ x. cc) (λ m x. cc) in absurd (let x = w.0 in cc)
+    by_why (stop.Sink n) stops closes = absurd (let x : status.ScriptFault f ≡ status.SinkFault n = sym e ∙ closes.0 in cc)
+    by_why stop.NoMemory stops closes = absurd (let x : status.ScriptFault f ≡ status.NoMemory = sym e ∙ closes.0 in cc)
+
+  pub source_tells : (faults : ℕ) → ended ≡ status.SourceFault faults → PrintsClosed (reads false) opening ended before after
+  source_tells faults e = by_why h.ends.why h.ends.stops h.ends.closes where
+    by_why : (why : Stop) → At why → Ends_ why → PrintsClosed (reads false) opening ended before after
+    by_why stop.Ended stops closes =
+        let w = closed_as stop.Ended (is_some h.broke) after.disk_faults (status.SourceFault faults) h.ends.at.written after.written h.ends.at.sink_faults after.sink_faults ended closes e (λ x. cc) (λ n x. cc) in absurd (not_wanted_source (is_some h.broke) after.disk_faults faults w.0)
+    by_why (stop.Fault g) stops closes =
+        let w = closed_as (stop.Fault g) (is_some h.broke) after.disk_faults (status.SourceFault faults) h.ends.at.written after.written h.ends.at.sink_faults after.sink_faults ended closes e (λ x. cc) (λ n x. cc) in absurd (let x = w.0 in cc)
+    by_why (stop.Source n) (stops, count) closes =
+        let w = closed_as (stop.Source n) (is_some h.broke) after.disk_faults (status.SourceFault faults) h.ends.at.written after.written h.ends.at.sink_faults after.sink_faults ended closes e (λ x. cc) (λ m x. cc) in
+        record {
+          rose = subst (λ (m : ℕ). Rose before.source_faults m) (sym h.ends.source_same) stops.rose;
+          taken = stops.taken;
+          order = stops.order ∙ ap (prepend_known stops.taken) (sym h.ends.left_same);
+          all = h.all;
+          broke = h.broke;
+          prints = subst (λ (s : Status). PrintsTranscript (reads false stops.taken) opening h.all h.broke s before after) (sym e) (prints (reads false stops.taken) opening h.all h.broke (status.SourceFault faults) before after h.ends.at.written stops.turns stops.answers stops.ran stops.written w.1 h.holds);
+        }
+    by_why (stop.Sink n) stops closes = absurd (let x : status.SourceFault faults ≡ status.SinkFault n = sym e ∙ closes.0 in cc)
+    by_why stop.NoMemory stops closes = absurd (let x : status.SourceFault faults ≡ status.NoMemory = sym e ∙ closes.0 in cc)
+
+opened_tells : (reads : Bool → List ℕ → Reading) (script : List ℕ) (opening : List Commit) (before after : Outside) (ended : Status) → before.left ≡ Some script → OpenedEnds reads opening before after ended → RunTells reads script opening before after ended
+opened_tells reads script opening before after ended told h =
     record {
-      all = h.all;
-      broke = some.0;
-      prints = prints reading opening h.all (Some some.0) ended h.bytes before after law run (subst (λ (o : Option Commit). HoldsJournal h.all o before after) some.1 h.holds) (w.1 ∙ ap (λ s. append_known before.written (h.bytes ++ closing_line s)) (sym w.0));
+      done = done_tells reads script opening before after ended told h;
+      device = λ faults e. inr (device_tells reads script opening before after ended told h faults e);
+      faulty = fault_tells reads script opening before after ended told h;
+      failing = source_tells reads script opening before after ended told h;
     }
 
-all_tells : (reading : Reading) (opening : List Commit) (before after : Outside) (ended : Status) → MakesTranscript → MakesPlay → RunsAll reading opening before after ended → RunTells reading opening before after ended
-all_tells reading opening before after ended law play h =
-    record {
-      done = λ e. done_tells reading opening before after ended law play h e;
-      device = λ faults e. inr (break_tells reading opening before after ended faults law h e);
-    }
+run_tells : (reads : Bool → List ℕ → Reading) (before after : Outside) (ended : Status) → RunEnds reads before after ended → RunHeadline reads before after ended
+run_tells reads before after ended (inl refused) = λ script image opening told is stands. refused_tells reads script opening before after ended refused
+run_tells reads before after ended (inr (own, h)) = λ script image opening told is stands.
+    subst (λ (cs : List Commit). RunTells reads script cs before after ended) (sym ((h.opens.stands image is).only opening stands)) (opened_tells reads script own before after ended told h)
 
--- a run that ends otherwise tells nothing
-silent_tells : (reading : Reading) (opening : List Commit) (before after : Outside) (ended : Status) → ended ≡ status.NoMemory → RunTells reading opening before after ended
-silent_tells reading opening before after ended is =
+-- a run that ends for want of memory tells nothing
+silent_tells : (reads : Bool → List ℕ → Reading) (script : List ℕ) (opening : List Commit) (before after : Outside) (ended : Status) → ended ≡ status.NoMemory → RunTells reads script opening before after ended
+silent_tells reads script opening before after ended is =
     record {
       done = λ e. absurd (no_memory_done (sym e ∙ is));
       device = λ faults e. absurd (no_memory_device faults (sym e ∙ is));
+      faulty = λ f e. absurd (let x : status.ScriptFault f ≡ status.NoMemory = sym e ∙ is in cc);
+      failing = λ faults e. absurd (let x : status.SourceFault faults ≡ status.NoMemory = sym e ∙ is in cc);
     }
 
-source_tells : (reading : Reading) (opening : List Commit) (before after : Outside) (ended : Status) (n : ℕ) → ClosesWith [] (status.SourceFault n) before after ended → RunTells reading opening before after ended
-source_tells reading opening before after ended n h =
-    record {
-      done = λ e.
-          let w = all_written (closing_line (status.SourceFault n)) (status.SourceFault n) status.Done before.written after.written before.sink_faults after.sink_faults ended h e no_memory_done no_sink_done in
-          absurd (let f : status.Done ≡ status.SourceFault n = sym e ∙ w.0 in cc);
-      device = λ faults e.
-          let w = all_written (closing_line (status.SourceFault n)) (status.SourceFault n) (status.DiskFault faults) before.written after.written before.sink_faults after.sink_faults ended h e (no_memory_device faults) (no_sink_device faults) in
-          absurd (let f : status.DiskFault faults ≡ status.SourceFault n = sym e ∙ w.0 in cc);
-    }
-
-read_tells : (reading : Reading) (opening : List Commit) (before after : Outside) (ended : Status) → MakesTranscript → MakesPlay → StopsShort reading opening before after ended ⊎ RunsAll reading opening before after ended → RunTells reading opening before after ended
-read_tells reading opening before after ended law play (inl short) = silent_tells reading opening before after ended short.ends.0
-read_tells reading opening before after ended law play (inr all) = all_tells reading opening before after ended law play all
-
-script_tells : (read : List ℕ → Reading) (opening : List Commit) (before after : Outside) (ended : Status) (script : List ℕ) → MakesTranscript → MakesPlay → before.left ≡ Some script → ReadsScript read opening before after ended → RunTells (read script) opening before after ended
-script_tells read opening before after ended script law play told h =
-    subst (λ (s : List ℕ). RunTells (read s) opening before after ended) (sym (told_script before.left h.script script told h.told)) (read_tells (read h.script) opening before after ended law play h.ends)
-
-run_tells : (read : List ℕ → Reading) (before after : Outside) (ended : Status) → MakesTranscript → MakesPlay → RunEnds read before after ended → RunHeadline read before after ended
-run_tells read before after ended law play (inl refused) = λ script image opening told reads stands. refused_tells (read script) opening before after ended refused
-run_tells read before after ended law play (inr (own, (opens, inl stopped))) = λ script image opening told reads stands. silent_tells (read script) opening before after ended stopped.0.0
-run_tells read before after ended law play (inr (own, (opens, inr (inl failed)))) = λ script image opening told reads stands. source_tells (read script) opening before after ended after.source_faults failed.2
-run_tells read before after ended law play (inr (own, (opens, inr (inr h)))) = λ script image opening told reads stands.
-    subst (λ (cs : List Commit). RunTells (read script) cs before after ended) (sym ((opens.stands image reads).only opening stands)) (script_tells read own before after ended script law play told h)
-
-by_command : (c : Option Command) (before after : Outside) (ended : Status) → MakesTranscript → MakesPlay → EndsBy c before after ended → HeadlineBy c before after ended
-by_command None before after ended law play h = tt
-by_command (Some command.Init) before after ended law play h = tt
-by_command (Some command.Run) before after ended law play h = run_tells (reading_of most_bytes) before after ended law play h
-by_command (Some (command.Load table)) before after ended law play h = run_tells (load_of most_bytes (put_text table)) before after ended law play h
-by_command (Some (command.Sample lines start)) before after ended law play h = tt
+by_command : (c : Option Command) (before after : Outside) (ended : Status) → EndsBy c before after ended → HeadlineBy c before after ended
+by_command None before after ended h = tt
+by_command (Some command.Init) before after ended h = tt
+by_command (Some command.Run) before after ended h = run_tells script_reads before after ended h
+by_command (Some (command.Load table)) before after ended h = run_tells (block_reads (put_text table)) before after ended h
+by_command (Some (command.Sample lines start)) before after ended h = tt
 
 out_of_memory : (c : Option Command) (before after : Outside) (ended : Status) → ended ≡ status.NoMemory → HeadlineBy c before after ended
 out_of_memory None before after ended e = tt
 out_of_memory (Some command.Init) before after ended e = tt
-out_of_memory (Some command.Run) before after ended e = λ script image opening told reads stands. silent_tells (reading_of most_bytes script) opening before after ended e
-out_of_memory (Some (command.Load table)) before after ended e = λ script image opening told reads stands. silent_tells (load_of most_bytes (put_text table) script) opening before after ended e
+out_of_memory (Some command.Run) before after ended e = λ script image opening told reads stands. silent_tells script_reads script opening before after ended e
+out_of_memory (Some (command.Load table)) before after ended e = λ script image opening told reads stands. silent_tells (block_reads (put_text table)) script opening before after ended e
 out_of_memory (Some (command.Sample lines start)) before after ended e = tt
 
 -- what ends so tells its headline
-pub ends_tell : (words : List (List ℕ)) (before after : Outside) (ended : Status) → MakesTranscript → MakesPlay → Ends words before after ended → Headline words before after ended
-ends_tell words before after ended law play (inl none) = out_of_memory (command_of words) before after ended none.0.0
-ends_tell words before after ended law play (inr h) = by_command (command_of words) before after ended law play h
+pub ends_tell : (words : List (List ℕ)) (before after : Outside) (ended : Status) → Ends words before after ended → Headline words before after ended
+ends_tell words before after ended (inl none) = out_of_memory (command_of words) before after ended none.0.0
+ends_tell words before after ended (inr h) = by_command (command_of words) before after ended h

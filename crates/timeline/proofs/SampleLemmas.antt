@@ -1,14 +1,16 @@
 -- The blocks and the phases of the sample.
-use Rattle.std.proofs.Common.{◌≡◌, ℕ, zero, suc, ◌+◌, ◌-◌, ◌<◌, ◌≤◌, min, ◌==◌, Bool, true, false, List, [], ◌∷◌, ◌++◌, append-nil, append_assoc, length, map, drop, get_or, codes, Option, Some, None, refl, ap, sym, ◌∙◌, arith}
+use Rattle.std.proofs.Common.{◌≡◌, ℕ, zero, suc, ◌+◌, ◌-◌, ◌<◌, ◌≤◌, min, ◌==◌, Bool, true, false, List, [], ◌∷◌, ◌++◌, append-nil, append_assoc, length, codes, All, Option, Some, None, Ok, Err, inl, subst, refl, ap, sym, ◌∙◌, arith}
 use Rattle.std.proofs.lemmas.Bool.Decides.{nat_tests}
 use Rattle.std.proofs.lemmas.Grind.{common_steps}
-use Rattle.std.proofs.lemmas.List.{at_drop_more, drop_all, map-append}
 use Rattle.tl_csv.specs.Sample.{Sample, block_end, block_of}
-use Rattle.tl_script.specs.declared.jobs.Job.{Job as LentJob}
-use Rattle.tl_script.specs.declared.jobs.Phase.{Phase as LentPhase}
-use Rattle.tl_script.specs.Steps.{job_of, phase_jobs}
-use Rattle.tl_script.specs.Script.{Job}
-use Rattle.timeline.specs.Sample.{before_blocks, next_blocks, blocks_of, job_with, phase_with, phases_with, puts_from, queries_from, sum_text}
+use Rattle.tl_device.specs.Known.{prepend_known}
+use Rattle.tl_script.specs.declared.phases.NextError.TheVariants as next
+use Rattle.tl_script.specs.declared.phases.Phase.{Phase}
+use Rattle.tl_script.specs.Taking.{IsAtEnd}
+use Rattle.tl_script.specs.Script.{Job, Reading}
+use Rattle.timeline.specs.Coming.{Answers}
+use Rattle.timeline.specs.Running.{IsFresh}
+use Rattle.timeline.specs.Sample.{before_blocks, next_blocks, blocks_of, job_with, phase_with, phases_with, puts_from, queries_from, SampleState, blocks_left, rows_from, left_behind, left_of, phases_left, sample_names, sample_coming, sample_reading, GivesNext}
 
 -- BLOCKS
 
@@ -39,87 +41,145 @@ enough (suc n) (suc m) sample within h k =
     let later = record sample { given = block_end sample } in
     ap (before_blocks (block_of sample)) (enough n m later (within_next sample.given sample.lines) (left_next sample.given sample.lines n h) (left_next sample.given sample.lines m k))
 
--- the blocks so far, of a sample of so many lines, and the sample that is left
-pub record AreFirst (lines start : ℕ) (sample : Sample) (blocks : List (List ℕ)) : Type 0 where
-  pub lined : sample.lines ≡ lines
-  pub within : sample.given ≤ sample.lines
-  pub all : blocks ++ next_blocks (sample.lines - sample.given) sample ≡ blocks_of lines start
-
-pub no_first : (lines start : ℕ) (sample : Sample) (blocks : List (List ℕ)) → sample ≡ record { lines = lines; start = start; given = 0 } → blocks ≡ [] → AreFirst lines start sample blocks
-no_first lines start sample blocks e none = rw (e, none) (record { lined = refl; within = omega arith; all = ap (λ n. next_blocks n (record { lines = lines; start = start; given = 0 })) (let h : lines - 0 ≡ lines = omega arith in h) })
-
-pub one_more : (lines start : ℕ) (old new : Sample) (blocks more : List (List ℕ)) (block : List ℕ) (next : Option (List ℕ)) → AreFirst lines start old blocks → next ≡ block_of old → next ≡ Some block → new ≡ record old { given = block_end old } → more ≡ blocks ++ block ∷ [] → AreFirst lines start new more
-one_more lines start old new blocks more block next h is some later grows = rw (later, grows) (record {
-  lined = h.lined;
-  within = within_next old.given old.lines;
-  all =
-      append_assoc blocks (block ∷ []) (next_blocks (old.lines - block_end old) after)
-      ∙ (ap (λ bs. blocks ++ block ∷ bs) (enough (old.lines - block_end old) left after (within_next old.given old.lines) (omega arith) (left_next old.given old.lines left (omega arith)))
-      ∙ (ap (λ b. blocks ++ before_blocks b (next_blocks left after)) (sym some ∙ is)
-      ∙ (ap (λ bs. blocks ++ bs) (enough (suc left) left old h.within (omega arith) (omega arith)) ∙ h.all)));
-}) where
-  left : ℕ
-  left = old.lines - old.given
-
+-- a block more was given
+pub one_block_left : (old : Sample) (block : List ℕ) → old.given ≤ old.lines → block_of old ≡ Some block → blocks_left old ≡ block ∷ blocks_left (record old { given = block_end old })
+one_block_left old block within is = by_left (old.lines - old.given) refl where
   after : Sample
   after = record old { given = block_end old }
 
--- a block more, fewer lines are left
-smaller : (a b g : ℕ) → g ≤ a → (g == a) ≡ false → b ≡ min (g + 10000) a → a - b < a - g
-smaller a b g h t e = grind (arith, common_steps, nat_tests)
+  by_left : (n : ℕ) → old.lines - old.given ≡ n → next_blocks (old.lines - old.given) old ≡ block ∷ next_blocks (old.lines - block_end old) after
+  by_left zero e = absurd (let none = no_block old (all_given old.given old.lines within (omega (arith, e))) in let f : None ≡ Some block = sym none ∙ is in cc)
+  by_left (suc n) e =
+      ap (λ k. next_blocks k old) e
+      ∙ (ap (λ b. before_blocks b (next_blocks n after)) is
+      ∙ ap (λ bs. block ∷ bs) (enough n (old.lines - block_end old) after (within_next old.given old.lines) (left_next old.given old.lines n (omega (arith, e))) (omega arith)))
 
-pub fewer_left : (lines start : ℕ) (old new : Sample) (blocks : List (List ℕ)) (block : List ℕ) (next : Option (List ℕ)) → AreFirst lines start old blocks → next ≡ block_of old → next ≡ Some block → new ≡ record old { given = block_end old } → lines - new.given < lines - old.given
-fewer_left lines start old new blocks block next h is some later = by_test (old.given == old.lines) refl where
-  by_test : (t : Bool) → (old.given == old.lines) ≡ t → lines - new.given < lines - old.given
-  by_test true t = absurd (let e : None ≡ Some block = sym (no_block old t) ∙ (sym is ∙ some) in cc)
-  by_test false t =
-      let fewer = smaller old.lines (block_end old) old.given h.within t refl in
-      rw (later, sym h.lined) fewer
+-- no block is left
+pub no_block_left : (sample : Sample) → block_of sample ≡ None → blocks_left sample ≡ []
+no_block_left sample none = none_next (sample.lines - sample.given) sample none
 
--- where no block is next, these are all
-pub all_blocks : (lines start : ℕ) (sample : Sample) (blocks : List (List ℕ)) (next : Option (List ℕ)) → AreFirst lines start sample blocks → next ≡ block_of sample → next ≡ None → blocks ≡ blocks_of lines start
-all_blocks lines start sample blocks next h is none =
-    sym (append-nil blocks) ∙ (ap (λ bs. blocks ++ bs) (sym (none_next (sample.lines - sample.given) sample (sym is ∙ none))) ∙ h.all)
+-- a block is put where some lines are left
+pub more_given : (sample : Sample) (block : List ℕ) → sample.given ≤ sample.lines → block_of sample ≡ Some block → sample.given + 1 ≤ block_end sample
+more_given sample block within is = by_test (sample.given == sample.lines) refl where
+  by_test : (t : Bool) → (sample.given == sample.lines) ≡ t → sample.given + 1 ≤ block_end sample
+  by_test true t = absurd (let e : None ≡ Some block = sym (no_block sample t) ∙ is in cc)
+  by_test false t = grind (arith, common_steps, nat_tests)
 
 -- PHASES
 
-pub put_more : (blocks : List (List ℕ)) (i : ℕ) (b : List ℕ) (phases more : List LentPhase) (phase : LentPhase) (all : List (List Job)) → i < length blocks → b ≡ get_or blocks i b → phase_jobs phase ≡ phase_with (i + 2) (codes "PUT sample") (Some b) → more ≡ phases ++ phase ∷ []
-    → map phase_jobs phases ++ puts_from (i + 2) (drop i blocks) ≡ all → map phase_jobs more ++ puts_from (i + 1 + 2) (drop (i + 1) blocks) ≡ all
-put_more blocks i b phases more phase all h at is grows start =
-    let number : i + 1 + 2 ≡ i + 2 + 1 = omega arith in
-    let rest : List (List Job) = puts_from (i + 2 + 1) (drop (i + 1) blocks) in
-    ap (λ n. map phase_jobs more ++ puts_from n (drop (i + 1) blocks)) number
-    ∙ (ap (λ ps. map phase_jobs ps ++ rest) grows
-    ∙ (ap (λ ps. ps ++ rest) (map-append phase_jobs phases (phase ∷ []))
-    ∙ (append_assoc (map phase_jobs phases) (phase_jobs phase ∷ []) rest
-    ∙ (ap (λ p. map phase_jobs phases ++ p ∷ rest) is
-    ∙ (ap (λ c. map phase_jobs phases ++ puts_from (i + 2) (c ∷ drop (i + 1) blocks)) at
-    ∙ (sym (at_drop_more (λ bs. map phase_jobs phases ++ puts_from (i + 2) bs) blocks i b h) ∙ start))))))
+-- the phases of rows behind one more
+rows_more : (given : ℕ) (block : List ℕ) (blocks : List (List ℕ)) → rows_from given (block ∷ blocks) ≡ phase_with (given + 1) (codes "PUT sample") (Some block) ∷ rows_from (given + 1) blocks
+rows_more given block blocks =
+    let a : suc (length blocks) + given + 1 ≡ length blocks + (given + 1) + 1 = omega arith in
+    let b : suc (length blocks) + given ≡ length blocks + (given + 1) = omega arith in
+    ap (λ n. phase_with (given + 1) (codes "PUT sample") (Some block) ∷ (puts_from (given + 1 + 1) blocks ++ queries_from n (suc (length blocks) + given) ∷ [])) a
+    ∙ ap (λ n. phase_with (given + 1) (codes "PUT sample") (Some block) ∷ (puts_from (given + 1 + 1) blocks ++ queries_from (length blocks + (given + 1) + 1) n ∷ [])) b
 
-pub puts_end : (blocks : List (List ℕ)) (i n : ℕ) (phases all : List (List Job)) → length blocks ≤ i → phases ++ puts_from n (drop i blocks) ≡ all → phases ≡ all
-puts_end blocks i n phases all h e = sym (append-nil phases) ∙ (ap (λ bs. phases ++ puts_from n bs) (sym (drop_all i blocks h)) ∙ e)
+rows_none : (given : ℕ) → rows_from given [] ≡ queries_from (given + 1) given ∷ []
+rows_none given =
+    let a : 0 + given + 1 ≡ given + 1 = omega arith in
+    let b : 0 + given ≡ given = omega arith in
+    ap (λ n. queries_from n (0 + given) ∷ []) a ∙ ap (λ n. queries_from (given + 1) n ∷ []) b
 
--- one job
-pub one_job : (number : ℕ) (text : List ℕ) (block : Option (List ℕ)) (none one : List LentJob) (job : LentJob) → none ≡ [] → one ≡ none ++ job ∷ [] → job_of job ≡ job_with number text block → map job_of one ≡ phase_with number text block
-one_job number text block none one job a b c = ap (map job_of) (b ∙ ap (λ js. js ++ job ∷ []) a) ∙ ap (λ j. j ∷ []) c
+later_left : (given : ℕ) (sample : Sample) → 0 < given → left_behind given sample ≡ rows_from given (blocks_left sample)
+later_left zero sample h = absurd (omega (arith, h))
+later_left (suc n) sample h = refl
 
--- three jobs
-pub three_jobs : (number last : ℕ) (text : List ℕ) (none one two three : List LentJob) (a b c : LentJob) → text ≡ sum_text last
-    → job_of a ≡ job_with number (codes "MIN val FROM sample OVER SYSTEM ALL") None → job_of b ≡ job_with (number + 1) (codes "MAX val FROM sample OVER SYSTEM ALL") None → job_of c ≡ job_with (number + 2) text None
-    → none ≡ [] → one ≡ none ++ a ∷ [] → two ≡ one ++ b ∷ [] → three ≡ two ++ c ∷ [] → map job_of three ≡ queries_from number last
-three_jobs number last text none one two three a b c same p q r w x y z =
-    let all : three ≡ a ∷ b ∷ c ∷ [] = z ∙ ap (λ js. js ++ c ∷ []) (y ∙ ap (λ js. js ++ b ∷ []) (x ∙ ap (λ js. js ++ a ∷ []) w)) in
-    ap (map job_of) all
-    ∙ (ap (λ j. j ∷ job_of b ∷ job_of c ∷ []) p
-    ∙ (ap (λ j. job_with number (codes "MIN val FROM sample OVER SYSTEM ALL") None ∷ j ∷ job_of c ∷ []) q
-    ∙ (ap (λ j. job_with number (codes "MIN val FROM sample OVER SYSTEM ALL") None ∷ job_with (number + 1) (codes "MAX val FROM sample OVER SYSTEM ALL") None ∷ j ∷ []) r
-    ∙ ap (λ t. job_with number (codes "MIN val FROM sample OVER SYSTEM ALL") None ∷ job_with (number + 1) (codes "MAX val FROM sample OVER SYSTEM ALL") None ∷ job_with (number + 2) t None ∷ []) same)))
+one_alone : (number : ℕ) (text : List ℕ) (block : Option (List ℕ)) → All (λ job. job.session < 1) (phase_with number text block)
+one_alone number text block zero d inside = omega arith
+one_alone number text block (suc k) d inside = absurd (omega (arith, inside))
 
--- all phases
-pub phases_told : (blocks : List (List ℕ)) (none first second third : List LentPhase) (table queries : LentPhase) → none ≡ [] → first ≡ none ++ table ∷ [] → phase_jobs table ≡ phase_with 1 (codes "CREATE TABLE sample (id INT, grp INT, val INT) KEY id") None
-    → map phase_jobs second ≡ map phase_jobs first ++ puts_from 2 blocks → third ≡ second ++ queries ∷ [] → phase_jobs queries ≡ queries_from (length blocks + 2) (length blocks + 1) → map phase_jobs third ≡ phases_with blocks
-phases_told blocks none first second third table queries a b c d e f =
-    let all = queries_from (length blocks + 2) (length blocks + 1) in
-    ap (map phase_jobs) e ∙ (map-append phase_jobs second (queries ∷ [])
-    ∙ (ap (λ ps. ps ++ phase_jobs queries ∷ []) (d ∙ ap (λ ps. map phase_jobs ps ++ puts_from 2 blocks) (b ∙ ap (λ ps. ps ++ table ∷ []) a))
-    ∙ (ap (λ p. (p ∷ puts_from 2 blocks) ++ phase_jobs queries ∷ []) c ∙ ap (λ q. (phase_with 1 (codes "CREATE TABLE sample (id INT, grp INT, val INT) KEY id") None ∷ puts_from 2 blocks) ++ q ∷ []) f)))
+three_alone : (number last : ℕ) → All (λ job. job.session < 1) (queries_from number last)
+three_alone number last zero d inside = omega arith
+three_alone number last (suc zero) d inside = omega arith
+three_alone number last (suc (suc zero)) d inside = omega arith
+three_alone number last (suc (suc (suc k))) d inside = absurd (omega (arith, inside))
+
+-- the table was made
+pub table_given : (old new : SampleState) (jobs : List Job) → old.given ≡ 0 → old.asked ≡ false → jobs ≡ phase_with 1 (codes "CREATE TABLE sample (id INT, grp INT, val INT) KEY id") None → new ≡ record old { given = 1 } → GivesNext old jobs new
+table_given old new jobs first open_ is later = record {
+  next =
+      ap (λ a. left_of a old.given old.sample) open_
+      ∙ (ap (λ n. left_of false n old.sample) first
+      ∙ (ap (λ js. js ∷ rows_from 1 (blocks_left old.sample)) (sym is)
+      ∙ ap (λ ps. jobs ∷ ps) (sym (ap phases_left later ∙ ap (λ a. left_of a 1 old.sample) open_))));
+  alone = subst (λ (js : List Job). All (λ job. job.session < 1) js) (sym is) (one_alone 1 (codes "CREATE TABLE sample (id INT, grp INT, val INT) KEY id") None);
+}
+
+-- a block was put
+pub block_put : (old new : SampleState) (jobs : List Job) (block : List ℕ) → 0 < old.given → old.asked ≡ false → old.sample.given ≤ old.sample.lines → block_of old.sample ≡ Some block
+    → jobs ≡ phase_with (old.given + 1) (codes "PUT sample") (Some block) → new ≡ record { sample = record old.sample { given = block_end old.sample }; given = old.given + 1; asked = old.asked } → GivesNext old jobs new
+block_put old new jobs block behind open_ within some is later = record {
+  next =
+      ap (λ a. left_of a old.given old.sample) open_
+      ∙ (later_left old.given old.sample behind
+      ∙ (ap (rows_from old.given) (one_block_left old.sample block within some)
+      ∙ (rows_more old.given block (blocks_left after)
+      ∙ (ap (λ js. js ∷ rows_from (old.given + 1) (blocks_left after)) (sym is)
+      ∙ ap (λ ps. jobs ∷ ps) (sym (ap phases_left later ∙ (ap (λ a. left_of a (old.given + 1) after) open_ ∙ later_left (old.given + 1) after (omega arith))))))));
+  alone = subst (λ (js : List Job). All (λ job. job.session < 1) js) (sym is) (one_alone (old.given + 1) (codes "PUT sample") (Some block));
+} where
+  after : Sample
+  after = record old.sample { given = block_end old.sample }
+
+-- the queries were asked
+pub queries_put : (old new : SampleState) (jobs : List Job) → 0 < old.given → old.asked ≡ false → block_of old.sample ≡ None → jobs ≡ queries_from (old.given + 1) old.given → new.asked ≡ true → GivesNext old jobs new
+queries_put old new jobs behind open_ none is later = record {
+  next =
+      ap (λ a. left_of a old.given old.sample) open_
+      ∙ (later_left old.given old.sample behind
+      ∙ (ap (rows_from old.given) (no_block_left old.sample none)
+      ∙ (rows_none old.given
+      ∙ (ap (λ js. js ∷ []) (sym is) ∙ ap (λ ps. jobs ∷ ps) (sym (ap (λ a. left_of a new.given new.sample) later))))));
+  alone = subst (λ (js : List Job). All (λ job. job.session < 1) js) (sym is) (three_alone (old.given + 1) old.given);
+}
+
+-- a new sample is the script of the sample
+pub all_left : (lines start : ℕ) → phases_left (record { sample = record { lines = lines; start = start; given = 0 }; given = 0; asked = false }) ≡ phases_with (blocks_of lines start)
+all_left lines start =
+    let a : lines - 0 ≡ lines = omega arith in
+    let blocks = blocks_of lines start in
+    let b : length blocks + 1 + 1 ≡ length blocks + 2 = omega arith in
+    let table = phase_with 1 (codes "CREATE TABLE sample (id INT, grp INT, val INT) KEY id") None in
+    ap (λ n. table ∷ rows_from 1 (next_blocks n (record { lines = lines; start = start; given = 0 }))) a
+    ∙ ap (λ n. table ∷ (puts_from 2 blocks ++ queries_from n (length blocks + 1) ∷ [])) b
+
+-- ANSWERS
+
+nothing_taken : (left : Option (List ℕ)) → left ≡ prepend_known [] left
+nothing_taken None = refl
+nothing_taken (Some l) = refl
+
+pub fresh_sample : (lines start : ℕ) → IsFresh (sample_coming (record { sample = record { lines = lines; start = start; given = 0 }; given = 0; asked = false }))
+fresh_sample lines start = record { live = refl; at_end = refl; few = omega arith; most = omega arith; known = λ more. ([], sym (append-nil sample_names)) }
+
+pub sample_gives : (old new : SampleState) (left : Option (List ℕ)) (phase : Phase) → GivesNext old phase.jobs.items new → Answers (sample_coming old) left (Ok (Some phase)) (sample_coming new) left
+sample_gives old new left phase h = record {
+  taken = [];
+  order = nothing_taken left;
+  idle = λ e. absurd (cc);
+  says = record {
+    live = refl;
+    names = ([], sym (append-nil sample_names));
+    most = refl;
+    few = λ z. omega arith;
+    known = λ more. ([], sym (append-nil sample_names));
+    sessions = h.alone;
+    ended = λ e. absurd (cc);
+    comes = inl (λ whole more. ap (λ ps. record { names = sample_names; phases = ps; fault = None }) h.next);
+  };
+}
+
+pub sample_over : (old new : SampleState) (left : Option (List ℕ)) → IsAtEnd left → old.asked ≡ true → Answers (sample_coming old) left (Ok None) (sample_coming new) left
+sample_over old new left none asked =
+    record { taken = []; order = nothing_taken left; idle = λ e. absurd (cc); says = record { none_left = λ e. none; read = ap (λ a. record { names = sample_names; phases = left_of a old.given old.sample; fault = None }) asked } }
+
+pub sample_stops : (old new : SampleState) (left : Option (List ℕ)) → Answers (sample_coming old) left (Err next.NoMemory) (sample_coming new) left
+sample_stops old new left = record { taken = []; order = nothing_taken left; idle = λ e. absurd (cc); says = tt }
+
+-- what is read of a new sample
+pub sample_script : (state : SampleState) (lines start : ℕ) → state ≡ record { sample = record { lines = lines; start = start; given = 0 }; given = 0; asked = false } → (sample_coming state).reads ≡ (λ whole bytes. sample_reading lines start)
+sample_script state lines start e =
+    ap (λ (st : SampleState). (sample_coming st).reads) e ∙ ap (λ (ps : List (List Job)). as_read ps) (all_left lines start) where
+      as_read : List (List Job) → Bool → List ℕ → Reading
+      as_read ps whole bytes = record { names = sample_names; phases = ps; fault = None }

@@ -1,17 +1,13 @@
 -- How a run ends, and when it is done.
 use Rattle.std.proofs.Common.{◌≡◌, ℕ, Bool, true, false, ◌<◌, ◌≤◌, List, [], ◌∷◌, ◌++◌, length, Some, None, is_some, Result, Ok, Err, IfSome, IsSome, refl, ap, subst, sym, ◌∙◌, inl, inr, ◌⊎◌, arith}
 use Rattle.std.specs.declared.option.Option.{Option}
-use Rattle.std.specs.declared.alloc.AllocError.{AllocError}
 use Rattle.tl_types.specs.declared.commits.Commit.{Commit}
 use Rattle.tl_types.specs.declared.commits.Entry.{Entry}
 use Rattle.tl_types.specs.Entries.{commits_of, has_break}
 use Rattle.tl_types.specs.Limits.{standard_limits}
 use Rattle.tl_device.specs.Known.{Rose}
-use Rattle.tl_script.specs.declared.jobs.ScriptFault.{ScriptFault}
-use Rattle.tl_script.specs.Script.{Reading, reading_of, load_of}
-use Rattle.tl_session.specs.Jobs.{Job}
-use Rattle.tl_session.specs.Turns.{break_of}
-use Rattle.tl_session.specs.Written.{IsRunOf}
+use Rattle.tl_script.specs.Script.{Reading}
+use Rattle.tl_session.specs.Turns.{Turn}
 use Rattle.tl_journal.specs.Image.{StandsFor}
 use Rattle.tl_journal.specs.Answers.{CountsFaults, IsTooShort, IsTooLong, IsDeviceOrMemory}
 use Rattle.tl_journal.specs.declared.faults.JournalFault.{JournalFault}
@@ -21,90 +17,16 @@ use Rattle.timeline.specs.declared.statuses.Status.{Status}
 use Rattle.timeline.specs.declared.statuses.Status.TheVariants as status
 use Rattle.timeline.specs.declared.commands.Command.{Command}
 use Rattle.timeline.specs.declared.commands.Command.TheVariants as command
-use Rattle.timeline.specs.declared.plays.Played.{Played}
+use Rattle.timeline.specs.declared.stops.Stop.{Stop}
+use Rattle.timeline.specs.declared.stops.Stop.TheVariants as stop
 use Rattle.timeline.specs.Commands.{command_of, put_text}
 use Rattle.timeline.specs.Status.{closing_line}
-use Rattle.timeline.specs.Jobs.{jobs_asked}
+use Rattle.timeline.specs.Coming.{script_reads, block_reads}
 use Rattle.timeline.specs.Sample.{sample_reading}
-use Rattle.timeline.specs.Ending.{most_bytes, stop_of, wanted_by, wanted_status, Writes, WritesNothing, SinkFails, Closes, ClosesWith, EndsFor, RefusedBy, EndsRefused, NotMadeBy, InitEnds, StopsShort, RunsAll, ReadsScript, OpenedEnds, RunEnds, SampleEnds, EndsBy, Ends}
+use Rattle.timeline.specs.Stopping.{Stops}
+use Rattle.timeline.specs.Ending.{wanted_by, Writes, WritesNothing, SinkFails, Closes, Told, ClosesAfter, PhasesEnd, EndsFor, RefusedBy, EndsRefused, NotMadeBy, InitEnds, OpenedEnds, RunEnds, sink_alone, SampleEnds, EndsBy, Ends}
 use Rattle.timeline.specs.Headline.{IsDoneOrNoMemory, StaysSure, IsHonest, IsFaultless, RunCompletes, CompletesBy, Completes}
-use Rattle.timeline.specs.Outside.{Outside, OpensWith, HoldsJournal, CountsBreak}
-use Rattle.timeline.specs.Runs.{Runs, RunsFront, IsScriptOf, PlaysScript, PlaysFront, StopsAtSource, Plays, Finishes}
-use Rattle.timeline.proofs.EntryLemmas.{has_break_is}
-
--- A RUN OVER AN OPENED JOURNAL
-
-from_none : (names : List (List ℕ)) (jobs : List Job) (old new : List Entry) (bytes : List ℕ) → break_of old ≡ None → Runs names jobs old bytes new → IsRunOf names jobs (commits_of old) None (commits_of new) (break_of new) bytes
-from_none names jobs old new bytes none h = subst (λ (o : Option Commit). IsRunOf names jobs (commits_of old) o (commits_of new) (break_of new) bytes) none h
-
--- what is held where nothing was committed
-held : (old new : List Entry) (before after : Outside) → break_of old ≡ None → new ≡ old → HoldsJournal (commits_of new) (break_of new) before after → HoldsJournal (commits_of old) None before after
-held old new before after none same h =
-    subst (λ (o : Option Commit). HoldsJournal (commits_of old) o before after) none (subst (λ (es : List Entry). HoldsJournal (commits_of es) (break_of es) before after) same h)
-
--- what is written by the replies and the status that they come to
-same_close : (replies more : List ℕ) (wanted other : Status) (before after : Outside) (ended : Status) → replies ≡ more → wanted ≡ other → ClosesWith replies wanted before after ended → ClosesWith more other before after ended
-same_close replies more wanted other before after ended r w h =
-    subst (λ (s : Status). ClosesWith more s before after ended) w (subst (λ (xs : List ℕ). ClosesWith xs wanted before after ended) r h)
-
-pub opened_run : (read : List ℕ → Reading) (before after : Outside) (old new : List Entry) (r : Result Played AllocError) (broke : Bool) (faults : ℕ) (ended : Status)
-    → OpensWith (commits_of old) before → break_of old ≡ None → broke ≡ has_break new → faults ≡ after.disk_faults
-    → Plays read before.left after.left before.source_faults after.source_faults old new r
-    → HoldsJournal (commits_of new) (break_of new) before after
-    → Finishes r broke faults before.written after.written before.sink_faults after.sink_faults ended
-    → OpenedEnds read (commits_of old) before after ended
-opened_run read before after old new (Ok played) broke faults ended opens none is count (inl source) holds finish = (
-  opens,
-  inr (inl (
-    source.rose,
-    held old new before after none source.unchanged holds,
-    same_close played.replies.items [] (wanted_by played.stop broke faults) (status.SourceFault after.source_faults) before after ended source.silent (ap (λ o. wanted_by o broke faults) source.stop) finish,
-  )),
-)
-opened_run read before after old new (Ok played) broke faults ended opens none is count (inr (plays, sure)) holds finish =
-    let broken : broke ≡ is_some (break_of new) = is ∙ has_break_is new in
-    let reading = read plays.script in
-    let wanted : wanted_by played.stop broke faults ≡ wanted_status reading.fault (is_some (break_of new)) after.disk_faults = ap (λ o. wanted_by o broke faults) plays.stop ∙ (ap (λ b. wanted_by (stop_of reading.fault) b faults) broken ∙ ap (λ n. wanted_by (stop_of reading.fault) (is_some (break_of new)) n) count) in (
-      opens,
-      inr (inr (record {
-        script = plays.script;
-        told = plays.is_script.told;
-        whole = plays.is_script.whole;
-        sure = sure;
-        ends = inr (record {
-          all = commits_of new;
-          broke = break_of new;
-          bytes = played.replies.items;
-          run = from_none reading.names (jobs_asked reading) old new played.replies.items none plays.run;
-          holds = holds;
-          closes = same_close played.replies.items played.replies.items (wanted_by played.stop broke faults) (wanted_status reading.fault (is_some (break_of new)) after.disk_faults) before after ended refl wanted finish;
-        });
-      })),
-    )
-opened_run read before after old new (Err e) broke faults ended opens none is count (sure, inl same) holds finish =
-    (opens, inl (finish, held old new before after none same holds, sure))
-opened_run read before after old new (Err e) broke faults ended opens none is count (sure, inr plays) holds finish =
-    let reading = read plays.script in
-    let front = plays.run in (
-      opens,
-      inr (inr (record {
-        script = plays.script;
-        told = plays.is_script.told;
-        whole = plays.is_script.whole;
-        sure = sure;
-        ends = inl (record {
-          ends = finish;
-          front = front.front;
-          later = front.later;
-          these = front.these;
-          all = commits_of new;
-          broke = break_of new;
-          bytes = front.bytes;
-          run = from_none reading.names front.front old new front.bytes none front.run;
-          holds = holds;
-        });
-      })),
-    )
+use Rattle.timeline.specs.Outside.{Outside, Streams, streams_of, OpensWith, HoldsJournal, CountsBreak}
 
 -- COMPLETENESS
 
@@ -134,25 +56,35 @@ pub told_script : (left : Option (List ℕ)) (script own : List ℕ) → left �
 told_script None script own e told = absurd (cc)
 told_script (Some l) script own e told = let same : l ≡ own = cc in sym same ∙ told
 
-read_complete : (read : List ℕ → Reading) (opening : List Commit) (before after : Outside) (ended : Status) → ReadsScript read opening before after ended → IsFaultless read before → StaysSure before after → IsDoneOrNoMemory ended
-read_complete read opening before after ended h faultless sure = by_end h.ends where
-  by_end : StopsShort (read h.script) opening before after ended ⊎ RunsAll (read h.script) opening before after ended → IsDoneOrNoMemory ended
-  by_end (inl short) = inr short.ends.0
-  by_end (inr all) =
-      let none : (read h.script).fault ≡ None = ap (λ s. (read s).fault) (sym (told_script before.left h.script faultless.script faultless.told h.told)) ∙ faultless.whole in
-      let unbroken = no_break all.broke before.disk_faults after.disk_faults all.holds.counts sure.disk in
-      let wanted : wanted_status (read h.script).fault (is_some all.broke) after.disk_faults ≡ status.Done = ap (λ f. wanted_status f (is_some all.broke) after.disk_faults) none ∙ ap (λ b. wanted_status None b after.disk_faults) unbroken in
-      writes_complete (all.bytes ++ closing_line (wanted_status (read h.script).fault (is_some all.broke) after.disk_faults)) (wanted_status (read h.script).fault (is_some all.broke) after.disk_faults) before.written after.written before.sink_faults after.sink_faults ended wanted all.closes sure.sink
+-- phases in which no fault is read are all run where no count rises
+phases_complete : (Ran : List (List Turn) → Type 0) (reads : Bool → List ℕ → Reading) (broke : Bool) (faults : ℕ) (before after : Streams) (ended : Status) → PhasesEnd Ran reads broke faults before after ended
+    → ((script : List ℕ) → IfSome before.left (λ l. l ≡ script) → (reads true script).fault ≡ None) → broke ≡ false → (Rose before.source_faults after.source_faults → ⊥) → (Rose before.sink_faults after.sink_faults → ⊥) → IsDoneOrNoMemory ended
+phases_complete Ran reads broke faults before after ended h faultless unbroken source sink = by_why h.why h.stops h.closes where
+  sink_from : h.at.sink_faults ≡ before.sink_faults → Rose h.at.sink_faults after.sink_faults → ⊥
+  sink_from e rose = sink (subst (λ (n : ℕ). Rose n after.sink_faults) e rose)
 
-run_complete : (read : List ℕ → Reading) (before after : Outside) (ended : Status) → RunEnds read before after ended → RunCompletes read before after ended
-run_complete read before after ended (inl refused) = λ honest faultless sure. refused_complete before after ended refused honest sure
-run_complete read before after ended (inr (opening, (opens, inl stopped))) = λ honest faultless sure. inr stopped.0.0
-run_complete read before after ended (inr (opening, (opens, inr (inl failed)))) = λ honest faultless sure. absurd (sure.source failed.0)
-run_complete read before after ended (inr (opening, (opens, inr (inr h)))) = λ honest faultless sure. read_complete read opening before after ended h faultless sure
+  by_why : (why : Stop) → Stops Ran reads why before h.at → ClosesAfter why broke faults h.at.written after.written h.at.sink_faults after.sink_faults ended → IsDoneOrNoMemory ended
+  by_why stop.Ended stops closes =
+      writes_complete (closing_line (wanted_by broke faults)) (wanted_by broke faults) h.at.written after.written h.at.sink_faults after.sink_faults ended (ap (λ b. wanted_by b faults) unbroken) closes (sink_from stops.sink_sure)
+  by_why (stop.Fault f) stops closes = absurd (let e : None ≡ Some f = sym (faultless stops.script stops.told) ∙ stops.fault_is in cc)
+  by_why (stop.Source n) stops closes = absurd (source (subst (λ (n : ℕ). Rose before.source_faults n) (sym h.source_same) stops.0.rose))
+  by_why (stop.Sink n) stops closes = absurd (sink (subst (λ (n : ℕ). Rose before.sink_faults n) (sym closes.2) stops.0.rose))
+  by_why stop.NoMemory stops closes = inr closes.0
 
-sample_complete : (reading : Reading) (before after : Outside) (ended : Status) → SampleEnds reading before.written after.written before.sink_faults after.sink_faults ended → StaysSure before after → IsDoneOrNoMemory ended
-sample_complete reading before after ended (inl none) sure = inr none.0
-sample_complete reading before after ended (inr (bytes, plays, closes)) sure = writes_complete (bytes ++ closing_line status.Done) status.Done before.written after.written before.sink_faults after.sink_faults ended refl closes sure.sink
+run_complete : (reads : Bool → List ℕ → Reading) (before after : Outside) (ended : Status) → RunEnds reads before after ended → RunCompletes reads before after ended
+run_complete reads before after ended (inl refused) = λ honest faultless sure. refused_complete before after ended refused honest sure
+run_complete reads before after ended (inr (opening, h)) = λ honest faultless sure.
+    phases_complete (Told opening h.all h.broke) reads (is_some h.broke) after.disk_faults (streams_of before) (streams_of after) ended h.ends
+    (λ script told. ap (λ s. (reads true s).fault) (sym (told_script before.left script faultless.script faultless.told told)) ∙ faultless.whole)
+    (no_break h.broke before.disk_faults after.disk_faults h.holds.counts sure.disk) sure.source sure.sink
+
+no_rise : Rose 0 0 → ⊥
+no_rise h = let k : 1 ≤ 0 = h.higher in omega (arith, k)
+
+sample_complete : (lines start : ℕ) (before after : Outside) (ended : Status) → SampleEnds (sample_reading lines start) before.written after.written before.sink_faults after.sink_faults ended → StaysSure before after → IsDoneOrNoMemory ended
+sample_complete lines start before after ended (inl none) sure = inr none.0
+sample_complete lines start before after ended (inr (all, h)) sure =
+    phases_complete (Told [] all None) (λ whole bytes. sample_reading lines start) false 0 (sink_alone before.written before.sink_faults) (sink_alone after.written after.sink_faults) ended h (λ script told. refl) refl no_rise sure.sink
 
 -- a short disk is not too long
 made_complete : (fault : JournalFault) (before after : Outside) (ended : Status) (b : List ℕ) → NotMadeBy fault before after → CountsFaults fault before.disk_faults after.disk_faults → EndsFor fault before.written after.written before.sink_faults after.sink_faults ended → before.reads ≡ Some b → length b ≤ 17 → (Rose before.disk_faults after.disk_faults → ⊥) → IsDoneOrNoMemory ended
@@ -170,9 +102,9 @@ init_complete before after ended (inr failed) b told short sure = made_complete 
 by_command : (c : Option Command) (before after : Outside) (ended : Status) → EndsBy c before after ended → CompletesBy c before after ended
 by_command None before after ended h = tt
 by_command (Some command.Init) before after ended h = λ b told short sure. init_complete before after ended h.1 b told short sure
-by_command (Some command.Run) before after ended h = run_complete (reading_of most_bytes) before after ended h
-by_command (Some (command.Load table)) before after ended h = run_complete (load_of most_bytes (put_text table)) before after ended h
-by_command (Some (command.Sample lines start)) before after ended h = λ sure. sample_complete (sample_reading lines start) before after ended h.1 sure
+by_command (Some command.Run) before after ended h = run_complete script_reads before after ended h
+by_command (Some (command.Load table)) before after ended h = run_complete (block_reads (put_text table)) before after ended h
+by_command (Some (command.Sample lines start)) before after ended h = λ sure. sample_complete lines start before after ended h.1 sure
 
 out_of_memory : (c : Option Command) (before after : Outside) (ended : Status) → ended ≡ status.NoMemory → CompletesBy c before after ended
 out_of_memory None before after ended e = tt

@@ -1,14 +1,15 @@
 -- What a run leaves outside, and why it ended.
-use Rattle.std.specs.Prelude.{◌≡◌, ◌⊎◌, ℕ, Bool, true, false, ◌<◌, ◌≤◌, List, [], ◌∷◌, ◌++◌, length, take, codes, Some, None, IfSome, is_some, option_map}
+use Rattle.std.specs.Prelude.{◌≡◌, ◌⊎◌, ℕ, Bool, true, false, ◌<◌, ◌≤◌, List, [], ◌∷◌, ◌++◌, length, take, codes, Some, None, IfSome, is_some}
 use Rattle.std.specs.declared.option.Option.{Option}
+use mathlib.Core.List.{IsPrefix}
 use Rattle.tl_types.specs.declared.commits.Commit.{Commit}
 use Rattle.tl_types.specs.Limits.{standard_limits}
 use Rattle.tl_device.specs.Known.{append_known, Rose}
 use Rattle.tl_device.specs.Disk.{Only}
-use Rattle.tl_script.specs.declared.jobs.ScriptFault.{ScriptFault}
-use Rattle.tl_script.specs.Script.{Reading, reading_of, load_of}
-use Rattle.tl_session.specs.Jobs.{Job}
-use Rattle.tl_session.specs.Written.{IsRunOf}
+use Rattle.tl_script.specs.Script.{Reading}
+use Rattle.tl_session.specs.Turns.{Turn, meant, all_turns}
+use Rattle.tl_session.specs.Transcript.{Transcript}
+use Rattle.tl_session.specs.Play.{AreLone, IsPlay}
 use Rattle.tl_journal.specs.Answers.{CountsFaults, IsTooShort, IsTooLong, IsDeviceOrMemory}
 use Rattle.tl_journal.specs.Image.{StandsFor}
 use Rattle.tl_journal.specs.Moments.{IsShort, OldOr}
@@ -18,17 +19,16 @@ use Rattle.tl_journal.specs.declared.faults.JournalFault.TheVariants as journal
 use Rattle.tl_engine.specs.Fitting.{FitInTurn, IsDamaged}
 use Rattle.timeline.specs.declared.statuses.Status.{Status}
 use Rattle.timeline.specs.declared.statuses.Status.TheVariants as status
+use Rattle.timeline.specs.declared.stops.Stop.{Stop}
+use Rattle.timeline.specs.declared.stops.Stop.TheVariants as stop
 use Rattle.timeline.specs.declared.commands.Command.{Command}
 use Rattle.timeline.specs.declared.commands.Command.TheVariants as command
 use Rattle.timeline.specs.Status.{closing_line}
 use Rattle.timeline.specs.Commands.{command_of, put_text}
-use Rattle.timeline.specs.Jobs.{jobs_asked}
+use Rattle.timeline.specs.Coming.{script_reads, block_reads}
 use Rattle.timeline.specs.Sample.{sample_reading}
-use Rattle.timeline.specs.Outside.{Outside, IsUnread, IsSameDisk, KeepsJournal, OpensWith, HoldsJournal}
-
--- how many bytes the lines of a phase may have
-abbrev pub most_bytes : ℕ
-most_bytes = standard_limits.phase
+use Rattle.timeline.specs.Stopping.{Stops}
+use Rattle.timeline.specs.Outside.{Outside, Streams, streams_of, IsUnread, IsSameDisk, KeepsJournal, OpensWith, HoldsJournal}
 
 -- THE SINK
 
@@ -56,15 +56,19 @@ abbrev pub Closes : List ℕ → Status → Option (List ℕ) → Option (List �
 Closes replies wanted old new before after ended =
     Writes (replies ++ closing_line wanted) wanted old new before after ended
 
--- the same of the outside
-abbrev pub ClosesWith : List ℕ → Status → Outside → Outside → Status → Type 0
-ClosesWith replies wanted before after ended =
-    Closes replies wanted before.written after.written before.sink_faults after.sink_faults ended
-
 -- the run ended so, and nothing was written
 abbrev pub EndsSilent : Status → Outside → Outside → Status → Type 0
 EndsSilent wanted before after ended =
     WritesNothing wanted before.written after.written before.sink_faults after.sink_faults ended
+
+-- how a run ends that was to end so, once its closing line is written or not
+abbrev pub ended_by : Option Stop → Status → Status
+ended_by None wanted = wanted
+ended_by (Some stop.Ended) wanted = status.NoMemory
+ended_by (Some (stop.Fault f)) wanted = status.NoMemory
+ended_by (Some (stop.Source faults)) wanted = status.NoMemory
+ended_by (Some (stop.Sink faults)) wanted = status.SinkFault faults
+ended_by (Some stop.NoMemory) wanted = status.NoMemory
 
 -- THE JOURNAL
 
@@ -149,104 +153,88 @@ pub record MakesJournal (before after : Outside) (ended : Status) : Type 0 where
 abbrev pub InitEnds : Outside → Outside → Status → Type 0
 InitEnds before after ended = MakesJournal before after ended ⊎ MakingFails before after ended
 
--- THE SCRIPT
+-- THE PHASES
 
--- what stops the run of a script that was read: its fault
-abbrev pub stop_of : Option ScriptFault → Option Status
-stop_of fault = option_map (λ f. status.ScriptFault f) fault
+-- The replies of the turns of all phases are a transcript, from the opening's commits on, which all
+-- commits begin with, with or without a break. Where nothing broke, and the turns of each phase are
+-- of one session, they are those of the jobs done one after the other.
+pub record Told (opening all : List Commit) (broke : Option Commit) (turns : List (List Turn)) : Type 0 where
+  pub begins : IsPrefix opening all
+  pub transcript : Transcript meant opening all broke turns
+  pub play : broke ≡ None → AreLone turns → IsPlay meant opening (all_turns turns) all
 
--- how a run is to end: as what stopped it says, or else with a fault of the disk where a break came
-abbrev pub wanted_by : Option Status → Bool → ℕ → Status
-wanted_by (Some wanted) broke faults = wanted
-wanted_by None false faults = status.Done
-wanted_by None true faults = status.DiskFault faults
+-- how a run is to end whose phases were all run: with a fault of the disk where a break came
+abbrev pub wanted_by : Bool → ℕ → Status
+wanted_by false faults = status.Done
+wanted_by true faults = status.DiskFault faults
 
--- how the run of a script is to end that was read, by its fault and whether a break came
-abbrev pub wanted_status : Option ScriptFault → Bool → ℕ → Status
-wanted_status fault broke faults = wanted_by (stop_of fault) broke faults
+-- What closes a run behind its replies, by why its phases stopped, whether a break came, and the
+-- disk's count of faults: a closing line, but for the faults of the sink and want of memory. What
+-- is written and the sink's count are given before and after.
+abbrev pub ClosesAfter : Stop → Bool → ℕ → Option (List ℕ) → Option (List ℕ) → ℕ → ℕ → Status → Type 0
+ClosesAfter stop.Ended broke faults old new before after ended =
+    Closes [] (wanted_by broke faults) old new before after ended
+ClosesAfter (stop.Fault f) broke faults old new before after ended =
+    Closes [] (status.ScriptFault f) old new before after ended
+ClosesAfter (stop.Source n) broke faults old new before after ended =
+    Closes [] (status.SourceFault n) old new before after ended
+ClosesAfter (stop.Sink n) broke faults old new before after ended =
+    WritesNothing (status.SinkFault n) old new before after ended
+ClosesAfter stop.NoMemory broke faults old new before after ended =
+    WritesNothing status.NoMemory old new before after ended
 
--- memory ran out: nothing is written, and the disk holds what some of the first jobs did
-pub record StopsShort (reading : Reading) (opening : List Commit) (before after : Outside) (ended : Status) : Type 0 where
-  pub ends : EndsSilent status.NoMemory before after ended
-  pub front : List Job
-  pub later : List Job
-  pub these : jobs_asked reading ≡ front ++ later
+-- the phases stopped for this, with the source and the sink as they then were, and the run was
+-- closed
+pub record PhasesEnd (Ran : List (List Turn) → Type 0) (reads : Bool → List ℕ → Reading) (broke : Bool) (faults : ℕ) (before after : Streams) (ended : Status) : Type 0 where
+  pub why : Stop
+  pub at : Streams
+  pub stops : Stops Ran reads why before at
+  pub left_same : after.left ≡ at.left
+  pub source_same : after.source_faults ≡ at.source_faults
+  pub closes : ClosesAfter why broke faults at.written after.written at.sink_faults
+      after.sink_faults ended
+
+-- how a run over a journal ends that was opened with these commits: the disk holds all commits, and
+-- the break where one came, of which the replies tell
+pub record OpenedEnds (reads : Bool → List ℕ → Reading) (opening : List Commit) (before after : Outside) (ended : Status) : Type 0 where
+  pub opens : OpensWith opening before
   pub all : List Commit
   pub broke : Option Commit
-  pub bytes : List ℕ
-  pub run : IsRunOf reading.names front opening None all broke bytes
   pub holds : HoldsJournal all broke before after
+  pub ends : PhasesEnd (Told opening all broke) reads (is_some broke) after.disk_faults
+      (streams_of before) (streams_of after) ended
 
--- all jobs of the phases before the fault were run: their replies are written, and the disk holds
--- what they did
-pub record RunsAll (reading : Reading) (opening : List Commit) (before after : Outside) (ended : Status) : Type 0 where
-  pub all : List Commit
-  pub broke : Option Commit
-  pub bytes : List ℕ
-  pub run : IsRunOf reading.names (jobs_asked reading) opening None all broke bytes
-  pub holds : HoldsJournal all broke before after
-  pub closes : ClosesWith bytes
-      (wanted_status reading.fault (is_some broke) after.disk_faults) before after ended
-
--- a script was read, which is what the source had left where it tells that; a script without a
--- fault is read to its end
-pub record ReadsScript (read : List ℕ → Reading) (opening : List Commit) (before after : Outside) (ended : Status) : Type 0 where
-  pub script : List ℕ
-  pub told : IfSome before.left (λ left. left ≡ script)
-  pub whole : (read script).fault ≡ None → IfSome after.left (λ left. left ≡ [])
-  pub sure : after.source_faults ≡ before.source_faults
-  pub ends : StopsShort (read script) opening before after ended
-      ⊎ RunsAll (read script) opening before after ended
-
--- memory ran out while the source was read, and the disk holds what it held
-abbrev pub StopsReading : List Commit → Outside → Outside → Status → Type 0
-StopsReading opening before after ended =
-    EndsSilent status.NoMemory before after ended × HoldsJournal opening None before after
-    × (after.source_faults ≡ before.source_faults)
-
--- the source failed, and the disk holds what it held
-abbrev pub SourceFails : List Commit → Outside → Outside → Status → Type 0
-SourceFails opening before after ended =
-    Rose before.source_faults after.source_faults × HoldsJournal opening None before after
-    × ClosesWith [] (status.SourceFault after.source_faults) before after ended
-
--- how a run over a journal ends that was opened with these commits
-abbrev pub OpenedEnds : (List ℕ → Reading) → List Commit → Outside → Outside → Status → Type 0
-OpenedEnds read opening before after ended =
-    OpensWith opening before
-    × (StopsReading opening before after ended
-    ⊎ (SourceFails opening before after ended ⊎ ReadsScript read opening before after ended))
-
--- how the run of a script ends that the source has, and of which this is read
-abbrev pub RunEnds : (List ℕ → Reading) → Outside → Outside → Status → Type 0
-RunEnds read before after ended =
+-- how a run of phases ends, of which this is read of the bytes that a source has
+abbrev pub RunEnds : (Bool → List ℕ → Reading) → Outside → Outside → Status → Type 0
+RunEnds reads before after ended =
     EndsRefused before after ended
-    ⊎ ((opening : List Commit) × OpenedEnds read opening before after ended)
+    ⊎ ((opening : List Commit) × OpenedEnds reads opening before after ended)
 
--- all jobs of a script were run over a journal of their own, from no commits on, and nothing broke;
--- the replies are these bytes
-abbrev pub PlaysAlone : Reading → List ℕ → Type 0
-PlaysAlone reading bytes =
-    (all : List Commit) × IsRunOf reading.names (jobs_asked reading) [] None all None bytes
+-- a sink, beside which nothing is read
+abbrev pub sink_alone : Option (List ℕ) → ℕ → Streams
+sink_alone written faults =
+    record { left = None; source_faults = 0; written = written; sink_faults = faults }
 
--- how the run of a sample ends: memory ran out, or all its jobs were run
+-- how the run of a sample ends: memory ran out before its first phase; or over a journal of its
+-- own, from no commits on, with no source, and without a break
 abbrev pub SampleEnds : Reading → Option (List ℕ) → Option (List ℕ) → ℕ → ℕ → Status → Type 0
 SampleEnds reading old new before after ended =
     WritesNothing status.NoMemory old new before after ended
-    ⊎ ((bytes : List ℕ) × PlaysAlone reading bytes
-    × Closes bytes status.Done old new before after ended)
+    ⊎ ((all : List Commit) × PhasesEnd (Told [] all None) (λ whole bytes. reading) false 0
+    (sink_alone old before) (sink_alone new after) ended)
 
 -- THE PROGRAM
 
 -- why the program ended so, and what it left outside, by what its words ask for
 abbrev pub EndsBy : Option Command → Outside → Outside → Status → Type 0
 EndsBy None before after ended =
-    IsUnread before after × ClosesWith [] status.Usage before after ended
+    IsUnread before after × Closes [] status.Usage before.written after.written before.sink_faults
+    after.sink_faults ended
 EndsBy (Some command.Init) before after ended =
     IsUnread before after × InitEnds before after ended
-EndsBy (Some command.Run) before after ended = RunEnds (reading_of most_bytes) before after ended
+EndsBy (Some command.Run) before after ended = RunEnds script_reads before after ended
 EndsBy (Some (command.Load table)) before after ended =
-    RunEnds (load_of most_bytes (put_text table)) before after ended
+    RunEnds (block_reads (put_text table)) before after ended
 EndsBy (Some (command.Sample lines start)) before after ended =
     IsUnread before after × SampleEnds (sample_reading lines start) before.written after.written
     before.sink_faults after.sink_faults ended
@@ -254,5 +242,6 @@ EndsBy (Some (command.Sample lines start)) before after ended =
 -- the same of the words
 abbrev pub Ends : List (List ℕ) → Outside → Outside → Status → Type 0
 Ends words before after ended =
-    (EndsSilent status.NoMemory before after ended × IsUnread before after × IsSameDisk before after)
+    (EndsSilent status.NoMemory before after ended × IsUnread before after
+    × IsSameDisk before after)
     ⊎ EndsBy (command_of words) before after ended

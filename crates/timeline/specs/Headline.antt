@@ -1,11 +1,17 @@
 -- What is proved of a run as a whole: when it is done, and what it prints and keeps then.
-use Rattle.std.specs.Prelude.{◌≡◌, ◌⊎◌, ℕ, ◌≤◌, List, ◌++◌, length, Some, None, IfSome, IsSome}
+use Rattle.std.specs.Prelude.{◌≡◌, ◌⊎◌, ℕ, ◌≤◌, Bool, true, false, List, [], ◌∷◌, ◌++◌, length, take, map, Some, None, IfSome, IsSome}
 use Rattle.std.specs.declared.option.Option.{Option}
+use mathlib.Core.List.{IsPrefix}
 use Rattle.tl_types.specs.declared.commits.Commit.{Commit}
 use Rattle.tl_types.specs.Limits.{standard_limits}
-use Rattle.tl_device.specs.Known.{append_known, Rose}
-use Rattle.tl_script.specs.Script.{Reading, reading_of, load_of}
-use Rattle.tl_session.specs.Written.{IsTranscript, IsPlayOf}
+use Rattle.tl_device.specs.Known.{append_known, prepend_known, Rose}
+use Rattle.tl_script.specs.declared.jobs.ScriptFault.{ScriptFault}
+use Rattle.tl_script.specs.Script.{Reading}
+use Rattle.tl_script.specs.Taking.{IsAtEnd}
+use Rattle.tl_session.specs.Jobs.{Job}
+use Rattle.tl_session.specs.Turns.{Turn, meant}
+use Rattle.tl_session.specs.Transcript.{Transcript}
+use Rattle.tl_session.specs.Written.{IsTranscript, IsPlayOf, all_jobs, jobs_of, turns_bytes, transcript_bytes}
 use Rattle.tl_journal.specs.Image.{StandsFor}
 use Rattle.tl_engine.specs.Fitting.{FitInTurn}
 use Rattle.timeline.specs.declared.statuses.Status.{Status}
@@ -14,9 +20,9 @@ use Rattle.timeline.specs.declared.commands.Command.{Command}
 use Rattle.timeline.specs.declared.commands.Command.TheVariants as command
 use Rattle.timeline.specs.Status.{closing_line}
 use Rattle.timeline.specs.Commands.{command_of, put_text}
-use Rattle.timeline.specs.Jobs.{jobs_asked, phases_asked}
+use Rattle.timeline.specs.Coming.{script_reads, block_reads}
+use Rattle.timeline.specs.Jobs.{phases_asked}
 use Rattle.timeline.specs.Outside.{Outside, IsUnread, KeepsJournal, HoldsJournal}
-use Rattle.timeline.specs.Ending.{most_bytes}
 
 -- COMPLETENESS
 
@@ -39,15 +45,15 @@ pub record IsHonest (before : Outside) : Type 0 where
   pub fitting : FitInTurn standard_limits commits
 
 -- the source tells a script in which no fault is read
-pub record IsFaultless (read : List ℕ → Reading) (before : Outside) : Type 0 where
+pub record IsFaultless (reads : Bool → List ℕ → Reading) (before : Outside) : Type 0 where
   pub script : List ℕ
   pub told : before.left ≡ Some script
-  pub whole : (read script).fault ≡ None
+  pub whole : (reads true script).fault ≡ None
 
 -- a script without a fault, over a journal, is run to its end where no count rises
-abbrev pub RunCompletes : (List ℕ → Reading) → Outside → Outside → Status → Type 0
-RunCompletes read before after ended =
-    IsHonest before → IsFaultless read before → StaysSure before after → IsDoneOrNoMemory ended
+abbrev pub RunCompletes : (Bool → List ℕ → Reading) → Outside → Outside → Status → Type 0
+RunCompletes reads before after ended =
+    IsHonest before → IsFaultless reads before → StaysSure before after → IsDoneOrNoMemory ended
 
 -- by what the words ask for: a journal is made of at most 17 bytes, a script is run to its end, and
 -- so is a sample, which reads no script and uses no disk
@@ -57,9 +63,9 @@ CompletesBy (Some command.Init) before after ended =
     (b : List ℕ) → before.reads ≡ Some b → length b ≤ 17 → StaysSure before after
     → IsDoneOrNoMemory ended
 CompletesBy (Some command.Run) before after ended =
-    RunCompletes (reading_of most_bytes) before after ended
+    RunCompletes script_reads before after ended
 CompletesBy (Some (command.Load table)) before after ended =
-    RunCompletes (load_of most_bytes (put_text table)) before after ended
+    RunCompletes (block_reads (put_text table)) before after ended
 CompletesBy (Some (command.Sample lines start)) before after ended =
     StaysSure before after → IsDoneOrNoMemory ended
 
@@ -70,19 +76,27 @@ Completes words before after ended = CompletesBy (command_of words) before after
 
 -- THE HEADLINE
 
--- a transcript of the script over these commits was printed, with this closing line, and the disk
--- holds the commits that it ends with
+-- the jobs are of one session
+abbrev pub AreOf : ℕ → List Job → Type 0
+AreOf s [] = Unit {0}
+AreOf s (job ∷ jobs) = (job.session ≡ s) × AreOf s jobs
+
+-- the jobs of each phase are of one session
+abbrev pub AreLoneJobs : List (List Job) → Type 0
+AreLoneJobs [] = Unit {0}
+AreLoneJobs (phase ∷ phases) = ((s : ℕ) × AreOf s phase) × AreLoneJobs phases
+
+-- A transcript of what is read was printed, from the opening's commits to all commits, with or
+-- without a break, and this closing line behind it; the disk holds these commits. Where nothing
+-- broke and each phase has jobs of one session, it is the play: the jobs done one after the other.
 pub record PrintsTranscript (reading : Reading) (opening all : List Commit) (broke : Option Commit) (closing : Status) (before after : Outside) : Type 0 where
   pub bytes : List ℕ
+  pub begins : IsPrefix opening all
   pub transcript : IsTranscript reading.names (phases_asked reading.phases) opening all broke bytes
   pub written : after.written ≡ append_known before.written (bytes ++ closing_line closing)
   pub holds : HoldsJournal all broke before after
-
--- what was printed is also the play of the jobs, one after the other
-pub record PrintsPlay (reading : Reading) (opening : List Commit) (before after : Outside) : Type 0 where
-  pub all : List Commit
-  pub prints : PrintsTranscript reading opening all None status.Done before after
-  pub play : IsPlayOf reading.names (jobs_asked reading) opening all prints.bytes
+  pub play : broke ≡ None → AreLoneJobs (phases_asked reading.phases)
+      → IsPlayOf reading.names (all_jobs (phases_asked reading.phases)) opening all bytes
 
 -- the journal was not opened: its closing line alone was written, nothing was read, and the disk
 -- keeps its journal
@@ -91,36 +105,66 @@ pub record FailsToOpen (closing : Status) (before after : Outside) : Type 0 wher
   pub written : after.written ≡ append_known before.written (closing_line closing)
   pub keeps : KeepsJournal before after
 
--- a break came, and a transcript with it was printed
+-- the script was read to its end, and a transcript without a break was printed
+pub record PrintsAll (reading : Reading) (opening : List Commit) (before after : Outside) : Type 0 where
+  pub faultless : reading.fault ≡ None
+  pub read : IsAtEnd after.left
+  pub all : List Commit
+  pub prints : PrintsTranscript reading opening all None status.Done before after
+
+-- the script was read to its end, a break came, and a transcript with it was printed
 pub record PrintsBreak (reading : Reading) (opening : List Commit) (closing : Status) (before after : Outside) : Type 0 where
+  pub faultless : reading.fault ≡ None
+  pub read : IsAtEnd after.left
   pub all : List Commit
   pub broke : Commit
   pub prints : PrintsTranscript reading opening all (Some broke) closing before after
 
+-- a transcript of the phases before a fault of the script was printed
+pub record PrintsToFault (reading : Reading) (f : ScriptFault) (opening : List Commit) (before after : Outside) : Type 0 where
+  pub fault_is : reading.fault ≡ Some f
+  pub all : List Commit
+  pub broke : Option Commit
+  pub prints : PrintsTranscript reading opening all broke (status.ScriptFault f) before after
+
+-- the source failed, and a transcript was printed of the phases that are closed in what was taken
+pub record PrintsClosed (closed : List ℕ → Reading) (opening : List Commit) (closing : Status) (before after : Outside) : Type 0 where
+  pub rose : Rose before.source_faults after.source_faults
+  pub taken : List ℕ
+  pub order : before.left ≡ prepend_known taken after.left
+  pub all : List Commit
+  pub broke : Option Commit
+  pub prints : PrintsTranscript (closed taken) opening all broke closing before after
+
 -- what is proved of the run of a script over a journal of these commits
-pub record RunTells (reading : Reading) (opening : List Commit) (before after : Outside) (ended : Status) : Type 0 where
-  pub done : ended ≡ status.Done → PrintsPlay reading opening before after
+pub record RunTells (reads : Bool → List ℕ → Reading) (script : List ℕ) (opening : List Commit) (before after : Outside) (ended : Status) : Type 0 where
+  pub done : ended ≡ status.Done → PrintsAll (reads true script) opening before after
   pub device : (faults : ℕ) → ended ≡ status.DiskFault faults
-      → FailsToOpen ended before after ⊎ PrintsBreak reading opening ended before after
+      → FailsToOpen ended before after
+      ⊎ PrintsBreak (reads true script) opening ended before after
+  pub faulty : (f : ScriptFault) → ended ≡ status.ScriptFault f
+      → PrintsToFault (reads true script) f opening before after
+  pub failing : (faults : ℕ) → ended ≡ status.SourceFault faults
+      → PrintsClosed (reads false) opening ended before after
 
 -- The headline: where the source tells a script and the disk a journal, then at status 0 the
--- transcript of the script over the journal's commits was printed, which is the play, and the disk
--- holds just the commits that it ends with, also in a crash. At status 5 the journal was not opened;
--- or the transcript has a break, and the disk holds the commits, or these and the break's.
-abbrev pub RunHeadline : (List ℕ → Reading) → Outside → Outside → Status → Type 0
-RunHeadline read before after ended =
+-- transcript of the script over the journal's commits was printed, and the disk holds just the
+-- commits that it ends with, also in a crash. At status 5 the journal was not opened; or the
+-- transcript has a break, and the disk holds the commits, or these and the break's. At status 6 it
+-- is that of the phases before the fault, and at status 3 of those closed in what was taken.
+abbrev pub RunHeadline : (Bool → List ℕ → Reading) → Outside → Outside → Status → Type 0
+RunHeadline reads before after ended =
     (script image : List ℕ) (opening : List Commit)
     → before.left ≡ Some script → before.reads ≡ Some image → StandsFor opening image
-    → RunTells (read script) opening before after ended
+    → RunTells reads script opening before after ended
 
 -- the same by what the words ask for
 abbrev pub HeadlineBy : Option Command → Outside → Outside → Status → Type 0
 HeadlineBy None before after ended = Unit {0}
 HeadlineBy (Some command.Init) before after ended = Unit {0}
-HeadlineBy (Some command.Run) before after ended =
-    RunHeadline (reading_of most_bytes) before after ended
+HeadlineBy (Some command.Run) before after ended = RunHeadline script_reads before after ended
 HeadlineBy (Some (command.Load table)) before after ended =
-    RunHeadline (load_of most_bytes (put_text table)) before after ended
+    RunHeadline (block_reads (put_text table)) before after ended
 HeadlineBy (Some (command.Sample lines start)) before after ended = Unit {0}
 
 abbrev pub Headline : List (List ℕ) → Outside → Outside → Status → Type 0

@@ -46,6 +46,34 @@ outside left source_faults written sink_faults reads may_leave disk_faults sourc
     outside_from written sink_faults reads may_leave disk_faults
     (left source) (source_faults source) sink disk
 
+-- the source and the sink of it
+pub record Streams : Type 0 where
+  pub left : Option (List ℕ)
+  pub source_faults : ℕ
+  pub written : Option (List ℕ)
+  pub sink_faults : ℕ
+
+-- a source and a sink, by what the traits say of them
+abbrev pub streams : {S K : Type 0} → (S → Option (List ℕ)) → (S → ℕ) → (K → Option (List ℕ))
+    → (K → ℕ) → S → K → Streams
+streams left source_faults written sink_faults source sink =
+    record {
+      left = left source;
+      source_faults = source_faults source;
+      written = written sink;
+      sink_faults = sink_faults sink;
+    }
+
+-- the source and the sink of an outside
+abbrev pub streams_of : Outside → Streams
+streams_of outside =
+    record {
+      left = outside.left;
+      source_faults = outside.source_faults;
+      written = outside.written;
+      sink_faults = outside.sink_faults;
+    }
+
 -- nothing was taken from the source
 abbrev pub IsUnread : Outside → Outside → Type 0
 IsUnread before after = (after.left ≡ before.left) × (after.source_faults ≡ before.source_faults)
@@ -78,7 +106,8 @@ IsImageOf commits (Some c) image = BeforeOrAfter commits c image
 
 -- without a break a crash leaves what a read gives and nothing else
 abbrev pub IsSettled : Option Commit → Outside → Type 0
-IsSettled None outside = (image : List ℕ) × (outside.reads ≡ Some image) × Only image outside.may_leave
+IsSettled None outside =
+    (image : List ℕ) × (outside.reads ≡ Some image) × Only image outside.may_leave
 IsSettled (Some c) outside = Unit {0}
 
 -- a break comes only where the disk's count of faults rose

@@ -1,9 +1,10 @@
 -- The phases of the sample: a table, blocks of rows, and three queries.
-use Rattle.std.specs.Prelude.{ℕ, zero, suc, ◌+◌, List, [], ◌∷◌, ◌++◌, length, codes, Some, None}
+use Rattle.std.specs.Prelude.{◌≡◌, ℕ, zero, suc, ◌+◌, ◌-◌, ◌<◌, Bool, true, false, All, List, [], ◌∷◌, ◌++◌, length, codes, Some, None}
 use Rattle.std.specs.declared.option.Option.{Option}
 use Rattle.std.specs.Fmt.{decimal}
 use Rattle.tl_csv.specs.Sample.{Sample, block_end, block_of}
 use Rattle.tl_script.specs.Script.{Job, Reading}
+use Rattle.timeline.specs.Coming.{Coming}
 
 -- a block, where there is one, and what comes behind it
 abbrev pub before_blocks : Option (List ℕ) → List (List ℕ) → List (List ℕ)
@@ -63,3 +64,62 @@ reading_with blocks =
 -- a sample of so many lines, whose generator begins with a number
 abbrev pub sample_reading : ℕ → ℕ → Reading
 sample_reading lines start = reading_with (blocks_of lines start)
+
+-- PHASE BY PHASE
+
+-- a sample whose phases are given one by one: its blocks, how many phases were given, and whether
+-- the queries were
+pub record SampleState : Type 0 where
+  pub sample : Sample
+  pub given : ℕ
+  pub asked : Bool
+
+-- the blocks that are left
+abbrev pub blocks_left : Sample → List (List ℕ)
+blocks_left sample = next_blocks (sample.lines - sample.given) sample
+
+-- these blocks are put, and then the queries asked, behind so many phases
+abbrev pub rows_from : ℕ → List (List ℕ) → List (List Job)
+rows_from given blocks =
+    puts_from (given + 1) blocks
+    ++ queries_from (length blocks + given + 1) (length blocks + given) ∷ []
+
+-- the phases that are left behind so many
+abbrev pub left_behind : ℕ → Sample → List (List Job)
+left_behind zero sample =
+    phase_with 1 (codes "CREATE TABLE sample (id INT, grp INT, val INT) KEY id") None
+    ∷ rows_from 1 (blocks_left sample)
+left_behind (suc n) sample = rows_from (suc n) (blocks_left sample)
+
+-- none is left once the queries were given
+abbrev pub left_of : Bool → ℕ → Sample → List (List Job)
+left_of true given sample = []
+left_of false given sample = left_behind given sample
+
+-- the phases that are left
+abbrev pub phases_left : SampleState → List (List Job)
+phases_left state = left_of state.asked state.given state.sample
+
+-- the name of the session
+abbrev pub sample_names : List (List ℕ)
+sample_names = codes "sample" ∷ []
+
+-- what may still come of a sample, whatever a source gives
+abbrev pub sample_coming : SampleState → Coming
+sample_coming state =
+    record {
+      reads = λ whole more. record {
+        names = sample_names;
+        phases = phases_left state;
+        fault = None;
+      };
+      at_end = false;
+      live = true;
+      names = sample_names;
+      most = 1;
+    }
+
+-- the next phase was given, whose jobs are of the one session
+pub record GivesNext (old : SampleState) (jobs : List Job) (new : SampleState) : Type 0 where
+  pub next : phases_left old ≡ jobs ∷ phases_left new
+  pub alone : All (λ job. job.session < 1) jobs

@@ -21,16 +21,20 @@ exit_status (status.Damaged at) = 9
 
 -- the words of a script's fault
 abbrev pub script_fault_words : ScriptFault → List ℕ
+script_fault_words (fault.PhasesFull line) = codes "PhasesFull " ++ decimal line
+script_fault_words (fault.LineTooLong line) = codes "LineTooLong " ++ decimal line
 script_fault_words (fault.PhaseTooLong line) = codes "PhaseTooLong " ++ decimal line
 script_fault_words (fault.NotUtf8 line) = codes "NotUtf8 " ++ decimal line
 script_fault_words (fault.NoSession line) = codes "NoSession " ++ decimal line
+script_fault_words (fault.SessionsFull line) = codes "SessionsFull " ++ decimal line
 script_fault_words (fault.BlockOpen line) = codes "BlockOpen " ++ decimal line
 
 -- the line of a script with a fault
 abbrev pub script_line : ScriptFault → List ℕ
 script_line f = codes "! script " ++ (script_fault_words f ++ codes "\n")
 
--- the line that is written last; where all went well, memory ran out or the sink failed there is none
+-- the line that is written last; where all went well, memory ran out or the sink failed there is
+-- none
 abbrev pub closing_line : Status → List ℕ
 closing_line status.Done = []
 closing_line status.NoMemory = []

@@ -1,55 +1,67 @@
-//! What is written last: the replies, and the line that closes a run.
-ghost use Rattle.std.specs.Prelude.{◌≡◌, ◌++◌, IfOk, [], Ok, Err};
-ghost use Rattle.timeline.specs.Status.{closing_line};
-ghost use Rattle.timeline.specs.Ending.{status_for, Closes, EndsFor, Writes};
+//! How a run is closed: by its closing line.
+ghost use Rattle.std.specs.Prelude.{◌≡◌, [], Ok, Err};
+ghost use Rattle.timeline.specs.Ending.{ended_by, status_for, wanted_by, Closes, ClosesAfter, EndsFor};
 
 use crate::statuses::{Status, closing_line};
+use crate::stops::Stop;
+use crate::writing::write_bytes;
 use std::alloc::Global;
-use tl_device::{Failed, Sink, write_all};
+use tl_device::Sink;
 use tl_journal::JournalFault;
-use tl_types::NoMemory;
 
-// Writes bytes, for which room is taken first, and ends the run as it was to.
-fn write_text<K: Sink>(sink: &mut K, bytes: &[u8], wanted: Status) -> Status
-    ensures { Writes bytes.now wanted (K.written sink.old) (K.written sink.new) (K.faults sink.old)
+// How a run ends that was to end so, once its closing line is written or not.
+fn ended_by(stop: Option<Stop>, wanted: Status) -> Status
+    ensures { result ≡ ended_by stop wanted }
+{
+    match stop {
+        None => wanted,
+        Some(Stop::Sink { faults }) => Status::SinkFault { faults },
+        Some(_) => Status::NoMemory,
+    }
+}
+
+/// Writes the closing line of a run, for which the sink's room is taken first, and ends the run as
+/// it was to. `NoMemory`: memory ran out, and nothing is written. `SinkFault`: the sink failed, and
+/// some prefix of the line is written.
+pub(crate) fn close<K: Sink>(alloc: Global, sink: &mut K, wanted: Status) -> Status
+    ensures { Closes [] wanted (K.written sink.old) (K.written sink.new) (K.faults sink.old)
         (K.faults sink.new) result }
 {
-    if sink.room(bytes.len() as u64).is_err() {
-        return Status::NoMemory;
-    }
-    match write_all(sink, bytes) {
-        Ok(()) => wanted,
-        Err(Failed) => Status::SinkFault {
-            faults: sink.faults(),
-        },
+    match closing_line(alloc, &wanted) {
+        Ok(line) => ended_by(write_bytes(sink, line.as_bytes()), wanted),
+        Err(_) => Status::NoMemory,
     }
 }
 
-// The replies with the closing line behind them.
-fn with_line(alloc: Global, replies: Vec<u8>, status: &Status) -> Result<Vec<u8>, NoMemory>
-    ensures { IfOk result (λ bytes. bytes.items ≡ replies.items ++ closing_line status.now) }
+// How a run is to end whose phases were all run, by whether a break came and the disk's count of
+// faults.
+fn wanted_by(broke: bool, faults: u64) -> Status
+    ensures { result ≡ wanted_by broke faults }
 {
-    let mut bytes = replies;
-    let line = closing_line(alloc, status)?;
-    bytes.extend_from_slice(line.as_bytes())?;
-    Ok(bytes)
+    if broke {
+        return Status::DiskFault { faults };
+    }
+    Status::Done
 }
 
-/// Writes the replies of a run and its closing line, for which the sink's room is taken first, and
-/// ends the run as it was to. `NoMemory`: memory ran out, and nothing is written. `SinkFault`: the
-/// sink failed, and some prefix of the text is written.
-pub(crate) fn close<K: Sink>(
+/// Closes a run whose phases stopped for this cause, by whether a break came and the disk's count
+/// of faults. Where the sink failed or memory ran out nothing more is written.
+pub(crate) fn close_run<K: Sink>(
     alloc: Global,
     sink: &mut K,
-    replies: Vec<u8>,
-    wanted: Status,
+    stop: Stop,
+    broke: bool,
+    faults: u64,
 ) -> Status
-    ensures { Closes replies.items wanted (K.written sink.old) (K.written sink.new)
+    ensures { ClosesAfter stop broke faults (K.written sink.old) (K.written sink.new)
         (K.faults sink.old) (K.faults sink.new) result }
 {
-    match with_line(alloc, replies, &wanted) {
-        Ok(text) => write_text(sink, text.as_slice(), wanted),
-        Err(_) => Status::NoMemory,
+    match stop {
+        Stop::Ended => close(alloc, sink, wanted_by(broke, faults)),
+        Stop::Fault(fault) => close(alloc, sink, Status::ScriptFault(fault)),
+        Stop::Source { faults } => close(alloc, sink, Status::SourceFault { faults }),
+        Stop::Sink { faults } => Status::SinkFault { faults },
+        Stop::NoMemory => Status::NoMemory,
     }
 }
 
@@ -74,6 +86,6 @@ pub(crate) fn end_refused<K: Sink>(alloc: Global, sink: &mut K, fault: JournalFa
 {
     match fault {
         JournalFault::NoMemory => Status::NoMemory,
-        _ => close(alloc, sink, Vec::new(alloc), status_for(&fault)),
+        _ => close(alloc, sink, status_for(&fault)),
     }
 }

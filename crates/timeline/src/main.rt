@@ -6,14 +6,18 @@
 mod alone;
 mod closing;
 mod commands;
-mod plays;
-mod runs;
+mod no_source;
+mod opened;
+mod phases;
+mod running;
 mod samples;
 mod statuses;
+mod stops;
 #[cfg(test)]
 mod tests;
 mod top;
 mod words;
+mod writing;
 
 use statuses::Status;
 use std::process::ExitCode;

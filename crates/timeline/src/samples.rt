@@ -1,58 +1,64 @@
-//! The sample: its phases, and its run.
-ghost use Rattle.std.specs.Prelude.{◌≡◌, ◌<◌, ◌+◌, ◌^◌, ◌++◌, ◌∷◌, [], ℕ, IfOk, OnOk, map, length, option_map};
+//! The sample: its phases, one after the other.
+ghost use Rattle.std.specs.Prelude.{◌≡◌, ◌<◌, ◌+◌, ◌^◌, ◌∷◌, [], IfOk, OnOk, map, length, option_map, false, true};
 ghost use Rattle.std.specs.String.{string_bytes};
-ghost use Rattle.tl_script.specs.Steps.{job_of, phase_jobs, reading_in};
-ghost use Rattle.timeline.specs.Sample.{blocks_of, job_with, phase_with, phases_with, puts_from, queries_from, reading_with, sample_reading, sum_text};
-ghost use Rattle.timeline.specs.Ending.{PlaysAlone};
+ghost use Rattle.timeline.specs.Sample.{job_with, phase_with, queries_from, sum_text, sample_coming, GivesNext};
 
-use crate::alone::play_alone;
+use crate::no_source::NoSource;
+use crate::phases::Phases;
 use std::alloc::Global;
+use std::marker::Model;
 use tl_csv::Sample;
-use tl_device::Gate;
-use tl_script::{Job, Phase, Script};
-use tl_types::{Bytes, NoMemory};
+use tl_script::{Job, NextError, Phase};
+use tl_types::{Bytes, Line, NoMemory};
 
-// The blocks of a sample of so many lines, whose generator begins with `start`. The error is
-/// `NoMemory`.
-fn blocks_of(alloc: Global, lines: u32, start: u64) -> Result<Vec<Bytes>, NoMemory>
-    ensures { IfOk result (λ blocks. blocks.items ≡ blocks_of lines start) }
-{
-    let mut sample = Sample::new(lines, start);
-    let mut blocks = Vec::new(alloc);
-    'making: while let Some(block) = sample.next_block(alloc)? {
-        blocks.push(block)?;
-    }
-    Ok(blocks)
+/// The phases of a sample: a table, then a phase for each block of rows, then three queries.
+#[derive(Drop)]
+pub(crate) struct SamplePhases {
+    sample: Sample,
+    given: u64,
+    asked: bool,
 }
 
-fn job_with<'a>(number: usize, text: &'a str, block: Option<&'a [u8]>) -> Job<'a>
-    ensures { job_of result ≡ job_with number text.now (option_map (λ b. b.now) block.entry) }
+impl Model for SamplePhases {
+    ghost use Rattle.std.specs.Prelude.{◌≡◌, ◌≤◌, ◌<◌, ◌+◌, ◌^◌};
+    ghost use Rattle.timeline.specs.Sample.{SampleState};
+
+    ghost Value = { SampleState };
+
+    ghost view = { λ p. record { sample = p.sample; given = p.given; asked = p.asked } };
+
+    ghost invariant = { λ p. (p.given ≤ p.sample.given + 1) × (p.sample.given ≤ p.sample.lines)
+        × (p.sample.lines < 2 ^ 32) };
+}
+
+// A job of the one session.
+fn job_with(alloc: Global, number: u64, text: &str, block: Option<Bytes>) -> Result<Job, NoMemory>
+    ensures { IfOk result (λ job. job ≡ job_with number text.now block) }
 {
-    Job {
+    Ok(Job {
         session: 0,
-        line: number as u64,
-        text,
+        line: number,
+        text: Line::new(alloc, text)?,
         block,
-    }
+    })
 }
 
 // A phase of one job.
-fn phase_with<'a>(
+fn phase_with(
     alloc: Global,
-    number: usize,
-    text: &'a str,
-    block: Option<&'a [u8]>,
-) -> Result<Phase<'a>, NoMemory>
-    ensures { IfOk result (λ phase. phase_jobs phase
-        ≡ phase_with number text.now (option_map (λ b. b.now) block.entry)) }
+    number: u64,
+    text: &str,
+    block: Option<Bytes>,
+) -> Result<Phase, NoMemory>
+    ensures { IfOk result (λ phase. phase.jobs.items ≡ phase_with number text.now block) }
 {
     let mut jobs = Vec::new(alloc);
-    jobs.push(job_with(number, text, block))?;
+    jobs.push(job_with(alloc, number, text, block)?)?;
     Ok(Phase { jobs })
 }
 
 // The query for the sums of the groups at the last version.
-fn sum_text(alloc: Global, last: usize) -> Result<String, NoMemory>
+fn sum_text(alloc: Global, last: u64) -> Result<String, NoMemory>
     requires { last + 1 < 2 ^ 64 }
     ensures { IfOk result (λ text. string_bytes text ≡ sum_text last) }
 {
@@ -60,90 +66,105 @@ fn sum_text(alloc: Global, last: usize) -> Result<String, NoMemory>
     format!(in alloc; "SUM val FROM sample BY grp OVER SYSTEM {last} TO {end}")
 }
 
-// Appends the phases that put the blocks, of which the first job has number 2.
-fn put_phases<'a>(
-    alloc: Global,
-    phases: &mut Vec<Phase<'a>>,
-    blocks: &'a [Bytes],
-) -> Result<(), NoMemory>
-    ensures { OnOk result (map phase_jobs phases.new.items
-        ≡ map phase_jobs phases.old.items ++ puts_from 2 blocks.now) }
+// The phase of the three queries, of which the first has this number and the last asks for this
+// version.
+fn query_phase(alloc: Global, number: u64, last: u64) -> Result<Phase, NoMemory>
+    requires numbered { number + 2 < 2 ^ 64 }
+    requires versioned { last + 1 < 2 ^ 64 }
+    ensures { IfOk result (λ phase. phase.jobs.items ≡ queries_from number last) }
 {
-    for (i, block) in blocks.iter().enumerate() {
-        phases.push(phase_with(alloc, i + 2, "PUT sample", Some(block.as_slice()))?)?;
-    }
-    Ok(())
-}
-
-// The phase of the three queries, of which the first has this number and the last has this text.
-fn query_phase<'a>(alloc: Global, number: usize, sums: &'a str) -> Result<Phase<'a>, NoMemory>
-    requires { number + 2 < 2 ^ 64 }
-    ensures { IfOk result (λ phase. (last : ℕ) → sums.now ≡ sum_text last
-        → phase_jobs phase ≡ queries_from number last) }
-{
-    let least = "MIN val FROM sample OVER SYSTEM ALL";
-    let greatest = "MAX val FROM sample OVER SYSTEM ALL";
+    let sums = sum_text(alloc, last)?;
     let mut jobs = Vec::new(alloc);
-    jobs.push(job_with(number, least, None))?;
-    jobs.push(job_with(number + 1, greatest, None))?;
-    jobs.push(job_with(number + 2, sums, None))?;
+    jobs.push(job_with(alloc, number, "MIN val FROM sample OVER SYSTEM ALL", None)?)?;
+    jobs.push(job_with(
+        alloc,
+        number + 1,
+        "MAX val FROM sample OVER SYSTEM ALL",
+        None,
+    )?)?;
+    jobs.push(job_with(alloc, number + 2, sums.as_str(), None)?)?;
     Ok(Phase { jobs })
 }
 
-// The phases that use these blocks and ask for the sums by this text.
-fn phases_with<'a>(
-    alloc: Global,
-    blocks: &'a [Bytes],
-    sums: &'a str,
-) -> Result<Vec<Phase<'a>>, NoMemory>
-    requires { sums.now ≡ sum_text (length blocks.now + 1) }
-    ensures { IfOk result (λ phases. map phase_jobs phases.items ≡ phases_with blocks.now) }
-{
-    let table = "CREATE TABLE sample (id INT, grp INT, val INT) KEY id";
-    let mut phases = Vec::new(alloc);
-    phases.push(phase_with(alloc, 1, table, None)?)?;
-    put_phases(alloc, &mut phases, blocks)?;
-    phases.push(query_phase(alloc, blocks.len() + 2, sums)?)?;
-    Ok(phases)
+// The name of the session.
+const NAME: &str = "sample";
+
+// The statement that makes the table.
+const TABLE: &str = "CREATE TABLE sample (id INT, grp INT, val INT) KEY id";
+
+impl SamplePhases {
+    /// The phases of a sample of so many lines, whose generator begins with `start`.
+    pub(crate) fn new(lines: u32, start: u64) -> SamplePhases
+        ensures { result ≡ record {
+          sample = record { lines = lines; start = start; given = 0 };
+          given = 0;
+          asked = false;
+        } }
+    {
+        SamplePhases {
+            sample: Sample::new(lines, start),
+            given: 0,
+            asked: false,
+        }
+    }
+
+    // The phase that makes the table.
+    fn table(&mut self, alloc: Global) -> Result<Phase, NoMemory>
+        requires first { (self.old.given ≡ 0) × (self.old.asked ≡ false) }
+        ensures { IfOk result (λ phase. GivesNext self.old phase.jobs.items self.new) }
+    {
+        let phase = phase_with(alloc, 1, TABLE, None)?;
+        self.given = 1;
+        Ok(phase)
+    }
+
+    // The phase that puts the next block, or asks, once all blocks were put.
+    fn rows(&mut self, alloc: Global) -> Result<Phase, NoMemory>
+        requires later { (0 < self.old.given) × (self.old.asked ≡ false) }
+        ensures { IfOk result (λ phase. GivesNext self.old phase.jobs.items self.new) }
+    {
+        match self.sample.next_block(alloc)? {
+            Some(block) => {
+                let phase = phase_with(alloc, self.given + 1, "PUT sample", Some(block))?;
+                self.given += 1;
+                Ok(phase)
+            }
+            None => {
+                let phase = query_phase(alloc, self.given + 1, self.given)?;
+                self.asked = true;
+                Ok(phase)
+            }
+        }
+    }
+
+    // The next phase.
+    fn some_phase(&mut self, alloc: Global) -> Result<Phase, NoMemory>
+        requires { self.old.asked ≡ false }
+        ensures { IfOk result (λ phase. GivesNext self.old phase.jobs.items self.new) }
+    {
+        if self.given == 0 {
+            return self.table(alloc);
+        }
+        self.rows(alloc)
+    }
 }
 
-// The text of the last query of a sample in so many blocks. The error is `NoMemory`.
-fn sums_of(alloc: Global, blocks: &[Bytes]) -> Result<String, NoMemory>
-    ensures { IfOk result (λ text. string_bytes text ≡ sum_text (length blocks.now + 1)) }
-{
-    sum_text(alloc, blocks.len() + 1)
-}
+impl Phases<NoSource> for SamplePhases {
+    ghost coming = { sample_coming };
 
-// The script of a sample, from its blocks and the text of its last query. The error is `NoMemory`.
-fn sample_script<'a>(
-    alloc: Global,
-    blocks: &'a [Bytes],
-    sums: &'a str,
-) -> Result<Script<'a>, NoMemory>
-    requires { sums.now ≡ sum_text (length blocks.now + 1) }
-    ensures { IfOk result (λ script. reading_in script ≡ reading_with blocks.now) }
-{
-    let mut names = Vec::new(alloc);
-    names.push(b"sample".as_slice())?;
-    Ok(Script {
-        names,
-        phases: phases_with(alloc, blocks, sums)?,
-        fault: None,
-    })
-}
+    fn next(&mut self, alloc: Global, _source: &mut NoSource) -> Result<Option<Phase>, NextError> {
+        if self.asked {
+            return Ok(None);
+        }
+        let phase = self.some_phase(alloc)?;
+        Ok(Some(phase))
+    }
 
-/// Runs the sample of so many lines, whose generator begins with `start`, over a journal of its own
-/// in memory, and answers the bytes of the replies. The error is `NoMemory`.
-pub(crate) fn play_sample<G: Gate>(
-    alloc: Global,
-    lines: u32,
-    start: u64,
-    gate: &G,
-) -> Result<Vec<u8>, NoMemory>
-    ensures { IfOk result (λ replies. PlaysAlone (sample_reading lines start) replies.items) }
-{
-    let blocks = blocks_of(alloc, lines, start)?;
-    let sums = sums_of(alloc, &blocks)?;
-    let script = sample_script(alloc, &blocks, sums.as_str())?;
-    play_alone(alloc, &script, gate)
+    fn session_count(&self) -> u32 {
+        1
+    }
+
+    fn session_name(&self, _number: u32) -> &str {
+        NAME
+    }
 }

@@ -78,9 +78,12 @@ fn script_fault_words(alloc: Global, fault: &ScriptFault) -> Result<String, NoMe
     ensures { IfOk result (λ text. string_bytes text ≡ script_fault_words fault.now) }
 {
     match fault {
+        ScriptFault::PhasesFull { line } => format!(in alloc; "PhasesFull {line}"),
+        ScriptFault::LineTooLong { line } => format!(in alloc; "LineTooLong {line}"),
         ScriptFault::PhaseTooLong { line } => format!(in alloc; "PhaseTooLong {line}"),
         ScriptFault::NotUtf8 { line } => format!(in alloc; "NotUtf8 {line}"),
         ScriptFault::NoSession { line } => format!(in alloc; "NoSession {line}"),
+        ScriptFault::SessionsFull { line } => format!(in alloc; "SessionsFull {line}"),
         ScriptFault::BlockOpen { line } => format!(in alloc; "BlockOpen {line}"),
     }
 }

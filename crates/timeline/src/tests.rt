@@ -1,11 +1,13 @@
-//! What no script reaches: journals that are cut or damaged, and sources, sinks and disks that fail.
+//! What no script reaches: journals that are cut or damaged, and sources, sinks and disks that
+//! fail.
 ghost use Rattle.std.specs.Prelude.{◌<◌};
 
 use crate::top::timeline;
 use std::sync::Wait;
+use std::sync::atomic::{AtomicBool, Ordering};
 use std::test::Fail;
 use std::thread::Threads;
-use tl_device::{MemoryDisk, MemorySink, MemorySource, OpenGate};
+use tl_device::{Gate, MemoryDisk, MemorySink, MemorySource, OpenGate, Place};
 use tl_types::NoMemory;
 
 // The journal of no commit.
@@ -175,5 +177,62 @@ fn what_fails_outside_ends_the_run(rt: HostRuntime) -> Result<(), Fail> {
         assert_eq!(rt; left.status, *status);
         assert_eq!(rt; left.written.as_slice(), *written);
     }
+    Ok(())
+}
+
+// A phase of two sessions, of a statement each.
+const PAIR: &[u8] = b"a> SELECT * FROM t
+b> SELECT * FROM t
+";
+
+// How often the statement of the first session looks whether that of the second came.
+const TURNS: u32 = 100_000_000;
+
+// A gate that holds the statement of the first session until that of the second has come.
+#[derive(Drop)]
+struct PairGate {
+    came: AtomicBool,
+    ran_out: AtomicBool,
+}
+
+impl PairGate {
+    fn hold(&self) {
+        for _ in 0..TURNS {
+            if self.came.load(Ordering::SeqCst) {
+                return;
+            }
+        }
+        self.ran_out.store(true, Ordering::SeqCst);
+    }
+}
+
+impl Gate for PairGate {
+    fn pass(&self, place: Place) {
+        match place {
+            Place::Statement(0) => self.hold(),
+            Place::Statement(_) => self.came.store(true, Ordering::SeqCst),
+            Place::Piece(_) => {}
+        }
+    }
+}
+
+#[test]
+fn the_sessions_of_a_phase_run_at_once(rt: HostRuntime) -> Result<(), Fail> {
+    let alloc = rt.alloc();
+    let gate = PairGate {
+        came: AtomicBool::new(false),
+        ran_out: AtomicBool::new(false),
+    };
+    let words = vec![in alloc; String::from_str(alloc, "run")?]?;
+    let mut source = MemorySource::new(PAIR.to_vec(alloc)?, Vec::new(alloc));
+    let mut sink = MemorySink::new(alloc, Vec::new(alloc));
+    let disk = MemoryDisk::new(alloc, EMPTY.to_vec(alloc)?, Vec::new(alloc));
+    let ending = timeline(&rt, alloc, &words, &mut source, &mut sink, disk, &gate);
+    assert_eq!(rt; ending.status.number(), 0);
+    assert!(rt; !gate.ran_out.load(Ordering::SeqCst));
+    assert_eq!(rt;
+        sink.bytes(),
+        b"a @0 ! UnknownTable 14\nb @0 ! UnknownTable 14\n".as_slice()
+    );
     Ok(())
 }

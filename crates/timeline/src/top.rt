@@ -2,26 +2,31 @@
 ghost use Rattle.std.specs.Prelude.{◌≡◌, ℕ, List, IfOk, false};
 ghost use Rattle.std.specs.declared.option.Option.{Option};
 ghost use Rattle.std.specs.String.{string_bytes};
-ghost use Rattle.tl_script.specs.Script.{load_of};
+ghost use Rattle.timeline.specs.Coming.{block_reads, script_reads};
 ghost use Rattle.timeline.specs.Commands.{command_of, put_text, reads_source, texts_of, uses_disk};
-ghost use Rattle.timeline.specs.Ending.{most_bytes, wanted_by, Ends, EndsBy, InitEnds, RunEnds, SampleEnds};
+ghost use Rattle.timeline.specs.Ending.{Ends, EndsBy, InitEnds, RunEnds, SampleEnds};
 ghost use Rattle.timeline.specs.Headline.{Completes, Headline};
 ghost use Rattle.timeline.specs.Outside.{outside, outside_from};
-ghost use Rattle.timeline.specs.Runs.{read_as, Finishes};
+ghost use Rattle.timeline.specs.Running.{IsFresh};
 ghost use Rattle.timeline.specs.Sample.{sample_reading};
 
-use crate::closing::{close, end_refused};
+use crate::alone::empty_disk;
+use crate::closing::{close, close_run, end_refused};
 use crate::commands::{Command, command_of};
-use crate::plays::{Input, Played, play};
-use crate::samples::play_sample;
+use crate::no_source::NoSource;
+use crate::opened::{Attached, Finished, run_opened};
+use crate::phases::{BlockPhase, Phases};
+use crate::samples::SamplePhases;
 use crate::statuses::Status;
 use std::alloc::Global;
+use std::marker::Brand;
+use std::snapshot::Snapshot;
 use std::sync::Wait;
 use std::thread::Threads;
-use tl_device::{Disk, Gate, Sink, Source};
-use tl_engine::History;
+use tl_device::{Disk, Gate, Sink, Source, SureDisk};
+use tl_engine::Engine;
 use tl_journal::{InitRun, Journal, Refused};
-use tl_session::laws::{runs_make_a_transcript, whole_runs_play};
+use tl_script::Script;
 use tl_types::{Limits, NoMemory};
 
 /// How a run ended, and the disk that it was given.
@@ -33,43 +38,11 @@ pub struct Ending<D> {
     pub disk: D,
 }
 
-// How the run of a script is to end, by what stopped it, whether a break came, and the disk's count
-// of faults.
-fn wanted_by(stop: Option<Status>, broke: bool, faults: u64) -> Status
-    ensures { result ≡ wanted_by stop broke faults }
-{
-    match stop {
-        Some(status) => status,
-        None if broke => Status::DiskFault { faults },
-        None => Status::Done,
-    }
-}
-
 // The text of the statement that loads a table.
 fn put_text(alloc: Global, table: &str) -> Result<String, NoMemory>
     ensures { IfOk result (λ text. string_bytes text ≡ put_text table.now) }
 {
     format!(in alloc; "PUT {table}")
-}
-
-// Ends the run of a script: its replies and its closing line are written, unless memory ran out.
-fn finish<K: Sink>(
-    alloc: Global,
-    sink: &mut K,
-    played: Result<Played, NoMemory>,
-    broke: bool,
-    faults: u64,
-) -> Status
-    ensures { Finishes played broke faults (K.written sink.old) (K.written sink.new)
-        (K.faults sink.old) (K.faults sink.new) result }
-{
-    match played {
-        Ok(played) => {
-            let wanted = wanted_by(played.stop, broke, faults);
-            close(alloc, sink, played.replies, wanted)
-        }
-        Err(_) => Status::NoMemory,
-    }
 }
 
 // Makes an empty journal.
@@ -93,42 +66,67 @@ fn init<K: Sink, D: Disk>(alloc: Global, sink: &mut K, disk: D) -> Ending<D>
     }
 }
 
-// Runs what the source has over the journal on the disk.
-fn run<S: Source, K: Sink, D: Disk, G: Gate>(
+// Runs phases over the journal on the disk.
+fn run<R: Threads + Wait + Sync, S: Source, K: Sink, D: Disk + Send, P: Phases<S>, G: Gate>(
+    rt: &R,
     alloc: Global,
-    input: Input,
+    phases: P,
     source: &mut S,
     sink: &mut K,
     disk: D,
     gate: &G,
 ) -> Ending<D>
-    ensures { RunEnds (read_as input.entry)
+    requires { IsFresh (P.coming phases) }
+    ensures { RunEnds (P.coming phases).reads
         (outside S.left S.faults K.written K.faults D.reads D.may_leave D.faults
         source.old sink.old disk)
         (outside S.left S.faults K.written K.faults D.reads D.may_leave D.faults
         source.new sink.new result.disk)
         result.status }
 {
-    match History::open(alloc, disk, &Limits::standard()) {
+    let begun = Snapshot::of(&disk);
+    match Engine::<D, Brand>::attach(alloc, disk, &Limits::standard()) {
         Err(Refused { fault, disk }) => Ending {
             status: end_refused(alloc, sink, fault),
             disk,
         },
-        Ok(mut history) => {
-            let played = play(alloc, &mut history, input, source, gate);
-            let broke = history.has_break();
-            let disk = history.close().disk;
+        Ok(opening) => {
+            let attached = Attached { opening, begun };
+            let Finished { stop, broke, disk } = run_opened::<S, D, Brand, P, K, G, R>(
+                rt, alloc, attached, phases, source, sink, gate,
+            );
             let faults = disk.faults();
             Ending {
-                status: finish(alloc, sink, played, broke, faults),
+                status: close_run(alloc, sink, stop, broke, faults),
                 disk,
             }
         }
     }
 }
 
+// Runs the script that the source has.
+fn run_script<R: Threads + Wait + Sync, S: Source, K: Sink, D: Disk + Send, G: Gate>(
+    rt: &R,
+    alloc: Global,
+    source: &mut S,
+    sink: &mut K,
+    disk: D,
+    gate: &G,
+) -> Ending<D>
+    ensures { RunEnds script_reads
+        (outside S.left S.faults K.written K.faults D.reads D.may_leave D.faults
+        source.old sink.old disk)
+        (outside S.left S.faults K.written K.faults D.reads D.may_leave D.faults
+        source.new sink.new result.disk)
+        result.status }
+{
+    let script = Script::new(alloc, &Limits::standard());
+    run::<R, S, K, D, Script, G>(rt, alloc, script, source, sink, disk, gate)
+}
+
 // Loads a table with what the source has.
-fn load<S: Source, K: Sink, D: Disk, G: Gate>(
+fn load<R: Threads + Wait + Sync, S: Source, K: Sink, D: Disk + Send, G: Gate>(
+    rt: &R,
     alloc: Global,
     table: &str,
     source: &mut S,
@@ -136,24 +134,30 @@ fn load<S: Source, K: Sink, D: Disk, G: Gate>(
     disk: D,
     gate: &G,
 ) -> Ending<D>
-    ensures { RunEnds (load_of most_bytes (put_text table.now))
+    ensures { RunEnds (block_reads (put_text table.now))
         (outside S.left S.faults K.written K.faults D.reads D.may_leave D.faults
         source.old sink.old disk)
         (outside S.left S.faults K.written K.faults D.reads D.may_leave D.faults
         source.new sink.new result.disk)
         result.status }
 {
-    match put_text(alloc, table) {
-        Ok(text) => run(alloc, Input::Block(text.as_str()), source, sink, disk, gate),
-        Err(_) => Ending {
+    let Ok(text) = put_text(alloc, table) else {
+        return Ending {
             status: Status::NoMemory,
             disk,
-        },
-    }
+        };
+    };
+    let phase = BlockPhase {
+        text: text.as_str(),
+        given: false,
+    };
+    run::<R, S, K, D, BlockPhase, G>(rt, alloc, phase, source, sink, disk, gate)
 }
 
-// Runs the sample of so many lines, whose generator begins with `start`.
-fn run_sample<K: Sink, G: Gate>(
+// Runs the sample of so many lines, whose generator begins with `start`, over a journal of its own
+// in memory.
+fn run_sample<R: Threads + Wait + Sync, K: Sink, G: Gate>(
+    rt: &R,
     alloc: Global,
     lines: u32,
     start: u64,
@@ -163,14 +167,31 @@ fn run_sample<K: Sink, G: Gate>(
     ensures { SampleEnds (sample_reading lines start) (K.written sink.old) (K.written sink.new)
         (K.faults sink.old) (K.faults sink.new) result }
 {
-    match play_sample(alloc, lines, start, gate) {
-        Ok(replies) => close(alloc, sink, replies, Status::Done),
-        Err(_) => Status::NoMemory,
-    }
+    let Ok(disk) = empty_disk(alloc) else {
+        return Status::NoMemory;
+    };
+    let begun = Snapshot::of(&disk);
+    let Ok(opening) = Engine::<SureDisk, Brand>::attach(alloc, disk, &Limits::standard()) else {
+        return Status::NoMemory;
+    };
+    let attached = Attached { opening, begun };
+    let phases = SamplePhases::new(lines, start);
+    let mut source = NoSource;
+    let finished = run_opened::<NoSource, SureDisk, Brand, SamplePhases, K, G, R>(
+        rt,
+        alloc,
+        attached,
+        phases,
+        &mut source,
+        sink,
+        gate,
+    );
+    close_run(alloc, sink, finished.stop, finished.broke, 0)
 }
 
 // Does a command, where the words are one.
-fn do_command<S: Source, K: Sink, D: Disk, G: Gate>(
+fn do_command<R: Threads + Wait + Sync, S: Source, K: Sink, D: Disk + Send, G: Gate>(
+    rt: &R,
     alloc: Global,
     command: Option<Command>,
     source: &mut S,
@@ -189,21 +210,24 @@ fn do_command<S: Source, K: Sink, D: Disk, G: Gate>(
 {
     match command {
         None => Ending {
-            status: close(alloc, sink, Vec::new(alloc), Status::Usage),
+            status: close(alloc, sink, Status::Usage),
             disk,
         },
         Some(Command::Init) => init(alloc, sink, disk),
-        Some(Command::Run) => run(alloc, Input::Script, source, sink, disk, gate),
-        Some(Command::Load { table }) => load(alloc, table.as_str(), source, sink, disk, gate),
+        Some(Command::Run) => run_script(rt, alloc, source, sink, disk, gate),
+        Some(Command::Load { table }) => {
+            load(rt, alloc, table.as_str(), source, sink, disk, gate)
+        }
         Some(Command::Sample { lines, start }) => Ending {
-            status: run_sample(alloc, lines, start, sink, gate),
+            status: run_sample(rt, alloc, lines, start, sink, gate),
             disk,
         },
     }
 }
 
 // Does what the words ask for.
-fn do_words<S: Source, K: Sink, D: Disk, G: Gate>(
+fn do_words<R: Threads + Wait + Sync, S: Source, K: Sink, D: Disk + Send, G: Gate>(
+    rt: &R,
     alloc: Global,
     words: &[String],
     source: &mut S,
@@ -223,7 +247,7 @@ fn do_words<S: Source, K: Sink, D: Disk, G: Gate>(
         → result.disk ≡ disk }
 {
     match command_of(alloc, words) {
-        Ok(command) => do_command(alloc, command, source, sink, disk, gate),
+        Ok(command) => do_command(rt, alloc, command, source, sink, disk, gate),
         Err(_) => Ending {
             status: Status::NoMemory,
             disk,
@@ -231,9 +255,9 @@ fn do_words<S: Source, K: Sink, D: Disk, G: Gate>(
     }
 }
 
-/// All that the program does: it opens the journal on the disk, runs the statements of a script over
-/// the tables of its commits, appends each commit to the journal before it answers it, and writes
-/// one reply for each statement to the sink. It hands the disk back.
+/// All that the program does: it opens the journal on the disk, runs the statements of a script
+/// over the tables of its commits, appends each commit to the journal before it answers it, and
+/// writes one reply for each statement to the sink. It hands the disk back.
 ///
 /// `words` are the words after the program's name:
 /// - `init` makes an empty journal on a disk of at most 17 bytes, and writes nothing to the sink.
@@ -241,34 +265,41 @@ fn do_words<S: Source, K: Sink, D: Disk, G: Gate>(
 /// - `load TABLE` opens the journal and puts all that the source gives as one block of rows, by one
 ///   statement `PUT TABLE` of a session `load`.
 /// - `sample N START` runs jobs that are made from the two numbers, over a journal of its own in
-///   memory: a table, N rows in blocks of 10,000, and three queries. Neither the source nor the disk
-///   is used.
+///   memory: a table, N rows in blocks of 10,000, and three queries. Neither the source nor the
+///   disk is used.
 ///
-/// The order is: the words; opening; reading the source; the faults of the script; running;
-/// writing. The statuses, each with its closing line but for `Done`, `NoMemory` and `SinkFault`:
-/// - `Done`: the source was read to its end, and the bytes written are the replies to all jobs. The
-///   disk holds the journal of the commits that they end with, also in a crash.
-/// - `NoMemory`: memory ran out, and nothing is written. The disk holds the commits of some of the
-///   first jobs.
+/// The order is: the words; opening; then for each phase reading the source, the faults of the
+/// script, running, writing. The sessions of a phase run at once, each its own jobs in order; their
+/// replies are written, in the order of the jobs' lines, before more of the source is read. The
+/// statuses, each with its closing line but for `Done`, `NoMemory` and `SinkFault`:
+/// - `Done`: the source was read to its end, and the bytes written are the replies to all jobs, a
+///   transcript of the script's phases. The disk holds the journal of the commits that they end
+///   with, also in a crash. Where each phase has jobs of one session, the replies are those of the
+///   jobs done one after the other.
+/// - `NoMemory`: memory ran out. The replies of the phases before that are written; the disk may
+///   hold commits of jobs of the phase in which it ran out.
 /// - `Usage`: where the words are no command. Neither the source nor the disk is used.
-/// - `SourceFault`: only where the source's count of faults rose in this call. No job is run.
+/// - `SourceFault`: only where the source's count of faults rose in this call. The replies are
+///   those of the phases whose `GO` lines were among the bytes taken.
 /// - `SinkFault`: only where the sink's count of faults rose in this call; what is written is a
-///   prefix of the bytes that the run was to write. The disk holds the commits of all jobs.
+///   prefix of the bytes that the run was to write, with all replies of the phases before the one
+///   that was written. The disk holds the commits of its jobs too.
 /// - `DiskFault`: only where the disk's count of faults rose in this call. Where it came in opening
 ///   or in `init`, the closing line alone is written. Where it came in an append, that batch is
 ///   answered `! device`, later batches `! broken`, queries are answered still, and the disk holds
 ///   the commits before the batch, or these and its own.
-/// - `ScriptFault`: where the script has that fault. No statement of its phase is run.
-/// - `NotInitialised`, `Damaged`: where the disk's bytes are no journal, or one whose commits do not
-///   fit one after the other. `AlreadyInitialised`: where `init` finds more than 17 bytes. The
+/// - `ScriptFault`: where the script has that fault. No statement of its phase is run; the replies
+///   are those of the phases before it.
+/// - `NotInitialised`, `Damaged`: where the disk's bytes are no journal, or one whose commits do
+///   not fit one after the other. `AlreadyInitialised`: where `init` finds more than 17 bytes. The
 ///   closing line alone is written, the source is unread, and the disk is as it was.
 ///
 /// With the words of a command, a disk whose bytes are a journal (for `init` at most 17 bytes), a
-/// script without a fault and no count that rises, the status is `Done` or `NoMemory`. The call
-/// waits for nobody; `rt` and its leave to wait are there for the sessions to come.
+/// script without a fault and no count that rises, the status is `Done` or `NoMemory`. The call may
+/// wait, and starts threads of its own, which end with it.
 #[tactic(auto, using(crate::proofs::TopLemmas::ends_complete, crate::proofs::HeadlineLemmas::ends_tell))]
 pub fn timeline<R: Threads + Wait + Sync, S: Source, K: Sink, D: Disk + Send, G: Gate>(
-    _rt: &R,
+    rt: &R,
     alloc: Global,
     words: &[String],
     source: &mut S,
@@ -299,7 +330,5 @@ pub fn timeline<R: Threads + Wait + Sync, S: Source, K: Sink, D: Disk + Send, G:
     ensures unused { uses_disk (command_of (texts_of words.now)) ≡ false
         → result.disk ≡ disk }
 {
-    runs_make_a_transcript();
-    whole_runs_play();
-    do_words(alloc, words, source, sink, disk, gate)
+    do_words(rt, alloc, words, source, sink, disk, gate)
 }

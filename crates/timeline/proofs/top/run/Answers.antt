@@ -1,13 +1,9 @@
-use Rattle.tl_engine.specs.Standing.{IsCount}
-use Rattle.std.proofs.Common.{◌∙◌, ℕ, List, ap, sym, subst, IfSome, inl, inr, refl}
+use Rattle.std.proofs.Common.{◌∙◌, ap, sym, subst, IfSome, inl, inr, refl}
 use Rattle.tl_types.specs.declared.limits.Limits.{Limits}
+use Rattle.tl_types.specs.Entries.{commits_of}
 use Rattle.tl_engine.specs.Fitting.{FitInTurn, IsDamaged}
-use Rattle.tl_types.specs.Entries.{commits_of, has_break}
 use Rattle.timeline.specs.Outside.{outside, OpensWith}
-use Rattle.timeline.specs.Runs.{read_as}
-use Rattle.timeline.proofs.EntryLemmas.{break_none}
-use Rattle.timeline.proofs.HoldsLemmas.{holds, whole_image}
-use Rattle.timeline.proofs.TopLemmas.{opened_run}
+use Rattle.timeline.proofs.EndLemmas.{opened_ends}
 use Rattle.timeline.proofs.OpeningLemmas.{refused_by}
 use Rattle.timeline.proofs.top.run.Goals as goal
 
@@ -43,21 +39,17 @@ returns-in-Ok g c =
     let source = g.S.Source in
     let sink = g.K.Sink in
     let disk = g.D.Disk in
-    let old = c.in-Ok.history in
-    let new = c.play-played.new.history in
+    let opening = c.in-Ok.opening in
+    let entries = opening.history.entries in
     let before = outside source.left source.faults sink.written sink.faults disk.reads disk.may_leave disk.faults c.args.source.now c.args.sink.now c.args.disk in
-    let after = outside source.left source.faults sink.written sink.faults disk.reads disk.may_leave disk.faults c.play-played.new.source c.finish.new.sink c.close.result.disk in
-    let opens : OpensWith (commits_of old.entries) before =
+    let opens : OpensWith (commits_of entries) before =
     record {
-      fitting = subst (λ (l : Limits). FitInTurn l (commits_of old.entries)) (c.in-Ok.ensures.limits ∙ c.standard.ensures) c.in-Ok.ensures.opened.fitting;
+      fitting = subst (λ (l : Limits). FitInTurn l (commits_of entries)) (c.in-Ok.ensures.limits ∙ c.standard.ensures) c.in-Ok.ensures.opened.fitting;
       stands = λ b told. c.in-Ok.ensures.image b told;
     } in
-    let kept = holds new.entries before after c.has_break-broke.ensures.legal
-    (subst (λ (n : ℕ). IsCount (has_break new.entries) n (disk.faults c.close.result.disk)) (c.play-played.ensures.on.first_count ∙ c.in-Ok.ensures.count.0) c.close.ensures.count)
-    (λ b told bytes left. c.close.ensures.leaves (c.play-played.ensures.on.stands (c.in-Ok.ensures.stands b told)) bytes left)
-    (λ b told bytes is. c.close.ensures.reads (c.play-played.ensures.on.stands (c.in-Ok.ensures.stands b told)) bytes is)
-    (λ b told unbroken. whole_image disk.reads disk.may_leave c.close.result.disk (commits_of new.entries) new.journal.gate (c.close.ensures.whole (c.play-played.ensures.on.stands (c.in-Ok.ensures.stands b told)) unbroken)) in
     inr (
-      commits_of old.entries,
-      opened_run (read_as c.args.input) before after old.entries new.entries c.play-played.result c.has_break-broke.result c.faults-faults.result c.finish.result opens (break_none old.entries c.in-Ok.ensures.opened.whole) c.has_break-broke.ensures.value c.faults-faults.ensures c.play-played.ensures.plays kept c.finish.ensures,
+      commits_of entries,
+      opened_ends disk.reads disk.may_leave disk.faults c.args.disk c.run_opened-stop.result.disk entries opening.history.first_count (g.P.Phases.coming c.args.phases).reads
+          (source.left c.args.source.now) (source.left c.run_opened-stop.new.source) (source.faults c.args.source.now) (source.faults c.run_opened-stop.new.source) (sink.written c.args.sink.now) (sink.written c.run_opened-stop.new.sink) (sink.written c.close_run.new.sink) (sink.faults c.args.sink.now) (sink.faults c.run_opened-stop.new.sink) (sink.faults c.close_run.new.sink)
+          c.run_opened-stop.result.stop c.run_opened-stop.result.broke c.faults-faults.result c.close_run.result c.in-Ok.ensures.count.0 c.faults-faults.ensures opens (rw c.of-begun.ensures at c.run_opened-stop.ensures) c.close_run.ensures,
     )

@@ -1,0 +1,2 @@
+# One more GO than a script may have.
+yes GO | head -n 65537

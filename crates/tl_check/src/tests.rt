@@ -1,11 +1,11 @@
-//! Checks of queries over two small tables, and of a new table.
+//! Checks of queries over two small tables, and of a new table; statements printed again.
 ghost use Rattle.std.specs.Prelude.{IfOk};
 ghost use Rattle.tl_query.specs.Parsed.{IsParsed};
 
 use crate::{check, check_create};
 use std::alloc::Global;
 use std::test::Fail;
-use tl_query::{Span, Statement, Typed, TypedItem, parse};
+use tl_query::{Span, Statement, Typed, TypedItem, parse, print};
 use tl_store::Store;
 use tl_types::{Body, Commit, Limits, Schema};
 
@@ -108,6 +108,40 @@ fn aggregates(rt: HostRuntime) -> Result<(), Fail> {
                 ..
             }
         )
+    );
+    Ok(())
+}
+
+// Whether what a text says is printed so.
+fn is_printed(alloc: Global, text: &str, wanted: &str) -> Result<bool, Fail> {
+    let printed = print(alloc, &statement(alloc, text)?)?;
+    Ok(printed.as_slice() == wanted.as_bytes())
+}
+
+#[test]
+fn statements_are_printed_again(rt: HostRuntime) -> Result<(), Fail> {
+    let alloc = rt.alloc();
+    let table = "CREATE TABLE emp (id INT, dept TEXT) KEY id VALID";
+    assert!(rt;
+        is_printed(
+            alloc,
+            "CREATE  TABLE emp(id INT , dept TEXT)KEY id VALID;",
+            table
+        )?
+    );
+    assert!(rt; is_printed(alloc, "PUT emp ;", "PUT emp")?);
+    let query = "SELECT x, valid_to FROM q WHERE d = 'o''p' AND p < -7 VALID AT 3 AS OF 2";
+    let text = "SELECT x,valid_to FROM q WHERE d='o''p' AND p<-007 VALID AT 3 AS OF 02";
+    assert!(rt; is_printed(alloc, text, query)?);
+    let text = "COUNT FROM c OVER VALID -0 TO 9223372036854775807 AS OF 1";
+    assert!(rt; is_printed(alloc, text, "COUNT FROM c OVER VALID 0 TO FOREVER AS OF 1")?);
+    let text = "JOIN l WHERE k>=1 WITH r ON k=k OVER SYSTEM ALL";
+    assert!(rt;
+        is_printed(
+            alloc,
+            text,
+            "JOIN l WHERE k >= 1 WITH r ON k = k OVER SYSTEM ALL"
+        )?
     );
     Ok(())
 }

@@ -117,11 +117,6 @@ piece_within at b bytes =
 pub read_within : (at b : ℕ) (bytes : List ℕ) (p : Piece) → Ok p ≡ piece_at at b bytes → (1 ≤ p.len) × (p.len ≤ length (b ∷ bytes))
 read_within at b bytes p e = subst (λ r. IfOk r (λ p. (1 ≤ p.len) × (p.len ≤ length (b ∷ bytes)))) (sym e) (piece_within at b bytes)
 
--- the bytes from the first on
-front_of : (rest : List ℕ) → 0 < length rest → rest ≡ get_or rest 0 0 ∷ drop 1 rest
-front_of [] h = absurd (omega arith)
-front_of (b ∷ bytes) h = refl
-
 pub blank_step : (prefix : List Placed) (at : ℕ) (joined : Bool) (rest : List ℕ) → 0 < length rest → is_blank (get_or rest 0 0) ≡ true → tokens_before prefix (scan at joined 0 rest) ≡ tokens_before prefix (scan (at + 1) false 0 (drop 1 rest))
 blank_step prefix at joined [] h e = absurd (omega arith)
 blank_step prefix at joined (b ∷ bytes) h e = blank_turn prefix at b joined bytes e

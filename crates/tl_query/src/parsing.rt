@@ -65,35 +65,3 @@ pub fn parse(alloc: Global, text: &str) -> Result<Statement, TextFault>
 {
     read(alloc, text)
 }
-
-#[cfg(test)]
-mod tests {
-    use super::*;
-    use crate::ast::{Item, Query, SelectForm};
-    use std::test::Fail;
-
-    fn is_as_written(form: &SelectForm) -> bool {
-        let items = form.items.as_slice();
-        !form.all
-            && matches!(
-                items,
-                [Item::ValidTo(7), Item::Column(_), Item::ValidFrom(28)]
-            )
-    }
-
-    #[test]
-    fn parses(rt: HostRuntime) -> Result<(), Fail> {
-        let select = parse(rt.alloc(), "SELECT valid_to, validfrom, valid_from FROM t")
-            .ok()
-            .ok_or("select")?;
-        assert!(rt; matches!(&select, Statement::Ask(Query::Select(form)) if is_as_written(form)));
-        Ok(())
-    }
-
-    #[test]
-    fn refuses(rt: HostRuntime) -> Result<(), Fail> {
-        let found = parse(rt.alloc(), "SELECT id FORM emp").err();
-        assert_eq!(rt; found, Some(TextFault::Unexpected { at: 10 }));
-        Ok(())
-    }
-}

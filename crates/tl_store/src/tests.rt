@@ -8,8 +8,8 @@ use std::marker::Brand;
 use std::sync::ledger::{Blank, Ledger};
 use std::test::Fail;
 use tl_types::{
-    Body, Cell, Change, Column, ColumnKind, Commit, Limits, NoMemory, Opened, Period, Schema, Seq,
-    Steps, Text,
+    Body, Bytes, Cell, Change, Column, ColumnKind, Commit, Entry, Limits, Line, NoMemory, Opened,
+    Period, Schema, Seq, Steps, Text, has_break,
 };
 
 fn column(alloc: Global, name: &str, kind: ColumnKind) -> Result<Column, NoMemory>
@@ -229,5 +229,26 @@ fn valid_periods(rt: HostRuntime) -> Result<(), Fail> {
     let store = after(alloc, store, &put(alloc, None, row)?)?;
     let period = last_period::<Brand>(Blank::new(1), &store).ok_or("no period")?;
     assert_eq!(rt; (period.from(), period.to()), (-5, Period::FOREVER));
+    Ok(())
+}
+
+#[test]
+fn values_and_their_copies_are_equal(rt: HostRuntime) -> Result<(), Fail> {
+    let alloc = rt.alloc();
+    let row = opened(alloc, -1, "ops", Some(Period::new(0, 10)))?;
+    assert!(rt; row.clone()? == row);
+    for commit in &commits(alloc)? {
+        assert!(rt; commit.clone()? == *commit);
+        let entry = Entry::Break {
+            commit: commit.clone()?,
+        };
+        assert!(rt; has_break(&[entry.clone()?]));
+        assert!(rt; !has_break(&[Entry::Commit(commit.clone()?)]));
+    }
+    assert_eq!(rt; Line::new(alloc, "SELECT")?.as_str(), "SELECT");
+    assert_eq!(rt;
+        Bytes::from_vec(vec![in alloc; 1, 2]?).as_slice(),
+        [1, 2].as_slice()
+    );
     Ok(())
 }

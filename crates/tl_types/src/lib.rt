@@ -44,6 +44,3 @@ pub use texts::Text;
 
 /// Out of memory, where that is the whole error of a call.
 pub type NoMemory = std::alloc::AllocError;
-
-#[cfg(test)]
-mod tests;

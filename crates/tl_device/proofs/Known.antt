@@ -1,10 +1,9 @@
 -- How what is told of bytes, of room and of faults goes on from one call to the next.
-use Rattle.std.proofs.Common.{◌≡◌, ◌↔◌, ℕ, ◌+◌, ◌≤◌, List, [], ◌++◌, length, take, None, Some, IfSome, Option, Result, Ok, Err, OnOk, OnErr, refl, sym, ap, ◌∙◌, append_assoc, append-nil, arith}
-use Rattle.std.proofs.Math.Seq.{take-append_seam}
+use Rattle.std.proofs.Common.{◌≡◌, ◌↔◌, ℕ, ◌+◌, List, [], ◌++◌, None, Some, IfSome, Option, Result, Ok, Err, OnOk, OnErr, refl, sym, ap, ◌∙◌, append_assoc, append-nil, arith}
 use Rattle.std.specs.Prelude.{Bool, if◌then◌else◌, is_err}
 use Rattle.tl_device.specs.Plain.{Calls}
 use Rattle.tl_device.specs.Calls.{one_more, next_fails, after_call}
-use Rattle.tl_device.specs.Known.{prepend_known, append_known, HasRoom, spend_room, Rose}
+use Rattle.tl_device.specs.Known.{prepend_known, append_known, spend_room}
 
 -- no byte before them changes nothing
 pub prepend_none : (known : Option (List ℕ)) → prepend_known [] known ≡ known
@@ -16,47 +15,15 @@ pub prepend_both : (xs ys : List ℕ) (known : Option (List ℕ)) → prepend_kn
 prepend_both xs ys None = refl
 prepend_both xs ys (Some bytes) = ap Some (append_assoc xs ys bytes)
 
--- no byte behind changes nothing
-pub append_none : (known : Option (List ℕ)) → append_known known [] ≡ known
-append_none None = refl
-append_none (Some bytes) = ap Some (append-nil bytes)
-
 -- what two writes wrote, one after the other
 pub append_both : (known : Option (List ℕ)) (xs ys : List ℕ) → append_known known (xs ++ ys) ≡ append_known (append_known known xs) ys
 append_both None xs ys = refl
 append_both (Some bytes) xs ys = ap Some (sym (append_assoc bytes xs ys))
 
--- spending nothing changes nothing
-pub spend_none : (spare : Option ℕ) → spend_room spare 0 ≡ spare
-spend_none None = refl
-spend_none (Some room) = ap Some (omega arith)
-
 -- what two writes spent, one after the other
 pub spend_both : (spare : Option ℕ) (n m : ℕ) → spend_room spare (n + m) ≡ spend_room (spend_room spare n) m
 spend_both None n m = refl
 spend_both (Some room) n m = ap Some (omega arith)
-
--- room for more is room for less
-pub room_for_less : (spare : Option ℕ) (n m : ℕ) → n ≤ m → HasRoom spare m → HasRoom spare n
-room_for_less None n m less room = tt
-room_for_less (Some spare) n m less room = omega arith
-
--- room for both pieces is room for the second once the first is spent
-pub room_for_rest : (spare : Option ℕ) (n m : ℕ) → HasRoom spare (n + m) → HasRoom (spend_room spare n) m
-room_for_rest None n m room = tt
-room_for_rest (Some spare) n m room = omega arith
-
--- a rise that no fall follows is a rise
-pub Rose-then : (a b c : ℕ) → Rose a b → b ≤ c → Rose a c
-Rose-then a b c rose later = record { later = omega (arith, rose.later); higher = omega (arith, rose.higher) }
-
--- a rise that no fall precedes is a rise
-pub then-Rose : (a b c : ℕ) → a ≤ b → Rose b c → Rose a c
-then-Rose a b c later rose = record { later = omega (arith, rose.later); higher = omega (arith, rose.higher) }
-
--- a read that takes nothing leaves what was left
-pub none_taken : (before after : Option (List ℕ)) (into : List ℕ) (n : ℕ) → n ≡ 0 → before ≡ prepend_known (take n into) after → before ≡ after
-none_taken before after into n none taken = taken ∙ ap (λ k. prepend_known (take k into) after) none ∙ prepend_none after
 
 -- a read that takes nothing where there is room leaves nothing
 pub none_left : (before after : Option (List ℕ)) (n : ℕ) → n ≡ 0 → before ≡ after → IfSome before (λ bytes. (n ≡ 0) ↔ (bytes ≡ [])) → IfSome after (λ bytes. bytes ≡ [])
@@ -66,11 +33,6 @@ none_left None (Some after) n none same end = absurd (none≢some same)
     none≢some : None ≡ Some after → ⊥
     none≢some e = cc
 none_left (Some before) (Some after) n none same end = let empty = end.0 none in cc
-
--- what holds in any case holds at an error
-pub at_any_error : {T E P : Type 0} (r : Result T E) → P → OnErr r P
-at_any_error (Ok x) p = tt
-at_any_error (Err e) p = p
 
 -- what holds in any case holds at a success
 pub at_any_success : {T E P : Type 0} (r : Result T E) → P → OnOk r P
@@ -101,14 +63,6 @@ sure_call (Err e) old new fails after = tt
 pub read_more : (first before after : Option (List ℕ)) (bytes taken newer : List ℕ) → first ≡ prepend_known bytes before → before ≡ prepend_known taken after → newer ≡ bytes ++ taken → first ≡ prepend_known newer after
 read_more first before after bytes taken newer so_far more joined =
     so_far ∙ ap (prepend_known bytes) more ∙ sym (prepend_both bytes taken after) ∙ ap (λ xs. prepend_known xs after) (sym joined)
-
--- a list is a prefix of what it begins
-pub whole_prefix : (n : ℕ) (xs ys : List ℕ) → length xs ≡ n → take n (xs ++ ys) ≡ xs
-whole_prefix n xs ys same = ap (λ k. take k (xs ++ ys)) (sym same) ∙ take-append_seam xs ys
-
--- a read that takes nothing leaves what was taken before it
-pub taken_all : (first before after : Option (List ℕ)) (bytes into : List ℕ) (n : ℕ) → n ≡ 0 → first ≡ prepend_known bytes before → before ≡ prepend_known (take n into) after → first ≡ prepend_known bytes after
-taken_all first before after bytes into n none so_far taken = so_far ∙ ap (prepend_known bytes) (none_taken before after into n none taken)
 
 -- what was read to the end is all that was left
 pub all_taken : (before after : Option (List ℕ)) (bytes : List ℕ) → before ≡ prepend_known bytes after → IfSome after (λ left. left ≡ []) → IfSome before (λ left. bytes ≡ left)

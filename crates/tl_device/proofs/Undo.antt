@@ -179,6 +179,10 @@ sync_elapses k new is = subst (λ (n : Kept). Elapses (length k.done) (length n.
 pub no_sync_leaves : (k new : Kept) (c : List ℕ) → new ≡ after_no_sync k → Leaves new c → Leaves k c
 no_sync_leaves k new c is left = subst (λ (m : Kept). Leaves m c) is left
 
+-- and all of that
+pub no_sync_back : (k new : Kept) → new ≡ after_no_sync k → (c : List ℕ) → Leaves k c → Leaves new c
+no_sync_back k new is c left = subst (λ (m : Kept). Leaves m c) (sym is) left
+
 -- and no moment passes
 pub no_sync_elapses : (k new : Kept) → new ≡ after_no_sync k → Elapses (length k.done) (length new.done) (LeftSince k) (LeftSince new) (Leaves new)
 no_sync_elapses k new is = subst (λ (n : Kept). Elapses (length k.done) (length n.done) (LeftSince k) (LeftSince n) (Leaves n)) (sym is)

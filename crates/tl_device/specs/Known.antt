@@ -1,6 +1,6 @@
 -- What a source, a sink and a disk tell: their bytes and their room where they tell them, and their
 -- count of faults.
-use Rattle.std.specs.Prelude.{◌≡◌, ℕ, ◌+◌, ◌-◌, ◌^◌, ◌≤◌, min, List, ◌++◌, length, take, None, Some}
+use Rattle.std.specs.Prelude.{ℕ, ◌+◌, ◌-◌, ◌^◌, ◌≤◌, min, List, ◌++◌, length, take, None, Some}
 use Rattle.std.specs.declared.option.Option.{Option}
 use Rattle.std.specs.Io.KnownBytes.{Appends}
 
@@ -29,15 +29,7 @@ pub record Rose (before now : ℕ) : Type 0 where
   pub later : before ≤ now
   pub higher : min (before + 1) (2 ^ 64 - 1) ≤ now
 
--- some prefix of the bytes that were left has been taken
-abbrev pub TakesPrefix : Option (List ℕ) → Option (List ℕ) → Type 0
-TakesPrefix before after = (taken : List ℕ) × (before ≡ prepend_known taken after)
-
 -- a writer of std holds some prefix of these bytes more than before
 abbrev pub AppendsPrefix : Option (List ℕ) → Option (List ℕ) → List ℕ → Type 0
 AppendsPrefix before after bytes =
     (n : ℕ) × (n ≤ length bytes) × Appends before after (take n bytes)
-
--- where nothing is told no bytes are
-pub told_by_none : {P : Type 0} {bytes : List ℕ} → None ≡ Some bytes → P
-told_by_none told = absurd cc

@@ -1,7 +1,6 @@
 pub mod Known
 pub mod Plain
 pub mod Calls
-pub mod Whole
 pub mod Disk
 pub mod Kept
 pub mod Replay

@@ -62,6 +62,16 @@ since_last (call ∷ calls) s c (inr past) = absurd (omega (arith, past.0))
 pub since_now : (kept : Kept) (c : List ℕ) → LeftSince kept (length kept.done) c → Leaves kept c
 since_now kept c left = since_last kept.done (kept.bytes, kept.log) c left
 
+-- what may be left now may have been left since any moment
+left_later : (calls : List Call) (s : List ℕ × List ℕ) (t : ℕ) (c : List ℕ)
+    → Left calls s c → Since calls s t c
+left_later [] s t c left = left
+left_later (call ∷ calls) s t c left = inl left
+
+-- a crash since an earlier moment may have left what a crash now may leave
+pub since_then : (kept : Kept) (t : ℕ) (c : List ℕ) → Leaves kept c → LeftSince kept t c
+since_then kept t c left = left_later kept.done (kept.bytes, kept.log) t c left
+
 -- a crash may leave the bytes as they read
 pub as_read : (calls : List Call) (s : List ℕ × List ℕ) (c : List ℕ) → s.0 ≡ c → Left calls s c
 as_read [] s c is = sym is

@@ -34,6 +34,7 @@ pub trait Disk {
         ensures len { IfOk result (λ n. IfSome (reads self.old) (λ bytes. n ≡ length bytes)) }
         ensures reads { reads self.new ≡ reads self.old }
         ensures crash { (c : List ℕ) → may_leave self.new c → may_leave self.old c }
+        ensures back { (c : List ℕ) → may_leave self.old c → may_leave self.new c }
         ensures time { Elapses (moment self.old) (moment self.new)
             (left_since self.old) (left_since self.new) (may_leave self.new) }
         ensures ready { (b : ℕ) (n : ℕ) → ready self.old b n → ready self.new b n }
@@ -49,6 +50,7 @@ pub trait Disk {
             IfSome (reads self.old) (λ bytes. Fills at bytes into.old into.new n)) }
         ensures reads { reads self.new ≡ reads self.old }
         ensures crash { (c : List ℕ) → may_leave self.new c → may_leave self.old c }
+        ensures back { (c : List ℕ) → may_leave self.old c → may_leave self.new c }
         ensures time { Elapses (moment self.old) (moment self.new)
             (left_since self.old) (left_since self.new) (may_leave self.new) }
         ensures ready { (b : ℕ) (n : ℕ) → ready self.old b n → ready self.new b n }
@@ -111,6 +113,7 @@ pub trait Disk {
         ensures durable { OnOk result (IfSome (reads self.old) (λ bytes.
             Only bytes (may_leave self.new))) }
         ensures crash { (c : List ℕ) → may_leave self.new c → may_leave self.old c }
+        ensures back { OnErr result ((c : List ℕ) → may_leave self.old c → may_leave self.new c) }
         ensures time { Elapses (moment self.old) (moment self.new)
             (left_since self.old) (left_since self.new) (may_leave self.new) }
         ensures sure { OnOk result (faults self.new ≡ faults self.old) }
@@ -136,6 +139,10 @@ pub trait Disk {
     // A crash since this moment leaves only what a crash now may leave.
     ghost only_now: { (disk : Self) (c : List ℕ) →
         left_since disk (moment disk) c → may_leave disk c };
+
+    // What a crash now may leave, one since an earlier moment may have left.
+    ghost also_now: { (disk : Self) (t : ℕ) (c : List ℕ) →
+        t ≤ moment disk → may_leave disk c → left_since disk t c };
 
     // A crash may leave the disk as it reads.
     ghost an_image: { (disk : Self) (c : List ℕ) → reads disk ≡ Some c → may_leave disk c };

@@ -1,6 +1,6 @@
 // A disk over std's file.
 ghost use Rattle.std.specs.Prelude.{◌≡◌, ℕ, ◌+◌, ◌^◌, ◌<◌, ◌≤◌, length, None, IfOk, OnOk, OnErr};
-ghost use Rattle.tl_device.specs.Known.{Rose, told_by_none};
+ghost use Rattle.tl_device.specs.Known.{Rose};
 
 use crate::disk::Disk;
 use crate::failed::{Failed, NoMemory};
@@ -9,7 +9,7 @@ use std::rt::Files;
 
 /// A disk over a file of the system. It opens its file at its first call other than `room`, an
 /// empty one where it is missing, and keeps what is there. It is always ready, and tells nothing of
-/// content. A call is answered `Failed` exactly where the system answers it by an error, the
+/// content: a crash may leave anything. A call is answered `Failed` exactly where the system answers it by an error, the
 /// opening included, or where the end of a write passes 2^64; the count of faults then rose.
 #[derive(Drop)]
 pub struct FileDisk<'a, R: Files> {
@@ -41,19 +41,21 @@ impl<'a, R: Files> FileDisk<'a, R> {
 impl<'a, R: Files> Disk for FileDisk<'a, R> {
     ghost reads = { λ _. None };
 
-    ghost may_leave = { λ _ _. ⊥ };
+    ghost may_leave = { λ _ _. Unit {0} };
 
     ghost moment = { λ _. 0 };
 
-    ghost left_since = { λ _ _ _. ⊥ };
+    ghost left_since = { λ _ _ _. Unit {0} };
 
     ghost faults = { λ d. d.faults };
 
     ghost ready = { λ _ _ _. Unit {0} };
 
-    ghost only_now = { λ _ _ never. never };
+    ghost only_now = { λ _ _ _. tt };
 
-    ghost an_image = { λ _ _ told. told_by_none told };
+    ghost also_now = { λ _ _ _ _ _. tt };
+
+    ghost an_image = { λ _ _ _. tt };
 
     ghost fewer = { λ _ _ _ _ _ _ _ _. tt };
 

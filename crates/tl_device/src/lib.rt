@@ -1,8 +1,7 @@
 //! The outside of the engine: where bytes come from (a source), where they go (a sink), what is
-//! kept (a disk), and a gate that calls pass. Sources and sinks have a form in memory that fails
-//! where it is told to, one that never fails, and an adapter over std; disks have one in memory
-//! that never fails. A call answers `Failed` only where the object's count of faults rose in that
-//! call.
+//! kept (a disk), and a gate that calls pass. Sources, sinks and disks have a form in memory that
+//! fails where it is told to, one that never fails, and an adapter over std. A call answers
+//! `Failed` only where the object's count of faults rose in that call.
 #![tactic(auto)]
 
 mod call;
@@ -44,4 +43,4 @@ pub use source::Source;
 pub use sure_disk::SureDisk;
 pub use sure_sink::SureSink;
 pub use sure_source::SureSource;
-pub use whole::{ReadError, read_prefix, write_all};
+pub use whole::write_all;

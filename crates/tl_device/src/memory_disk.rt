@@ -3,7 +3,7 @@ ghost use Rattle.std.specs.Prelude.{◌≡◌, ℕ, ◌+◌, ◌-◌, ◌^◌, �
 ghost use Rattle.tl_device.specs.Known.{Rose};
 ghost use Rattle.tl_device.specs.Calls.{next_fails, after_call};
 ghost use Rattle.tl_device.specs.Kept.{fresh, after_write, after_torn, after_cut, after_no_cut, after_sync, after_no_sync, with_room};
-ghost use Rattle.tl_device.specs.Replay.{Leaves, LeftSince, IsReady, since_now, as_told, fewer_ready};
+ghost use Rattle.tl_device.specs.Replay.{Leaves, LeftSince, IsReady, since_now, since_then, as_told, fewer_ready};
 
 use crate::calls::Calls;
 use crate::disk::Disk;
@@ -67,6 +67,8 @@ impl Disk for MemoryDisk {
     ghost ready = { λ d b n. IsReady d.kept b n };
 
     ghost only_now = { λ d c left. since_now d.kept c left };
+
+    ghost also_now = { λ d t c _ left. since_then d.kept t c left };
 
     ghost an_image = { λ d c told. as_told d.kept c told };
 

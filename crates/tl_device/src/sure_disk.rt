@@ -1,7 +1,7 @@
 // A disk in memory that never fails.
 ghost use Rattle.std.specs.Prelude.{◌≡◌, ℕ, ◌+◌, ◌-◌, ◌^◌, ◌<◌, ◌≤◌, ◌++◌, length, take, drop, min, Some, Ok, IfOk, OnOk, OnErr};
 ghost use Rattle.tl_device.specs.Kept.{fresh, after_write, after_cut, after_sync, with_room};
-ghost use Rattle.tl_device.specs.Replay.{Leaves, LeftSince, IsReady, since_now, as_told, fewer_ready};
+ghost use Rattle.tl_device.specs.Replay.{Leaves, LeftSince, IsReady, since_now, since_then, as_told, fewer_ready};
 
 use crate::disk::Disk;
 use crate::failed::{Failed, NoMemory};
@@ -57,6 +57,8 @@ impl Disk for SureDisk {
     ghost ready = { λ d b n. IsReady d b n };
 
     ghost only_now = { λ d c left. since_now d c left };
+
+    ghost also_now = { λ d t c _ left. since_then d t c left };
 
     ghost an_image = { λ d c told. as_told d c told };
 

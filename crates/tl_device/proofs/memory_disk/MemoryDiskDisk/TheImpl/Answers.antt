@@ -1,7 +1,7 @@
 use Rattle.std.proofs.Common.{Some, refl, ap, length}
 use Rattle.tl_device.specs.Plain.{Kept}
 use Rattle.tl_device.proofs.Known.{at_either, then_success, then_error, sure_call}
-use Rattle.tl_device.proofs.Undo.{write_follows, write_elapses, torn_reads, torn_follows, torn_elapses, cut_follows, cut_elapses, no_cut_reads, no_cut_follows, no_cut_elapses, sync_leaves, sync_only, sync_elapses, no_sync_leaves, no_sync_elapses, spends, spends_call}
+use Rattle.tl_device.proofs.Undo.{write_follows, write_elapses, torn_reads, torn_follows, torn_elapses, cut_follows, cut_elapses, no_cut_reads, no_cut_follows, no_cut_elapses, sync_leaves, sync_only, sync_elapses, no_sync_leaves, no_sync_back, no_sync_elapses, spends, spends_call}
 use Rattle.tl_device.proofs.memory_disk.MemoryDiskDisk.TheImpl.Goals as goal
 
 -- a write gives what each write gives
@@ -64,6 +64,7 @@ sync-tells c =
       reads = at_either c.result synced no_sync (ap (λ (k : Kept). Some k.bytes)) (ap (λ (k : Kept). Some k.bytes));
       durable = then_success c.result (sync_only old new) synced;
       crash = λ image. at_either c.result synced no_sync (sync_leaves old new image) (no_sync_leaves old new image);
+      back = then_error c.result (no_sync_back old new) no_sync;
       time = at_either c.result synced no_sync (sync_elapses old new) (no_sync_elapses old new);
       sure = sure_call c.result c.args.self.now.calls c.new.self.now.calls c.ensures.fails c.ensures.calls;
       rose = c.ensures.rose;

@@ -49,6 +49,7 @@ sync-tells c =
       reads = search rules;
       durable = at_any_success c.result (sync_only old c.new.self.now synced);
       crash = λ image left. sync_leaves old c.new.self.now image synced left;
+      back = search rules;
       time = sync_elapses old c.new.self.now synced;
       sure = search rules;
       rose = search rules;

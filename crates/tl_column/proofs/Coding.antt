@@ -57,15 +57,6 @@ found_some texts text code e = subst (λ found. IsFound texts text found) (sym e
 pub found_none : (texts : List (List ℕ)) (text : List ℕ) → None ≡ code_in texts text → contains_text texts text ≡ false
 found_none texts text e = subst (λ found. IsFound texts text found) (sym e) (code_found texts text)
 
-found_code : (texts : List (List ℕ)) (text : List ℕ) (found : Option ℕ) → found ≡ code_in texts text → contains_text texts text ≡ false → None ≡ found
-found_code texts text None e h = refl
-found_code texts text (Some code) e h =
-    let bad : true ≡ false = sym (found_some texts text code e).2 ∙ h in cc
-
--- a text that is not there has no code
-pub lacks_code : (texts : List (List ℕ)) (text : List ℕ) → contains_text texts text ≡ false → None ≡ code_in texts text
-lacks_code texts text h = found_code texts text (code_in texts text) refl h
-
 found_nothing : (texts : List (List ℕ)) (text : List ℕ) (codes : List ℕ) (found : Option ℕ) → found ≡ code_in texts text → ((code : ℕ) → code < length texts → 0 < times code codes) → LacksText texts text codes → None ≡ found
 found_nothing texts text codes None e all lacks = refl
 found_nothing texts text codes (Some code) e all lacks =

@@ -36,14 +36,14 @@ pub database_behind-append : (es fs : List Entry) → database_behind (es ++ fs)
 database_behind-append es fs =
     ap database_of (commits_of-append es fs) ∙ fold-append after_commit nothing (commits_of es) (commits_of fs)
 
--- the database of entries is that of a front, and then of the commits behind the front
+-- the database of entries is that of a prefix, and then of the commits behind it
 pub database_from : (es : List Entry) (n : ℕ) → database_behind es ≡ fold after_commit (database_behind (take n es)) (commits_of (drop n es))
 database_from es n = ap database_behind (sym (take-append-drop n es)) ∙ database_behind-append (take n es) (drop n es)
 
 pub commits_from : (es : List Entry) (n : ℕ) → commits_of es ≡ commits_of (take n es) ++ commits_of (drop n es)
 commits_from es n = ap commits_of (sym (take-append-drop n es)) ∙ commits_of-append (take n es) (drop n es)
 
--- the tables of a front are those of its number of commits
+-- the tables of a prefix are those of its number of commits
 pub front_is_cut : (es : List Entry) (n : ℕ) → IsCut es n
 front_is_cut es n =
     let front = take_at (commits_of (take n es)) (commits_of (drop n es)) (version_at es n) refl in
@@ -79,7 +79,7 @@ pub tables_stay : (db : plain.Database) (cs : List Commit) → length db.tables 
 tables_stay db [] = omega arith
 tables_stay db (c ∷ cs) = let later = tables_stay (after_commit db c) cs in omega (arith, tables_grow db c, later)
 
--- a table of a front is a table of the whole
+-- a table of a prefix is a table of the whole
 pub table_stays : (es : List Entry) (n table : ℕ) → has_table (take n es) table ≡ true → has_table es table ≡ true
 table_stays es n table h =
     let longer : length (database_behind (take n es)).tables ≤ length (database_behind es).tables = rw (database_from es n) (tables_stay (database_behind (take n es)) (commits_of (drop n es))) in
@@ -132,7 +132,7 @@ all_fit_behind before (e ∷ es) h =
       by_entry (entry.Mark t v) m l = rw (database_behind-append before (entry.Mark t v ∷ [])) at l
       by_entry (entry.Break c) m l = rw (database_behind-append before (entry.Break c ∷ [])) at l
 
--- the commits behind a front fit one after the other
+-- the commits behind a prefix fit one after the other
 pub all_fit_from : (es : List Entry) (n : ℕ) → are_legal es ≡ true → all_fit (database_behind (take n es)) (commits_of (drop n es)) ≡ true
 all_fit_from es n h =
     let whole : are_legal (take n es ++ drop n es) ≡ true = rw (take-append-drop n es) h in

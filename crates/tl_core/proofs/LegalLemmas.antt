@@ -1,10 +1,10 @@
 -- A step that is allowed leads from a legal world to a legal world.
-use Rattle.std.proofs.Common.{◌≡◌, ℕ, zero, suc, ◌+◌, ◌<◌, ◌≤◌, Bool, true, false, ◌&&◌, not, nat_le, List, [], ◌∷◌, ◌++◌, length, take, All, Option, Some, None, refl, sym, ap, ◌∙◌, arith, slice_get}
+use Rattle.std.proofs.Common.{◌≡◌, ℕ, zero, suc, ◌+◌, ◌≤◌, true, ◌&&◌, not, nat_le, List, [], ◌∷◌, ◌++◌, length, take, All, Option, Some, None, arith, slice_get}
 use Rattle.std.specs.List.{AllByRecursion}
 use Rattle.std.specs.Option.{option_and_then}
 use Rattle.std.proofs.lemmas.Bool.{le-leb}
 use Rattle.std.proofs.lemmas.List.{length_push, take-append-le, take_all}
-use Rattle.std.proofs.lemmas.List.Elements.{All-weaker, All-replicate, All-from_recursion, recursion_from_All}
+use Rattle.std.proofs.lemmas.List.Elements.{All-weaker, All-from_recursion, recursion_from_All}
 use Rattle.tl_types.proofs.Lists.{and_left, and_right, and_both}
 use Rattle.tl_types.specs.declared.commits.Commit.{Commit}
 use Rattle.tl_types.specs.declared.commits.Entry.{Entry}
@@ -15,7 +15,7 @@ use Rattle.tl_core.specs.declared.passes.Build.{Build}
 use Rattle.tl_core.specs.declared.passes.PassState.{PassState}
 use Rattle.tl_core.specs.declared.steps.Step.{Step}
 use Rattle.tl_core.specs.declared.steps.Step.TheVariants as step
-use Rattle.tl_core.specs.World.{World, version_at, has_table, has_mark, may_follow, may_mark, are_legal, pass_at, start_of, IsLegalBuild, IsLegalPass, IsLegal, build_of, has_pass, allows, seen_to, begun_at, ended, appended, with_pass, after_mark, after_step}
+use Rattle.tl_core.specs.World.{World, version_at, has_table, has_mark, may_follow, may_mark, IsLegalBuild, IsLegalPass, IsLegal, build_of, has_pass, allows, seen_to, begun_at, ended, appended, with_pass, after_mark, after_step}
 use Rattle.tl_core.proofs.EntryLemmas.{legal_push, table_stays, version_within}
 
 -- ONE ENTRY MORE
@@ -106,10 +106,3 @@ legal_step w (step.Mark pass) h a = legal_mark w pass (build_of w pass) (build_i
 legal_step w (step.Break commit) h a = legal_append w (entry.Break commit) h a
 
 -- THE START
-
--- a world at its start is legal
-pub legal_start : (es : List Entry) (n : ℕ) → are_legal es ≡ true → IsLegal (start_of es n)
-legal_start es n h = record {
-  history = h;
-  fronts = All-replicate (IsLegalPass es) n (pass_at (length es)) (record { within = omega arith; based = tt });
-}

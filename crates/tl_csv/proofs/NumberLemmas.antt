@@ -10,26 +10,27 @@ use Rattle.std.proofs.lemmas.Bool.Decides.{nat_tests}
 use Rattle.std.proofs.lemmas.Grind.{common_steps}
 use Rattle.tl_csv.specs.Numbers.{are_digits, positive, negative, integer_of}
 
-own : IsNumeralModel (λ ds. all_ascii_digits ds ≡ true) (digits_value 10)
+-- decimal digits and their values
+pub own : IsNumeralModel (λ ds. all_ascii_digits ds ≡ true) (digits_value 10)
 own = numerals_by_value _ tells_all_ascii_digits
 
 -- a result that is right exactly where a test is
-ok_by_test : {E : Type 0} {P : Type 0} (r : Result ℤ E) (t : Bool) (v : ℤ) → OkIff r P v → (t ≡ true → P) → (P → t ≡ true) → result_ok r ≡ cond t (Some v) None
+pub ok_by_test : {X E : Type 0} {P : Type 0} (r : Result X E) (t : Bool) (v : X) → OkIff r P v → (t ≡ true → P) → (P → t ≡ true) → result_ok r ≡ cond t (Some v) None
 ok_by_test (Ok x) true v h to from = ap Some h.1
 ok_by_test (Ok x) false v h to from = absurd (let e = from h.0 in cc)
 ok_by_test (Err e) true v h to from = absurd (h (to refl))
 ok_by_test (Err e) false v h to from = refl
 
-both_tests : (a b c : Bool) → (a && b && c) ≡ true → (a ≡ true) × (b ≡ true) × (c ≡ true)
+pub both_tests : (a b c : Bool) → (a && b && c) ≡ true → (a ≡ true) × (b ≡ true) × (c ≡ true)
 both_tests true true true h = (refl, refl, refl)
 both_tests true true false h = absurd (cc)
 both_tests true false c h = absurd (cc)
 both_tests false b c h = absurd (cc)
 
-all_tests : (a b c : Bool) → a ≡ true → b ≡ true → c ≡ true → (a && b && c) ≡ true
+pub all_tests : (a b c : Bool) → a ≡ true → b ≡ true → c ≡ true → (a && b && c) ≡ true
 all_tests a b c p q r = cc
 
-lt_true : (a b : ℕ) → a < b → nat_lt a b ≡ true
+pub lt_true : (a b : ℕ) → a < b → nat_lt a b ≡ true
 lt_true a b h = grind (arith, common_steps)
 
 le_true : (a b : ℕ) → a ≤ b → nat_le a b ≡ true

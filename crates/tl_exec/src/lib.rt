@@ -1,6 +1,5 @@
-//! Answers to queries over a snapshot. They are made over the plain tables of the snapshot's
-//! commits as yet; operators over the stored columns come into their place later, and the contract
-//! here does not change by that.
+//! Answers to queries over a snapshot, made over the plain tables of the snapshot's commits. The
+//! contract speaks of the definition alone, and not of how an answer is made.
 #![tactic(auto)]
 
 mod answers;

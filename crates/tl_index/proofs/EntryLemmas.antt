@@ -1,5 +1,5 @@
 -- The entries that a snapshot keeps.
-use Rattle.std.proofs.Common.{◌≡◌, ℕ, ◌+◌, ◌<◌, ◌≤◌, Bool, true, false, true≢false, ◌||◌, List, [], ◌∷◌, ◌++◌, length, map, Option, Some, None, refl, sym, ap, ◌∙◌, subst, arith, append_assoc, length-append, IsTrue, IfSome}
+use Rattle.std.proofs.Common.{◌≡◌, ◌+◌, List, [], ◌∷◌, ◌++◌, length, Option, Some, None, refl, sym, ap, ◌∙◌, subst, arith, append_assoc, IsTrue, IfSome}
 use Rattle.std.specs.Prelude.{is_some}
 use Rattle.std.specs.List.{fold}
 use Rattle.tl_types.specs.declared.commits.Commit.{Commit}
@@ -9,7 +9,7 @@ use Rattle.tl_types.specs.History.{database_of, nothing, after_commit, fits}
 use Rattle.tl_types.specs.Limits.{standard_limits}
 use Rattle.tl_types.specs.Plain as plain
 use Rattle.tl_store.specs.Log.{AllFit}
-use Rattle.tl_index.specs.Snapshots.{commit_entry, break_entry, break_entries, entries_of, BreaksLast, IsLegal, IsKept}
+use Rattle.tl_index.specs.Snapshots.{commit_entry, break_entry, entries_of, BreaksLast, IsLegal, IsKept}
 
 -- the commits among the entries are those that are kept
 commits_kept : (commits : List Commit) (broken : Option Commit) → commits_of (entries_of commits broken) ≡ commits
@@ -29,28 +29,15 @@ commits_are entries commits broken same = sym (commits_kept commits broken) ∙ 
 pub break_is : (entries : List Entry) (commits : List Commit) (broken : Option Commit) → entries_of commits broken ≡ entries → is_some broken ≡ has_break entries
 break_is entries commits broken same = sym (break_kept commits broken) ∙ ap has_break same
 
--- where none is among the entries, none is kept
-pub none_kept : (entries : List Entry) (commits : List Commit) (broken : Option Commit) → entries_of commits broken ≡ entries → has_break entries ≡ false → entries_of commits None ≡ entries
-none_kept entries commits None same whole = same
-none_kept entries commits (Some c) same whole = absurd (true≢false (break_is entries commits (Some c) same ∙ whole))
-
 -- one commit more is one entry more
 commit_last : (commits : List Commit) (c : Commit) → entries_of (commits ++ c ∷ []) None ≡ entries_of commits None ++ commit_entry c ∷ []
 commit_last [] c = refl
 commit_last (d ∷ commits) c = ap (λ es. commit_entry d ∷ es) (commit_last commits c)
 
-pub commit_more : (entries : List Entry) (commits : List Commit) (broken : Option Commit) (c : Commit) → entries_of commits broken ≡ entries → has_break entries ≡ false → entries_of (commits ++ c ∷ []) None ≡ entries ++ commit_entry c ∷ []
-commit_more entries commits broken c same whole =
-    commit_last commits c ∙ ap (λ es. es ++ commit_entry c ∷ []) (none_kept entries commits broken same whole)
-
 -- and so is a break
 break_last : (commits : List Commit) (c : Commit) → entries_of commits (Some c) ≡ entries_of commits None ++ break_entry c ∷ []
 break_last [] c = refl
 break_last (d ∷ commits) c = ap (λ es. commit_entry d ∷ es) (break_last commits c)
-
-pub break_more : (entries : List Entry) (commits : List Commit) (broken : Option Commit) (c : Commit) → entries_of commits broken ≡ entries → has_break entries ≡ false → entries_of commits (Some c) ≡ entries ++ break_entry c ∷ []
-break_more entries commits broken c same whole =
-    break_last commits c ∙ ap (λ es. es ++ break_entry c ∷ []) (none_kept entries commits broken same whole)
 
 -- a commit that fits the entries fits what is kept of them
 pub fits_kept : (entries : List Entry) (commits store : List Commit) (broken : Option Commit) (c : Commit) → entries_of commits broken ≡ entries → store ≡ commits → IsTrue (fits standard_limits (database_of (commits_of entries)) c) → IsTrue (fits standard_limits (database_of store) c)
@@ -64,25 +51,10 @@ version_from db (c ∷ commits) =
     let e = version_from (after_commit db c) commits in
     omega (arith, e)
 
--- a commit that fits is one of few
-few_more : (db : plain.Database) (c : Commit) → IsTrue (fits standard_limits db c) → db.version < 16777215
-few_more db c fit = grind (arith, fit)
-
 -- commits that fit, and one more
 fit_more : (db : plain.Database) (commits : List Commit) (c : Commit) → AllFit db commits → IsTrue (fits standard_limits (fold after_commit db commits) c) → AllFit db (commits ++ c ∷ [])
 fit_more db [] c fitting fit = (fit, tt)
 fit_more db (d ∷ commits) c fitting fit = (fitting.0, fit_more (after_commit db d) commits c fitting.1 fit)
-
-pub kept_more : (entries : List Entry) (commits : List Commit) (broken : Option Commit) (c : Commit) → IsKept commits broken → entries_of commits broken ≡ entries → IsTrue (fits standard_limits (database_of (commits_of entries)) c) → IsKept (commits ++ c ∷ []) None
-kept_more entries commits broken c kept same fit =
-    let here : IsTrue (fits standard_limits (database_of commits) c) = fits_kept entries commits commits broken c same refl fit in
-    let few = few_more (database_of commits) c here in
-    let version = version_from nothing commits in
-    record {
-      fitting = fit_more nothing commits c kept.fitting here;
-      few = omega (arith, few, version, length-append commits (c ∷ []));
-      break_fits = tt;
-    }
 
 pub kept_broken : (entries : List Entry) (commits store : List Commit) (broken : Option Commit) (c : Commit) → IsKept commits broken → entries_of commits broken ≡ entries → store ≡ commits → IsTrue (fits standard_limits (database_of (commits_of entries)) c) → IsKept store (Some c)
 kept_broken entries commits store broken c kept same is fit =

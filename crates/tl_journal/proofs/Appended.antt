@@ -1,9 +1,9 @@
 -- One commit more.
-use Rattle.std.proofs.Common.{◌≡◌, ◌≢◌, ℕ, ◌+◌, List, [], ◌∷◌, ◌++◌, length, sym, refl, ◌∙◌, ap, subst, arith, append_assoc, length-append, Option}
+use Rattle.std.proofs.Common.{◌≡◌, ◌≢◌, ℕ, ◌+◌, List, [], ◌∷◌, ◌++◌, length, ap, subst, arith, append_assoc, length-append, Option}
 use Rattle.tl_types.specs.declared.commits.Commit.{Commit}
 use Rattle.tl_record.specs.Spelling.{spelling, IsCommit}
 use Rattle.tl_device.specs.Disk.{IsStored}
-use Rattle.tl_journal.specs.Image.{header, Opens}
+use Rattle.tl_journal.specs.Image.{header}
 use Rattle.tl_journal.specs.Stands.{IsJournal}
 use Rattle.tl_journal.proofs.Crash.{opens_more}
 

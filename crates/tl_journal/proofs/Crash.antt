@@ -1,12 +1,12 @@
 -- What a crash leaves of a write behind the closed gate, and of the gate's opening.
-use Rattle.std.proofs.Common.{◌≡◌, ◌≢◌, ◌⊎◌, inl, inr, ⊎_elim, ℕ, ◌+◌, ◌≤◌, List, [], ◌∷◌, ◌++◌, length, get_or, take, drop, sym, refl, ◌∙◌, ap, subst, arith, append_assoc, length-append, take-append-drop, Some, OnOk, Option}
+use Rattle.std.proofs.Common.{◌≡◌, ◌≢◌, inl, inr, ℕ, ◌+◌, List, [], ◌∷◌, ◌++◌, length, get_or, take, drop, sym, refl, ◌∙◌, ap, subst, arith, append_assoc, length-append, take-append-drop}
 use mathlib.Core.Logic.{dite}
 use native.Mathlib.Decide.{ℕ_discrete}
-use Rattle.std.proofs.lemmas.List.{take_at, drop_at, drop_more, take_all, drop_all, append-nil}
+use Rattle.std.proofs.lemmas.List.{take_at, drop_at, drop_more, take_all, append-nil}
 use Rattle.tl_types.specs.declared.commits.Commit.{Commit}
 use Rattle.tl_record.specs.Spelling.{spelling, IsCommit}
-use Rattle.tl_device.specs.Disk.{Holds, Torn, Follows, Only, Elapses, LeavesOnly, IsStored}
-use Rattle.tl_journal.specs.Image.{header, Opens, Ends, StandsFor, BeforeOrAfter}
+use Rattle.tl_device.specs.Disk.{Holds, Torn, Follows, Only}
+use Rattle.tl_journal.specs.Image.{header, Opens, Ends, BeforeOrAfter}
 use Rattle.tl_journal.specs.Gates.{EndsGated}
 
 length_snoc : (front : List ℕ) (x : ℕ) → length (front ++ x ∷ []) ≡ length front + 1
@@ -19,15 +19,6 @@ pub torn_behind : (front : List ℕ) (at n : ℕ) (c : List ℕ) → at ≡ leng
 torn_behind front at n c is torn =
     let whole : take at c ≡ front ++ 0 ∷ [] = torn.before ∙ take_all _ _ (omega (arith, is, length_snoc front 0)) in
     (drop at c, sym (take-append-drop at c) ∙ (ap (λ l. l ++ drop at c) whole ∙ append_assoc front (0 ∷ []) (drop at c)))
-
--- and where it was done the body stands there
-pub written_behind : (front body : List ℕ) (at : ℕ) (c : List ℕ) → at ≡ length front + 1 → Holds (front ++ 0 ∷ []) at body c → c ≡ front ++ 0 ∷ body
-written_behind front body at c is holds =
-    holds
-    ∙ ap (λ l. l ++ body ++ drop (at + length body) (front ++ 0 ∷ [])) (take_all _ _ (omega (arith, is, length_snoc front 0)))
-    ∙ ap (λ l. (front ++ 0 ∷ []) ++ body ++ l) (drop_all (at + length body) (front ++ 0 ∷ []) (omega (arith, is, length_snoc front 0)))
-    ∙ append-nil ((front ++ 0 ∷ []) ++ body)
-    ∙ append_assoc front (0 ∷ []) body
 
 -- what a crash leaves of it
 pub write_leaves : (front : List ℕ) (at n : ℕ) (old new : List ℕ → Type 0) → at ≡ length front + 1 → Only (front ++ 0 ∷ []) old → Follows (Torn at n) old new → (c : List ℕ) → new c → Ends front c

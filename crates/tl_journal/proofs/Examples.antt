@@ -1,39 +1,15 @@
 -- The journal of a worked history, computed: a table of employees, two rows put, one of them
 -- changed, the other removed, and put again.
-use Rattle.std.proofs.Common.{◌≡◌, ℕ, ◌+◌, pos, List, [], ◌∷◌, ◌++◌, length, take, Option, None, refl, false}
+use Rattle.std.proofs.Common.{◌≡◌, ℕ, ◌+◌, List, [], ◌∷◌, ◌++◌, length, take, refl}
 use Rattle.std.specs.Prelude.{codes}
-use Rattle.tl_types.specs.declared.cells.Cell.TheVariants as cell
-use Rattle.tl_types.specs.declared.cells.ColumnKind.TheVariants.{IntKind, TextKind}
 use Rattle.tl_types.specs.declared.commits.Commit.{Commit}
 use Rattle.tl_types.specs.declared.commits.Body.TheVariants as body
-use Rattle.tl_types.specs.Plain as plain
 use Rattle.tl_record.specs.Spelling.{spelling}
+use Rattle.tl_record.proofs.Examples.{employees, row, change}
 use Rattle.tl_journal.specs.Image.{header, size_of}
 
 abbrev created : Commit
-created = record {
-  author = 0;
-  body = body.Create (record {
-    name = codes "emp";
-    columns =
-        record { name = codes "id"; kind = IntKind } ∷ record { name = codes "dept"; kind = TextKind }
-        ∷ record { name = codes "pay"; kind = IntKind } ∷ [];
-    key = 0;
-    valid = false;
-  });
-}
-
-abbrev row : ℕ → List ℕ → ℕ → plain.Opened
-row id dept pay = record {
-  cells = cell.Int (pos id) ∷ cell.Text dept ∷ cell.Int (pos pay) ∷ [];
-  period = None;
-}
-
-abbrev change : List ℕ → List plain.Opened → Commit
-change closes opens = record {
-  author = 0;
-  body = body.Change (record { table = 0; closes = closes; opens = opens });
-}
+created = record { author = 0; body = body.Create employees }
 
 abbrev history : List Commit
 history =

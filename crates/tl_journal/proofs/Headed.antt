@@ -1,9 +1,9 @@
 -- What stands up to the closed gate.
-use Rattle.std.proofs.Common.{◌≡◌, ◌⊎◌, inl, inr, ⊎_elim, ℕ, ◌+◌, ◌≤◌, List, [], ◌∷◌, ◌++◌, length, take, drop, sym, refl, ◌∙◌, ap, subst, arith, append_assoc, length-append, Option, Some, IfSome}
+use Rattle.std.proofs.Common.{◌≡◌, inl, inr, ⊎_elim, ℕ, ◌+◌, List, [], ◌∷◌, ◌++◌, take, drop, sym, ◌∙◌, ap, subst, arith, append_assoc, length-append, Option}
 use Rattle.std.proofs.lemmas.List.{take_at}
 use Rattle.tl_types.specs.declared.commits.Commit.{Commit}
 use Rattle.tl_device.specs.Disk.{IsStored, MayCut}
-use Rattle.tl_journal.specs.Image.{header, Opens, Ends, StandsFor}
+use Rattle.tl_journal.specs.Image.{header, StandsFor}
 use Rattle.tl_journal.specs.Opening.{HasReadTo}
 use Rattle.tl_journal.specs.Stands.{IsJournal, SameOrTrimmed}
 

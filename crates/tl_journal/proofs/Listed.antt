@@ -1,6 +1,5 @@
 -- The commits found, in a list.
 use Rattle.std.proofs.Common.{◌≡◌, ℕ, ◌+◌, List, [], ◌∷◌, ◌++◌, length, sym, refl, ◌∙◌, ap, subst, arith}
-use Rattle.tl_types.specs.declared.commits.Commit.{Commit}
 use Rattle.tl_record.specs.Spelling.{spelling}
 use Rattle.tl_journal.specs.Image.{size_of}
 use Rattle.tl_journal.specs.Opening.{HasReadTo, commits_of, HaveGatesFrom}

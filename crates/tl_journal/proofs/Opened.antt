@@ -1,5 +1,5 @@
 -- What opening leaves, from its begin to its end.
-use Rattle.std.proofs.Common.{◌≡◌, ◌⊎◌, inl, inr, ℕ, List, sym, refl, ◌∙◌, ap, subst, Option, Some}
+use Rattle.std.proofs.Common.{◌≡◌, inr, ℕ, List, sym, ◌∙◌, ap, subst, Option, Some}
 use Rattle.tl_types.specs.declared.commits.Commit.{Commit}
 use Rattle.tl_device.specs.Disk.{IsStored}
 use Rattle.tl_journal.specs.Image.{StandsFor, IsJournalOf}

@@ -1,7 +1,6 @@
 -- What a crash leaves at each moment, call by call.
-use Rattle.std.proofs.Common.{◌≡◌, ◌⊎◌, inl, inr, ⊎_elim, ℕ, ◌+◌, ◌≤◌, List, sym, refl, ◌∙◌, ap, subst, arith, Some, Option}
-use Rattle.tl_device.specs.Disk.{Only, Elapses, LeavesOnly, IsStored}
-use Rattle.tl_journal.specs.Moments.{EachMoment, EachMomentBySync, SyncsFirst}
+use Rattle.std.proofs.Common.{inl, inr, ⊎_elim, ℕ, List, sym, subst, arith}
+use Rattle.tl_device.specs.Disk.{Only, Elapses, LeavesOnly}
 
 -- at the start nothing has happened
 pub starts : (now : ℕ) (since : ℕ → List ℕ → Type 0) (may_leave : List ℕ → Type 0) (file : List ℕ) (P : List ℕ → Type 0) → ((c : List ℕ) → since now c → may_leave c) → Only file may_leave → P file → LeavesOnly now now since since P

@@ -1,10 +1,10 @@
 -- The reading of an image goes from gate to gate.
-use Rattle.std.proofs.Common.{◌≡◌, ◌≢◌, ◌⊎◌, inl, inr, ⊎_elim, ℕ, zero, suc, ◌+◌, ◌<◌, ◌≤◌, List, [], ◌∷◌, ◌++◌, length, get_or, take, drop, sym, refl, ◌∙◌, ap, subst, arith, append_assoc, length-drop, length-append}
+use Rattle.std.proofs.Common.{◌≡◌, ◌≢◌, inr, ⊎_elim, ℕ, ◌+◌, ◌<◌, ◌≤◌, List, [], ◌∷◌, ◌++◌, length, get_or, drop, sym, refl, ◌∙◌, ap, subst, arith, append_assoc, length-drop, length-append}
 use Rattle.std.proofs.lemmas.List.{drop_at, append-nil, drop-drop}
 use Rattle.tl_types.specs.declared.commits.Commit.{Commit}
 use Rattle.tl_record.specs.Spelling.{spelling, IsCommit}
 use Rattle.tl_record.specs.Decoding.{BeginsWith}
-use Rattle.tl_journal.specs.Image.{header, Opens, size_of, Ends, Carries, StandsFor, NoRecord, BreaksAt, HasBrokenGate, IsDamagedAt, IsJournalOf, IsDamagedOnlyAt}
+use Rattle.tl_journal.specs.Image.{header, Opens, size_of, Carries, NoRecord, BreaksAt, IsJournalOf, IsDamagedOnlyAt}
 use Rattle.tl_journal.specs.Records.{IsOnlyRecord, IsGateBefore, IsBrokenHere}
 use Rattle.tl_journal.specs.Opening.{HasReadTo}
 use Rattle.tl_journal.proofs.Crash.{opens_more}
@@ -25,17 +25,6 @@ begins_there bytes rest c at end b is = (b.0, b.1 ∙ ap (λ l. spelling c ++ l)
   where
     behind : (r : List ℕ) → drop at bytes ≡ r ++ rest → end ≡ at + length r → drop end bytes ≡ rest
     behind r e is = ap (λ n. drop n bytes) is ∙ sym (drop-drop (length r) at bytes) ∙ ap (λ l. drop (length r) l) e ∙ drop_at r rest (length r) refl
-
--- an open gate with its record
-pub gate_before : (bytes : List ℕ) (at end gate : ℕ) (c : Commit) → drop at bytes ≡ gate ∷ drop (at + 1) bytes → gate ≢ 0 → BeginsWith (drop (at + 1) bytes) c (drop end bytes) → IsOnlyRecord (drop (at + 1) bytes) c → end < length bytes → IsGateBefore (drop at bytes) c (drop end bytes)
-gate_before bytes at end gate c e is_open b only lt = record {
-  gate = gate;
-  is_open = is_open;
-  fits = b.0;
-  rest_is = e ∙ ap (λ l. gate ∷ l) b.1;
-  only = subst (λ l. IsOnlyRecord l c) b.1 only;
-  more = omega (arith, lt, length-drop end bytes);
-}
 
 -- THE COMMITS BEHIND IT
 

@@ -41,7 +41,7 @@ abbrev pub size_of : List Commit → ℕ
 size_of [] = 0
 size_of (c ∷ cs) = 1 + length (spelling c) + size_of cs
 
--- no record with a further byte behind it stands at the front
+-- no record with a further byte behind it stands at the start
 abbrev pub NoRecord : List ℕ → Type 0
 NoRecord more =
     (c : Commit) (x : ℕ) (rest : List ℕ) → IsCommit c → more ≢ spelling c ++ x ∷ rest

@@ -25,8 +25,9 @@ pub enum JournalFault {
     /// The bytes are no journal.
     #[error("the journal is damaged at byte {at}")]
     Damaged {
-        /// The offset of the first open gate that no record and further byte follow, or 0 where the
-        /// first 16 bytes are not a journal's.
+        /// The offset of the first open gate that no record and further byte follow, or, where a
+        /// history is opened, of the first gate whose commit does not fit those before it; 0 where
+        /// the first 16 bytes are not a journal's.
         at: u64,
     },
     /// Memory ran out.

@@ -111,12 +111,6 @@ more_made f from to at next runs more value before later short kept value_is mor
       made = more_is ∙ ap (λ v. add_stretch runs (stretch_of at next v)) value_is ∙ ap (λ rs. add_stretch rs (stretch_of at next (f at))) made ∙ sym (runs_more f from at next past later kept);
     }
 
-pub all_made : (f : ℤ → Field) (from to at : ℤ) (runs : List Run) → IsMade f from to at runs → to ≤ℤ at → runs ≡ runs_of f from to
-all_made f from to at runs before over = by_place before.within where
-  by_place : (at ≤ℤ to) ⊎ (at ≡ from) → runs ≡ runs_of f from to
-  by_place (inl short) = let same : at ≡ to = omega (arith, ints) in before.made ∙ ap (runs_of f from) same
-  by_place (inr start) = before.made ∙ ap (runs_of f from) start ∙ runs_none f from from (omega (arith, ints)) ∙ sym (runs_none f from to (rw (← start) over))
-
 -- APPENDING IN PLACE
 
 pub goes_on : (runs : List Run) (stretch r : Run) (i : ℕ) → ends_with_value runs stretch.value ≡ true → i + 1 ≡ length runs → r ≡ get_or runs i r → set runs i (record r { to = stretch.to }) ≡ add_stretch runs stretch

@@ -1,5 +1,5 @@
 -- When rows are there: between two moments at which nothing begins or ends, the same rows are.
-use Rattle.std.proofs.Common.{◌≡◌, ℕ, ◌+◌, ◌<◌, ℤ, ◌≤ℤ◌, ◌<ℤ◌, int_le, int_lt, Bool, true, false, List, [], ◌∷◌, length, take, get_or, Some, None, All, inl, inr, refl, subst, arith}
+use Rattle.std.proofs.Common.{◌≡◌, ℕ, ◌+◌, ◌<◌, ℤ, ◌≤ℤ◌, ◌<ℤ◌, int_le, int_lt, Bool, true, false, List, [], ◌∷◌, length, take, get_or, Some, All, inl, inr, refl, subst, arith}
 use Rattle.std.proofs.lemmas.List.Elements.{All-more, All-weaker, All-head, All-tail}
 use Rattle.std.proofs.lemmas.Int.{ints}
 use Rattle.std.specs.List.{filter}
@@ -37,9 +37,6 @@ clear_sooner at next less change h (inr a) = inr (omega (arith, ints))
 pub quiet_times : (span : Span) (row : plain.Row) (at next less : ℤ) (p : plain.Period) → times_of span row ≡ Some p → less ≤ℤ next → IsClear at next p.from → IsClear at less p.to → IsQuiet span at less row
 quiet_times span row at next less p e h from to moment after before =
     rw e (within_same at less moment p after before (clear_sooner at next less p.from h from) to)
-
-pub quiet_without : (span : Span) (row : plain.Row) (at next : ℤ) → times_of span row ≡ None → IsQuiet span at next row
-quiet_without span row at next e moment after before = rw e refl
 
 -- QUIET ROWS
 

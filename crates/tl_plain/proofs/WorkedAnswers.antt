@@ -158,7 +158,7 @@ valid_at_ten = refl
 before_the_second_put : answer_of periods (typed.Select 0 (item.Column 1 ∷ item.ValidTo ∷ []) any_row None 2) ≡ (num 5 ∷ num 100 ∷ []) ∷ []
 before_the_second_put = refl
 
--- touching periods have no moment in common
+-- adjacent periods have no moment in common
 neighbours_over_valid_time : answer_of periods (typed.Join 0 (record { any = (record { column = 1; cmp = cmp.Eq; value = int 6 } ∷ []) ∷ [] }) 0 (record { any = (record { column = 1; cmp = cmp.Eq; value = int 5 } ∷ []) ∷ [] }) 0 0 (span.Valid 3 (pos 0) (pos 100))) ≡ []
 unfolding joined_pairs
 neighbours_over_valid_time = refl

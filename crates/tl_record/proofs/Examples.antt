@@ -7,7 +7,8 @@ use Rattle.tl_types.specs.declared.commits.Body.TheVariants as body
 use Rattle.tl_types.specs.Plain as plain
 use Rattle.tl_record.specs.Spelling.{spelling}
 
-abbrev employees : plain.Schema
+-- the table of employees
+abbrev pub employees : plain.Schema
 employees = record {
   name = codes "emp";
   columns =
@@ -17,13 +18,15 @@ employees = record {
   valid = false;
 }
 
-abbrev row : ℕ → List ℕ → ℕ → plain.Opened
+-- a row of it
+abbrev pub row : ℕ → List ℕ → ℕ → plain.Opened
 row id dept pay = record {
   cells = cell.Int (pos id) ∷ cell.Text dept ∷ cell.Int (pos pay) ∷ [];
   period = None;
 }
 
-abbrev change : List ℕ → List plain.Opened → Commit
+-- a change of it
+abbrev pub change : List ℕ → List plain.Opened → Commit
 change closes opens = record {
   author = 0;
   body = body.Change (record { table = 0; closes = closes; opens = opens });

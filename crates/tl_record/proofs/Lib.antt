@@ -1,4 +1,4 @@
-mod Examples
+pub mod Examples
 pub mod Exact
 pub mod Turns
 pub mod Parts

@@ -115,9 +115,6 @@ max_2 = 65535
 abbrev pub max_4 : ℕ
 max_4 = 4294967295
 
-abbrev pub max_8 : ℕ
-max_8 = 18446744073709551615
-
 -- any number of 2 and of 4 bytes
 abbrev pub any_2 : Reader ℕ
 any_2 bytes = between 2 0 max_2 bytes

@@ -2,7 +2,6 @@ pub mod BetweenLemmas
 pub mod InHandLemmas
 pub mod LoadLemmas
 pub mod NameLemmas
-pub mod RunLemmas
 pub mod ScriptLemmas
 pub mod SpotLemmas
 pub mod Worked

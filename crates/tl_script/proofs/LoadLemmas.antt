@@ -11,7 +11,7 @@ use Rattle.tl_script.specs.InHand.{Refills, RefillEnds}
 both_taken : (first mid after : Option (List ℕ)) (bytes taken : List ℕ) → first ≡ prepend_known bytes mid → mid ≡ prepend_known taken after → first ≡ prepend_known (bytes ++ taken) after
 both_taken first mid after bytes taken f m = f ∙ (ap (prepend_known bytes) m ∙ sym (prepend_both bytes taken after))
 
--- a read that failed, or want of memory
+-- a read that failed, or being out of memory
 pub block_fails : (most : ℕ) (first mid after : Option (List ℕ)) (bytes new : List ℕ) (e : NextError) → length bytes ≤ most → first ≡ prepend_known bytes mid → Refills bytes mid (Err e) new after → FailsBlock most first e after
 block_fails most first mid after bytes new e few f refills =
     let len : length (bytes ++ refills.taken) ≡ length bytes + length refills.taken = length-append bytes refills.taken in

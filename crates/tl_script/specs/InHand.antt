@@ -46,7 +46,7 @@ SaysStep step (Ok done) new = step ≡ Goes new
 SaysStep step (Err NoMemory) new = Unit {0}
 SaysStep step (Err (Fault f)) new = step ≡ Fails f
 
--- the one error is want of memory
+-- the one error is being out of memory
 abbrev pub SaysMemory : {A : Type 0} → Result A ScriptError → Type 0
 SaysMemory (Ok done) = Unit {0}
 SaysMemory (Err NoMemory) = Unit {0}

@@ -10,7 +10,7 @@ use Rattle.tl_script.specs.declared.phases.NextError.TheVariants as next
 use Rattle.tl_script.specs.declared.phases.Phase.{Phase}
 use Rattle.tl_script.specs.Script.{Job, Reading, load_of}
 use Rattle.tl_script.specs.Taking.{IsAtEnd}
-use Rattle.tl_script.specs.Phases.{Spot, phase_start, script_start, reading_from, reading_of, with_phase, no_phase, no_phase_but}
+use Rattle.tl_script.specs.Phases.{Spot, phase_start, reading_from, with_phase, no_phase, no_phase_but}
 
 -- a reader between two phases: how much there may be, the names of the sessions so far, in order of
 -- number, the number of the next line, how many GO lines were read, the bytes that are taken of the
@@ -143,29 +143,6 @@ NextFaults (next.Fault f) before now = now ≡ before
 abbrev pub with_phases : List (List Job) → Reading → Reading
 with_phases phases more =
     record { names = more.names; phases = phases ++ more.phases; fault = more.fault }
-
--- what is read of the bytes, and whatever follows them, is these phases and what is ahead
-pub record ReadsOn (limits : Limits) (bytes : List ℕ) (phases : List (List Job))
-    (state : ScriptState) : Type 0 where
-  pub noted : state.at_end ≡ false
-  pub read : (whole : Bool) (more : List ℕ) → reading_from whole limits script_start (bytes ++ more)
-      ≡ with_phases phases (reading_ahead whole state more)
-
--- what is read of the bytes, which are the whole script, is these phases
-pub record ReadsAll (limits : Limits) (bytes : List ℕ) (phases : List (List Job))
-    (state : ScriptState) (left : Option (List ℕ)) : Type 0 where
-  pub none_left : IsAtEnd left
-  pub noted : state.at_end ≡ true
-  pub read : reading_of limits bytes ≡ with_phases phases (no_phase state.names)
-
--- the phases that a new reader gave, in order, of the bytes that it took in all of a source that
--- had `first` left
-pub record ReadSoFar (limits : Limits) (first : Option (List ℕ)) (bytes : List ℕ)
-    (phases : List (List Job)) (state : ScriptState) (left : Option (List ℕ)) : Type 0 where
-  pub limits_kept : state.limits ≡ limits
-  pub order : first ≡ prepend_known bytes left
-  pub sessions : All (λ jobs. All (λ job. job.session < length state.names) jobs) phases
-  pub reads : ReadsOn limits bytes phases state ⊎ ReadsAll limits bytes phases state left
 
 -- LOADING
 

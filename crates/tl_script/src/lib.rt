@@ -1,8 +1,8 @@
 //! Scripts: the jobs that sessions put one after the other, and the phases that these make.
 //! Contracts see what is read of a script as the names of its sessions, the phases before its first
 //! fault, and the fault where it has one. A `Script` reads its phases from a source, one after the
-//! other, and the lemmas of `RunLemmas` say that these are the phases of the whole script;
-//! `load_phase` reads a whole input as one block.
+//! other: what is read from its place is the phase that it gives, and then what is read from its
+//! next place. `load_phase` reads a whole input as one block.
 #![tactic(auto)]
 
 mod jobs;

@@ -11,7 +11,7 @@ use std::alloc::{AllocError, Global};
 use tl_device::Source;
 use tl_types::{Bytes, Limits, Line};
 
-// Takes what a source has left, or a front of it of more than `most` bytes, where none is in hand.
+// Takes what a source has left, or a prefix of it of more than `most` bytes, where none is in hand.
 fn take_block<S: Source>(
     pending: &mut Pending,
     alloc: Global,

@@ -226,7 +226,7 @@ impl OpenPhase {
     }
 
     /// Reads the next line. It answers whether it is the GO line that ends the phase, which is not
-    /// counted yet. A fault or want of memory leaves the names of the phases before.
+    /// counted yet. A fault or being out of memory leaves the names of the phases before.
     pub fn read_line(&mut self, alloc: Global, line: &[u8]) -> Result<bool, ScriptError>
         ensures step { StepIs (after_line self.old.limits (spot_in self.old) line.now) result
             (spot_in self.old) (spot_in self.new) }

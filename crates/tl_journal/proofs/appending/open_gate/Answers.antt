@@ -1,4 +1,4 @@
-use Rattle.std.proofs.Common.{◌≡◌, ℕ, List, [], ◌∷◌, ◌++◌, length, Some, IfSome, subst, ap, ◌∙◌}
+use Rattle.std.proofs.Common.{ℕ, List, [], ◌∷◌, ◌++◌, Some, IfSome, subst, ap, ◌∙◌}
 use Rattle.tl_journal.specs.Gates.{EndsGated}
 use Rattle.tl_device.specs.Disk.{Holds, Only}
 use Rattle.tl_journal.proofs.Crash.{written_gate, gate_leaves, gate_at_start}

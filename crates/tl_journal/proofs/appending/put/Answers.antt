@@ -1,4 +1,4 @@
-use Rattle.std.proofs.Common.{◌≡◌, ◌∙◌, [], ◌∷◌, ◌++◌, length, ap, subst, ◌+◌, List, ℕ}
+use Rattle.std.proofs.Common.{◌∷◌, ◌++◌, length, ap, subst, ◌+◌, List, ℕ}
 use Rattle.tl_record.specs.Spelling.{spelling}
 use Rattle.tl_device.specs.Disk.{IsStored}
 use Rattle.tl_journal.specs.Image.{header, Ends, BeforeOrAfter}

@@ -1,4 +1,4 @@
-use Rattle.std.proofs.Common.{◌≡◌, [], ◌∷◌, ◌++◌}
+use Rattle.std.proofs.Common.{[], ◌∷◌, ◌++◌}
 use Rattle.tl_journal.specs.Image.{Ends}
 use Rattle.tl_journal.proofs.Crash.{write_leaves, ends_itself}
 use Rattle.tl_journal.proofs.Phases.{goes, starts}

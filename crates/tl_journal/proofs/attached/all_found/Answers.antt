@@ -1,4 +1,4 @@
-use Rattle.std.proofs.Common.{rules, ◌≡◌, ◌∙◌, ◌+◌, [], ◌∷◌, ◌++◌, length, Ok, Err, Some, None, IfSome, subst}
+use Rattle.std.proofs.Common.{rules, ◌≡◌, ◌∙◌, ◌+◌, [], ◌∷◌, ◌++◌, length, Ok, Err, None, IfSome, subst}
 use Rattle.tl_record.specs.Spelling.{spelling}
 use Rattle.tl_journal.specs.Image.{IsJournalOf, IsDamagedOnlyAt}
 use Rattle.tl_journal.specs.Opening.{HasReadTo, commits_of}

@@ -1,4 +1,4 @@
-use Rattle.std.proofs.Common.{rules, ◌≡◌, ◌+◌, [], ◌∷◌, ℕ, List, length, drop, subst, sym, ap, ◌∙◌, refl}
+use Rattle.std.proofs.Common.{rules, ◌≡◌, ◌+◌, length, subst, sym, refl}
 use Rattle.tl_device.specs.Disk.{MayCut}
 use Rattle.tl_journal.specs.Plain as plain
 use Rattle.tl_journal.specs.Image.{StandsFor}

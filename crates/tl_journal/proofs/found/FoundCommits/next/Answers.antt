@@ -1,4 +1,4 @@
-use Rattle.std.proofs.Common.{rules, ◌≡◌, ◌+◌, ◌<◌, [], ◌∷◌, ◌++◌, ℕ, length, drop, Ok, Err, Some, None, subst, sym, ap, ◌∙◌}
+use Rattle.std.proofs.Common.{rules, ◌≡◌, ◌+◌, length, drop, Ok, Err, None, subst, sym, ap, ◌∙◌}
 use Rattle.tl_record.specs.Spelling.{spelling}
 use Rattle.tl_journal.specs.Image.{IsDamagedOnlyAt}
 use Rattle.tl_journal.specs.Records.{IsGateBefore, IsBrokenHere}

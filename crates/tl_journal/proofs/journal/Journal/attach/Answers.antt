@@ -2,7 +2,7 @@ use Rattle.std.proofs.Common.{◌≡◌, ◌∙◌, ℕ, List, Some, refl, subst
 use Rattle.tl_device.specs.Disk.{IsStored}
 use Rattle.tl_journal.specs.Image.{IsJournalOf}
 use Rattle.tl_journal.specs.Opening.{commits_of}
-use Rattle.tl_journal.proofs.Opened.{stored_there, opened_moments, opened_now, opened_reads}
+use Rattle.tl_journal.proofs.Opened.{stored_there, opened_moments, opened_now}
 use Rattle.tl_journal.proofs.journal.Journal.attach.Goals as goal
 
 pub returns-in-Err-clause-too_short : goal.returns-in-Err-clause-too_short

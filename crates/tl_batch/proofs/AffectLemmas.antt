@@ -3,7 +3,6 @@ use Rattle.std.proofs.Common.{◌≡◌, ℕ, zero, suc, ◌+◌, ◌<◌, ◌�
 use Rattle.std.specs.List.{list_any, list_all, All}
 use Rattle.std.specs.Bool.{beq}
 use Rattle.std.proofs.lemmas.Bool.{and_parts}
-use Rattle.std.proofs.lemmas.Bool.Decides.{nat_tests}
 use Rattle.std.proofs.lemmas.List.{take_more}
 use Rattle.std.proofs.lemmas.List.Folds.{list_any-append}
 use Rattle.tl_types.specs.declared.cells.Cell.{Cell}
@@ -25,11 +24,8 @@ open_within place x (r ∷ rows) (suc n) e = let h = open_within place x rows n 
 
 pub holds_at : (ids : List ℕ) (k d : ℕ) → k < length ids → has_id ids (get_or ids k d) ≡ true
 holds_at [] k d h = absurd (omega arith)
-holds_at (id ∷ ids) zero d h = let same : nat_eq id id ≡ true = grind (arith, nat_tests) in ap (λ v. v || has_id ids id) same
-holds_at (id ∷ ids) (suc k) d h = ap (λ v. nat_eq id (get_or ids k d) || v) (holds_at ids k d (omega arith)) ∙ either (nat_eq id (get_or ids k d)) where
-  either : (b : Bool) → (b || true) ≡ true
-  either true = refl
-  either false = refl
+holds_at (id ∷ ids) zero d h = let same : nat_eq id id ≡ true = grind arith in ap (λ v. v || has_id ids id) same
+holds_at (id ∷ ids) (suc k) d h = grind (arith, holds_at ids k d (omega arith))
 
 pub of_key-within : (place : ℕ) (x : Cell) (rows : List plain.Row) (ids given : List ℕ) → given ≡ ids → ((n : ℕ) → has_id ids n ≡ is_open_with place x (slice_get rows n)) → All (λ id. id < length rows) given
 of_key-within place x rows ids given same members = subst (All (λ id. id < length rows)) (sym same) (λ k d l. open_within place x rows (get_or ids k d) (sym (members (get_or ids k d)) ∙ holds_at ids k d l))
@@ -63,7 +59,7 @@ one_affected ids i id affects rows affected start before after h at is e f n =
 
       by_id : (b : Bool) → nat_eq n id ≡ b → ((b && affected) || ((t && a) || has_id start n)) ≡ (((t || (b || false)) && a) || has_id start n)
       by_id true q =
-          let equal : n ≡ id = grind (arith, nat_tests) in
+          let equal : n ≡ id = grind arith in
           ap (λ b. b || ((t && a) || has_id start n)) (is ∙ ap (λ m. affects (slice_get rows m)) (sym equal)) ∙ same a t (has_id start n)
       by_id false q = other a t (has_id start n)
 
@@ -108,16 +104,10 @@ left_pieces schema lines (Some r) at cells given key whole parts given_parts old
 -- A ROW THAT A LINE OVERLAPS
 
 pub overlap_added : (row : ℕ) (affected told : Bool) (before after : List ℕ) (n : ℕ) → affected ≡ true → affected ≡ told → has_id after n ≡ (nat_eq n row || has_id before n) → has_id after n ≡ ((nat_eq n row && told) || has_id before n)
-overlap_added row affected told before after n there is e = e ∙ ap (λ b. b || has_id before n) (and_true (nat_eq n row) ∙ ap (λ b. nat_eq n row && b) (sym there ∙ is)) where
-  and_true : (b : Bool) → b ≡ (b && true)
-  and_true true = refl
-  and_true false = refl
+overlap_added row affected told before after n there is e = grind arith
 
 pub overlap_none : (row : ℕ) (affected told : Bool) (before : List ℕ) (n : ℕ) → affected ≡ false → affected ≡ told → has_id before n ≡ ((nat_eq n row && told) || has_id before n)
-overlap_none row affected told before n gone is = ap (λ b. b || has_id before n) (and_false (nat_eq n row) ∙ ap (λ b. nat_eq n row && b) (sym gone ∙ is)) where
-  and_false : (b : Bool) → false ≡ (b && false)
-  and_false true = refl
-  and_false false = refl
+overlap_none row affected told before n gone is = grind arith
 
 pub affected_here : (lines : List (Option plain.Period)) (whole : Option plain.Period) (o : Option plain.Row) → Some whole ≡ option_map (λ (r : plain.Row). r.period) o → list_any (λ line. affects_period true line whole) lines ≡ affected_by true lines o
 affected_here lines whole None e = absurd (cc)

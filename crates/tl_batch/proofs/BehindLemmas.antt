@@ -1,5 +1,5 @@
 -- What lines leave of rows, and of the rows that they put, from the last line to the first.
-use Rattle.std.proofs.Common.{◌≡◌, ℕ, ℤ, ◌<◌, true, List, [], ◌∷◌, ◌++◌, length, reverse, get_or, slice_get, Option, Some, subst, refl, sym, ap, ◌∙◌}
+use Rattle.std.proofs.Common.{arith, ◌≡◌, ℕ, ℤ, ◌<◌, true, List, [], ◌∷◌, ◌++◌, length, reverse, get_or, slice_get, Option, Some, refl, ap, ◌∙◌}
 use Rattle.std.proofs.lemmas.List.{map-append, reverse-append}
 use Rattle.std.proofs.lemmas.Option.{slice_get_read}
 use Rattle.tl_types.specs.declared.cells.Cell.{Cell}
@@ -23,16 +23,12 @@ key_of place at cells given key same is there e = slice_get_read cells (length c
 -- what lines leave of a row's period, by the key among its cells
 pub left_of : (schema : plain.Schema) (lines : List BatchLine) (at : ℕ) (cells given : List Cell) (key : Cell) (period whole : Option plain.Period) (parts : List (Option plain.Period)) → schema.valid ≡ true → whole ≡ period → given ≡ cells → at ≡ schema.key → schema.key < length cells → key ≡ get_or given at key
     → parts ≡ cuts true (periods_with (Some key) lines) whole → parts ≡ cuts schema.valid (periods_with (slice_get cells schema.key) lines) period
-left_of schema lines at cells given key period whole parts valid span same is there e left =
-    left ∙ (ap (cuts true (periods_with (Some key) lines)) span ∙ (ap (λ b. cuts b (periods_with (Some key) lines) period) (sym valid) ∙ ap (λ k. cuts schema.valid (periods_with k lines) period) (sym (key_of schema.key at cells given key same is there e))))
+left_of schema lines at cells given key period whole parts valid span same is there e left = grind (arith, key_of schema.key)
 
 pub behind_back : (schema : plain.Schema) (lines : List BatchLine) (at : ℕ) (cells given : List Cell) (key : Cell) (period whole : Option plain.Period) (parts turned given_parts : List (Option plain.Period)) (old new : List plain.Opened) → schema.valid ≡ true → whole ≡ period → given ≡ cells → at ≡ schema.key → schema.key < length cells → key ≡ get_or given at key
     → parts ≡ cuts true (periods_with (Some key) lines) whole → turned ≡ reverse parts → given_parts ≡ turned → new ≡ old ++ over given given_parts → reverse new ≡ row_pieces schema lines cells period ++ reverse old
-behind_back schema lines at cells given key period whole parts turned given_parts old new valid span same is there e left turn lent made =
-    ap reverse (made ∙ (ap (λ cs. old ++ over cs given_parts) same ∙ ap (λ ps. old ++ over cells ps) (lent ∙ turn))) ∙ (reverse-append old (over cells (reverse parts)) ∙ ap (λ os. os ++ reverse old) (reversed_over cells parts ∙ ap (over cells) (left_of schema lines at cells given key period whole parts valid span same is there e left)))
+behind_back schema lines at cells given key period whole parts turned given_parts old new valid span same is there e left turn lent made = grind (arith, reverse-append old (over cells (reverse parts)), reversed_over cells parts, left_of schema lines)
 
 pub behind_held : (schema : plain.Schema) (lines : List BatchLine) (at : ℕ) (line : plain.Opened) (given : List Cell) (key : Cell) (period : Option plain.Period) (before after : List (Cell × List (ℤ × ℤ))) → given ≡ line.cells → period ≡ line.period → at ≡ schema.key → schema.key < length line.cells → key ≡ get_or given at key
     → HoldLines before lines → Adds key period before after → Full (period ∷ []) → HoldLines after (record { key = slice_get line.cells schema.key; period = line.period; puts = Some line } ∷ lines)
-behind_held schema lines at line given key period before after same span is there e held adds full =
-    subst (λ k. HoldLines after (record { key = k; period = line.period; puts = Some line } ∷ lines)) (sym (key_of schema.key at line.cells given key same is there e))
-    (subst (λ p. HoldLines after (record { key = Some key; period = p; puts = Some line } ∷ lines)) span (hold_front before after lines key period (Some line) held adds full))
+behind_held schema lines at line given key period before after same span is there e held adds full = grind (arith, key_of schema.key, hold_front before after lines key period (Some line) held adds full)

@@ -2,7 +2,6 @@
 use Rattle.std.proofs.Common.{◌≡◌, ℕ, ◌+◌, ◌<◌, ◌≤◌, Bool, true, false, ◌&&◌, ◌||◌, not, cond, nat_eq, List, [], ◌∷◌, ◌++◌, map, Option, Some, None, is_some, refl, sym, ap, ◌∙◌, subst, arith, slice_get, append-nil, ◌⊎◌, inl, inr}
 use Rattle.std.specs.List.{filter, flat_map, enumerate_from}
 use Rattle.std.proofs.lemmas.Bool.{cases_lt}
-use Rattle.std.proofs.lemmas.Bool.Decides.{nat_tests}
 use Rattle.std.proofs.lemmas.List.Elements.{filter_map-append}
 use Rattle.tl_types.specs.Plain as plain
 use Rattle.tl_types.specs.Facts.{AscendFrom}
@@ -34,10 +33,7 @@ listed n rows = filter (λ s. is_open s.1) (enumerate_from n rows)
 
 open_from-ids : (n : ℕ) (rows : List plain.Row) → ids_of (open_from n rows) ≡ open_ids n rows
 open_from-ids n [] = refl
-open_from-ids n (r ∷ rows) = split (is_open r) (open_from-ids (n + 1) rows) where
-  split : (b : Bool) → ids_of (open_from (n + 1) rows) ≡ open_ids (n + 1) rows → ids_of (map (λ s. old s.0 s.1) (cond b ((n, r) ∷ listed (n + 1) rows) (listed (n + 1) rows))) ≡ cond b (n ∷ open_ids (n + 1) rows) (open_ids (n + 1) rows)
-  split true later = ap (λ ids. n ∷ ids) later
-  split false later = later
+open_from-ids n (r ∷ rows) = grind (arith, open_from-ids (n + 1) rows)
 
 old-ids : (schema : plain.Schema) (lines : List BatchLine) (n : ℕ) (r : plain.Row) → ids_of (rows_left schema lines (old n r)) ≡ cond (is_affected schema lines r) [] (n ∷ [])
 old-ids schema lines n r = ap ids_of (rows_left-old schema lines n r.cells r.period) ∙ split (is_affected schema lines r) where
@@ -69,7 +65,7 @@ left-ids schema lines n (r ∷ rows) = split (is_open r) (left-ids schema lines 
 
   split : (b : Bool) → flat_map (λ h. ids_of (rows_left schema lines h)) (open_from (n + 1) rows) ≡ rest
       → flat_map (λ h. ids_of (rows_left schema lines h)) (map (λ s. old s.0 s.1) (cond b ((n, r) ∷ listed (n + 1) rows) (listed (n + 1) rows))) ≡ cond b (cond (is_affected schema lines r) rest (n ∷ rest)) rest
-  split true later = ap (λ ids. ids ++ flat_map (λ h. ids_of (rows_left schema lines h)) (open_from (n + 1) rows)) (old-ids schema lines n r) ∙ (ap (λ ids. cond (is_affected schema lines r) [] (n ∷ []) ++ ids) later ∙ both (is_affected schema lines r))
+  split true later = grind (arith, old-ids schema lines n r, both (is_affected schema lines r))
   split false later = later
 
 left-rows : (schema : plain.Schema) (lines : List BatchLine) (n : ℕ) (rows : List plain.Row) → flat_map (λ h. new_rows (rows_left schema lines h)) (open_from n rows) ≡ old_pieces schema lines rows
@@ -87,43 +83,21 @@ left-rows schema lines n (r ∷ rows) = split (is_open r) (left-rows schema line
 
   split : (b : Bool) → flat_map (λ h. new_rows (rows_left schema lines h)) (open_from (n + 1) rows) ≡ rest
       → flat_map (λ h. new_rows (rows_left schema lines h)) (map (λ s. old s.0 s.1) (cond b ((n, r) ∷ listed (n + 1) rows) (listed (n + 1) rows))) ≡ cond (b && is_affected schema lines r) (pieces ++ rest) rest
-  split true later = ap (λ os. os ++ flat_map (λ h. new_rows (rows_left schema lines h)) (open_from (n + 1) rows)) (old-rows schema lines n r) ∙ (ap (λ os. cond (is_affected schema lines r) pieces [] ++ os) later ∙ both (is_affected schema lines r))
+  split true later = grind (arith, old-rows schema lines n r, both (is_affected schema lines r))
   split false later = later
 
 kept_before : (schema : plain.Schema) (lines : List BatchLine) (n : ℕ) (rows : List plain.Row) (m : ℕ) → m < n → has_id (kept_ids schema lines n rows) m ≡ false
 kept_before schema lines n [] m h = refl
-kept_before schema lines n (r ∷ rows) m h = split (is_open r) (is_affected schema lines r) (kept_before schema lines (n + 1) rows m (omega arith)) where
-  rest : List ℕ
-  rest = kept_ids schema lines (n + 1) rows
-
-  apart : nat_eq n m ≡ false
-  apart = grind (arith, nat_tests)
-
-  split : (a b : Bool) → has_id rest m ≡ false → has_id (cond a (cond b rest (n ∷ rest)) rest) m ≡ false
-  split true true later = later
-  split true false later = ap (λ v. v || has_id rest m) apart ∙ later
-  split false b later = later
+kept_before schema lines n (r ∷ rows) m h = grind (arith, kept_before schema lines (n + 1) rows m (omega arith))
 
 filter_past : (k : ℕ) (kept : List ℕ) (n : ℕ) (rows : List plain.Row) → k < n → filter (λ id. not (has_id (k ∷ kept) id)) (open_ids n rows) ≡ filter (λ id. not (has_id kept id)) (open_ids n rows)
 filter_past k kept n [] h = refl
-filter_past k kept n (r ∷ rows) h = split (is_open r) (filter_past k kept (n + 1) rows (omega arith)) where
-  rest : List ℕ
-  rest = open_ids (n + 1) rows
-
-  apart : nat_eq k n ≡ false
-  apart = grind (arith, nat_tests)
-
-  split : (a : Bool) → filter (λ id. not (has_id (k ∷ kept) id)) rest ≡ filter (λ id. not (has_id kept id)) rest
-      → filter (λ id. not (has_id (k ∷ kept) id)) (cond a (n ∷ rest) rest) ≡ filter (λ id. not (has_id kept id)) (cond a (n ∷ rest) rest)
-  split true later = ap (λ b. cond (not (b || has_id kept n)) (n ∷ filter (λ id. not (has_id (k ∷ kept) id)) rest) (filter (λ id. not (has_id (k ∷ kept) id)) rest)) apart ∙ ap (λ ids. cond (not (has_id kept n)) (n ∷ ids) ids) later
-  split false later = later
+filter_past k kept n (r ∷ rows) h = grind (arith, filter_past k kept (n + 1) rows (omega arith))
 
 closed_here : (a b : Bool) (n : ℕ) (kept rest closed : List ℕ) → has_id kept n ≡ false → filter (λ id. not (has_id (n ∷ kept) id)) rest ≡ filter (λ id. not (has_id kept id)) rest → filter (λ id. not (has_id kept id)) rest ≡ closed
     → filter (λ id. not (has_id (cond a (cond b kept (n ∷ kept)) kept) id)) (cond a (n ∷ rest) rest) ≡ cond (a && b) (n ∷ closed) closed
-closed_here true true n kept rest closed gone past e = ap (λ v. cond (not v) (n ∷ filter (λ id. not (has_id kept id)) rest) (filter (λ id. not (has_id kept id)) rest)) gone ∙ ap (λ ids. n ∷ ids) e
-closed_here true false n kept rest closed gone past e =
-    let same : nat_eq n n ≡ true = grind (arith, nat_tests) in
-    ap (λ v. cond (not (v || has_id kept n)) (n ∷ filter (λ id. not (has_id (n ∷ kept) id)) rest) (filter (λ id. not (has_id (n ∷ kept) id)) rest)) same ∙ (past ∙ e)
+closed_here true true n kept rest closed gone past e = grind arith
+closed_here true false n kept rest closed gone past e = grind arith
 closed_here false b n kept rest closed gone past e = e
 
 closed_ids : (schema : plain.Schema) (lines : List BatchLine) (n : ℕ) (rows : List plain.Row) → filter (λ id. not (has_id (kept_ids schema lines n rows) id)) (open_ids n rows) ≡ affected_ids schema lines n rows
@@ -163,7 +137,7 @@ change_by_rows number t lines = ap (λ cs. made cs (new_rows (working_list t lin
 -- the ids that are closed are those of the current rows that a line affects
 pub affected_ids-at : (schema : plain.Schema) (lines : List BatchLine) (n : ℕ) (rows : List plain.Row) → affected_ids schema lines n rows ≡ ids_at (is_open_affected schema lines) n rows
 affected_ids-at schema lines n [] = refl
-affected_ids-at schema lines n (r ∷ rows) = ap (λ ids. cond (is_open r && is_affected schema lines r) (n ∷ ids) ids) (affected_ids-at schema lines (n + 1) rows)
+affected_ids-at schema lines n (r ∷ rows) = grind (arith, affected_ids-at schema lines (n + 1) rows)
 
 -- they ascend
 pub affected_ids-ascend : (schema : plain.Schema) (lines : List BatchLine) (n : ℕ) (rows : List plain.Row) → AscendFrom n (affected_ids schema lines n rows)
@@ -171,13 +145,10 @@ affected_ids-ascend schema lines n rows = subst (AscendFrom n) (sym (affected_id
 
 ascend_past : (low : ℕ) (ids : List ℕ) (n : ℕ) → AscendFrom low ids → n < low → has_id ids n ≡ false
 ascend_past low [] n all h = refl
-ascend_past low (id ∷ ids) n all h =
-    let l = all.0 in
-    let apart : nat_eq id n ≡ false = grind (arith, nat_tests) in
-    ap (λ v. v || has_id ids n) apart ∙ ascend_past (id + 1) ids n all.1 (omega arith)
+ascend_past low (id ∷ ids) n all h = grind (arith, ascend_past (id + 1) ids n all.1 (omega arith))
 
 holds_first : (id : ℕ) (ids : List ℕ) → has_id (id ∷ ids) id ≡ true
-holds_first id ids = let same : nat_eq id id ≡ true = grind (arith, nat_tests) in ap (λ v. v || has_id ids id) same
+holds_first id ids = let same : nat_eq id id ≡ true = grind arith in ap (λ v. v || has_id ids id) same
 
 -- ascending lists with the same members are the same
 pub ascend_same : (low : ℕ) (xs ys : List ℕ) → AscendFrom low xs → AscendFrom low ys → ((n : ℕ) → has_id xs n ≡ has_id ys n) → xs ≡ ys
@@ -188,24 +159,21 @@ ascend_same low (x ∷ xs) (y ∷ ys) a b same = ap (λ z. z ∷ xs) first ∙ a
   before : (z w : ℕ) (ws : List ℕ) → AscendFrom (w + 1) ws → has_id (w ∷ ws) z ≡ true → w ≤ z
   before z w ws all e = by_test (nat_eq w z) refl e where
     by_test : (t : Bool) → nat_eq w z ≡ t → (t || has_id ws z) ≡ true → w ≤ z
-    by_test true f g = let h : w ≡ z = grind (arith, nat_tests) in omega arith
+    by_test true f g = let h : w ≡ z = grind arith in omega arith
     by_test false f g = by_order (cases_lt z (w + 1)) where
       by_order : (z < w + 1) ⊎ (w + 1 ≤ z) → w ≤ z
       by_order (inl h) = absurd (let e : true ≡ false = sym g ∙ ascend_past (w + 1) ws z all h in cc)
       by_order (inr h) = omega arith
 
   first : x ≡ y
-  first =
-      let h = before x y ys b.1 (sym (same x) ∙ holds_first x xs) in
-      let k = before y x xs a.1 (same y ∙ holds_first y ys) in
-      omega arith
+  first = grind (arith, before x y ys b.1 (sym (same x) ∙ holds_first x xs), holds_first x xs, before y x xs a.1 (same y ∙ holds_first y ys), holds_first y ys)
 
   rest : (n : ℕ) → has_id xs n ≡ has_id ys n
   rest n = by_order (cases_lt n (x + 1)) where
     by_order : (n < x + 1) ⊎ (x + 1 ≤ n) → has_id xs n ≡ has_id ys n
     by_order (inl h) = ascend_past (x + 1) xs n a.1 h ∙ sym (ascend_past (y + 1) ys n b.1 (let e = first in omega arith))
     by_order (inr h) =
-        let apart : nat_eq x n ≡ false = grind (arith, nat_tests) in
+        let apart : nat_eq x n ≡ false = grind arith in
         let e = first in
-        let also : nat_eq y n ≡ false = grind (arith, nat_tests) in
+        let also : nat_eq y n ≡ false = grind arith in
         sym (ap (λ v. v || has_id xs n) apart) ∙ (same n ∙ ap (λ v. v || has_id ys n) also)

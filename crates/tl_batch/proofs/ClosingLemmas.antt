@@ -1,6 +1,5 @@
 -- The keys and ids of the rows that a change closes.
 use Rattle.std.proofs.Common.{◌≡◌, ℕ, ◌+◌, ◌<◌, Bool, true, false, ◌&&◌, ◌||◌, nat_eq, List, [], ◌∷◌, ◌++◌, length, take, get_or, slice_get, Option, Some, None, refl, sym, ap, ◌∙◌, arith}
-use Rattle.std.proofs.lemmas.Bool.Decides.{nat_tests}
 use Rattle.std.proofs.lemmas.List.{take_more}
 use Rattle.std.proofs.lemmas.List.Folds.{list_any-append}
 use Rattle.tl_types.specs.declared.cells.Cell.{Cell}
@@ -49,7 +48,4 @@ closing_more place i id closes rows key before after h at cell made e x n =
 
       here : (b : Bool) → nat_eq id n ≡ b → ((has_id (take i closes) n && has_key place x (slice_get rows n)) || ((same_cell x key && b) || false)) ≡ ((has_id (take i closes) n || (b || false)) && has_key place x (slice_get rows n))
       here false f = apart (has_id (take i closes) n) (has_key place x (slice_get rows n)) (same_cell x key)
-      here true f =
-          let same : id ≡ n = grind (arith, nat_tests) in
-          let is : has_key place x (slice_get rows n) ≡ same_cell x key = ap (λ m. has_key place x (slice_get rows m)) (sym same) ∙ (key_of_row place (slice_get rows id) key x cell ∙ cell_sym key x) in
-          ap (λ v. (has_id (take i closes) n && has_key place x (slice_get rows n)) || ((v && true) || false)) (sym is) ∙ table (has_id (take i closes) n) (has_key place x (slice_get rows n))
+      here true f = grind (arith, key_of_row place (slice_get rows id) key x cell, cell_sym key x, table (has_id (take i closes) n) (has_key place x (slice_get rows n)))

@@ -4,8 +4,7 @@ use Rattle.std.specs.Option.{option_map, IfSome}
 use Rattle.std.specs.Result.{IfOk, IfErr}
 use Rattle.std.specs.List.{list_any, list_all, All}
 use Rattle.std.specs.Bool.{beq, OnTrue}
-use Rattle.std.proofs.lemmas.Bool.{and_parts, and_from}
-use Rattle.std.proofs.lemmas.Bool.Decides.{nat_tests}
+use Rattle.std.proofs.lemmas.Bool.{and_parts}
 use Rattle.std.proofs.lemmas.List.Folds.{list_any-append}
 use Rattle.std.proofs.lemmas.List.Sums.{AllPass-from_list_all}
 use Rattle.tl_types.specs.declared.cells.Cell.{Cell}
@@ -16,13 +15,13 @@ use Rattle.tl_types.specs.declared.batches.BatchFault.TheVariants as fault
 use Rattle.tl_types.specs.declared.limits.Limits.{Limits}
 use Rattle.tl_types.specs.Plain as plain
 use Rattle.tl_types.specs.Facts.{AscendFrom}
-use Rattle.tl_types.specs.History.{database_of, is_open, has_name, matches, match_columns, fits, fits_body, fits_table, rows_of}
+use Rattle.tl_types.specs.History.{database_of, has_name, matches, match_columns, fits}
 use Rattle.tl_types.specs.Resolving.{BatchLine, same_key, open_rows, line_fault, put_lines, removal_lines, find_from, find_table, resolved_change}
 use Rattle.tl_types.specs.declared.batches.KeyLine.{KeyLine}
 use Rattle.tl_types.proofs.FoundTables.{IsFound, table_found}
 use Rattle.tl_batch.specs.Faults.{fault_from}
 use Rattle.tl_batch.specs.Made.{change_by, unless_fault, made_by, change_made, committed, rows_fit_found, AreWithin, IsMade}
-use Rattle.tl_batch.specs.Pieces.{is_affected, affected_ids, old_pieces, put_pieces}
+use Rattle.tl_batch.specs.Pieces.{affected_ids, old_pieces, put_pieces}
 use Rattle.tl_batch.specs.declared.changing.RowChanges.{RowChanges}
 use Rattle.tl_batch.specs.KeyIndex.{IdsByKey, has_row}
 use Rattle.tl_batch.specs.Standing.{StandFor, table_has, rows_match}
@@ -35,27 +34,15 @@ use Rattle.tl_batch.proofs.ResolvedLemmas.{change-fault, change-full, change-mad
 
 pub found_is : (n : ℕ) (name : List ℕ) (tables : List plain.Table) → is_some (option_map (λ found. found.0) (find_from n name tables)) ≡ list_any (has_name name) tables
 found_is n name [] = refl
-found_is n name (t ∷ tables) = split (has_name name t) (found_is (n + 1) name tables) where
-  split : (b : Bool) → is_some (option_map (λ found. found.0) (find_from (n + 1) name tables)) ≡ list_any (has_name name) tables
-      → is_some (option_map (λ found. found.0) (cond b (Some (n, t)) (find_from (n + 1) name tables))) ≡ (b || list_any (has_name name) tables)
-  split true later = refl
-  split false later = later
+found_is n name (t ∷ tables) = grind (arith, found_is (n + 1) name tables)
 
 abbrev pub created : ℕ → plain.Schema → Commit
 created author schema = record { author = author; body = body.Create schema }
 
 -- A TABLE FOUND BY NAME
 
-if_at : (P : plain.Table → Type 0) (o : Option plain.Table) (t : plain.Table) → o ≡ Some t → P t → IfSome o P
-if_at P None t e p = tt
-if_at P (Some u) t e p = let same : t ≡ u = cc in subst P same p
-
-at_some : (P : plain.Table → Type 0) (o : Option plain.Table) (t : plain.Table) → o ≡ Some t → IfSome o P → P t
-at_some P None t e p = absurd (cc)
-at_some P (Some u) t e p = let same : u ≡ t = cc in subst P same p
-
 named-shape : (db : plain.Database) (name : List ℕ) (number : ℕ) (lines : List plain.Opened) → IsFound db name number → IfSome (slice_get db.tables number) (λ t. list_all (matches t.schema) lines ≡ true) → rows_fit_found lines (find_table name db.tables) ≡ true
-named-shape db name number lines n m = ap (rows_fit_found lines) n.named ∙ at_some (λ t. list_all (matches t.schema) lines ≡ true) (slice_get db.tables number) n.table n.at m
+named-shape db name number lines n m = grind arith
 
 pub named-may : (db : plain.Database) (name : List ℕ) (number : ℕ) (lines : List plain.Opened) (may : Bool) → IsFound db name number → OnTrue may (IfSome (slice_get db.tables number) (λ t. list_all (matches t.schema) lines ≡ true)) → OnTrue may (rows_fit_found lines (find_table name db.tables) ≡ true)
 named-may db name number lines true n m = named-shape db name number lines n m
@@ -70,29 +57,27 @@ found_now commits lent given name number store same e =
 
 -- a store that was lent has room for a commit
 pub room_now : (commits lent : List Commit) (versions : ℕ) (full : Bool) → lent ≡ commits → full ≡ nat_le versions (database_of lent).version → full ≡ false → (database_of commits).version < versions
-room_now commits lent versions full store e none = let room : nat_le versions (database_of commits).version ≡ false = ap (λ cs. nat_le versions (database_of cs).version) (sym store) ∙ (sym e ∙ none) in grind (arith, nat_tests)
+room_now commits lent versions full store e none = grind arith
 
 pub found-match : (db : plain.Database) (name : List ℕ) (number : ℕ) (lines : List plain.Opened) → (n : IsFound db name number) → rows_fit_found lines (find_table name db.tables) ≡ true → list_all (matches n.table.schema) lines ≡ true
 found-match db name number lines n m = sym (ap (rows_fit_found lines) n.named) ∙ m
 
 -- rows match the table that was found
 pub named-match : (db : plain.Database) (name : List ℕ) (number : ℕ) (lines : List plain.Opened) → IsFound db name number → rows_fit_found lines (find_table name db.tables) ≡ true → IfSome (slice_get db.tables number) (λ t. list_all (matches t.schema) lines ≡ true)
-named-match db name number lines n m = if_at (λ t. list_all (matches t.schema) lines ≡ true) (slice_get db.tables number) n.table n.at (found-match db name number lines n m)
+named-match db name number lines n m = grind (arith, found-match db name number lines n m)
 
 -- THE TABLE THAT KEYS STAND FOR
 
 pub ids_there : (keys : List IdsByKey) (db : plain.Database) (number : ℕ) (index : IdsByKey) → StandFor keys db → number < length db.tables → index ≡ get_or keys number index → (x : Cell) (n : ℕ) → has_row index x n ≡ table_has (slice_get db.tables number) x n
-ids_there keys db number index s within is x n =
-    let tables = s.tables in
-    sym (ap (λ i. has_row i x n) (index_there keys number index (omega arith) is)) ∙ s.ids number x n
+ids_there keys db number index s within is x n = grind (arith, index_there keys number index (omega arith) is)
 
 -- what is made at the table that was found
 pub made_at : (tables : List plain.Table) (number limit : ℕ) (removes : Bool) (t : plain.Table) (lines : plain.Schema → List BatchLine) (made : Result plain.Change BatchFault) → Some t ≡ slice_get tables number → made ≡ made_by limit number removes t.schema t.rows (lines t.schema)
     → Some made ≡ option_map (λ u. made_by limit number removes u.schema u.rows (lines u.schema)) (slice_get tables number)
-made_at tables number limit removes t lines made at e = ap Some e ∙ ap (option_map (λ (u : plain.Table). made_by limit number removes u.schema u.rows (lines u.schema))) at
+made_at tables number limit removes t lines made at e = grind arith
 
 pub some_match : (tables : List plain.Table) (number : ℕ) (t : plain.Table) (lines : List plain.Opened) → Some t ≡ slice_get tables number → IfSome (slice_get tables number) (λ u. list_all (matches u.schema) lines ≡ true) → list_all (matches t.schema) lines ≡ true
-some_match tables number t lines at all = subst (λ (o : Option plain.Table). IfSome o (λ u. list_all (matches u.schema) lines ≡ true)) (sym at) all
+some_match tables number t lines at all = grind arith
 
 -- CHANGES
 
@@ -113,10 +98,7 @@ rows-few rows n e h = omega arith
 -- a list has no more ids that are affected than rows
 pub affected-few : (schema : plain.Schema) (lines : List BatchLine) (n : ℕ) (rows : List plain.Row) → length (affected_ids schema lines n rows) ≤ length rows
 affected-few schema lines n [] = omega arith
-affected-few schema lines n (r ∷ rows) = split (is_open r && is_affected schema lines r) (affected-few schema lines (n + 1) rows) where
-  split : (b : Bool) → length (affected_ids schema lines (n + 1) rows) ≤ length rows → length (cond b (n ∷ affected_ids schema lines (n + 1) rows) (affected_ids schema lines (n + 1) rows)) ≤ suc (length rows)
-  split true later = omega arith
-  split false later = omega arith
+affected-few schema lines n (r ∷ rows) = grind (arith, affected-few schema lines (n + 1) rows)
 
 pub closes-ascend : (schema : plain.Schema) (lines : List BatchLine) (rows : List plain.Row) (closes : List ℕ) → closes ≡ affected_ids schema lines 0 rows → AscendFrom 0 closes
 closes-ascend schema lines rows closes e = subst (AscendFrom 0) (sym e) (affected_ids-ascend schema lines 0 rows)
@@ -140,17 +122,13 @@ fault-rows schema rows rec some more (o ∷ lines) same =
 
 pub rows-first : (schema : plain.Schema) (rows : List plain.Row) (key_lines given : List KeyLine) (lines : List plain.Opened) (place : ℕ) (found : Option BatchFault) → place ≡ schema.key → given ≡ key_lines → lines_of key_lines ≡ map (line_of_row place) lines
     → found ≡ fault_from schema false rows 2 [] (lines_of given) → found ≡ fault_from schema false rows 2 [] (put_lines schema lines)
-rows-first schema rows key_lines given lines place found at same e f =
-    f ∙ (ap (λ ss. fault_from schema false rows 2 [] (lines_of ss)) same ∙ (ap (fault_from schema false rows 2 []) (e ∙ ap (λ p. map (line_of_row p) lines) at) ∙ fault-rows schema rows 2 [] [] lines (λ k. refl)))
+rows-first schema rows key_lines given lines place found at same e f = grind (arith, fault-rows schema rows 2)
 
 -- what was made of lines, and the change of it
 pub made-change : (limit number : ℕ) (removes : Bool) (schema : plain.Schema) (rows : List plain.Row) (lines : List BatchLine) (made : Result RowChanges BatchFault) (change : Result plain.Change BatchFault) → IsMade removes schema rows lines made
     → change ≡ change_made limit number (length rows) made → change ≡ made_by limit number removes schema rows lines
-made-change limit number removes schema rows lines (Err f) change is e = e ∙ sym (ap (unless_fault limit (length rows) (change_by number schema rows lines)) is)
-made-change limit number removes schema rows lines (Ok c) change is e =
-    e ∙ (ap (λ cs. unless_fault limit (length rows) (record { table = number; closes = cs; opens = c.opens.items }) None) is.1
-    ∙ (ap (λ os. unless_fault limit (length rows) (record { table = number; closes = affected_ids schema lines 0 rows; opens = os }) None) is.2
-    ∙ ap (unless_fault limit (length rows) (change_by number schema rows lines)) (sym is.0)))
+made-change limit number removes schema rows lines (Err f) change is e = grind arith
+made-change limit number removes schema rows lines (Ok c) change is e = grind arith
 
 pub made-ascend : (removes : Bool) (schema : plain.Schema) (rows : List plain.Row) (lines : List BatchLine) (made : Result RowChanges BatchFault) → IsMade removes schema rows lines made → IfOk made (λ c. AscendFrom 0 c.closes)
 made-ascend removes schema rows lines (Err f) is = tt
@@ -178,8 +156,8 @@ committed-is limits db author number t lines next None e = by_room (nat_lt limit
   all = length t.rows + length (change_by number t.schema t.rows (lines t.schema)).opens
 
   by_room : (b : Bool) → nat_lt limits.rows all ≡ b → resolved_change limits db author (Some (number, t)) lines ≡ committed author (cond b (Err fault.RowsFull) (Ok (change_by number t.schema t.rows (lines t.schema))))
-  by_room true h = let many : limits.rows < all = grind (arith, nat_tests) in change-full limits db author number t lines next e many
-  by_room false h = let few : all ≤ limits.rows = grind (arith, nat_tests) in change-made limits db author number t lines next e few
+  by_room true h = let many : limits.rows < all = grind arith in change-full limits db author number t lines next e many
+  by_room false h = let few : all ≤ limits.rows = grind arith in change-made limits db author number t lines next e few
 
 -- the lines' first fault is what the rows of their keys say
 abbrev pub ReadsRows : Bool → (plain.Schema → List BatchLine) → Type 0
@@ -188,15 +166,12 @@ ReadsRows removes lines = (t : plain.Table) → line_fault t.schema 2 [] (open_r
 some_at : (limit number : ℕ) (removes : Bool) (lines : plain.Schema → List BatchLine) (made : Result plain.Change BatchFault) (o : Option plain.Table) (t : plain.Table) → o ≡ Some t → Some made ≡ option_map (λ u. made_by limit number removes u.schema u.rows (lines u.schema)) o
     → made ≡ made_by limit number removes t.schema t.rows (lines t.schema)
 some_at limit number removes lines made None t at e = absurd (cc)
-some_at limit number removes lines made (Some u) t at e = let here : made ≡ made_by limit number removes u.schema u.rows (lines u.schema) = cc in let same : u ≡ t = cc in here ∙ ap (λ (v : plain.Table). made_by limit number removes v.schema v.rows (lines v.schema)) same
+some_at limit number removes lines made (Some u) t at e = grind arith
 
 pub named-made : (limits : Limits) (db : plain.Database) (author number : ℕ) (name : List ℕ) (removes : Bool) (lines : plain.Schema → List BatchLine) (made : Result plain.Change BatchFault) → ReadsRows removes lines → IsFound db name number → db.version < limits.versions
     → Some made ≡ option_map (λ t. made_by limits.rows number removes t.schema t.rows (lines t.schema)) (slice_get db.tables number)
     → resolved_change limits db author (find_table name db.tables) lines ≡ committed author made
-named-made limits db author number name removes lines made reads n next e =
-    ap (λ o. resolved_change limits db author o lines) n.named
-    ∙ (committed-is limits db author number n.table lines next (fault_from n.table.schema removes n.table.rows 2 [] (lines n.table.schema)) (reads n.table)
-    ∙ ap (committed author) (sym (some_at limits.rows number removes lines made (slice_get db.tables number) n.table n.at e)))
+named-made limits db author number name removes lines made reads n next e = grind (arith, committed-is limits db author number n.table lines next (fault_from n.table.schema removes n.table.rows 2 [] (lines n.table.schema)) (reads n.table), some_at limits.rows number removes lines made (slice_get db.tables number) n.table n.at e)
 
 made-fits : (limits : Limits) (db : plain.Database) (author number : ℕ) (t : plain.Table) (lines : List BatchLine) → slice_get db.tables number ≡ Some t → db.version < limits.versions → rows_match (Some t) ≡ true → list_all (matches t.schema) (put_pieces t.schema lines) ≡ true
     → (f : Option BatchFault) (c : Commit) → Ok c ≡ committed author (unless_fault limits.rows (length t.rows) (change_by number t.schema t.rows lines) f) → fits limits db c ≡ true
@@ -207,19 +182,14 @@ made-fits limits db author number t lines at next rows puts None c e = by_room (
 
   by_room : (b : Bool) → nat_lt limits.rows all ≡ b → Ok c ≡ committed author (cond b (Err fault.RowsFull) (Ok (change_by number t.schema t.rows lines))) → fits limits db c ≡ true
   by_room true h q = absurd (cc)
-  by_room false h q =
-      let few : all ≤ limits.rows = grind (arith, nat_tests) in
-      let same : c ≡ record { author = author; body = body.Change (change_by number t.schema t.rows lines) } = cc in
-      ap (fits limits db) same ∙ change-fits limits db author number t lines at next rows puts few
+  by_room false h q = grind (arith, change-fits limits db author number t lines)
 
 pub named-fits : (limits : Limits) (db : plain.Database) (author number : ℕ) (name : List ℕ) (removes : Bool) (lines : plain.Schema → List BatchLine) (made : Result plain.Change BatchFault) → ((table : ℕ) → rows_match (slice_get db.tables table) ≡ true) → (n : IsFound db name number) → db.version < limits.versions
     → list_all (matches n.table.schema) (put_pieces n.table.schema (lines n.table.schema)) ≡ true
     → Some made ≡ option_map (λ t. made_by limits.rows number removes t.schema t.rows (lines t.schema)) (slice_get db.tables number)
     → (r : Result Commit BatchFault) → r ≡ committed author made → IfOk r (λ c. fits limits db c ≡ true)
 named-fits limits db author number name removes lines made matching n next puts e (Err f) is = tt
-named-fits limits db author number name removes lines made matching n next puts e (Ok c) is =
-    made-fits limits db author number n.table (lines n.table.schema) n.at next (sym (ap rows_match n.at) ∙ matching number) puts (fault_from n.table.schema removes n.table.rows 2 [] (lines n.table.schema)) c
-    (is ∙ ap (committed author) (some_at limits.rows number removes lines made (slice_get db.tables number) n.table n.at e))
+named-fits limits db author number name removes lines made matching n next puts e (Ok c) is = grind (arith, made-fits limits db author number n.table (lines n.table.schema) n.at next (sym (ap rows_match n.at) ∙ matching number) puts (fault_from n.table.schema removes n.table.rows 2 [] (lines n.table.schema)) c (is ∙ ap (committed author) (some_at limits.rows number removes lines made (slice_get db.tables number) n.table n.at e)), some_at limits.rows number removes lines made (slice_get db.tables number) n.table n.at e)
 
 -- a result that is what the definition says
 pub ok_is : (r m s : Result Commit BatchFault) → r ≡ s → m ≡ s → IfOk r (λ c. m ≡ Ok c)
@@ -232,29 +202,8 @@ err_is (Err x) m s e f = inr (f ∙ sym e)
 
 -- MORE ROOM
 
-within_table : (limits others : Limits) (change : plain.Change) (o : Option plain.Table) → limits.rows ≤ others.rows → fits_table limits change o ≡ true → fits_table others change o ≡ true
-within_table limits others change None h f = f
-within_table limits others change (Some t) h f =
-    let more = and_parts (list_all (matches_open t) change.closes && list_all (matches t.schema) change.opens) (nat_le (length t.rows + length change.opens) limits.rows) f in
-    let few : nat_le (length t.rows + length change.opens) others.rows ≡ true = let k = more.1 in grind (arith, nat_tests) in
-    and_from (list_all (matches_open t) change.closes && list_all (matches t.schema) change.opens) (nat_le (length t.rows + length change.opens) others.rows) more.0 few where
-      matches_open : plain.Table → ℕ → Bool
-      matches_open u = Rattle.tl_types.specs.History.is_open_at u.rows
-
-within_body : (limits others : Limits) (tables : List plain.Table) (c : Commit) → AreWithin limits others → fits_body limits tables c.body ≡ true → fits_body others tables c.body ≡ true
-within_body limits others tables c w f = by_body c.body f where
-  by_body : (b : Rattle.tl_types.specs.declared.commits.Body.Body) → fits_body limits tables b ≡ true → fits_body others tables b ≡ true
-  by_body (body.Create schema) g =
-      let parts = and_parts (not (list_any (has_name schema.name) tables)) (nat_lt (length tables) limits.tables) g in
-      let few : nat_lt (length tables) others.tables ≡ true = let k = parts.1 in let h = w.tables in grind (arith, nat_tests) in
-      and_from (not (list_any (has_name schema.name) tables)) (nat_lt (length tables) others.tables) parts.0 few
-  by_body (body.Change change) g = within_table limits others change (slice_get tables change.table) w.rows g
-
 fits_within : (limits others : Limits) (db : plain.Database) (c : Commit) → AreWithin limits others → fits limits db c ≡ true → fits others db c ≡ true
-fits_within limits others db c w f =
-    let parts = and_parts (nat_lt db.version limits.versions) (fits_body limits db.tables c.body) f in
-    let next : nat_lt db.version others.versions ≡ true = let k = parts.0 in let h = w.versions in grind (arith, nat_tests) in
-    and_from (nat_lt db.version others.versions) (fits_body others db.tables c.body) next (within_body limits others db.tables c w parts.1)
+fits_within limits others db c w f = grind arith
 
 pub ok_within : (limits others : Limits) (db : plain.Database) (r : Result Commit BatchFault) → IfOk r (λ c. fits limits db c ≡ true) → AreWithin limits others → IfOk r (λ c. fits others db c ≡ true)
 ok_within limits others db (Ok c) f w = fits_within limits others db c w f

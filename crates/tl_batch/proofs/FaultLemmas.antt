@@ -1,5 +1,5 @@
 -- The first fault of the lines of a batch.
-use Rattle.std.proofs.Common.{◌≡◌, ℕ, ◌+◌, Bool, true, false, ◌&&◌, ◌||◌, not, cond, List, [], ◌∷◌, ◌++◌, append-nil, map, Option, Some, None, refl, sym, ap, ◌∙◌, slice_get}
+use Rattle.std.proofs.Common.{arith, ◌≡◌, ℕ, ◌+◌, Bool, true, false, ◌&&◌, ◌||◌, not, cond, List, [], ◌∷◌, ◌++◌, append-nil, map, Option, Some, None, refl, sym, ap, ◌∙◌, slice_get}
 use Rattle.std.specs.List.{list_any, flat_map, filter, fold, enumerate_from}
 use Rattle.std.proofs.Math.Bool.{or_comm}
 use Rattle.std.proofs.lemmas.List.Folds.{list_any-append}
@@ -25,13 +25,7 @@ any_flat test f (x ∷ xs) = list_any-append test (f x) (flat_map f xs) ∙ ap (
 -- what no line affects is left whole
 pub whole_left : (valid : Bool) (lines : List (Option plain.Period)) (p : Option plain.Period) → list_any (λ line. affects_period valid line p) lines ≡ false → cuts valid lines p ≡ p ∷ []
 whole_left valid [] p e = refl
-whole_left valid (line ∷ lines) p e = by_test (affects_period valid line p) refl e (whole_left valid lines p) where
-  by_test : (b : Bool) → affects_period valid line p ≡ b → (b || list_any (λ l. affects_period valid l p) lines) ≡ false → (list_any (λ l. affects_period valid l p) lines ≡ false → cuts valid lines p ≡ p ∷ [])
-      → cuts valid (line ∷ lines) p ≡ p ∷ []
-  by_test true f g later = absurd (cc)
-  by_test false f g later = ap (λ b. flat_map (cuts valid lines) (cond b (rest line p) (p ∷ []))) f ∙ (append-nil (cuts valid lines p) ∙ later g) where
-    rest : Option plain.Period → Option plain.Period → List (Option plain.Period)
-    rest = Rattle.tl_batch.specs.Pieces.rest_of
+whole_left valid (line ∷ lines) p e = grind (arith, whole_left valid lines p)
 
 fresh_row_affected : (schema : plain.Schema) (said : BatchLine) (cells : List Cell) (ps : List (Option plain.Period)) → list_any (affects schema said) (map (fresh cells) ps) ≡ (same_key (slice_get cells schema.key) said.key && list_any (λ p. affects_period schema.valid said.period p) ps)
 fresh_row_affected schema said cells [] = sym (and_false (same_key (slice_get cells schema.key) said.key))

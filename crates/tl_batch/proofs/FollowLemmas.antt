@@ -1,11 +1,8 @@
 -- What a commit makes of the open rows of each key.
-use Rattle.std.proofs.Common.{subst, ◌≡◌, ℕ, zero, suc, ◌+◌, ◌<◌, ◌≤◌, Bool, true, false, ◌&&◌, ◌||◌, not, cond, nat_eq, nat_le, List, [], ◌∷◌, ◌++◌, length, get_or, slice_get, slice_set, length-append, length-set, option_map, Option, Some, None, is_some, map, refl, sym, ap, ◌∙◌, arith, unwrap_or}
-use Rattle.std.specs.List.{list_all, enumerate_from}
+use Rattle.std.proofs.Common.{subst, ◌≡◌, ℕ, zero, suc, ◌+◌, ◌<◌, ◌≤◌, Bool, true, false, ◌&&◌, ◌||◌, not, cond, nat_eq, List, [], ◌∷◌, ◌++◌, length, get_or, slice_get, slice_set, length-append, length-set, option_map, Option, Some, None, is_some, map, refl, sym, ap, ◌∙◌, arith, unwrap_or, Result, Ok, Err}
+use Rattle.std.specs.List.{list_all, enumerate_from, All}
 use Rattle.std.specs.Bool.{beq}
 use Rattle.std.proofs.lemmas.Bool.{and_parts, and_from}
-use Rattle.std.proofs.lemmas.Bool.Decides.{nat_tests}
-use Rattle.std.specs.List.{All}
-use Rattle.std.proofs.Common.{Result, Ok, Err}
 use Rattle.std.specs.Result.{OnErr}
 use Rattle.std.proofs.lemmas.List.Sums.{AllPass-from_list_all}
 use Rattle.std.proofs.lemmas.Option.{slice_get_within, slice_get_past, slice_get_read}
@@ -15,8 +12,7 @@ use Rattle.tl_types.specs.Limits.{standard_limits}
 use Rattle.tl_types.specs.declared.commits.Body.{Body}
 use Rattle.tl_types.specs.declared.commits.Body.TheVariants as body
 use Rattle.tl_types.specs.Plain as plain
-use Rattle.tl_types.specs.History.{is_open, open_end, with_ids, row_after, new_row, new_table, table_after, at_place, after_body, after_commit, nothing, matches, match_columns, is_of_kind, rows_of, is_open_at, fits_table, fits_body, has_id}
-use Rattle.tl_types.specs.Resolving.{same_key}
+use Rattle.tl_types.specs.History.{open_end, with_ids, row_after, new_row, new_table, table_after, at_place, after_body, after_commit, nothing, matches, match_columns, is_of_kind, rows_of, is_open_at, fits_body, has_id}
 use Rattle.tl_batch.specs.declared.following.KeyedRow.{KeyedRow}
 use Rattle.tl_batch.specs.ClosedRows.{has_keyed}
 use Rattle.tl_batch.specs.KeyIndex.{IdsByKey, has_row, no_ids}
@@ -27,42 +23,14 @@ use Rattle.tl_batch.proofs.IndexedRows.{opens_from}
 
 begun_open : (key version n : ℕ) (opens : List plain.Opened) (x : Cell) (i : ℕ) → is_open_with key x (slice_get (map (new_row version) opens) i) ≡ opens_with key n opens x (n + i)
 begun_open key version n [] x i = refl
-begun_open key version n (o ∷ opens) x zero =
-    let here : nat_eq (n + 0) n ≡ true = grind (arith, nat_tests) in
-    let later : opens_with key (n + 1) opens x (n + 0) ≡ false = opens_from key (n + 1) opens x (n + 0) (omega arith) in
-    let table : (b : Bool) → b ≡ ((b && true) || false) = λ b. by_cases b in
-    table (same_key (slice_get o.cells key) (Some x)) ∙ (ap (λ v. (same_key (slice_get o.cells key) (Some x) && v) || false) (sym here) ∙ ap (λ v. (same_key (slice_get o.cells key) (Some x) && nat_eq (n + 0) n) || v) (sym later)) where
-      by_cases : (b : Bool) → b ≡ ((b && true) || false)
-      by_cases true = refl
-      by_cases false = refl
-begun_open key version n (o ∷ opens) x (suc i) =
-    let apart : nat_eq (n + suc i) n ≡ false = grind (arith, nat_tests) in
-    let number : n + 1 + i ≡ n + suc i = omega arith in
-    begun_open key version (n + 1) opens x i ∙ (ap (opens_with key (n + 1) opens x) number ∙ (table (same_key (slice_get o.cells key) (Some x)) (opens_with key (n + 1) opens x (n + suc i)) ∙ ap (λ v. (same_key (slice_get o.cells key) (Some x) && v) || opens_with key (n + 1) opens x (n + suc i)) (sym apart))) where
-      table : (b c : Bool) → c ≡ ((b && false) || c)
-      table true c = refl
-      table false c = refl
+begun_open key version n (o ∷ opens) x zero = grind (arith, opens_from key (n + 1) opens x (n + 0) (omega arith))
+begun_open key version n (o ∷ opens) x (suc i) = grind (arith, begun_open key version (n + 1) opens x i)
 
 -- a row after the commit is current and has the key exactly where it was so and is not closed, or is opened
 pub rows_after : (key version n : ℕ) (closes : List ℕ) (rows : List plain.Row) (opens : List plain.Opened) (x : Cell) (i : ℕ) → nat_eq version open_end ≡ false
     → is_open_with key x (slice_get (map (row_after version closes) (enumerate_from n rows) ++ map (new_row version) opens) i) ≡ ((not (has_id closes (n + i)) && is_open_with key x (slice_get rows i)) || opens_with key (n + length rows) opens x (n + i))
-rows_after key version n closes [] opens x i apart =
-    let start : n + 0 ≡ n = omega arith in
-    begun_open key version n opens x i ∙ (ap (λ m. opens_with key m opens x (n + i)) (sym start) ∙ ap (λ v. v || opens_with key (n + 0) opens x (n + i)) (sym (and_none (not (has_id closes (n + i)))))) where
-      and_none : (b : Bool) → (b && false) ≡ false
-      and_none true = refl
-      and_none false = refl
-rows_after key version n closes (r ∷ rows) opens x zero apart =
-    let number : n + 0 ≡ n = omega arith in
-    let later : opens_with key (n + suc (length rows)) opens x n ≡ false = opens_from key (n + suc (length rows)) opens x n (omega arith) in
-    by_close (has_id closes n) ∙ (ap (λ m. (not (has_id closes m) && (is_open r && same_key (slice_get r.cells key) (Some x))) || false) (sym number) ∙ (ap (λ v. (not (has_id closes (n + 0)) && (is_open r && same_key (slice_get r.cells key) (Some x))) || v) (sym later) ∙ ap (λ m. (not (has_id closes (n + 0)) && (is_open r && same_key (slice_get r.cells key) (Some x))) || opens_with key (n + suc (length rows)) opens x m) (sym number))) where
-      none : (b : Bool) → b ≡ (b || false)
-      none true = refl
-      none false = refl
-
-      by_close : (b : Bool) → is_open_with key x (Some (cond b (record r { to = version }) r)) ≡ ((not b && (is_open r && same_key (slice_get r.cells key) (Some x))) || false)
-      by_close true = ap (λ v. v && same_key (slice_get r.cells key) (Some x)) apart
-      by_close false = none (is_open r && same_key (slice_get r.cells key) (Some x))
+rows_after key version n closes [] opens x i apart = grind (arith, begun_open key version n opens x i)
+rows_after key version n closes (r ∷ rows) opens x zero apart = grind (arith, opens_from key (n + suc (length rows)) opens x n (omega arith))
 rows_after key version n closes (r ∷ rows) opens x (suc i) apart =
     let number : n + 1 + i ≡ n + suc i = omega arith in
     let end : n + 1 + length rows ≡ n + suc (length rows) = omega arith in
@@ -70,10 +38,7 @@ rows_after key version n closes (r ∷ rows) opens x (suc i) apart =
 
 rows_after_all : (key version : ℕ) (closes : List ℕ) (rows : List plain.Row) (opens : List plain.Opened) (x : Cell) (i : ℕ) → nat_eq version open_end ≡ false
     → is_open_with key x (slice_get (map (row_after version closes) (with_ids rows) ++ map (new_row version) opens) i) ≡ ((not (has_id closes i) && is_open_with key x (slice_get rows i)) || opens_with key (length rows) opens x i)
-rows_after_all key version closes rows opens x i apart =
-    let number : 0 + i ≡ i = omega arith in
-    let end : 0 + length rows ≡ length rows = omega arith in
-    rows_after key version 0 closes rows opens x i apart ∙ (ap (λ m. (not (has_id closes m) && is_open_with key x (slice_get rows i)) || opens_with key (0 + length rows) opens x m) number ∙ ap (λ m. (not (has_id closes i) && is_open_with key x (slice_get rows i)) || opens_with key m opens x i) end)
+rows_after_all key version closes rows opens x i apart = grind (arith, rows_after key version 0 closes rows opens x i apart)
 
 open_within : (rows : List plain.Row) (n : ℕ) → is_open_at rows n ≡ true → n < length rows
 open_within [] n e = absurd (cc)
@@ -87,22 +52,15 @@ closed_within rows (id ∷ closes) n all e = by_test (nat_eq id n) refl (closed_
   parts = and_parts (is_open_at rows id) (list_all (is_open_at rows) closes) all
 
   by_test : (b : Bool) → nat_eq id n ≡ b → (has_id closes n ≡ true → n < length rows) → (b || has_id closes n) ≡ true → n < length rows
-  by_test true f later g = let same : id ≡ n = grind (arith, nat_tests) in let h = open_within rows id parts.0 in omega arith
+  by_test true f later g = let same : id ≡ n = grind arith in let h = open_within rows id parts.0 in omega arith
   by_test false f later g = later g
 
 has_with : (key : ℕ) (x : Cell) (row : Option plain.Row) → is_open_with key x row ≡ true → has_key key x row ≡ true
 has_with key x None e = absurd (cc)
-has_with key x (Some r) e = (and_parts (is_open r) (same_key (slice_get r.cells key) (Some x)) e).1
+has_with key x (Some r) e = grind arith
 
 joint : (h k o w : Bool) → (w ≡ true → k ≡ true) → (h ≡ true → o ≡ false) → (not (h && k) && (o || w)) ≡ ((not h && w) || o)
-joint false k true true f g = refl
-joint false k true false f g = refl
-joint false k false true f g = refl
-joint false k false false f g = refl
-joint true k true w f g = absurd (let e : true ≡ false = g refl in cc)
-joint true true false w f g = refl
-joint true false false true f g = absurd (let e : false ≡ true = f refl in cc)
-joint true false false false f g = refl
+joint h k o w f g = grind arith
 
 -- the index of a table after a change that fits
 new_after : (version : ℕ) (change : plain.Change) (t : plain.Table) (old : IdsByKey) (closing : List KeyedRow) (new : IdsByKey) → nat_eq version open_end ≡ false → list_all (is_open_at t.rows) change.closes ≡ true
@@ -227,10 +185,10 @@ stands_changed keys new index db author change t old found opened made here = re
   only s e = ap (λ (o : Option plain.Table). unwrap_or o t) (sym e ∙ found)
 
   one : (s : plain.Table) → slice_get db.tables change.table ≡ Some s → (x : Cell) (n : ℕ) → has_row index x n ≡ table_has (Some (table_after (db.version + 1) change s)) x n
-  one s e x n = here x n ∙ ap (λ q. table_has (Some (table_after (db.version + 1) change q)) x n) (sym (only s e))
+  one s e x n = grind (arith, only s e)
 
   matched : (s : plain.Table) → slice_get db.tables change.table ≡ Some s → rows_match (Some (table_after (db.version + 1) change s)) ≡ true
-  matched s e = ap (λ q. rows_match (Some (table_after (db.version + 1) change q))) (only s e) ∙ match_after (db.version + 1) change t opened (ap rows_match (sym found) ∙ old.matching change.table)
+  matched s e = grind (arith, only s e, match_after (db.version + 1) change t opened (ap rows_match (sym found) ∙ old.matching change.table))
 
 -- A CHANGE THAT FITS
 
@@ -243,13 +201,7 @@ pub record Fitting (db : plain.Database) (change : plain.Change) : Type 0 where
   pub few : length table.rows + length change.opens ≤ 16777216
 
 pub fitting : (db : plain.Database) (change : plain.Change) → fits_body standard_limits db.tables (body.Change change) ≡ true → Fitting db change
-fitting db change = of_table (slice_get db.tables change.table) refl where
-  of_table : (o : Option plain.Table) → slice_get db.tables change.table ≡ o → fits_table standard_limits change o ≡ true → Fitting db change
-  of_table None at fit = absurd (cc)
-  of_table (Some t) at fit =
-      let outer = and_parts (list_all (is_open_at t.rows) change.closes && list_all (matches t.schema) change.opens) (nat_le (length t.rows + length change.opens) 16777216) fit in
-      let inner = and_parts (list_all (is_open_at t.rows) change.closes) (list_all (matches t.schema) change.opens) outer.0 in
-      record { table = t; at = at; current = inner.0; opened = inner.1; few = let e : nat_le (length t.rows + length change.opens) 16777216 ≡ true = outer.1 in grind (arith, nat_tests) }
+fitting db change = grind arith
 
 rows_are : (version : ℕ) (tables : List plain.Table) (n : ℕ) (t : plain.Table) → slice_get tables n ≡ Some t → rows_of (record { version = version; tables = tables }) n ≡ t.rows
 rows_are version [] n t at = absurd (cc)
@@ -292,7 +244,7 @@ fitting-keyed db change f schema place e h among = λ k d l.
     let columns = ap (λ (s : plain.Schema). length s.columns) same in
     omega arith
 
--- the index that stand at a place
+-- the index at a place
 pub index_there : (keys : List IdsByKey) (n : ℕ) (index : IdsByKey) → n < length keys → index ≡ get_or keys n index → index_at keys n ≡ index
 index_there keys n index h e = ap (λ (o : Option IdsByKey). unwrap_or o no_ids) (slice_get_read keys (length keys) n index refl h e)
 
@@ -326,9 +278,9 @@ fitting-after keys db change f index closing new place first old version is numb
       rows = fitting-rows db change f
 
       apart : nat_eq (db.version + 1) open_end ≡ false
-      apart = grind (arith, nat_tests)
+      apart = grind arith
 
--- index that are the same
+-- an index that is the same at a place
 pub stands_same : (keys : List IdsByKey) (db : plain.Database) (at : ℕ) (index new : IdsByKey) → StandFor keys db → at < length keys → index ≡ get_or keys at index → ((x : Cell) (n : ℕ) → has_row new x n ≡ has_row index x n)
     → StandFor (slice_set keys at new) db
 stands_same keys db at index new old within is same = record {

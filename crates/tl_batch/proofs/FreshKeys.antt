@@ -1,5 +1,5 @@
 -- Keys that rise stand once each, and what is left of the first fault of their lines.
-use Rattle.std.proofs.Common.{◌≡◌, ℕ, ◌+◌, ◌<◌, Bool, true, false, ◌&&◌, ◌||◌, not, cond, List, [], ◌∷◌, length, map, take, drop, get_or, Option, Some, None, refl, sym, ap, subst, ◌∙◌, ◌-◌, ◌≤◌, arith}
+use Rattle.std.proofs.Common.{◌≡◌, ℕ, ◌+◌, Bool, true, false, ◌||◌, List, [], ◌∷◌, length, map, take, drop, get_or, None, refl, sym, ap, subst, ◌∙◌, ◌-◌, ◌≤◌, arith}
 use Rattle.std.proofs.lemmas.List.{take_all}
 use Rattle.std.specs.Borrow.{Bor}
 use Rattle.std.specs.declared.cmp.Ordering.{Ordering}
@@ -9,15 +9,13 @@ use Rattle.std.specs.Cmp.{int_cmp_total}
 use Rattle.std.specs.Cmp.Lexicographic.{nat_list_cmp_total}
 use Rattle.tl_types.specs.declared.cells.Cell.{Cell}
 use Rattle.tl_types.specs.declared.cells.Cell.TheVariants as cell
-use Rattle.tl_types.specs.declared.batches.BatchFault.{BatchFault}
 use Rattle.tl_types.specs.declared.batches.BatchFault.TheVariants as fault
 use Rattle.tl_types.specs.contracts.cells.CellOrd.TheImpl as cells
 use Rattle.tl_types.specs.Plain as plain
 use Rattle.tl_types.specs.History.{same_cell}
-use Rattle.tl_batch.specs.Untimed.{has_cell, has_open, row_fault, key_fault, AreFresh}
+use Rattle.tl_batch.specs.Untimed.{has_cell, row_fault, key_fault, AreFresh}
 use Rattle.tl_batch.proofs.CellLemmas.{cell_order}
 use Rattle.tl_batch.proofs.KeyIndexLemmas.{cell_sym}
-use Rattle.tl_batch.proofs.UntimedLemmas.{dropped}
 
 -- KEYS THAT RISE
 
@@ -63,11 +61,6 @@ fresh_from earlier k (next ∷ keys) b r = (no_earlier earlier k b, fresh_from (
 pub risen_is_fresh : (k : Cell) (keys : List Cell) → RiseFrom k keys → AreFresh [] (k ∷ keys)
 risen_is_fresh k keys r = fresh_from [] k keys tt r
 
--- one more key that comes after the last
-pub risen_more : (keys : List (Bor Cell)) (i : ℕ) (k : Bor Cell) (last : Cell) → i < length keys → k ≡ get_or keys i k → is_lt (cells.cmp-value.it last k.now) ≡ true
-    → RiseFrom k.now (map (λ q. q.now) (drop (i + 1) keys)) → RiseFrom last (map (λ q. q.now) (drop i keys))
-risen_more keys i k last h at e r = subst (RiseFrom last) (sym (dropped keys i k h at)) (less (cells.cmp-value.it last k.now) e, r)
-
 -- before the first step
 pub risen_start : (keys : List (Bor Cell)) (first : Bor Cell) → 1 ≤ length keys → first ≡ get_or keys 0 first → RiseFrom first.now (map (λ q. q.now) (take (length keys - 1) (drop 1 keys)))
     → AreFresh [] (map (λ q. q.now) keys)
@@ -83,9 +76,7 @@ risen_start (k ∷ behind) first h at r =
 pub fault_of_fresh : (removes : Bool) (place : ℕ) (rows : List plain.Row) (rec : ℕ) (earlier keys : List Cell) → AreFresh earlier keys
     → row_fault removes place rows rec keys ≡ key_fault removes place rows rec earlier keys
 fault_of_fresh removes place rows rec earlier [] f = refl
-fault_of_fresh removes place rows rec earlier (k ∷ keys) f =
-    ap (λ o. cond (removes && not (has_open place k rows)) (Some (fault.NoRow rec)) o) (fault_of_fresh removes place rows (rec + 1) (k ∷ earlier) keys f.1)
-    ∙ ap (λ b. cond b (Some (fault.KeyTwice rec)) (cond (removes && not (has_open place k rows)) (Some (fault.NoRow rec)) (key_fault removes place rows (rec + 1) (k ∷ earlier) keys))) (sym f.0)
+fault_of_fresh removes place rows rec earlier (k ∷ keys) f = grind (arith, fault_of_fresh removes place rows (rec + 1) (k ∷ earlier) keys f.1)
 
 puts_miss_none : (place : ℕ) (rows : List plain.Row) (rec : ℕ) (keys : List Cell) → row_fault false place rows rec keys ≡ None
 puts_miss_none place rows rec [] = refl
@@ -93,21 +84,3 @@ puts_miss_none place rows rec (k ∷ keys) = puts_miss_none place rows (rec + 1)
 
 pub none_of_puts : (removes : Bool) (place : ℕ) (rows : List plain.Row) (rec : ℕ) (keys : List Cell) → removes ≡ false → None ≡ row_fault removes place rows rec keys
 none_of_puts removes place rows rec keys e = sym (ap (λ r. row_fault r place rows rec keys) e ∙ puts_miss_none place rows rec keys)
-
--- the fault of the lines from the i-th on
-row_fault_at : (place : ℕ) (rows : List plain.Row) (keys : List (Bor Cell)) (i : ℕ) (k : Bor Cell) (has : Bool) → i < length keys → k ≡ get_or keys i k → has ≡ has_open place k.now rows
-    → row_fault true place rows (i + 2) (map (λ q. q.now) (drop i keys)) ≡ cond (not has) (Some (fault.NoRow (i + 2))) (row_fault true place rows (i + 2 + 1) (map (λ q. q.now) (drop (i + 1) keys)))
-row_fault_at place rows keys i k has h at e =
-    ap (row_fault true place rows (i + 2)) (dropped keys i k h at)
-    ∙ ap (λ b. cond (not b) (Some (fault.NoRow (i + 2))) (row_fault true place rows (i + 2 + 1) (map (λ q. q.now) (drop (i + 1) keys)))) (sym e)
-
-pub missing_here : (place : ℕ) (rows : List plain.Row) (keys : List (Bor Cell)) (i : ℕ) (k : Bor Cell) (has : Bool) (all : Option BatchFault) → i < length keys → k ≡ get_or keys i k → has ≡ has_open place k.now rows → has ≡ false
-    → row_fault true place rows (i + 2) (map (λ q. q.now) (drop i keys)) ≡ all → Some (fault.NoRow (i + 2)) ≡ all
-missing_here place rows keys i k has all h at e f start =
-    sym (row_fault_at place rows keys i k has h at e ∙ ap (λ b. cond (not b) (Some (fault.NoRow (i + 2))) (row_fault true place rows (i + 2 + 1) (map (λ q. q.now) (drop (i + 1) keys)))) f) ∙ start
-
-pub missing_later : (place : ℕ) (rows : List plain.Row) (keys : List (Bor Cell)) (i : ℕ) (k : Bor Cell) (has : Bool) (all : Option BatchFault) → i < length keys → k ≡ get_or keys i k → has ≡ has_open place k.now rows → has ≡ true
-    → row_fault true place rows (i + 2) (map (λ q. q.now) (drop i keys)) ≡ all → row_fault true place rows (i + 1 + 2) (map (λ q. q.now) (drop (i + 1) keys)) ≡ all
-missing_later place rows keys i k has all h at e f start =
-    ap (λ m. row_fault true place rows m (map (λ q. q.now) (drop (i + 1) keys))) (let n : i + 1 + 2 ≡ i + 2 + 1 = omega arith in n)
-    ∙ sym (row_fault_at place rows keys i k has h at e ∙ ap (λ b. cond (not b) (Some (fault.NoRow (i + 2))) (row_fault true place rows (i + 2 + 1) (map (λ q. q.now) (drop (i + 1) keys)))) f) ∙ start

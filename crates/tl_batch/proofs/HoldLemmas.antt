@@ -1,5 +1,5 @@
 -- What covers of keys hold, as one line more is covered.
-use Rattle.std.proofs.Common.{◌≡◌, ℕ, ◌+◌, ◌<◌, ℤ, Bool, true, false, ◌&&◌, ◌||◌, cond, List, [], ◌∷◌, ◌++◌, append-nil, length, take, get_or, Option, Some, None, subst, refl, sym, ap, ◌∙◌}
+use Rattle.std.proofs.Common.{arith, ◌≡◌, ℕ, ◌+◌, ◌<◌, ℤ, Bool, true, false, ◌&&◌, ◌||◌, cond, List, [], ◌∷◌, ◌++◌, append-nil, length, take, get_or, Option, Some, None, subst, refl, sym, ap, ◌∙◌}
 use Rattle.std.specs.List.{list_any}
 use Rattle.std.specs.Map.{lookup}
 use Rattle.std.specs.BTreeMap.{is_at}
@@ -9,11 +9,11 @@ use Rattle.std.proofs.lemmas.List.Folds.{list_any-append}
 use Rattle.tl_types.specs.declared.cells.Cell.{Cell}
 use Rattle.tl_types.specs.contracts.cells.CellOrd.TheImpl as cells
 use Rattle.tl_types.specs.Plain as plain
-use Rattle.tl_types.specs.History.{same_cell}
+use Rattle.tl_types.specs.History.{same_cell, is_within}
 use Rattle.tl_types.specs.Resolving.{BatchLine, same_key}
 use Rattle.tl_types.specs.declared.batches.KeyLine.{KeyLine}
 use Rattle.tl_batch.specs.Pieces.{cuts, periods_with}
-use Rattle.tl_batch.specs.Covers.{Full, HoldLines, cover_at, is_between, is_covered, is_in, stretches_or}
+use Rattle.tl_batch.specs.Covers.{Full, HoldLines, cover_at, is_between, is_covered, stretches_or}
 use Rattle.tl_batch.specs.Lines.{line_of, lines_of}
 use Rattle.tl_batch.proofs.CellLemmas.{cell_order}
 use Rattle.tl_batch.proofs.KeyIndexLemmas.{cell_sym, finds_same}
@@ -22,7 +22,7 @@ use Rattle.tl_batch.proofs.KeyIndexLemmas.{cell_sym, finds_same}
 
 found : {X : Type 0} (x : Cell) (entries : List (Cell × X)) → lookup (is_at (cells.cmp-value.it x)) entries ≡ lookup (same_cell x) entries
 found x [] = refl
-found x (e ∷ entries) = ap (λ b. cond b (Some e.1) (lookup (is_at (cells.cmp-value.it x)) entries)) (cell_order x e.0) ∙ ap (λ o. cond (same_cell x e.0) (Some e.1) o) (found x entries)
+found x (e ∷ entries) = grind (arith, cell_order x e.0, found x entries)
 
 -- the cover that is found at a key
 pub found_is : (x : Cell) (entries all : List (Cell × List (ℤ × ℤ))) (o : Option (List (ℤ × ℤ))) → o ≡ lookup (is_at (cells.cmp-value.it x)) entries → entries ≡ all → stretches_or o ≡ cover_at x all
@@ -32,12 +32,7 @@ found_is x entries all o e view = ap stretches_or (e ∙ (found x entries ∙ ap
 pub changed_at : (key copy : Cell) (w : Option (List (ℤ × ℤ))) (entries new all : List (Cell × List (ℤ × ℤ))) → copy ≡ key
     → ((q : Cell) → lookup (is_at (cells.cmp-value.it q)) new ≡ cond (is_at (cells.cmp-value.it copy) q) w (lookup (is_at (cells.cmp-value.it q)) entries)) → entries ≡ all
     → (x : Cell) → cover_at x new ≡ cond (same_cell x key) (stretches_or w) (cover_at x all)
-changed_at key copy w entries new all same update view x =
-    ap stretches_or (sym (found x new) ∙ (update x ∙ (ap (λ b. cond b w (lookup (is_at (cells.cmp-value.it x)) entries)) (cell_order copy x ∙ (cell_sym copy x ∙ ap (same_cell x) same)) ∙ ap (λ o. cond (same_cell x key) w o) (found x entries ∙ ap (lookup (same_cell x)) view))))
-    ∙ split (same_cell x key) where
-      split : (b : Bool) → stretches_or (cond b w (lookup (same_cell x) all)) ≡ cond b (stretches_or w) (cover_at x all)
-      split true = refl
-      split false = refl
+changed_at key copy w entries new all same update view x = grind (arith, found x new, cell_order copy x, cell_sym copy x, found x entries)
 
 -- a period more at one key
 pub period_added : (key : Cell) (from to : ℤ) (cover more : List (ℤ × ℤ)) (before out after : List (Cell × List (ℤ × ℤ))) → cover ≡ cover_at key before → ((x : Cell) → cover_at x out ≡ cond (same_cell x key) [] (cover_at x before))
@@ -45,8 +40,8 @@ pub period_added : (key : Cell) (from to : ℤ) (cover more : List (ℤ × ℤ))
     → (x : Cell) (t : ℤ) → is_covered t (cover_at x after) ≡ ((same_cell x key && is_between t from to) || is_covered t (cover_at x before))
 period_added key from to cover more before out after taken others added put x t = ap (is_covered t) (put x) ∙ by_test (same_cell x key) refl where
   by_test : (b : Bool) → same_cell x key ≡ b → is_covered t (cond b more (cover_at x out)) ≡ ((b && is_between t from to) || is_covered t (cover_at x before))
-  by_test true e = added t ∙ ap (λ c. is_between t from to || is_covered t c) (taken ∙ ap stretches_or (sym (finds_same x key before e)))
-  by_test false e = ap (is_covered t) (others x ∙ ap (λ b. cond b [] (cover_at x before)) e)
+  by_test true e = grind (arith, finds_same x key before e)
+  by_test false e = grind arith
 
 -- no line leaves anything of no period
 pub none_left : (lines : List (Option plain.Period)) → cuts true lines None ≡ None ∷ []
@@ -66,38 +61,32 @@ full_both (Some p ∷ ps) qs h k = (h.0, full_both ps qs h.1 k)
 
 -- the key has the moments of a period too
 abbrev pub Adds : Cell → Option plain.Period → List (Cell × List (ℤ × ℤ)) → List (Cell × List (ℤ × ℤ)) → Type 0
-Adds key period before after = (x : Cell) (t : ℤ) → is_covered t (cover_at x after) ≡ ((same_cell x key && is_in t period) || is_covered t (cover_at x before))
+Adds key period before after = (x : Cell) (t : ℤ) → is_covered t (cover_at x after) ≡ ((same_cell x key && is_within t period) || is_covered t (cover_at x before))
 
 pub hold_front : (before after : List (Cell × List (ℤ × ℤ))) (lines : List BatchLine) (key : Cell) (period : Option plain.Period) (puts : Option plain.Opened) → HoldLines before lines → Adds key period before after → Full (period ∷ [])
     → HoldLines after (record { key = Some key; period = period; puts = puts } ∷ lines)
 hold_front before after lines key period puts h adds full = record {
   full = λ x. all_full x (same_cell x key);
-  same = λ x t. adds x t ∙ (ap (λ b. (same_cell x key && is_in t period) || b) (h.same x t) ∙ split x t (same_cell x key));
+  same = λ x t. adds x t ∙ (ap (λ b. (same_cell x key && is_within t period) || b) (h.same x t) ∙ split x t (same_cell x key));
 } where
   all_full : (x : Cell) (b : Bool) → Full (cond b (period ∷ periods_with (Some x) lines) (periods_with (Some x) lines))
   all_full x true = full_first period (periods_with (Some x) lines) full (h.full x)
   all_full x false = h.full x
 
-  split : (x : Cell) (t : ℤ) (b : Bool) → ((b && is_in t period) || list_any (is_in t) (periods_with (Some x) lines)) ≡ list_any (is_in t) (cond b (period ∷ periods_with (Some x) lines) (periods_with (Some x) lines))
+  split : (x : Cell) (t : ℤ) (b : Bool) → ((b && is_within t period) || list_any (is_within t) (periods_with (Some x) lines)) ≡ list_any (is_within t) (cond b (period ∷ periods_with (Some x) lines) (periods_with (Some x) lines))
   split x t true = refl
   split x t false = refl
 
 periods_more : (k : Option Cell) (lines : List BatchLine) (said : BatchLine) → periods_with k (lines ++ said ∷ []) ≡ periods_with k lines ++ cond (same_key k said.key) (said.period ∷ []) []
 periods_more k [] said = refl
-periods_more k (line ∷ lines) said = ap (λ ps. cond (same_key k line.key) (line.period ∷ ps) ps) (periods_more k lines said) ∙ split (same_key k line.key) where
-  more : List (Option plain.Period)
-  more = cond (same_key k said.key) (said.period ∷ []) []
-
-  split : (b : Bool) → cond b (line.period ∷ (periods_with k lines ++ more)) (periods_with k lines ++ more) ≡ cond b (line.period ∷ periods_with k lines) (periods_with k lines) ++ more
-  split true = refl
-  split false = refl
+periods_more k (line ∷ lines) said = grind (arith, periods_more k lines said)
 
 pub hold_behind : (before after : List (Cell × List (ℤ × ℤ))) (lines : List BatchLine) (key : Cell) (period : Option plain.Period) (puts : Option plain.Opened) → HoldLines before lines → Adds key period before after → Full (period ∷ [])
     → HoldLines after (lines ++ record { key = Some key; period = period; puts = puts } ∷ [])
 hold_behind before after lines key period puts h adds full = record {
   full = λ x. subst Full (sym (periods_more (Some x) lines said)) (full_both (periods_with (Some x) lines) (cond (same_cell x key) (period ∷ []) []) (h.full x) (one_full (same_cell x key)));
-  same = λ x t. adds x t ∙ (ap (λ b. (same_cell x key && is_in t period) || b) (h.same x t) ∙ (or_comm (same_cell x key && is_in t period) (list_any (is_in t) (periods_with (Some x) lines)) ∙ (ap (λ b. list_any (is_in t) (periods_with (Some x) lines) || b) (one_any t (same_cell x key))
-      ∙ (sym (list_any-append (is_in t) (periods_with (Some x) lines) (cond (same_cell x key) (period ∷ []) [])) ∙ ap (list_any (is_in t)) (sym (periods_more (Some x) lines said))))));
+  same = λ x t. adds x t ∙ (ap (λ b. (same_cell x key && is_within t period) || b) (h.same x t) ∙ (or_comm (same_cell x key && is_within t period) (list_any (is_within t) (periods_with (Some x) lines)) ∙ (ap (λ b. list_any (is_within t) (periods_with (Some x) lines) || b) (one_any t (same_cell x key))
+      ∙ (sym (list_any-append (is_within t) (periods_with (Some x) lines) (cond (same_cell x key) (period ∷ []) [])) ∙ ap (list_any (is_within t)) (sym (periods_more (Some x) lines said))))));
 } where
   said : BatchLine
   said = record { key = Some key; period = period; puts = puts }
@@ -106,19 +95,13 @@ hold_behind before after lines key period puts h adds full = record {
   one_full true = full
   one_full false = tt
 
-  or_none : (b : Bool) → b ≡ (b || false)
-  or_none true = refl
-  or_none false = refl
-
-  one_any : (t : ℤ) (b : Bool) → (b && is_in t period) ≡ list_any (is_in t) (cond b (period ∷ []) [])
-  one_any t true = or_none (is_in t period)
-  one_any t false = refl
+  one_any : (t : ℤ) (b : Bool) → (b && is_within t period) ≡ list_any (is_within t) (cond b (period ∷ []) [])
+  one_any t b = grind arith
 
 -- a line of a loop over lines
 pub line_held : (before after : List (Cell × List (ℤ × ℤ))) (key_lines : List KeyLine) (i : ℕ) (s : KeyLine) → i < length key_lines → s ≡ get_or key_lines i s → HoldLines before (lines_of (take i key_lines)) → Adds s.key s.period before after → Full (s.period ∷ [])
     → HoldLines after (lines_of (take (i + 1) key_lines))
-line_held before after key_lines i s h at held adds full =
-    subst (HoldLines after) (sym (ap lines_of (take_more key_lines i s h ∙ ap (λ q. take i key_lines ++ q ∷ []) (sym at)) ∙ map-append line_of (take i key_lines) (s ∷ []))) (hold_behind before after (lines_of (take i key_lines)) s.key s.period None held adds full)
+line_held before after key_lines i s h at held adds full = grind (arith, take_more key_lines i s h, map-append line_of (take i key_lines) (s ∷ []), hold_behind before after (lines_of (take i key_lines)) s.key s.period None held adds full)
 
 -- PERIODS THAT MAY BE NONE
 
@@ -126,4 +109,4 @@ pub left_whole : (lines left : List (Option plain.Period)) (period : plain.Perio
 left_whole lines left period whole is e = e ∙ ap (cuts true lines) (sym is)
 
 pub left_none : (lines new left : List (Option plain.Period)) (whole : Option plain.Period) → whole ≡ None → new ≡ [] → left ≡ new ++ None ∷ [] → left ≡ cuts true lines whole
-left_none lines new left whole is empty made = made ∙ (ap (λ ps. ps ++ None ∷ []) empty ∙ (sym (none_left lines) ∙ ap (cuts true lines) (sym is)))
+left_none lines new left whole is empty made = grind (arith, none_left lines)

@@ -17,7 +17,7 @@ use Rattle.tl_batch.specs.Lines.{line_of, lines_of}
 use Rattle.tl_batch.proofs.LineFaultLemmas.{key_congr, periods-same}
 
 front_is : (key_lines : List KeyLine) (i : ℕ) (s : KeyLine) → i < length key_lines → s ≡ get_or key_lines i s → lines_of (take (i + 1) key_lines) ≡ lines_of (take i key_lines) ++ line_of s ∷ []
-front_is key_lines i s h at = ap lines_of (take_more key_lines i s h ∙ ap (λ q. take i key_lines ++ q ∷ []) (sym at)) ∙ map-append line_of (take i key_lines) (s ∷ [])
+front_is key_lines i s h at = grind (arith, take_more key_lines i s h, map-append line_of (take i key_lines) (s ∷ []))
 
 pub said_more : (key : Option Cell) (key_lines : List KeyLine) (i : ℕ) (s : KeyLine) → i < length key_lines → s ≡ get_or key_lines i s → is_said key (lines_of (take (i + 1) key_lines)) ≡ (is_said key (lines_of (take i key_lines)) || same_key key (Some s.key))
 said_more key key_lines i s h at = ap (is_said key) (front_is key_lines i s h at) ∙ (list_any-append (λ (e : BatchLine). same_key key e.key) (lines_of (take i key_lines)) (line_of s ∷ []) ∙ ap (λ b. is_said key (lines_of (take i key_lines)) || b) (none (same_key key (Some s.key)))) where
@@ -28,7 +28,7 @@ said_more key key_lines i s h at = ap (is_said key) (front_is key_lines i s h at
 -- a key more
 pub seen_line : (key_lines : List KeyLine) (i : ℕ) (s : KeyLine) (before after : List Cell) → i < length key_lines → s ≡ get_or key_lines i s → ((x : Cell) → has_cell before x ≡ is_said (Some x) (lines_of (take i key_lines))) → ((x : Cell) → has_cell after x ≡ (same_cell x s.key || has_cell before x))
     → (x : Cell) → has_cell after x ≡ is_said (Some x) (lines_of (take (i + 1) key_lines))
-seen_line key_lines i s before after h at e f x = f x ∙ (or_comm (same_cell x s.key) (has_cell before x) ∙ (ap (λ b. b || same_cell x s.key) (e x) ∙ sym (said_more (Some x) key_lines i s h at)))
+seen_line key_lines i s before after h at e f x = grind (arith, or_comm (same_cell x s.key) (has_cell before x), said_more (Some x) key_lines i s h)
 
 -- the rows of a key that was not seen
 pub fresh_affected : (schema : plain.Schema) (rows : List plain.Row) (key_lines : List KeyLine) (i : ℕ) (s : KeyLine) (before after : List ℕ) → schema.valid ≡ true → i < length key_lines → s ≡ get_or key_lines i s
@@ -40,18 +40,6 @@ fresh_affected schema rows key_lines i s before after valid h at e f n =
       own : List (Option plain.Period)
       own = periods_with (Some s.key) (lines_of key_lines)
 
-      table : (o a m : Bool) → (((o && true) && m) || (o && (a && m))) ≡ (o && ((a || true) && m))
-      table true true true = refl
-      table true true false = refl
-      table true false true = refl
-      table true false false = refl
-      table false a m = refl
-
-      other : (o w a m : Bool) → (((o && false) && w) || (o && (a && m))) ≡ (o && ((a || false) && m))
-      other true w true m = refl
-      other true w false m = refl
-      other false w a m = refl
-
       row_affected : (o : Option plain.Row) → ((is_open_with schema.key s.key o && affected_by true own o) || affected_so_far schema (lines_of key_lines) (lines_of (take i key_lines)) o) ≡ affected_so_far schema (lines_of key_lines) (lines_of (take (i + 1) key_lines)) o
       row_affected None = refl
       row_affected (Some r) = by_key (same_key key (Some s.key)) refl ∙ ap (λ v. is_open r && (v && is_affected schema (lines_of key_lines) r)) (sym (said_more key key_lines i s h at)) where
@@ -62,12 +50,8 @@ fresh_affected schema rows key_lines i s before after valid h at e f n =
             → (((is_open r && same_key key (Some s.key)) && list_any (λ line. affects_period true line r.period) own) || (is_open r && (is_said key (lines_of (take i key_lines)) && is_affected schema (lines_of key_lines) r))) ≡ (is_open r && ((is_said key (lines_of (take i key_lines)) || same_key key (Some s.key)) && is_affected schema (lines_of key_lines) r))
         by_key true g =
             let is : list_any (λ line. affects_period true line r.period) own ≡ is_affected schema (lines_of key_lines) r = ap (λ v. list_any (λ line. affects_period v line r.period) own) (sym valid) ∙ ap (list_any (λ line. affects_period schema.valid line r.period)) (sym (periods-same key s.key (lines_of key_lines) g)) in
-            ap (λ k. ((is_open r && k) && list_any (λ line. affects_period true line r.period) own) || (is_open r && (is_said key (lines_of (take i key_lines)) && is_affected schema (lines_of key_lines) r))) g
-            ∙ (ap (λ m. ((is_open r && true) && m) || (is_open r && (is_said key (lines_of (take i key_lines)) && is_affected schema (lines_of key_lines) r))) is
-            ∙ (table (is_open r) (is_said key (lines_of (take i key_lines))) (is_affected schema (lines_of key_lines) r) ∙ ap (λ k. is_open r && ((is_said key (lines_of (take i key_lines)) || k) && is_affected schema (lines_of key_lines) r)) (sym g)))
-        by_key false g =
-            ap (λ k. ((is_open r && k) && list_any (λ line. affects_period true line r.period) own) || (is_open r && (is_said key (lines_of (take i key_lines)) && is_affected schema (lines_of key_lines) r))) g
-            ∙ (other (is_open r) (list_any (λ line. affects_period true line r.period) own) (is_said key (lines_of (take i key_lines))) (is_affected schema (lines_of key_lines) r) ∙ ap (λ k. is_open r && ((is_said key (lines_of (take i key_lines)) || k) && is_affected schema (lines_of key_lines) r)) (sym g))
+            grind arith
+        by_key false g = grind arith
 
 -- a key that was seen
 pub known_affected : (schema : plain.Schema) (rows : List plain.Row) (key_lines : List KeyLine) (i : ℕ) (s : KeyLine) (seen : List Cell) (affected : List ℕ) (fresh : Bool) → i < length key_lines → s ≡ get_or key_lines i s → fresh ≡ not (has_cell seen s.key) → fresh ≡ false
@@ -91,13 +75,9 @@ known_affected schema rows key_lines i s seen affected fresh h at new gone e f n
     key : Option Cell
     key = slice_get r.cells schema.key
 
-    or_none : (b : Bool) → b ≡ (b || false)
-    or_none true = refl
-    or_none false = refl
-
     by_key : (k : Bool) → same_key key (Some s.key) ≡ k → is_said key (lines_of (take i key_lines)) ≡ (is_said key (lines_of (take i key_lines)) || same_key key (Some s.key))
     by_key true g = let t : is_said key (lines_of (take i key_lines)) ≡ true = said_same key (lines_of (take i key_lines)) g ∙ has in t ∙ ap (λ b. b || same_key key (Some s.key)) (sym t)
-    by_key false g = or_none (is_said key (lines_of (take i key_lines))) ∙ ap (λ b. is_said key (lines_of (take i key_lines)) || b) (sym g)
+    by_key false g = grind arith
 
 -- all lines
 pub all_affected : (schema : plain.Schema) (rows : List plain.Row) (key_lines : List KeyLine) (i : ℕ) (affected : List ℕ) → length key_lines ≤ i → ((n : ℕ) → has_id affected n ≡ affected_so_far schema (lines_of key_lines) (lines_of (take i key_lines)) (slice_get rows n))

@@ -24,7 +24,7 @@ key_congr (Some y) x (Some z) e = same_as y x z e
 
 pub periods-same : (key : Option Cell) (x : Cell) (lines : List BatchLine) → same_key key (Some x) ≡ true → periods_with key lines ≡ periods_with (Some x) lines
 periods-same key x [] e = refl
-periods-same key x (said ∷ lines) e = ap (λ b. cond b (said.period ∷ periods_with key lines) (periods_with key lines)) (key_congr key x said.key e) ∙ ap (λ ps. cond (same_key (Some x) said.key) (said.period ∷ ps) ps) (periods-same key x lines e)
+periods-same key x (said ∷ lines) e = grind (arith, key_congr key x said.key e, periods-same key x lines e)
 
 -- A LINE OF A TABLE WITHOUT VALID TIME
 
@@ -93,7 +93,4 @@ fault_later schema removes rows key_lines i s o all h at e g start =
 -- a line that puts a row into a table with valid time has no fault
 pub never_fault : (schema : plain.Schema) (removes : Bool) (rows : List plain.Row) (rec : ℕ) (earlier lines : List BatchLine) → schema.valid ≡ true → removes ≡ false → None ≡ fault_from schema removes rows rec earlier lines
 never_fault schema removes rows rec earlier [] valid puts = refl
-never_fault schema removes rows rec earlier (said ∷ lines) valid puts =
-    never_fault schema removes rows (rec + 1) (earlier ++ said ∷ []) lines valid puts
-    ∙ sym (ap (λ b. cond (not b && list_any (λ e. same_key e.key said.key) earlier) (Some (fault.KeyTwice rec)) (cond (removes && not (list_any (is_row_affected schema earlier said) rows)) (Some (fault.NoRow rec)) (fault_from schema removes rows (rec + 1) (earlier ++ said ∷ []) lines))) valid
-    ∙ ap (λ b. cond (b && not (list_any (is_row_affected schema earlier said) rows)) (Some (fault.NoRow rec)) (fault_from schema removes rows (rec + 1) (earlier ++ said ∷ []) lines)) puts)
+never_fault schema removes rows rec earlier (said ∷ lines) valid puts = grind (arith, never_fault schema removes rows (rec + 1) (earlier ++ said ∷ []) lines valid puts)

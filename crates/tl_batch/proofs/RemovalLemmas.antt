@@ -1,19 +1,19 @@
 -- Lines that remove rows of a table with valid time: what they affect, by the periods of the current rows of their keys.
+use Rattle.std.proofs.lemmas.List.{take_all, take_more, map-append}
 use Rattle.std.proofs.Common.{◌≡◌, ℕ, ℤ, zero, suc, ◌+◌, ◌<◌, ◌≤◌, Bool, true, false, ◌&&◌, ◌||◌, not, cond, List, [], ◌∷◌, ◌++◌, length, map, take, get_or, slice_get, Option, Some, None, option_map, subst, refl, sym, ap, ◌∙◌, arith}
 use Rattle.std.specs.List.{list_any}
-use Rattle.std.proofs.lemmas.List.{take_more, map-append}
 use Rattle.std.proofs.lemmas.List.Folds.{list_any-append}
 use Rattle.tl_types.specs.declared.cells.Cell.{Cell}
 use Rattle.tl_types.specs.declared.batches.BatchFault.TheVariants as fault
 use Rattle.tl_types.specs.Plain as plain
 use Rattle.tl_types.specs.Facts.{AscendFrom}
-use Rattle.tl_types.specs.History.{is_open, has_id, same_cell}
+use Rattle.tl_types.specs.History.{is_open, has_id, same_cell, is_within}
 use Rattle.tl_types.specs.Resolving.{BatchLine, same_key}
 use Rattle.tl_types.specs.declared.batches.KeyLine.{KeyLine}
 use Rattle.tl_batch.specs.Standing.{is_open_with}
 use Rattle.tl_batch.specs.Lines.{line_of, lines_of}
 use Rattle.tl_batch.specs.Pieces.{affects_period, cuts, periods_with}
-use Rattle.tl_batch.specs.Covers.{Full, HoldLines, cover_at, is_covered, is_in, is_said}
+use Rattle.tl_batch.specs.Covers.{Full, HoldLines, cover_at, is_covered, is_said}
 use Rattle.tl_batch.specs.Untimed.{has_cell}
 use Rattle.tl_batch.specs.Faults.{HoldRows, fault_of, is_row_affected, period_of, open_periods}
 use Rattle.tl_batch.proofs.HoldLemmas.{full_both}
@@ -64,16 +64,11 @@ key_periods place x rows ids ascend members =
       equal n = members n ∙ (sym (ids_at-has (is_open_with place x) refl 0 rows n) ∙ (let q : 0 + n ≡ n = omega arith in ap (has_id (ids_at (is_open_with place x) 0 rows)) q))
 
 pub whole_periods : (place : ℕ) (x : Cell) (rows : List plain.Row) (ids given : List ℕ) (i : ℕ) → given ≡ ids → length given ≤ i → AscendFrom 0 ids → ((n : ℕ) → has_id ids n ≡ is_open_with place x (slice_get rows n)) → map (λ id. period_of (slice_get rows id)) (take i given) ≡ open_periods place x rows
-whole_periods place x rows ids given i same h ascend members = ap (map (λ id. period_of (slice_get rows id))) (whole given i h ∙ same) ∙ key_periods place x rows ids ascend members where
-  whole : (xs : List ℕ) (i : ℕ) → length xs ≤ i → take i xs ≡ xs
-  whole [] zero h = refl
-  whole [] (suc i) h = refl
-  whole (x ∷ xs) zero h = absurd (omega arith)
-  whole (x ∷ xs) (suc i) h = ap (λ ys. x ∷ ys) (whole xs i (omega arith))
+whole_periods place x rows ids given i same h ascend members = ap (map (λ id. period_of (slice_get rows id))) (take_all i given h ∙ same) ∙ key_periods place x rows ids ascend members
 
-pub held_all : (key : Cell) (ps all : List (Option plain.Period)) (start now : List (Cell × List (ℤ × ℤ))) → ps ≡ all → ((x : Cell) (t : ℤ) → is_covered t (cover_at x now) ≡ ((same_cell x key && list_any (is_in t) ps) || is_covered t (cover_at x start)))
-    → (x : Cell) (t : ℤ) → is_covered t (cover_at x now) ≡ ((same_cell x key && list_any (is_in t) all) || is_covered t (cover_at x start))
-held_all key ps all start now same e x t = e x t ∙ ap (λ qs. (same_cell x key && list_any (is_in t) qs) || is_covered t (cover_at x start)) same
+pub held_all : (key : Cell) (ps all : List (Option plain.Period)) (start now : List (Cell × List (ℤ × ℤ))) → ps ≡ all → ((x : Cell) (t : ℤ) → is_covered t (cover_at x now) ≡ ((same_cell x key && list_any (is_within t) ps) || is_covered t (cover_at x start)))
+    → (x : Cell) (t : ℤ) → is_covered t (cover_at x now) ≡ ((same_cell x key && list_any (is_within t) all) || is_covered t (cover_at x start))
+held_all key ps all start now same e x t = grind arith
 
 -- a row more
 one_more : (rows : List plain.Row) (ids : List ℕ) (i id : ℕ) (whole : Option plain.Period) → i < length ids → id ≡ get_or ids i 0 → Some whole ≡ option_map (λ (r : plain.Row). r.period) (slice_get rows id)
@@ -85,18 +80,12 @@ one_more rows ids i id whole h at period =
       is (Some r) e = let f : r.period ≡ whole = cc in f
 
 pub row_held : (rows : List plain.Row) (ids : List ℕ) (i id : ℕ) (whole : Option plain.Period) (key : Cell) (start before after : List (Cell × List (ℤ × ℤ))) → i < length ids → id ≡ get_or ids i 0 → Some whole ≡ option_map (λ (r : plain.Row). r.period) (slice_get rows id)
-    → ((x : Cell) (t : ℤ) → is_covered t (cover_at x before) ≡ ((same_cell x key && list_any (is_in t) (map (λ row. period_of (slice_get rows row)) (take i ids))) || is_covered t (cover_at x start)))
-    → ((x : Cell) (t : ℤ) → is_covered t (cover_at x after) ≡ ((same_cell x key && is_in t whole) || is_covered t (cover_at x before)))
-    → (x : Cell) (t : ℤ) → is_covered t (cover_at x after) ≡ ((same_cell x key && list_any (is_in t) (map (λ row. period_of (slice_get rows row)) (take (i + 1) ids))) || is_covered t (cover_at x start))
+    → ((x : Cell) (t : ℤ) → is_covered t (cover_at x before) ≡ ((same_cell x key && list_any (is_within t) (map (λ row. period_of (slice_get rows row)) (take i ids))) || is_covered t (cover_at x start)))
+    → ((x : Cell) (t : ℤ) → is_covered t (cover_at x after) ≡ ((same_cell x key && is_within t whole) || is_covered t (cover_at x before)))
+    → (x : Cell) (t : ℤ) → is_covered t (cover_at x after) ≡ ((same_cell x key && list_any (is_within t) (map (λ row. period_of (slice_get rows row)) (take (i + 1) ids))) || is_covered t (cover_at x start))
 row_held rows ids i id whole key start before after h at period e f x t =
-    f x t ∙ (ap (λ b. (same_cell x key && is_in t whole) || b) (e x t) ∙ (table (same_cell x key) (is_in t whole) (list_any (is_in t) (map (λ row. period_of (slice_get rows row)) (take i ids))) (is_covered t (cover_at x start))
-    ∙ ap (λ b. (same_cell x key && b) || is_covered t (cover_at x start)) (sym (ap (list_any (is_in t)) (one_more rows ids i id whole h at period) ∙ list_any-append (is_in t) (map (λ row. period_of (slice_get rows row)) (take i ids)) (whole ∷ []))))) where
-      table : (k w l s : Bool) → ((k && w) || ((k && l) || s)) ≡ ((k && (l || (w || false))) || s)
-      table true true true s = refl
-      table true true false s = refl
-      table true false true s = refl
-      table true false false s = refl
-      table false w l s = refl
+    let all = ap (list_any (is_within t)) (one_more rows ids i id whole h at period) ∙ list_any-append (is_within t) (map (λ row. period_of (slice_get rows row)) (take i ids)) (whole ∷ []) in
+    grind (arith, f x t, e x t)
 
 pub row_full : (rows : List plain.Row) (ids : List ℕ) (i id : ℕ) (whole : Option plain.Period) → i < length ids → id ≡ get_or ids i 0 → Some whole ≡ option_map (λ (r : plain.Row). r.period) (slice_get rows id) → Full (map (λ row. period_of (slice_get rows row)) (take i ids)) → Full (whole ∷ [])
     → Full (map (λ row. period_of (slice_get rows row)) (take (i + 1) ids))
@@ -114,41 +103,26 @@ same_open place x y (r ∷ rows) e =
 
 pub fresh_rows : (place : ℕ) (rows : List plain.Row) (key_lines : List KeyLine) (i : ℕ) (s : KeyLine) (ps : List (Option plain.Period)) (before after : List (Cell × List (ℤ × ℤ))) → i < length key_lines → s ≡ get_or key_lines i s → ps ≡ open_periods place s.key rows
     → HoldRows place before (lines_of (take i key_lines)) rows
-    → ((x : Cell) (t : ℤ) → is_covered t (cover_at x after) ≡ ((same_cell x s.key && list_any (is_in t) ps) || is_covered t (cover_at x before))) → Full ps → HoldRows place after (lines_of (take (i + 1) key_lines)) rows
+    → ((x : Cell) (t : ℤ) → is_covered t (cover_at x after) ≡ ((same_cell x s.key && list_any (is_within t) ps) || is_covered t (cover_at x before))) → Full ps → HoldRows place after (lines_of (take (i + 1) key_lines)) rows
 fresh_rows place rows key_lines i s ps before after h at made held adds full = record {
   full = λ x e. all_full x (same_cell x s.key) refl (is_said (Some x) (lines_of (take i key_lines))) refl (sym (said_more (Some x) key_lines i s h at) ∙ e);
-  same = λ x t. adds x t ∙ (ap (λ b. (same_cell x s.key && list_any (is_in t) ps) || b) (held.same x t) ∙ (by_key x t (same_cell x s.key) refl ∙ ap (λ b. b && list_any (is_in t) (open_periods place x rows)) (sym (said_more (Some x) key_lines i s h at))));
+  same = λ x t. adds x t ∙ (ap (λ b. (same_cell x s.key && list_any (is_within t) ps) || b) (held.same x t) ∙ (by_key x t (same_cell x s.key) refl ∙ ap (λ b. b && list_any (is_within t) (open_periods place x rows)) (sym (said_more (Some x) key_lines i s h at))));
 } where
   all_full : (x : Cell) (k : Bool) → same_cell x s.key ≡ k → (a : Bool) → is_said (Some x) (lines_of (take i key_lines)) ≡ a → (is_said (Some x) (lines_of (take i key_lines)) || same_cell x s.key) ≡ true → Full (open_periods place x rows)
   all_full x true g a f e = subst Full (made ∙ same_open place x s.key rows g) full
   all_full x false g true f e = held.full x f
   all_full x false g false f e = absurd (let bad : false ≡ true = sym (ap (λ b. b || same_cell x s.key) f ∙ g) ∙ e in cc)
 
-  table : (a p : Bool) → (p || (a && p)) ≡ ((a || true) && p)
-  table true true = refl
-  table true false = refl
-  table false true = refl
-  table false false = refl
-
-  other : (a p : Bool) → (a && p) ≡ ((a || false) && p)
-  other true p = refl
-  other false p = refl
-
   by_key : (x : Cell) (t : ℤ) (k : Bool) → same_cell x s.key ≡ k
-      → ((same_cell x s.key && list_any (is_in t) ps) || (is_said (Some x) (lines_of (take i key_lines)) && list_any (is_in t) (open_periods place x rows))) ≡ ((is_said (Some x) (lines_of (take i key_lines)) || same_cell x s.key) && list_any (is_in t) (open_periods place x rows))
-  by_key x t true g =
-      ap (λ b. (b && list_any (is_in t) ps) || (is_said (Some x) (lines_of (take i key_lines)) && list_any (is_in t) (open_periods place x rows))) g
-      ∙ (ap (λ qs. list_any (is_in t) qs || (is_said (Some x) (lines_of (take i key_lines)) && list_any (is_in t) (open_periods place x rows))) (made ∙ same_open place x s.key rows g)
-      ∙ (table (is_said (Some x) (lines_of (take i key_lines))) (list_any (is_in t) (open_periods place x rows)) ∙ ap (λ b. (is_said (Some x) (lines_of (take i key_lines)) || b) && list_any (is_in t) (open_periods place x rows)) (sym g)))
-  by_key x t false g =
-      ap (λ b. (b && list_any (is_in t) ps) || (is_said (Some x) (lines_of (take i key_lines)) && list_any (is_in t) (open_periods place x rows))) g
-      ∙ (other (is_said (Some x) (lines_of (take i key_lines))) (list_any (is_in t) (open_periods place x rows)) ∙ ap (λ b. (is_said (Some x) (lines_of (take i key_lines)) || b) && list_any (is_in t) (open_periods place x rows)) (sym g))
+      → ((same_cell x s.key && list_any (is_within t) ps) || (is_said (Some x) (lines_of (take i key_lines)) && list_any (is_within t) (open_periods place x rows))) ≡ ((is_said (Some x) (lines_of (take i key_lines)) || same_cell x s.key) && list_any (is_within t) (open_periods place x rows))
+  by_key x t true g = let same = ap (list_any (is_within t)) (made ∙ same_open place x s.key rows g) in grind arith
+  by_key x t false g = grind arith
 
 pub known_rows : (place : ℕ) (rows : List plain.Row) (key_lines : List KeyLine) (i : ℕ) (s : KeyLine) (seen : List Cell) (fresh : Bool) (covers : List (Cell × List (ℤ × ℤ))) → i < length key_lines → s ≡ get_or key_lines i s → fresh ≡ not (has_cell seen s.key) → fresh ≡ false
     → ((x : Cell) → has_cell seen x ≡ is_said (Some x) (lines_of (take i key_lines))) → HoldRows place covers (lines_of (take i key_lines)) rows → HoldRows place covers (lines_of (take (i + 1) key_lines)) rows
 known_rows place rows key_lines i s seen fresh covers h at new gone e held = record {
   full = λ x f. held.full x (sym (more x) ∙ f);
-  same = λ x t. held.same x t ∙ ap (λ b. b && list_any (is_in t) (open_periods place x rows)) (sym (more x));
+  same = λ x t. held.same x t ∙ ap (λ b. b && list_any (is_within t) (open_periods place x rows)) (sym (more x));
 } where
   has : is_said (Some s.key) (lines_of (take i key_lines)) ≡ true
   has = sym (e s.key) ∙ turn (has_cell seen s.key) (sym new ∙ gone) where
@@ -160,29 +134,19 @@ known_rows place rows key_lines i s seen fresh covers h at new gone e held = rec
   said_same x [] g = refl
   said_same x (l ∷ lines) g = ap (λ b. b || is_said (Some x) lines) (key_congr (Some x) s.key l.key g) ∙ ap (λ b. same_key (Some s.key) l.key || b) (said_same x lines g)
 
-  or_none : (b : Bool) → (b || false) ≡ b
-  or_none true = refl
-  or_none false = refl
-
   more : (x : Cell) → is_said (Some x) (lines_of (take (i + 1) key_lines)) ≡ is_said (Some x) (lines_of (take i key_lines))
-  more x = said_more (Some x) key_lines i s h at ∙ by_key (same_cell x s.key) refl where
-    by_key : (k : Bool) → same_cell x s.key ≡ k → (is_said (Some x) (lines_of (take i key_lines)) || same_cell x s.key) ≡ is_said (Some x) (lines_of (take i key_lines))
-    by_key true g = let t : is_said (Some x) (lines_of (take i key_lines)) ≡ true = said_same x (lines_of (take i key_lines)) g ∙ has in ap (λ b. b || same_cell x s.key) t ∙ sym t
-    by_key false g = ap (λ b. is_said (Some x) (lines_of (take i key_lines)) || b) g ∙ or_none (is_said (Some x) (lines_of (take i key_lines)))
+  more x = grind (arith, said_more (Some x) key_lines i s h at, said_same x (lines_of (take i key_lines)), has)
 
 -- ONE LINE MORE
 
 said_at : (key_lines : List KeyLine) (i : ℕ) (s : KeyLine) → i < length key_lines → s ≡ get_or key_lines i s → is_said (Some s.key) (lines_of key_lines) ≡ true
 said_at [] i s h at = absurd (omega arith)
-said_at (r ∷ key_lines) zero s h at = ap (λ q. same_cell s.key q.key || is_said (Some s.key) (lines_of key_lines)) (sym at) ∙ ap (λ b. b || is_said (Some s.key) (lines_of key_lines)) (cell_self s.key)
-said_at (r ∷ key_lines) (suc i) s h at = ap (λ b. same_cell s.key r.key || b) (said_at key_lines i s (omega arith) at) ∙ either (same_cell s.key r.key) where
-  either : (b : Bool) → (b || true) ≡ true
-  either true = refl
-  either false = refl
+said_at (r ∷ key_lines) zero s h at = grind (arith, cell_self s.key)
+said_at (r ∷ key_lines) (suc i) s h at = grind (arith, said_at key_lines i s (omega arith))
 
 -- what the step says of a line
 abbrev pub Tells : Bool → KeyLine → List (Cell × List (ℤ × ℤ)) → List (Cell × List (ℤ × ℤ)) → Type 0
-Tells affected s earlier covers = (lines : List BatchLine) (wholes : List (Option plain.Period)) → HoldLines earlier lines → Full wholes → ((t : ℤ) → is_covered t (cover_at s.key covers) ≡ list_any (is_in t) wholes) → affected ≡ affects_rest s.period (periods_with (Some s.key) lines) wholes
+Tells affected s earlier covers = (lines : List BatchLine) (wholes : List (Option plain.Period)) → HoldLines earlier lines → Full wholes → ((t : ℤ) → is_covered t (cover_at s.key covers) ≡ list_any (is_within t) wholes) → affected ≡ affects_rest s.period (periods_with (Some s.key) lines) wholes
 
 pub row_affected_fault : (schema : plain.Schema) (rows : List plain.Row) (key_lines : List KeyLine) (i rec : ℕ) (s : KeyLine) (affected : Bool) (earlier covers : List (Cell × List (ℤ × ℤ))) → schema.valid ≡ true → i < length key_lines → s ≡ get_or key_lines i s → HoldRows schema.key covers (lines_of key_lines) rows → HoldLines earlier (lines_of (take i key_lines))
     → Tells affected s earlier covers → cond affected None (Some (fault.NoRow rec)) ≡ fault_of schema true rows (lines_of (take i key_lines)) (line_of s) rec
@@ -193,7 +157,7 @@ row_affected_fault schema rows key_lines i rec s affected earlier covers valid h
       has = said_at key_lines i s h at
 
       is : affected ≡ list_any (is_row_affected schema (lines_of (take i key_lines)) (line_of s)) rows
-      is = tells (lines_of (take i key_lines)) (open_periods schema.key s.key rows) lines (held.full s.key has) (λ t. held.same s.key t ∙ ap (λ b. b && list_any (is_in t) (open_periods schema.key s.key rows)) has) ∙ open_row_affected schema (lines_of (take i key_lines)) s rows valid
+      is = tells (lines_of (take i key_lines)) (open_periods schema.key s.key rows) lines (held.full s.key has) (λ t. held.same s.key t ∙ ap (λ b. b && list_any (is_within t) (open_periods schema.key s.key rows)) has) ∙ open_row_affected schema (lines_of (take i key_lines)) s rows valid
 
       turned : (b : Bool) → cond b None (Some (fault.NoRow rec)) ≡ cond (true && not b) (Some (fault.NoRow rec)) None
       turned true = refl

@@ -1,5 +1,5 @@
 -- What a batch of rows or keys resolves to, by the rows of its table.
-use Rattle.std.proofs.Common.{◌≡◌, ℕ, suc, ◌+◌, ◌<◌, ◌≤◌, Bool, true, false, ◌&&◌, cond, nat_le, nat_lt, int_lt, List, [], ◌∷◌, ◌++◌, length, slice_get, Option, Some, None, is_some, Result, Ok, Err, refl, sym, ap, ◌∙◌, arith}
+use Rattle.std.proofs.Common.{◌≡◌, ℕ, suc, ◌+◌, ◌<◌, ◌≤◌, Bool, true, false, ◌&&◌, cond, nat_le, nat_lt, List, [], ◌∷◌, ◌++◌, length, slice_get, Option, Some, None, is_some, Result, Ok, Err, refl, sym, ap, ◌∙◌, arith}
 use Rattle.std.specs.List.{list_all, flat_map}
 use Rattle.std.specs.Bool.{beq}
 use Rattle.std.proofs.lemmas.Bool.{cond-true, cond-false, le-leb, lt-leb, lt-ltb, le-ltb, and_parts, and_from}
@@ -13,7 +13,7 @@ use Rattle.tl_types.specs.declared.limits.Limits.{Limits}
 use Rattle.tl_types.specs.Plain as plain
 use Rattle.tl_types.specs.Resolving.{BatchLine, open_rows, line_fault, put_lines, removal_lines, resolved_change}
 use Rattle.tl_types.specs.History.{is_open, is_open_at, matches, match_columns, fits_table, fits}
-use Rattle.tl_batch.specs.Pieces.{affects_period, rest_of, cut, cuts, periods_with, is_affected, affected_ids, over, row_pieces, old_pieces, put_pieces}
+use Rattle.tl_batch.specs.Pieces.{cut, cuts, periods_with, is_affected, affected_ids, over, row_pieces, old_pieces, put_pieces}
 use Rattle.tl_batch.proofs.FollowLemmas.{all_joined}
 use Rattle.tl_batch.specs.Faults.{fault_from}
 use Rattle.tl_batch.proofs.ChangeLemmas.{change_by_rows}
@@ -22,10 +22,6 @@ use Rattle.tl_batch.proofs.FaultLemmas.{fault_of_keys, fault_of_rows}
 -- the change of lines in a table, by its rows
 abbrev pub row_change : ℕ → plain.Table → List BatchLine → plain.Change
 row_change number t lines = record { table = number; closes = affected_ids t.schema lines 0 t.rows; opens = old_pieces t.schema lines t.rows ++ put_pieces t.schema lines }
-
--- no version is left
-pub change-late : (limits : Limits) (db : plain.Database) (author number : ℕ) (t : plain.Table) (lines : plain.Schema → List BatchLine) → limits.versions ≤ db.version → resolved_change limits db author (Some (number, t)) lines ≡ Err fault.VersionsFull
-change-late limits db author number t lines full = cond-true _ _ _ (le-leb _ _ full)
 
 -- a line has a fault
 pub change-fault : (limits : Limits) (db : plain.Database) (author number : ℕ) (t : plain.Table) (lines : plain.Schema → List BatchLine) (f : BatchFault) → db.version < limits.versions
@@ -64,16 +60,6 @@ all_flat test f (x ∷ xs) passes each all = let parts = and_parts (passes x) (l
 abbrev alike : Option plain.Period → Option plain.Period → Bool
 alike whole p = beq (is_some whole) (is_some p)
 
-rest-alike : (line whole : Option plain.Period) → list_all (alike whole) (rest_of line whole) ≡ true
-rest-alike None whole = refl
-rest-alike (Some q) None = refl
-rest-alike (Some q) (Some p) = split (int_lt p.from q.from) (int_lt q.to p.to) where
-  split : (a b : Bool) → list_all (alike (Some p)) (cond a (Some (record { from = p.from; to = q.from }) ∷ []) [] ++ cond b (Some (record { from = q.to; to = p.to }) ∷ []) []) ≡ true
-  split true true = refl
-  split true false = refl
-  split false true = refl
-  split false false = refl
-
 beq-self : (b : Bool) → (beq b b && true) ≡ true
 beq-self true = refl
 beq-self false = refl
@@ -85,10 +71,7 @@ beq-is false true e = absurd (cc)
 beq-is false false e = refl
 
 cut-alike : (valid : Bool) (line whole : Option plain.Period) → list_all (alike whole) (cut valid line whole) ≡ true
-cut-alike valid line whole = split (affects_period valid line whole) where
-  split : (b : Bool) → list_all (alike whole) (cond b (rest_of line whole) (whole ∷ [])) ≡ true
-  split true = rest-alike line whole
-  split false = beq-self (is_some whole)
+cut-alike valid line whole = grind arith
 
 all_same : (whole p : Option plain.Period) (ps : List (Option plain.Period)) → is_some whole ≡ is_some p → list_all (alike p) ps ≡ true → list_all (alike whole) ps ≡ true
 all_same whole p ps e all = ap (λ b. list_all (λ (q : Option plain.Period). beq b (is_some q)) ps) e ∙ all
@@ -112,7 +95,7 @@ old-match : (schema : plain.Schema) (lines : List BatchLine) (rows : List plain.
 old-match schema lines [] all = refl
 old-match schema lines (r ∷ rows) all = split (is_open r && is_affected schema lines r) (old-match schema lines rows parts.1) where
   parts : (matches schema (record { cells = r.cells; period = r.period }) ≡ true) × (list_all (λ s. matches schema (record { cells = s.cells; period = s.period })) rows ≡ true)
-  parts = and_parts (matches schema (record { cells = r.cells; period = r.period })) (list_all (λ s. matches schema (record { cells = s.cells; period = s.period })) rows) all
+  parts = grind arith
 
   split : (b : Bool) → list_all (matches schema) (old_pieces schema lines rows) ≡ true → list_all (matches schema) (cond b (row_pieces schema lines r.cells r.period ++ old_pieces schema lines rows) (old_pieces schema lines rows)) ≡ true
   split true later = all_joined (matches schema) (row_pieces schema lines r.cells r.period) (old_pieces schema lines rows) (pieces-match schema lines r.cells r.period parts.0) later

@@ -1,13 +1,13 @@
 -- What lines take from the current rows, and what they put.
 use Rattle.std.proofs.Common.{◌≡◌, ℕ, zero, suc, ◌+◌, ◌<◌, ◌≤◌, Bool, true, false, ◌&&◌, cond, List, [], ◌∷◌, ◌++◌, length, map, get_or, slice_get, Option, Some, None, subst, refl, sym, ap, ◌∙◌, arith}
-use Rattle.std.specs.List.{list_any, flat_map, All}
+use Rattle.std.specs.List.{flat_map, All}
 use Rattle.tl_types.specs.declared.cells.Cell.{Cell}
 use Rattle.tl_types.specs.Plain as plain
 use Rattle.tl_types.specs.Facts.{AscendFrom}
 use Rattle.tl_types.specs.History.{is_open, has_id}
-use Rattle.tl_types.specs.Resolving.{BatchLine, same_key, put_lines}
+use Rattle.tl_types.specs.Resolving.{BatchLine, put_lines}
 use Rattle.tl_types.specs.declared.batches.KeyLine.{KeyLine}
-use Rattle.tl_batch.specs.Pieces.{affects_period, cuts, periods_with, is_affected, affected_ids, over, row_pieces, old_pieces, is_open_affected, pieces_at}
+use Rattle.tl_batch.specs.Pieces.{cuts, periods_with, is_affected, affected_ids, row_pieces, old_pieces, is_open_affected, pieces_at}
 use Rattle.tl_batch.specs.Lines.{lines_of, line_of_row}
 use Rattle.tl_batch.proofs.ChangeLemmas.{affected_ids-at, affected_ids-ascend, ascend_same}
 use Rattle.tl_batch.proofs.RowIds.{ids_at, ids_at-has}
@@ -21,9 +21,7 @@ nothing_left (Some l ∷ lines) h = refl
 
 -- the ids that are affected, by rows
 affected_has : (schema : plain.Schema) (lines : List BatchLine) (rows : List plain.Row) (n : ℕ) → has_id (affected_ids schema lines 0 rows) n ≡ is_open_affected schema lines (slice_get rows n)
-affected_has schema lines rows n =
-    let e : n ≡ 0 + n = omega arith in
-    ap (λ ids. has_id ids n) (affected_ids-at schema lines 0 rows) ∙ (ap (has_id (ids_at (is_open_affected schema lines) 0 rows)) e ∙ ids_at-has (is_open_affected schema lines) refl 0 rows n)
+affected_has schema lines rows n = grind (arith, affected_ids-at schema lines 0 rows, ids_at (is_open_affected schema lines) 0 rows, ids_at-has (is_open_affected schema lines) refl 0 rows n)
 
 -- an ascending list of the rows that lines affect is that of the ids that are affected
 pub closes_are : (schema : plain.Schema) (lines : List BatchLine) (rows : List plain.Row) (ids : List ℕ) → AscendFrom 0 ids → ((n : ℕ) → has_id ids n ≡ is_open_affected schema lines (slice_get rows n)) → ids ≡ affected_ids schema lines 0 rows
@@ -57,7 +55,7 @@ opens_are schema lines rows ids given opens same affected made =
 
 periods-rows : (schema : plain.Schema) (key : Option Cell) (lines : List plain.Opened) → periods_with key (map (line_of_row schema.key) lines) ≡ periods_with key (put_lines schema lines)
 periods-rows schema key [] = refl
-periods-rows schema key (o ∷ lines) = ap (λ ps. cond (same_key key (slice_get o.cells schema.key)) (o.period ∷ ps) ps) (periods-rows schema key lines)
+periods-rows schema key (o ∷ lines) = grind (arith, periods-rows schema key lines)
 
 -- the periods of lines that put rows, read off their keys and periods
 pub periods-key_lines : (schema : plain.Schema) (key_lines : List KeyLine) (lines : List plain.Opened) (key : Option Cell) → lines_of key_lines ≡ map (line_of_row schema.key) lines → periods_with key (lines_of key_lines) ≡ periods_with key (put_lines schema lines)
@@ -67,15 +65,11 @@ periods-key_lines schema key_lines lines key same = ap (periods_with key) same �
 
 pub affected_ids-same : (schema : plain.Schema) (lines other : List BatchLine) → ((key : Option Cell) → periods_with key lines ≡ periods_with key other) → (n : ℕ) (rows : List plain.Row) → affected_ids schema lines n rows ≡ affected_ids schema other n rows
 affected_ids-same schema lines other same n [] = refl
-affected_ids-same schema lines other same n (r ∷ rows) =
-    ap (λ ps. cond (is_open r && list_any (λ line. affects_period schema.valid line r.period) ps) (n ∷ affected_ids schema lines (n + 1) rows) (affected_ids schema lines (n + 1) rows)) (same (slice_get r.cells schema.key))
-    ∙ ap (λ ids. cond (is_open r && is_affected schema other r) (n ∷ ids) ids) (affected_ids-same schema lines other same (n + 1) rows)
+affected_ids-same schema lines other same n (r ∷ rows) = grind (arith, affected_ids-same schema lines other same (n + 1) rows)
 
 pub old_pieces-same : (schema : plain.Schema) (lines other : List BatchLine) → ((key : Option Cell) → periods_with key lines ≡ periods_with key other) → (rows : List plain.Row) → old_pieces schema lines rows ≡ old_pieces schema other rows
 old_pieces-same schema lines other same [] = refl
-old_pieces-same schema lines other same (r ∷ rows) =
-    ap (λ ps. cond (is_open r && list_any (λ line. affects_period schema.valid line r.period) ps) (over r.cells (cuts schema.valid ps r.period) ++ old_pieces schema lines rows) (old_pieces schema lines rows)) (same (slice_get r.cells schema.key))
-    ∙ ap (λ os. cond (is_open r && is_affected schema other r) (row_pieces schema other r.cells r.period ++ os) os) (old_pieces-same schema lines other same rows)
+old_pieces-same schema lines other same (r ∷ rows) = grind (arith, old_pieces-same schema lines other same rows)
 
 pub put_same : (schema given : plain.Schema) (place : ℕ) (rows : List plain.Opened) (lines lent : List KeyLine) → place ≡ given.key → given ≡ schema → lent ≡ lines → lines_of lines ≡ map (line_of_row place) rows → lines_of lent ≡ map (line_of_row schema.key) rows
-put_same schema given place rows lines lent at is same e = ap lines_of same ∙ (e ∙ ap (λ p. map (line_of_row p) rows) (at ∙ ap (λ s. s.key) is))
+put_same schema given place rows lines lent at is same e = grind arith

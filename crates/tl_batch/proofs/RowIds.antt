@@ -1,6 +1,5 @@
 -- The ids of the rows that pass a test, where the first row has a number.
-use Rattle.std.proofs.Common.{◌≡◌, ℕ, zero, suc, ◌+◌, ◌<◌, ◌≤◌, Bool, true, false, ◌||◌, cond, nat_eq, List, [], ◌∷◌, slice_get, Option, Some, None, refl, sym, ap, ◌∙◌, arith}
-use Rattle.std.proofs.lemmas.Bool.Decides.{nat_tests}
+use Rattle.std.proofs.Common.{◌≡◌, ℕ, zero, suc, ◌+◌, ◌<◌, ◌≤◌, Bool, true, false, cond, nat_eq, List, [], ◌∷◌, slice_get, Option, Some, None, refl, sym, arith}
 use Rattle.tl_types.specs.Plain as plain
 use Rattle.tl_types.specs.Facts.{AscendFrom}
 use Rattle.tl_types.specs.History.{has_id}
@@ -22,28 +21,16 @@ ids_at-ascend passes n (r ∷ rows) = split (passes (Some r)) (ids_at-ascend pas
 
 ids_at-past : (passes : Option plain.Row → Bool) (n : ℕ) (rows : List plain.Row) (m : ℕ) → m < n → has_id (ids_at passes n rows) m ≡ false
 ids_at-past passes n [] m h = refl
-ids_at-past passes n (r ∷ rows) m h = split (passes (Some r)) (ids_at-past passes (n + 1) rows m (omega arith)) where
-  apart : nat_eq n m ≡ false
-  apart = grind (arith, nat_tests)
-
-  split : (b : Bool) → has_id (ids_at passes (n + 1) rows) m ≡ false → has_id (cond b (n ∷ ids_at passes (n + 1) rows) (ids_at passes (n + 1) rows)) m ≡ false
-  split true later = ap (λ v. v || has_id (ids_at passes (n + 1) rows) m) apart ∙ later
-  split false later = later
+ids_at-past passes n (r ∷ rows) m h = grind (arith, ids_at-past passes (n + 1) rows m (omega arith))
 
 -- an id is there exactly where its row passes
 pub ids_at-has : (passes : Option plain.Row → Bool) → passes None ≡ false → (n : ℕ) (rows : List plain.Row) (i : ℕ) → has_id (ids_at passes n rows) (n + i) ≡ passes (slice_get rows i)
 ids_at-has passes none n [] i = sym none
 ids_at-has passes none n (r ∷ rows) zero =
-    let here : nat_eq n (n + 0) ≡ true = grind (arith, nat_tests) in
+    let here : nat_eq n (n + 0) ≡ true = grind arith in
     let next : n + 0 < n + 1 = omega arith in
     split here (ids_at-past passes (n + 1) rows (n + 0) next) (passes (Some r)) where
       split : nat_eq n (n + 0) ≡ true → has_id (ids_at passes (n + 1) rows) (n + 0) ≡ false → (b : Bool) → has_id (cond b (n ∷ ids_at passes (n + 1) rows) (ids_at passes (n + 1) rows)) (n + 0) ≡ b
-      split here past true = ap (λ v. v || has_id (ids_at passes (n + 1) rows) (n + 0)) here
+      split here past true = grind arith
       split here past false = past
-ids_at-has passes none n (r ∷ rows) (suc i) =
-    let number : n + 1 + i ≡ n + suc i = omega arith in
-    let apart : nat_eq n (n + suc i) ≡ false = grind (arith, nat_tests) in
-    split apart (ap (has_id (ids_at passes (n + 1) rows)) (sym number) ∙ ids_at-has passes none (n + 1) rows i) (passes (Some r)) where
-      split : nat_eq n (n + suc i) ≡ false → has_id (ids_at passes (n + 1) rows) (n + suc i) ≡ passes (slice_get rows i) → (b : Bool) → has_id (cond b (n ∷ ids_at passes (n + 1) rows) (ids_at passes (n + 1) rows)) (n + suc i) ≡ passes (slice_get rows i)
-      split apart later true = ap (λ v. v || has_id (ids_at passes (n + 1) rows) (n + suc i)) apart ∙ later
-      split apart later false = later
+ids_at-has passes none n (r ∷ rows) (suc i) = grind (arith, ids_at-has passes none (n + 1) rows i)

@@ -1,5 +1,5 @@
 -- A working list decomposes by row: each row leaves what the later lines of its key leave of it.
-use Rattle.std.proofs.Common.{◌≡◌, ℕ, zero, suc, ◌≤◌, Bool, true, false, ◌&&◌, ◌||◌, cond, int_lt, List, [], ◌∷◌, ◌++◌, length, map, drop, Option, Some, None, is_some, refl, sym, ap, ◌∙◌, arith, slice_get, append_assoc, append-nil}
+use Rattle.std.proofs.Common.{◌≡◌, ℕ, zero, suc, ◌≤◌, Bool, true, false, ◌&&◌, ◌||◌, cond, List, [], ◌∷◌, ◌++◌, length, map, drop, Option, Some, None, is_some, refl, sym, ap, ◌∙◌, arith, slice_get, append_assoc, append-nil}
 use Rattle.std.specs.List.{list_any, flat_map, fold, filter_map}
 use Rattle.std.proofs.lemmas.List.Elements.{filter_map-append}
 use Rattle.std.proofs.lemmas.List.Folds.{flat_map-map}
@@ -32,17 +32,9 @@ map-flat_map g f (x ∷ xs) = ap (λ ys. map g (f x) ++ ys) (map-flat_map g f xs
 
 pub filter_map-flat_map : {A B C : Type 0} (h : B → Option C) (f : A → List B) (xs : List A) → filter_map h (flat_map f xs) ≡ flat_map (λ x. filter_map h (f x)) xs
 filter_map-flat_map h f [] = refl
-filter_map-flat_map h f (x ∷ xs) = filter_map-append h (f x) (flat_map f xs) ∙ ap (λ ys. filter_map h (f x) ++ ys) (filter_map-flat_map h f xs)
+filter_map-flat_map h f (x ∷ xs) = cc (filter_map-append h (f x) (flat_map f xs), filter_map-flat_map h f xs)
 
 -- PIECES
-
--- one line more
-pub cut_more : (valid : Bool) (lines : List (Option plain.Period)) (line : Option plain.Period) (left : List (Option plain.Period)) → flat_map (cuts valid (line ∷ lines)) left ≡ flat_map (cuts valid lines) (flat_map (cut valid line) left)
-cut_more valid lines line left = sym (flat_map-flat_map (cuts valid lines) (cut valid line) left)
-
--- no line more
-pub cut_none : (valid : Bool) (left : List (Option plain.Period)) → flat_map (cuts valid []) left ≡ left
-cut_none valid left = flat_map-one left
 
 drop_past : {A : Type 0} (xs : List A) (i : ℕ) → length xs ≤ i → drop i xs ≡ []
 drop_past [] zero h = refl
@@ -84,21 +76,12 @@ remainders-rest : (key : Option Cell) (puts : Option plain.Opened) (line : Optio
     → remainders (record { key = key; period = line; puts = puts }) (record { id = id; row = record { cells = cells; period = p } }) ≡ map (fresh cells) (rest_of line p)
 remainders-rest key puts None id cells p = refl
 remainders-rest key puts (Some q) id cells None = refl
-remainders-rest key puts (Some q) id cells (Some p) = split (int_lt p.from q.from) (int_lt q.to p.to) where
-  split : (a b : Bool) → (cond a (fresh cells (Some (record { from = p.from; to = q.from })) ∷ []) [] ++ cond b (fresh cells (Some (record { from = q.to; to = p.to })) ∷ []) [])
-      ≡ map (fresh cells) (cond a (Some (record { from = p.from; to = q.from }) ∷ []) [] ++ cond b (Some (record { from = q.to; to = p.to }) ∷ []) [])
-  split true true = refl
-  split true false = refl
-  split false true = refl
-  split false false = refl
+remainders-rest key puts (Some q) id cells (Some p) = grind arith
 
 -- what lines leave of pieces of one row
 rows_left-each : (schema : plain.Schema) (lines : List BatchLine) (cells : List Cell) (parts : List (Option plain.Period)) → ((p : Option plain.Period) → rows_left schema lines (fresh cells p) ≡ map (fresh cells) (cuts schema.valid (periods_with (slice_get cells schema.key) lines) p))
     → flat_map (rows_left schema lines) (map (fresh cells) parts) ≡ map (fresh cells) (flat_map (cuts schema.valid (periods_with (slice_get cells schema.key) lines)) parts)
-rows_left-each schema lines cells parts each =
-    flat_map-map (rows_left schema lines) (fresh cells) parts
-    ∙ (flat_map-same (λ p. rows_left schema lines (fresh cells p)) (λ p. map (fresh cells) (cuts schema.valid (periods_with (slice_get cells schema.key) lines) p)) each parts
-    ∙ map-flat_map (fresh cells) (cuts schema.valid (periods_with (slice_get cells schema.key) lines)) parts)
+rows_left-each schema lines cells parts each = grind (arith, flat_map-map (rows_left schema lines) (fresh cells) parts, map-flat_map (fresh cells) (cuts schema.valid (periods_with (slice_get cells schema.key) lines)) parts)
 
 -- a row without id leaves the pieces of its period
 pub rows_left-fresh : (schema : plain.Schema) (lines : List BatchLine) (cells : List Cell) (p : Option plain.Period) → rows_left schema lines (fresh cells p) ≡ map (fresh cells) (cuts schema.valid (periods_with (slice_get cells schema.key) lines) p)
@@ -119,7 +102,7 @@ rows_left-fresh schema (said ∷ lines) cells p = by_key (same_key (slice_get ce
 
   by_key : (b : Bool) → ((q : Option plain.Period) → rows_left schema lines (fresh cells q) ≡ map (fresh cells) (cuts schema.valid later q))
       → flat_map (rows_left schema lines) (cond (b && affected) (remainders said (fresh cells p)) (fresh cells p ∷ [])) ≡ map (fresh cells) (cuts schema.valid (cond b (said.period ∷ later) later) p)
-  by_key true each = ap (flat_map (rows_left schema lines)) (chosen affected) ∙ rows_left-each schema lines cells (cut schema.valid said.period p) each
+  by_key true each = cc (chosen affected, rows_left-each schema lines cells (cut schema.valid said.period p) each)
   by_key false each = append-nil (rows_left schema lines (fresh cells p)) ∙ each p
 
 -- a row with an id stays where no line affects it, and else leaves the pieces of its period

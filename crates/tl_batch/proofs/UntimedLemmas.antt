@@ -1,15 +1,14 @@
 -- Lines for a table without valid time.
-use Rattle.std.proofs.Common.{◌≡◌, ℕ, zero, suc, ◌+◌, ◌<◌, Bool, true, false, ◌&&◌, ◌||◌, not, cond, List, [], ◌∷◌, ◌++◌, length, map, take, drop, get_or, slice_get, Option, Some, None, is_some, IfSome, IfNone, refl, sym, ap, ◌∙◌, arith}
+use Rattle.std.proofs.Common.{◌≡◌, ℕ, zero, suc, ◌+◌, ◌<◌, Bool, true, false, ◌&&◌, ◌||◌, not, cond, List, [], ◌∷◌, length, map, drop, get_or, slice_get, Option, Some, None, is_some, IfSome, IfNone, refl, sym, ap, ◌∙◌, arith}
 use Rattle.std.specs.Borrow.{Bor}
 use Rattle.std.specs.List.{list_any}
-use Rattle.std.proofs.lemmas.List.{at_drop_more, take_more}
-use Rattle.std.proofs.lemmas.List.Folds.{list_any-append}
+use Rattle.std.proofs.lemmas.List.{at_drop_more}
 use Rattle.tl_types.specs.declared.cells.Cell.{Cell}
 use Rattle.tl_types.specs.declared.batches.BatchFault.{BatchFault}
 use Rattle.tl_types.specs.declared.batches.BatchFault.TheVariants as fault
 use Rattle.tl_types.specs.contracts.cells.CellPartialEq.TheImpl as equal
 use Rattle.tl_types.specs.Plain as plain
-use Rattle.tl_types.specs.History.{has_id, same_cell}
+use Rattle.tl_types.specs.History.{same_cell}
 use Rattle.tl_batch.specs.KeyIndex.{IdsByKey, has_row}
 use Rattle.tl_batch.specs.OpenTables.{IsIndexOf}
 use Rattle.tl_batch.specs.Standing.{is_open_with}
@@ -21,10 +20,7 @@ use Rattle.tl_batch.proofs.KeyIndexLemmas.{eq_is, cell_sym}
 open_there : (place : ℕ) (x : Cell) (rows : List plain.Row) (n : ℕ) → is_open_with place x (slice_get rows n) ≡ true → has_open place x rows ≡ true
 open_there place x [] n e = absurd (cc)
 open_there place x (r ∷ rows) zero e = ap (λ b. b || has_open place x rows) e
-open_there place x (r ∷ rows) (suc n) e = ap (λ b. is_open_with place x (Some r) || b) (open_there place x rows n e) ∙ or_true (is_open_with place x (Some r)) where
-  or_true : (b : Bool) → (b || true) ≡ true
-  or_true true = refl
-  or_true false = refl
+open_there place x (r ∷ rows) (suc n) e = grind (arith, open_there place x rows n e)
 
 open_nowhere : (place : ℕ) (x : Cell) (rows : List plain.Row) → ((n : ℕ) → is_open_with place x (slice_get rows n) ≡ false) → has_open place x rows ≡ false
 open_nowhere place x [] none = refl
@@ -38,19 +34,14 @@ found_open index place x rows (Some id) stand some none = sym (open_there place 
 
 lent_cells : (x : Cell) (keys : List (Bor Cell)) → list_any (λ k. equal.eq-value.it x k.now) keys ≡ has_cell (map (λ k. k.now) keys) x
 lent_cells x [] = refl
-lent_cells x (k ∷ keys) = ap (λ b. b || list_any (λ q. equal.eq-value.it x q.now) keys) (eq_is x k.now) ∙ ap (λ b. same_cell x k.now || b) (lent_cells x keys)
+lent_cells x (k ∷ keys) = grind (arith, eq_is x k.now, lent_cells x keys)
 
 pub key_fresh : (x : Cell) (fresh : Bool) (keys : List (Bor Cell)) (all : List Cell) → fresh ≡ not (list_any (λ k. equal.eq-value.it x k.now) keys) → map (λ k. k.now) keys ≡ all → fresh ≡ not (has_cell all x)
 key_fresh x fresh keys all e view = e ∙ (ap not (lent_cells x keys) ∙ ap (λ ks. not (has_cell ks x)) view)
 
 pub key_added : (key x : Cell) (keys more : List (Bor Cell)) (all : List Cell) → list_any (λ k. equal.eq-value.it x k.now) more ≡ cond (equal.eq-value.it key x) true (list_any (λ k. equal.eq-value.it x k.now) keys) → map (λ k. k.now) keys ≡ all
     → has_cell (map (λ k. k.now) more) x ≡ (same_cell x key || has_cell all x)
-key_added key x keys more all update view =
-    sym (lent_cells x more) ∙ (update ∙ (ap (λ b. cond b true (list_any (λ k. equal.eq-value.it x k.now) keys)) (eq_is key x ∙ cell_sym key x) ∙ (split (same_cell x key) (list_any (λ k. equal.eq-value.it x k.now) keys)
-    ∙ ap (λ b. same_cell x key || b) (lent_cells x keys ∙ ap (λ ks. has_cell ks x) view)))) where
-      split : (b c : Bool) → cond b true c ≡ (b || c)
-      split true c = refl
-      split false c = refl
+key_added key x keys more all update view = grind (arith, lent_cells x more, eq_is key x, cell_sym key x, lent_cells x keys)
 
 -- THE FIRST FAULT
 
@@ -64,29 +55,22 @@ faults_same removes place rows rec one other (k ∷ keys) same =
 at_key : (removes twice has : Bool) (rec : ℕ) (rest : Option BatchFault) (fresh : Bool) (o : Option BatchFault) → fresh ≡ not twice → o ≡ fault_of_key removes fresh has rec
     → cond twice (Some (fault.KeyTwice rec)) (cond (removes && not has) (Some (fault.NoRow rec)) rest) ≡ cond (is_some o) o rest
 at_key removes true has rec rest fresh o e f = sym (ap (λ q. cond (is_some q) q rest) (f ∙ ap (λ b. fault_of_key removes b has rec) e))
-at_key removes false has rec rest fresh o e f = split (removes && not has) ∙ sym (ap (λ q. cond (is_some q) q rest) (f ∙ ap (λ b. fault_of_key removes b has rec) e)) where
-  split : (b : Bool) → cond b (Some (fault.NoRow rec)) rest ≡ cond (is_some (cond b (Some (fault.NoRow rec)) None)) (cond b (Some (fault.NoRow rec)) None) rest
-  split true = refl
-  split false = refl
+at_key removes false has rec rest fresh o e f = grind arith
 
 pub fault_here : (removes : Bool) (place : ℕ) (rows : List plain.Row) (rec : ℕ) (earlier : List Cell) (k : Cell) (keys : List Cell) (fresh : Bool) (o all : Option BatchFault) → fresh ≡ not (has_cell earlier k) → o ≡ fault_of_key removes fresh (has_open place k rows) rec
     → is_some o ≡ true → key_fault removes place rows rec earlier (k ∷ keys) ≡ all → o ≡ all
-fault_here removes place rows rec earlier k keys fresh o all e f some start =
-    sym (at_key removes (has_cell earlier k) (has_open place k rows) rec (key_fault removes place rows (rec + 1) (k ∷ earlier) keys) fresh o e f ∙ ap (λ b. cond b o (key_fault removes place rows (rec + 1) (k ∷ earlier) keys)) some) ∙ start
+fault_here removes place rows rec earlier k keys fresh o all e f some start = grind (arith, at_key removes (has_cell earlier k) (has_open place k rows) rec (key_fault removes place rows (rec + 1) (k ∷ earlier) keys) fresh o e f)
 
 pub fault_later : (removes : Bool) (place : ℕ) (rows : List plain.Row) (rec : ℕ) (earlier more : List Cell) (k : Cell) (keys : List Cell) (fresh : Bool) (o all : Option BatchFault) → fresh ≡ not (has_cell earlier k) → o ≡ fault_of_key removes fresh (has_open place k rows) rec
     → is_some o ≡ false → ((x : Cell) → has_cell more x ≡ (same_cell x k || has_cell earlier x)) → key_fault removes place rows rec earlier (k ∷ keys) ≡ all → key_fault removes place rows (rec + 1) more keys ≡ all
-fault_later removes place rows rec earlier more k keys fresh o all e f none added start =
-    faults_same removes place rows (rec + 1) more (k ∷ earlier) keys added
-    ∙ (sym (at_key removes (has_cell earlier k) (has_open place k rows) rec (key_fault removes place rows (rec + 1) (k ∷ earlier) keys) fresh o e f ∙ ap (λ b. cond b o (key_fault removes place rows (rec + 1) (k ∷ earlier) keys)) none) ∙ start)
+fault_later removes place rows rec earlier more k keys fresh o all e f none added start = grind (arith, faults_same removes place rows (rec + 1) more (k ∷ earlier) keys added, at_key removes (has_cell earlier k) (has_open place k rows) rec (key_fault removes place rows (rec + 1) (k ∷ earlier) keys) fresh o e f)
 
 pub dropped : (keys : List (Bor Cell)) (i : ℕ) (k : Bor Cell) → i < length keys → k ≡ get_or keys i k → map (λ q. q.now) (drop i keys) ≡ k.now ∷ map (λ q. q.now) (drop (i + 1) keys)
 dropped keys i k h at = at_drop_more (map (λ (q : Bor Cell). q.now)) keys i k h ∙ ap (λ (r : Bor Cell). r.now ∷ map (λ (t : Bor Cell). t.now) (drop (i + 1) keys)) (sym at)
 
 pub this_key : (removes : Bool) (place : ℕ) (rows : List plain.Row) (keys : List (Bor Cell)) (i : ℕ) (k : Bor Cell) (earlier : List Cell) (fresh : Bool) (o all : Option BatchFault) → i < length keys → k ≡ get_or keys i k → fresh ≡ not (has_cell earlier k.now)
     → o ≡ fault_of_key removes fresh (has_open place k.now rows) (i + 2) → is_some o ≡ true → key_fault removes place rows (i + 2) earlier (map (λ q. q.now) (drop i keys)) ≡ all → o ≡ all
-this_key removes place rows keys i k earlier fresh o all h at e f some start =
-    fault_here removes place rows (i + 2) earlier k.now (map (λ q. q.now) (drop (i + 1) keys)) fresh o all e f some (ap (key_fault removes place rows (i + 2) earlier) (sym (dropped keys i k h at)) ∙ start)
+this_key removes place rows keys i k earlier fresh o all h at e f some start = grind (arith, dropped keys i k h)
 
 pub more_keys : (removes : Bool) (place : ℕ) (rows : List plain.Row) (keys : List (Bor Cell)) (i : ℕ) (k : Bor Cell) (earlier more : List Cell) (fresh : Bool) (o all : Option BatchFault) → i < length keys → k ≡ get_or keys i k → fresh ≡ not (has_cell earlier k.now)
     → o ≡ fault_of_key removes fresh (has_open place k.now rows) (i + 2) → is_some o ≡ false → ((x : Cell) → has_cell more x ≡ (same_cell x k.now || has_cell earlier x)) → key_fault removes place rows (i + 2) earlier (map (λ q. q.now) (drop i keys)) ≡ all
@@ -96,14 +80,3 @@ more_keys removes place rows keys i k earlier more fresh o all h at e f none add
     ∙ fault_later removes place rows (i + 2) earlier more k.now (map (λ q. q.now) (drop (i + 1) keys)) fresh o all e f none added (ap (key_fault removes place rows (i + 2) earlier) (sym (dropped keys i k h at)) ∙ start)
 
 -- IDS OF KEYS
-
-pub ids_more : (index : IdsByKey) (keys : List (Bor Cell)) (i : ℕ) (k : Bor Cell) (n : ℕ) (before after : List ℕ) → i < length keys → k ≡ get_or keys i k → has_id before n ≡ list_any (λ q. has_row index q.now n) (take i keys)
-    → has_id after n ≡ (has_row index k.now n || has_id before n) → has_id after n ≡ list_any (λ q. has_row index q.now n) (take (i + 1) keys)
-ids_more index keys i k n before after h at e f =
-    f ∙ (ap (λ b. has_row index k.now n || b) e ∙ (swap (has_row index k.now n) (list_any (λ q. has_row index q.now n) (take i keys))
-    ∙ (sym (list_any-append (λ q. has_row index q.now n) (take i keys) (k ∷ [])) ∙ ap (list_any (λ q. has_row index q.now n)) (sym (take_more keys i k h ∙ ap (λ q. take i keys ++ q ∷ []) (sym at)))))) where
-      swap : (a b : Bool) → (a || b) ≡ (b || (a || false))
-      swap true true = refl
-      swap true false = refl
-      swap false true = refl
-      swap false false = refl

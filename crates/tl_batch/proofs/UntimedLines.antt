@@ -1,7 +1,6 @@
 -- Lines for a table without valid time: the first fault, the rows that they close and the rows that they open.
-use Rattle.std.proofs.Common.{◌≡◌, ℕ, suc, ◌+◌, ◌<◌, ◌≤◌, Bool, true, false, ◌&&◌, ◌||◌, not, cond, List, [], ◌∷◌, ◌++◌, length, map, take, get_or, slice_get, Option, Some, None, is_some, Result, Ok, Err, subst, refl, sym, ap, ◌∙◌, arith}
+use Rattle.std.proofs.Common.{◌≡◌, ℕ, suc, ◌+◌, ◌<◌, ◌≤◌, Bool, true, false, ◌&&◌, ◌||◌, not, cond, List, [], ◌∷◌, ◌++◌, length, map, take, get_or, slice_get, Option, Some, None, Result, Ok, Err, subst, refl, sym, ap, ◌∙◌, arith}
 use Rattle.std.specs.Borrow.{Bor}
-use Rattle.std.specs.Bool.{beq}
 use Rattle.std.specs.List.{list_any, list_all}
 use Rattle.std.proofs.lemmas.Bool.{and_parts}
 use Rattle.std.proofs.lemmas.List.{take_more, map-append}
@@ -13,8 +12,8 @@ use Rattle.tl_types.specs.declared.batches.KeyLine.{KeyLine}
 use Rattle.tl_types.specs.declared.batches.BatchFault.TheVariants as fault
 use Rattle.tl_types.specs.Facts.{AscendFrom}
 use Rattle.tl_types.specs.Plain as plain
-use Rattle.tl_types.specs.History.{is_open, has_id, same_cell, matches, match_columns}
-use Rattle.tl_types.specs.Resolving.{BatchLine, same_key, overlap, put_lines, removal_lines}
+use Rattle.tl_types.specs.History.{is_open, has_id, matches}
+use Rattle.tl_types.specs.Resolving.{BatchLine, same_key, put_lines, removal_lines}
 use Rattle.tl_batch.specs.Faults.{fault_from, is_row_affected}
 use Rattle.tl_batch.specs.KeyIndex.{IdsByKey, has_row}
 use Rattle.tl_batch.specs.OpenTables.{IsIndexOf}
@@ -22,7 +21,7 @@ use Rattle.tl_batch.specs.Pieces.{affects_period, cuts, periods_with, is_affecte
 use Rattle.tl_batch.specs.Standing.{is_open_with, rows_match}
 use Rattle.tl_batch.specs.declared.changing.RowChanges.{RowChanges}
 use Rattle.tl_batch.specs.Made.{IsMade, IsClosed}
-use Rattle.tl_batch.specs.Untimed.{has_cell, has_open, key_fault}
+use Rattle.tl_batch.specs.Untimed.{has_cell, key_fault}
 use Rattle.tl_batch.proofs.KeyIndexLemmas.{cell_sym, cell_self, same_as}
 use Rattle.tl_batch.proofs.RowChangesLemmas.{closes_are, nothing_left}
 use Rattle.tl_batch.proofs.LineFaultLemmas.{row_affected_keyed, never_fault}
@@ -36,38 +35,14 @@ other_keys : (l : BatchLine) (lines : List BatchLine) (k : Bor Cell) (keys : Lis
 other_keys l lines k keys same = cc
 
 known_more : (earlier : List BatchLine) (seen : List Cell) (l : BatchLine) (k : Cell) → l.key ≡ Some k → ((x : Cell) → list_any (λ e. same_key e.key (Some x)) earlier ≡ has_cell seen x) → (x : Cell) → list_any (λ e. same_key e.key (Some x)) (earlier ++ l ∷ []) ≡ has_cell (k ∷ seen) x
-known_more earlier seen l k key known x = list_any-append (λ (e : BatchLine). same_key e.key (Some x)) earlier (l ∷ [])
-    ∙ (or_none (list_any (λ e. same_key e.key (Some x)) earlier) (same_key l.key (Some x)) ∙ (ap (λ b. b || list_any (λ (e : BatchLine). same_key e.key (Some x)) earlier) (ap (λ q. same_key q (Some x)) key ∙ cell_sym k x) ∙ ap (λ b. same_cell x k || b) (known x))) where
-      or_none : (a b : Bool) → (a || (b || false)) ≡ (b || a)
-      or_none true true = refl
-      or_none true false = refl
-      or_none false true = refl
-      or_none false false = refl
+known_more earlier seen l k key known x = grind (arith, list_any-append (λ (e : BatchLine). same_key e.key (Some x)) earlier (l ∷ []), cell_sym k x, known x)
 
 at_line : (schema : plain.Schema) (removes : Bool) (rows : List plain.Row) (rec : ℕ) (earlier : List BatchLine) (seen : List Cell) (l : BatchLine) (lines : List BatchLine) (k : Cell) (keys : List Cell) → schema.valid ≡ false → l.key ≡ Some k
     → ((x : Cell) → list_any (λ e. same_key e.key (Some x)) earlier ≡ has_cell seen x) → key_fault removes schema.key rows (rec + 1) (k ∷ seen) keys ≡ fault_from schema removes rows (rec + 1) (earlier ++ l ∷ []) lines
     → key_fault removes schema.key rows rec seen (k ∷ keys) ≡ fault_from schema removes rows rec earlier (l ∷ lines)
-at_line schema removes rows rec earlier seen l lines k keys untimed key known later = by_twice (has_cell seen k) refl where
-  twice : list_any (λ e. same_key e.key l.key) earlier ≡ has_cell seen k
-  twice = ap (λ q. list_any (λ (e : BatchLine). same_key e.key q) earlier) key ∙ known k
-
-  all : Bool → Bool → Option BatchFault → Option BatchFault
-  all b h f = cond b (Some (fault.KeyTwice rec)) (cond (removes && not h) (Some (fault.NoRow rec)) f)
-
-  affected : Bool
-  affected = list_any (is_row_affected schema earlier l) rows
-
-  rest : Option BatchFault
-  rest = fault_from schema removes rows (rec + 1) (earlier ++ l ∷ []) lines
-
-  now : all (not schema.valid && list_any (λ e. same_key e.key l.key) earlier) affected rest ≡ all (has_cell seen k) affected rest
-  now = ap (λ b. all b affected rest) (ap (λ v. not v && list_any (λ (e : BatchLine). same_key e.key l.key) earlier) untimed ∙ twice)
-
-  by_twice : (b : Bool) → has_cell seen k ≡ b → all (has_cell seen k) (has_open schema.key k rows) (key_fault removes schema.key rows (rec + 1) (k ∷ seen) keys) ≡ all (not schema.valid && list_any (λ e. same_key e.key l.key) earlier) affected rest
-  by_twice true e = ap (λ b. all b (has_open schema.key k rows) (key_fault removes schema.key rows (rec + 1) (k ∷ seen) keys)) e ∙ sym (now ∙ ap (λ b. all b affected rest) e)
-  by_twice false e =
-      ap (λ f. all (has_cell seen k) (has_open schema.key k rows) f) later
-      ∙ (ap (λ h. all (has_cell seen k) h rest) (sym (row_affected_keyed schema rows earlier l k untimed key (known k ∙ e))) ∙ sym now)
+at_line schema removes rows rec earlier seen l lines k keys untimed key known later =
+    let twice : list_any (λ e. same_key e.key l.key) earlier ≡ has_cell seen k = ap (λ q. list_any (λ (e : BatchLine). same_key e.key q) earlier) key ∙ known k in
+    grind (arith, later, row_affected_keyed schema rows earlier l k untimed key)
 
 faults_by_keys : (schema : plain.Schema) (removes : Bool) (rows : List plain.Row) (rec : ℕ) (earlier : List BatchLine) (seen : List Cell) (lines : List BatchLine) (keys : List (Bor Cell)) → schema.valid ≡ false → map (λ l. l.key) lines ≡ map (λ k. Some k.now) keys
     → ((x : Cell) → list_any (λ e. same_key e.key (Some x)) earlier ≡ has_cell seen x) → key_fault removes schema.key rows rec seen (map (λ k. k.now) keys) ≡ fault_from schema removes rows rec earlier lines
@@ -80,7 +55,7 @@ faults_by_keys schema removes rows rec earlier seen (l ∷ lines) (k ∷ keys) u
 
 pub fault_by_keys : (schema : plain.Schema) (removes : Bool) (rows : List plain.Row) (lines : List BatchLine) (keys : List (Bor Cell)) (found : Option BatchFault) → schema.valid ≡ false → map (λ l. l.key) lines ≡ map (λ k. Some k.now) keys
     → found ≡ key_fault removes schema.key rows 2 [] (map (λ k. k.now) keys) → found ≡ fault_from schema removes rows 2 [] lines
-fault_by_keys schema removes rows lines keys found untimed same e = e ∙ faults_by_keys schema removes rows 2 [] [] lines keys untimed same (λ x. refl)
+fault_by_keys schema removes rows lines keys found untimed same e = grind (arith, faults_by_keys schema removes rows 2)
 
 -- THE ROWS THAT ARE CLOSED
 
@@ -89,11 +64,7 @@ row_affected : (schema : plain.Schema) (key : Option Cell) (whole : Option plain
 row_affected schema key whole [] [] untimed same = refl
 row_affected schema key whole [] (k ∷ keys) untimed same = absurd (cc)
 row_affected schema key whole (l ∷ lines) [] untimed same = absurd (cc)
-row_affected schema key whole (l ∷ lines) (k ∷ keys) untimed same = ap (λ b. b || list_any (λ q. same_key key (Some q.now)) keys) (sym (ap (same_key key) (first_key l lines k keys same))) ∙ split (same_key key l.key) (row_affected schema key whole lines keys untimed (other_keys l lines k keys same)) where
-  split : (b : Bool) → list_any (λ q. same_key key (Some q.now)) keys ≡ list_any (λ p. affects_period schema.valid p whole) (periods_with key lines)
-      → (b || list_any (λ q. same_key key (Some q.now)) keys) ≡ list_any (λ p. affects_period schema.valid p whole) (cond b (l.period ∷ periods_with key lines) (periods_with key lines))
-  split true rest = ap (λ v. (not v || overlap whole l.period) || list_any (λ p. affects_period schema.valid p whole) (periods_with key lines)) (sym untimed)
-  split false rest = rest
+row_affected schema key whole (l ∷ lines) (k ∷ keys) untimed same = grind (arith, first_key l lines k keys same, row_affected schema key whole lines keys untimed (other_keys l lines k keys same), other_keys l lines k keys same)
 
 keys_open : (schema : plain.Schema) (o : Option plain.Row) (lines : List BatchLine) (keys : List (Bor Cell)) → schema.valid ≡ false → map (λ l. l.key) lines ≡ map (λ k. Some k.now) keys → list_any (λ k. is_open_with schema.key k.now o) keys ≡ is_open_affected schema lines o
 keys_open schema None lines keys untimed same = none keys where
@@ -118,10 +89,7 @@ closes_by_keys schema rows lines keys index ids untimed same stand ascend member
 -- THE ROWS THAT ARE OPENED
 
 no_period : (schema : plain.Schema) (o : plain.Opened) → schema.valid ≡ false → matches schema o ≡ true → o.period ≡ None
-no_period schema o untimed m = none o.period (ap (λ v. beq v (is_some o.period)) (sym untimed) ∙ (and_parts (match_columns schema.columns o.cells) (beq schema.valid (is_some o.period)) m).1) where
-  none : (p : Option plain.Period) → beq false (is_some p) ≡ true → p ≡ None
-  none None e = refl
-  none (Some q) e = absurd (cc)
+no_period schema o untimed m = grind arith
 
 some_line : (ps : List (Option plain.Period)) (whole : Option plain.Period) (valid : Bool) → list_any (λ p. affects_period valid p whole) ps ≡ true → 1 ≤ length ps
 some_line [] whole valid e = absurd (cc)
@@ -205,8 +173,7 @@ puts_whole schema removes rows rec earlier (o ∷ lines) untimed none =
 -- the rows that lines with valid rows open
 pub untimed_opens : (schema : plain.Schema) (rows : List plain.Row) (lines : List plain.Opened) → schema.valid ≡ false → list_all (λ r. matches schema (record { cells = r.cells; period = r.period })) rows ≡ true → fault_from schema false rows 2 [] (put_lines schema lines) ≡ None
     → lines ≡ old_pieces schema (put_lines schema lines) rows ++ put_pieces schema (put_lines schema lines)
-untimed_opens schema rows lines untimed all none =
-    sym (ap (λ os. os ++ put_pieces schema (put_lines schema lines)) (old_none schema (put_lines schema lines) rows untimed all) ∙ puts_whole schema false rows 2 [] lines untimed none)
+untimed_opens schema rows lines untimed all none = grind (arith, old_none schema (put_lines schema lines) rows untimed all, puts_whole schema false rows 2)
 
 puts_nothing : (schema : plain.Schema) (lines : List KeyLine) → put_pieces schema (removal_lines lines) ≡ []
 puts_nothing schema [] = refl
@@ -214,7 +181,7 @@ puts_nothing schema (k ∷ lines) = puts_nothing schema lines
 
 pub untimed_none : (schema : plain.Schema) (rows : List plain.Row) (lines : List KeyLine) → schema.valid ≡ false → list_all (λ r. matches schema (record { cells = r.cells; period = r.period })) rows ≡ true
     → [] ≡ old_pieces schema (removal_lines lines) rows ++ put_pieces schema (removal_lines lines)
-untimed_none schema rows lines untimed all = sym (ap (λ os. os ++ put_pieces schema (removal_lines lines)) (old_none schema (removal_lines lines) rows untimed all) ∙ puts_nothing schema lines)
+untimed_none schema rows lines untimed all = grind (arith, old_none schema (removal_lines lines) rows untimed all, puts_nothing schema lines)
 
 -- KEYS OF LINES
 
@@ -232,8 +199,7 @@ map_length f (x ∷ xs) = ap suc (map_length f xs)
 
 pub put_keys : (schema given : plain.Schema) (place : ℕ) (rows : List plain.Opened) (keys lent : List (Bor Cell)) → place ≡ given.key → given ≡ schema → lent ≡ keys → map (λ k. Some k.now) keys ≡ map (λ o. slice_get o.cells place) rows
     → map (λ l. l.key) (put_lines schema rows) ≡ map (λ k. Some k.now) lent
-put_keys schema given place rows keys lent at is same e =
-    rows_keys schema rows ∙ (ap (λ p. map (λ (o : plain.Opened). slice_get o.cells p) rows) (sym (at ∙ ap (λ s. s.key) is)) ∙ (sym e ∙ ap (map (λ (k : Bor Cell). Some k.now)) (sym same)))
+put_keys schema given place rows keys lent at is same e = grind (arith, rows_keys schema rows)
 
 pub removal_keys : (lines : List KeyLine) (keys lent : List (Bor Cell)) → lent ≡ keys → map (λ k. Some k.now) keys ≡ map (λ l. Some l.key) lines → map (λ l. l.key) (removal_lines lines) ≡ map (λ k. Some k.now) lent
 removal_keys lines keys lent same e = lines_keys lines ∙ (sym e ∙ ap (map (λ (k : Bor Cell). Some k.now)) (sym same))
@@ -248,13 +214,11 @@ put_done table lines given closes made outcome untimed all same is at c o =
 
 pub put_failed : (table : plain.Table) (lines given : List plain.Opened) (f : BatchFault) (outcome : Result (List ℕ) BatchFault) → given ≡ lines → IsClosed false table.schema table.rows (put_lines table.schema given) outcome → outcome ≡ Err f
     → fault_from table.schema false table.rows 2 [] (put_lines table.schema lines) ≡ Some f
-put_failed table lines given f outcome same is at = subst (IsClosed false table.schema table.rows (put_lines table.schema lines)) at (subst (λ ls. IsClosed false table.schema table.rows (put_lines table.schema ls) outcome) same is)
+put_failed table lines given f outcome same is at = grind arith
 
 pub remove_done : (table : plain.Table) (lines : List KeyLine) (closes : List ℕ) (made : RowChanges) (outcome : Result (List ℕ) BatchFault) → table.schema.valid ≡ false → rows_match (Some table) ≡ true
     → IsClosed true table.schema table.rows (removal_lines lines) outcome → outcome ≡ Ok closes → made.closes ≡ closes → made.opens.items ≡ [] → IsMade true table.schema table.rows (removal_lines lines) (Ok made)
-remove_done table lines closes made outcome untimed all is at c o =
-    let closed : IsClosed true table.schema table.rows (removal_lines lines) (Ok closes) = subst (IsClosed true table.schema table.rows (removal_lines lines)) at is in
-    (closed.0, c ∙ closed.1, o ∙ untimed_none table.schema table.rows lines untimed all)
+remove_done table lines closes made outcome untimed all is at c o = grind (arith, untimed_none table.schema table.rows lines untimed all)
 
 pub remove_failed : (table : plain.Table) (lines : List KeyLine) (f : BatchFault) (outcome : Result (List ℕ) BatchFault) → IsClosed true table.schema table.rows (removal_lines lines) outcome → outcome ≡ Err f
     → fault_from table.schema true table.rows 2 [] (removal_lines lines) ≡ Some f
@@ -270,4 +234,4 @@ row_key_more place i rows row given k before after h at there same is made e =
 -- rows put into a table with valid time
 pub timed_done : (table : plain.Table) (lines given : List plain.Opened) (made : RowChanges) → table.schema.valid ≡ true → given ≡ lines → made.closes ≡ affected_ids table.schema (put_lines table.schema given) 0 table.rows
     → made.opens.items ≡ old_pieces table.schema (put_lines table.schema given) table.rows ++ put_pieces table.schema (put_lines table.schema given) → IsMade false table.schema table.rows (put_lines table.schema lines) (Ok made)
-timed_done table lines given made valid same c o = subst (λ ls. IsMade false table.schema table.rows (put_lines table.schema ls) (Ok made)) same (sym (never_fault table.schema false table.rows 2 [] (put_lines table.schema given) valid refl), c, o)
+timed_done table lines given made valid same c o = grind (arith, never_fault table.schema false table.rows 2)

@@ -1,23 +1,18 @@
 -- Stretches of time with something between neighbours, each kept as its end and the moment where it
 -- begins.
-use Rattle.std.specs.Prelude.{◌≡◌, ℤ, negsuc, ◌<ℤ◌, Bool, true, false, ◌&&◌, not, int_lt, List, [], ◌∷◌, ◌++◌, Option, Some, None, if◌then◌else◌, slice_get}
+use Rattle.std.specs.Prelude.{◌≡◌, ℤ, negsuc, ◌<ℤ◌, Bool, true, false, ◌&&◌, int_lt, int_le, List, [], ◌∷◌, ◌++◌, Option, Some, None, if◌then◌else◌, slice_get}
 use Rattle.std.specs.List.{list_any}
 use Rattle.std.specs.Ordering.{int_eq}
 use Rattle.std.specs.Map.{lookup}
 use Rattle.tl_types.specs.declared.cells.Cell.{Cell}
 use Rattle.tl_types.specs.Plain as plain
-use Rattle.tl_types.specs.History.{is_open, same_cell}
+use Rattle.tl_types.specs.History.{is_open, is_within, same_cell}
 use Rattle.tl_types.specs.Resolving.{BatchLine, same_key}
 use Rattle.tl_batch.specs.Pieces.{part, periods_with, is_affected}
 
 -- the moment is one of those from one on and before another
 abbrev pub is_between : ℤ → ℤ → ℤ → Bool
-is_between t from to = not (int_lt t from) && int_lt t to
-
--- the moment is one of the period
-abbrev pub is_in : ℤ → Option plain.Period → Bool
-is_in t None = false
-is_in t (Some p) = is_between t p.from p.to
+is_between t from to = int_le from t && int_lt t to
 
 -- a stretch has the moment
 abbrev pub is_covered : ℤ → List (ℤ × ℤ) → Bool
@@ -71,7 +66,7 @@ cover_at x covers = stretches_or (lookup (same_cell x) covers)
 pub record HoldLines (covers : List (Cell × List (ℤ × ℤ))) (lines : List BatchLine) : Type 0 where
   pub full : (x : Cell) → Full (periods_with (Some x) lines)
   pub same : (x : Cell) (t : ℤ)
-      → is_covered t (cover_at x covers) ≡ list_any (is_in t) (periods_with (Some x) lines)
+      → is_covered t (cover_at x covers) ≡ list_any (is_within t) (periods_with (Some x) lines)
 
 -- the periods are the same
 abbrev pub same_period : Option plain.Period → Option plain.Period → Bool
@@ -92,7 +87,8 @@ is_said key lines = list_any (λ said. same_key key said.key) lines
 
 -- the row is there and current, its key is among those of the lines so far, and one of all lines
 -- affects it
-abbrev pub affected_so_far : plain.Schema → List BatchLine → List BatchLine → Option plain.Row → Bool
+abbrev pub affected_so_far : plain.Schema → List BatchLine → List BatchLine → Option plain.Row
+    → Bool
 affected_so_far schema lines front None = false
 affected_so_far schema lines front (Some row) =
     is_open row && (is_said (slice_get row.cells schema.key) front && is_affected schema lines row)

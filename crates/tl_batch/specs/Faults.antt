@@ -5,9 +5,9 @@ use Rattle.tl_types.specs.declared.cells.Cell.{Cell}
 use Rattle.tl_types.specs.declared.batches.BatchFault.{BatchFault}
 use Rattle.tl_types.specs.declared.batches.BatchFault.TheVariants as fault
 use Rattle.tl_types.specs.Plain as plain
-use Rattle.tl_types.specs.History.{is_open}
+use Rattle.tl_types.specs.History.{is_open, is_within}
 use Rattle.tl_types.specs.Resolving.{BatchLine, same_key}
-use Rattle.tl_batch.specs.Covers.{Full, cover_at, is_covered, is_in, is_said}
+use Rattle.tl_batch.specs.Covers.{Full, cover_at, is_covered, is_said}
 use Rattle.tl_batch.specs.Pieces.{affects_period, cuts, periods_with}
 
 -- the row is current, and the line affects a part that the earlier lines left of it
@@ -58,4 +58,4 @@ pub record HoldRows (place : ℕ) (covers : List (Cell × List (ℤ × ℤ))) (l
   pub full : (x : Cell) → is_said (Some x) lines ≡ true → Full (open_periods place x rows)
   pub same : (x : Cell) (t : ℤ)
       → is_covered t (cover_at x covers)
-      ≡ (is_said (Some x) lines && list_any (is_in t) (open_periods place x rows))
+      ≡ (is_said (Some x) lines && list_any (is_within t) (open_periods place x rows))

@@ -78,7 +78,7 @@ batch_matches db (batch.Create schema) = true
 batch_matches db (batch.Put name lines) = rows_fit_found lines (find_table name db.tables)
 batch_matches db (batch.Remove name lines) = true
 
--- what these limits allow, the others allow too
+-- of tables, rows and versions the others allow what these limits allow
 pub record AreWithin (limits others : Limits) : Type 0 where
   pub tables : limits.tables ≤ others.tables
   pub rows : limits.rows ≤ others.rows

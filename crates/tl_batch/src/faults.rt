@@ -2,8 +2,8 @@
 ghost use Rattle.std.specs.Prelude.{◌≡◌, ◌+◌, ◌<◌, ◌^◌, ◌&&◌, ◌||◌, ℤ, true, [], OnOk, IfOk, length};
 ghost use Rattle.std.specs.List.{list_any};
 ghost use Rattle.tl_types.specs.declared.cells.Cell.{Cell};
-ghost use Rattle.tl_types.specs.History.{same_cell};
-ghost use Rattle.tl_batch.specs.Covers.{Full, cover_at, is_covered, is_in};
+ghost use Rattle.tl_types.specs.History.{is_within, same_cell};
+ghost use Rattle.tl_batch.specs.Covers.{Full, cover_at, is_covered};
 ghost use Rattle.tl_batch.specs.Faults.{HoldRows, fault_from, open_periods};
 ghost use Rattle.tl_batch.specs.Lines.{lines_of};
 
@@ -24,7 +24,7 @@ fn add_rows<L: Ledger>(
 ) -> Result<(), NoMemory>
     requires valid { table.now.schema.valid ≡ true }
     ensures held { OnOk result ((x : Cell) (t : ℤ) → is_covered t (cover_at x periods.new)
-        ≡ ((same_cell x key.now && list_any (is_in t)
+        ≡ ((same_cell x key.now && list_any (is_within t)
         (open_periods table.now.schema.key key.now table.now.rows))
         || is_covered t (cover_at x periods.old))) }
     ensures full { OnOk result (Full (open_periods table.now.schema.key key.now table.now.rows)) }

@@ -2,7 +2,8 @@
 ghost use Rattle.std.specs.Prelude.{◌≡◌, ◌||◌, ◌++◌, ◌<ℤ◌, ℤ, true, List, Option, [], None, Some, IfOk, OnOk};
 ghost use Rattle.std.specs.List.{list_any};
 ghost use Rattle.tl_types.specs.Plain as plain;
-ghost use Rattle.tl_batch.specs.Covers.{Full, Beyond, before_all, is_between, is_in, is_covered, joining, gaps};
+ghost use Rattle.tl_types.specs.History.{is_within};
+ghost use Rattle.tl_batch.specs.Covers.{Full, Beyond, before_all, is_between, is_covered, joining, gaps};
 ghost use Rattle.tl_batch.specs.Pieces.{cuts, part};
 
 use std::alloc::Global;
@@ -114,7 +115,7 @@ impl PeriodSet {
         ensures some { period.from <ℤ period.to }
         ensures value { IfOk result (λ left. left.items ≡ gaps period.from period.to self.now) }
         ensures lines { IfOk result (λ left. (lines : List (Option plain.Period)) → Full lines
-            → ((t : ℤ) → is_covered t self.now ≡ list_any (is_in t) lines) → left.items
+            → ((t : ℤ) → is_covered t self.now ≡ list_any (is_within t) lines) → left.items
             ≡ cuts true lines (Some period)) }
     {
         let to = period.to();

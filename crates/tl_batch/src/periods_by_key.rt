@@ -3,9 +3,9 @@ ghost use Rattle.std.specs.Prelude.{◌≡◌, ◌&&◌, ◌||◌, ◌<ℤ◌, n
 ghost use Rattle.std.specs.List.{list_any};
 ghost use Rattle.tl_types.specs.declared.cells.Cell.{Cell};
 ghost use Rattle.tl_types.specs.Plain as plain;
-ghost use Rattle.tl_types.specs.History.{same_cell};
+ghost use Rattle.tl_types.specs.History.{is_within, same_cell};
 ghost use Rattle.tl_types.specs.Resolving.{BatchLine};
-ghost use Rattle.tl_batch.specs.Covers.{Full, HoldLines, cover_at, is_covered, is_in, is_whole, same_period, stretches_or};
+ghost use Rattle.tl_batch.specs.Covers.{Full, HoldLines, cover_at, is_covered, is_whole, same_period, stretches_or};
 ghost use Rattle.tl_batch.specs.Pieces.{cuts, affects_period, periods_with};
 ghost use Rattle.tl_batch.specs.Lines.{lines_of};
 
@@ -60,7 +60,7 @@ impl PeriodsByKey {
         cover_or_none(alloc, found)
     }
 
-    // Gives a key a cover.
+    // Gives a key a cover. The error is `NoMemory`.
     fn put(&mut self, key: &Cell, cover: PeriodSet) -> Result<(), NoMemory>
         ensures { OnOk result ((x : Cell) → cover_at x self.new
             ≡ (if same_cell x key.now then cover else cover_at x self.old)) }
@@ -70,10 +70,10 @@ impl PeriodsByKey {
         Ok(())
     }
 
-    // PeriodsByKey a period of a key too.
+    // Covers a period of a key too. The error is `NoMemory`.
     fn add_period(&mut self, alloc: Global, key: &Cell, period: Period) -> Result<(), NoMemory>
         ensures held { OnOk result ((x : Cell) (t : ℤ) → is_covered t (cover_at x self.new)
-            ≡ ((same_cell x key.now && is_in t (Some period))
+            ≡ ((same_cell x key.now && is_within t (Some period))
             || is_covered t (cover_at x self.old))) }
         ensures full { OnOk result (Full (Some period ∷ [])) }
     {
@@ -83,7 +83,7 @@ impl PeriodsByKey {
         Ok(())
     }
 
-    /// PeriodsByKey the period of a line of a key too, where it has one. The error is `NoMemory`.
+    /// Covers the period of a line of a key too, where it has one. The error is `NoMemory`.
     pub(crate) fn add(
         &mut self,
         alloc: Global,
@@ -91,7 +91,8 @@ impl PeriodsByKey {
         period: &Option<Period>,
     ) -> Result<(), NoMemory>
         ensures held { OnOk result ((x : Cell) (t : ℤ) → is_covered t (cover_at x self.new)
-            ≡ ((same_cell x key.now && is_in t period.now) || is_covered t (cover_at x self.old))) }
+            ≡ ((same_cell x key.now && is_within t period.now)
+            || is_covered t (cover_at x self.old))) }
         ensures full { OnOk result (Full (period.now ∷ [])) }
     {
         let Some(period) = period else {
@@ -110,7 +111,7 @@ impl PeriodsByKey {
     ) -> Result<Vec<Option<Period>>, NoMemory>
         ensures some { period.from <ℤ period.to }
         ensures lines { IfOk result (λ left. (lines : List (Option plain.Period)) → Full lines
-            → ((t : ℤ) → is_covered t (cover_at key.now self.now) ≡ list_any (is_in t) lines)
+            → ((t : ℤ) → is_covered t (cover_at key.now self.now) ≡ list_any (is_within t) lines)
             → left.items ≡ cuts true lines (Some period)) }
     {
         match self.covers.get(key) {
@@ -135,7 +136,7 @@ impl PeriodsByKey {
     ) -> Result<Vec<Option<Period>>, NoMemory>
         ensures full { IfOk result (λ _. Full (whole.now ∷ [])) }
         ensures periods { IfOk result (λ left. (periods : List (Option plain.Period)) → Full periods
-            → ((t : ℤ) → is_covered t (cover_at key.now self.now) ≡ list_any (is_in t) periods)
+            → ((t : ℤ) → is_covered t (cover_at key.now self.now) ≡ list_any (is_within t) periods)
             → left.items ≡ cuts true periods whole.now) }
         ensures lines { IfOk result (λ left. (lines : List BatchLine) → HoldLines self.now lines
             → left.items ≡ cuts true (periods_with (Some key.now) lines) whole.now) }
@@ -161,7 +162,7 @@ impl PeriodsByKey {
             (periods_with (Some key.now) lines)) }
         ensures periods { IfOk result (λ affected. (periods : List (Option plain.Period))
             → Full periods
-            → ((t : ℤ) → is_covered t (cover_at key.now self.now) ≡ list_any (is_in t) periods)
+            → ((t : ℤ) → is_covered t (cover_at key.now self.now) ≡ list_any (is_within t) periods)
             → affected ≡ list_any (λ line. affects_period true line whole.now) periods) }
     {
         let left = self.left(alloc, key, whole)?;
@@ -214,7 +215,7 @@ fn affects_part(
     parts: &[Option<Period>],
 ) -> Result<bool, NoMemory>
     ensures { IfOk result (λ affected. (wholes : List (Option plain.Period)) → Full wholes
-        → ((t : ℤ) → is_covered t (cover_at key.now rows.now) ≡ list_any (is_in t) wholes)
+        → ((t : ℤ) → is_covered t (cover_at key.now rows.now) ≡ list_any (is_within t) wholes)
         → affected ≡ list_any (λ g. list_any (λ p. affects_period true p g) wholes) parts.now) }
 {
     for part in parts {
@@ -237,7 +238,7 @@ pub(crate) fn affects_rest(
 ) -> Result<bool, NoMemory>
     ensures { IfOk result (λ affected. (lines : List BatchLine)
         (wholes : List (Option plain.Period)) → HoldLines earlier.now lines → Full wholes
-        → ((t : ℤ) → is_covered t (cover_at key.now rows.now) ≡ list_any (is_in t) wholes)
+        → ((t : ℤ) → is_covered t (cover_at key.now rows.now) ≡ list_any (is_within t) wholes)
         → affected ≡ list_any (λ p. list_any (λ q. affects_period true line.now q)
         (cuts true (periods_with (Some key.now) lines) p)) wholes) }
 {

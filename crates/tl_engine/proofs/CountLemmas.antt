@@ -1,14 +1,11 @@
 -- A list of entries with one entry more.
-use Rattle.std.proofs.Common.{◌≡◌, ℕ, ◌+◌, List, [], ◌∷◌, ◌++◌, refl, sym, ap, ◌∙◌, arith, append_assoc, append-nil}
+use Rattle.std.proofs.Common.{◌≡◌, ℕ, ◌+◌, List, [], ◌∷◌, ◌++◌, refl, sym, ap, ◌∙◌, arith, append_assoc}
 use mathlib.Core.List.{IsPrefix}
 use Rattle.tl_types.specs.declared.commits.Commit.{Commit}
 use Rattle.tl_types.specs.declared.commits.Entry.{Entry}
 use Rattle.tl_types.specs.declared.commits.Entry.TheVariants as entry
 use Rattle.tl_index.specs.Snapshots.{commit_entry, break_entry}
 use Rattle.tl_engine.specs.Counting.{news, GoesOn}
-
-pub begins_itself : (a : List Entry) → IsPrefix a a
-begins_itself a = ([], append-nil a)
 
 pub begins_on : (a b c : List Entry) → IsPrefix a b → IsPrefix b c → IsPrefix a c
 begins_on a b c p q = (p.0 ++ q.0, sym (append_assoc a p.0 q.0) ∙ (ap (λ z. z ++ q.0) p.1 ∙ q.1))
@@ -18,14 +15,6 @@ news_split [] b = omega arith
 news_split (entry.Commit c ∷ a) b = omega (arith, news_split a b)
 news_split (entry.Mark n v ∷ a) b = news_split a b
 news_split (entry.Break c ∷ a) b = omega (arith, news_split a b)
-
--- nothing was counted yet
-pub goes_nowhere : (opening list : List Entry) (total : ℕ) → list ≡ opening → total ≡ 0 → GoesOn opening list total
-goes_nowhere opening list total same none =
-    record {
-      begins = ([], append-nil opening ∙ sym same);
-      counted = omega (arith, ap news same, none);
-    }
 
 goes_on : (opening written new : List Entry) (total more : ℕ) (e : Entry) → news (e ∷ []) ≡ 1 → new ≡ written ++ e ∷ [] → more ≡ total + 1 → GoesOn opening written total → GoesOn opening new more
 goes_on opening written new total more e one is count goes =

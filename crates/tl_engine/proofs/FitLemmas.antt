@@ -7,14 +7,13 @@ use Rattle.tl_types.specs.declared.commits.Entry.{Entry}
 use Rattle.tl_types.specs.declared.limits.Limits.{Limits}
 use Rattle.tl_types.specs.Entries.{commits_of}
 use Rattle.tl_types.specs.History.{database_of, nothing, after_commit, fits}
-use Rattle.tl_types.specs.Limits.{standard_limits}
 use Rattle.tl_types.specs.Plain as plain
-use Rattle.tl_batch.specs.Made.{AreWithin}
-use Rattle.tl_batch.proofs.CommitLemmas.{ok_within}
 use Rattle.tl_index.specs.Snapshots.{commit_entry}
 use Rattle.tl_engine.specs.Fitting.{FitFrom, FitInTurn}
 use Rattle.tl_batch.specs.KeyIndex.{IdsByKey}
+use Rattle.tl_batch.specs.Made.{AreWithin}
 use Rattle.tl_batch.specs.Standing.{StandFor}
+use Rattle.tl_batch.proofs.CommitLemmas.{ok_within}
 use Rattle.tl_engine.specs.Replaying.{IsApplied, IsReplay}
 use Rattle.tl_engine.proofs.ListLemmas.{commits_more, break_same, alone_more}
 
@@ -23,14 +22,19 @@ fit_more : (limits : Limits) (db : plain.Database) (commits : List Commit) (c : 
 fit_more limits db [] c fitting fit = (fit, tt)
 fit_more limits db (d ∷ commits) c fitting fit = (fitting.0, fit_more limits (after_commit db d) commits c fitting.1 fit)
 
+fit_from_within : (limits others : Limits) (db : plain.Database) (commits : List Commit) → AreWithin limits others → FitFrom limits db commits → FitFrom others db commits
+fit_from_within limits others db [] within fitting = tt
+fit_from_within limits others db (c ∷ commits) within fitting =
+    (ok_within limits others db (Ok c) fitting.0 within, fit_from_within limits others (after_commit db c) commits within fitting.1)
+
+-- commits that fit with some limits fit with larger ones
+pub fit_within : (limits others : Limits) (commits : List Commit) → AreWithin limits others → FitInTurn limits commits → FitInTurn others commits
+fit_within limits others commits within fitting = fit_from_within limits others nothing commits within fitting
+
 -- each one fits those before it
 fit_at : (limits : Limits) (db : plain.Database) (before : List Commit) (c : Commit) (later : List Commit) → FitFrom limits db (before ++ c ∷ later) → fits limits (fold after_commit db before) c ≡ true
 fit_at limits db [] c later fitting = fitting.0
 fit_at limits db (d ∷ before) c later fitting = fit_at limits (after_commit db d) before c later fitting.1
-
--- what fits with the limits fits with wider ones
-pub fits_standard : (limits : Limits) (db : plain.Database) (c : Commit) → AreWithin limits standard_limits → fits limits db c ≡ true → fits standard_limits db c ≡ true
-fits_standard limits db c within fit = ok_within limits standard_limits db (Ok c) fit within
 
 -- the commits of entries with one more, which fits
 pub applied_fit : (limits : Limits) (old new : List Entry) (c : Commit) → FitInTurn limits (commits_of old) → IsApplied limits old new c true → FitInTurn limits (commits_of new)

@@ -3,7 +3,6 @@ pub mod FitLemmas
 pub mod ReadLemmas
 pub mod MomentLemmas
 pub mod StandingLemmas
-pub mod RoomLemmas
 pub mod OpenLemmas
 pub mod CountLemmas
 pub mod MatchLemmas

@@ -118,10 +118,6 @@ first_unfit limits opening new old applied o f is before gate read fits =
 pub damaged_there : (at : ℕ) (here there : List ℕ) → here ≡ there → IsDamagedOnlyAt at here → IsDamagedOnlyAt at there
 damaged_there at here there same damaged = subst (λ b. IsDamagedOnlyAt at b) same damaged
 
--- a place of damage is known by the fault
-pub same_place : (a b : ℕ) (e : JournalFault) → e ≡ fault.Damaged a → e ≡ fault.Damaged b → a ≡ b
-same_place a b e p q = let r : fault.Damaged a ≡ fault.Damaged b = sym p ∙ q in cc
-
 -- where the bytes are no journal's, the image is damaged
 pub bytes_damaged : (limits : Limits) (at : ℕ) (o : Option (List ℕ)) → IfSome o (λ b. IsDamagedOnlyAt at b) → IfSome o (λ b. IsDamaged limits at b)
 bytes_damaged limits at None d = d

@@ -51,13 +51,6 @@ write_says faults author b limits first_count mid last c seen now next broken sh
     (record { base = mid.entries; commit = c; begins = begins; whole = whole; makes = makes; entries_are = now_is ∙ (e ∙ broken_is) }, err.1, subst (λ n. Rose n count) first err.3, counted)
 
 -- where nothing is published
-pub unwritten : {D : Type 0} (faults : D → ℕ) (mid last : plain.History D) (c : Commit) (next broken : List Entry) (answer : Result ℕ CommitFault) → IfErr answer (WriteFails faults c mid last) → None ≡ shown_by answer next broken → last ≡ mid
-unwritten faults mid last c next broken (Ok v) err chosen = absurd (cc)
-unwritten faults mid last c next broken (Err (fault.Broken version)) err chosen = absurd err
-unwritten faults mid last c next broken (Err (fault.Refused version refusal)) err chosen = absurd err
-unwritten faults mid last c next broken (Err fault.NoMemory) err chosen = err
-unwritten faults mid last c next broken (Err (fault.Device version count)) err chosen = absurd (cc)
-
 pub unwritten_says : {D : Type 0} (faults : D → ℕ) (meaning : List Entry → Result Commit Rattle.tl_types.specs.declared.batches.BatchFault.BatchFault) (first_count : ℕ) (mid last : plain.History D) (c : Commit) (seen now next broken : List Entry) (before after : ℕ) (answer : Result ℕ CommitFault)
     → IfErr answer (WriteFails faults c mid last) → None ≡ shown_by answer next broken → now ≡ mid.entries → IsPrefix seen mid.entries → after ≡ before
     → CommitSays meaning first_count seen now before after answer
@@ -66,16 +59,6 @@ unwritten_says faults meaning first_count mid last c seen now next broken before
 unwritten_says faults meaning first_count mid last c seen now next broken before after (Err (fault.Refused version refusal)) err chosen now_is begins same = absurd err
 unwritten_says faults meaning first_count mid last c seen now next broken before after (Err fault.NoMemory) err chosen now_is begins same = (subst (IsPrefix seen) (sym now_is) begins, same)
 unwritten_says faults meaning first_count mid last c seen now next broken before after (Err (fault.Device version count)) err chosen now_is begins same = absurd (cc)
-
--- a committer whose history has the same entries
-pub keeps_still : {D : Type 0} (opening : List Entry) (count : ℕ) (limits : Limits) (written : List Entry) (total : ℕ) (old new : plain.History D) → new.entries ≡ old.entries → new.first_count ≡ old.first_count → new.limits ≡ old.limits → IsCommitting opening count limits written total old → IsCommitting opening count limits written total new
-keeps_still opening count limits written total old new entries first same kept =
-    record {
-      entries_are = entries ∙ kept.entries_are;
-      count_is = first ∙ kept.count_is;
-      limits_are = same ∙ kept.limits_are;
-      goes_on = kept.goes_on;
-    }
 
 -- a committer that has published
 pub keeps_written : {D : Type 0} (faults : D → ℕ) (opening : List Entry) (count : ℕ) (limits : Limits) (written more : List Entry) (total next_total : ℕ) (old mid last : plain.History D) (c : Commit) (next broken shown : List Entry) (answer : Result ℕ CommitFault)

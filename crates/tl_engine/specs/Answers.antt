@@ -1,20 +1,27 @@
 -- What the calls of a history answer.
-use Rattle.std.specs.Prelude.{◌≡◌, ℕ, true, false, List, [], ◌∷◌, ◌++◌, length, map, Result, Ok, Err}
+use Rattle.std.specs.Prelude.{◌≡◌, ℕ, ◌<◌, true, false, List, [], ◌∷◌, ◌++◌, length, map, Some, IfSome, Result, Ok, Err, IfOk, IfErr}
 use Rattle.std.specs.declared.option.Option.{Option}
 use Rattle.tl_types.specs.declared.batches.Batch.{Batch}
 use Rattle.tl_types.specs.declared.commits.Commit.{Commit}
 use Rattle.tl_types.specs.declared.commits.Entry.{Entry}
+use Rattle.tl_types.specs.declared.limits.Limits.{Limits}
 use Rattle.tl_types.specs.Entries.{commits_of, has_break}
 use Rattle.tl_types.specs.History.{database_of}
 use Rattle.tl_types.specs.Resolving.{resolved}
+use Rattle.tl_batch.specs.Made.{AreWithin}
 use Rattle.tl_device.specs.Known.{Rose}
 use Rattle.tl_index.specs.Snapshots.{commit_entry, break_entry}
+use Rattle.tl_journal.specs.Answers.{CountsFaults, IsTooShort, IsDeviceOrMemory}
+use Rattle.tl_journal.specs.Image.{StandsFor, IsJournalOf}
+use Rattle.tl_journal.specs.Moments.{EachMoment, EachMomentBySync, IsUntouched, OldOr}
+use Rattle.tl_journal.specs.Stands.{SameOrTrimmed}
+use Rattle.tl_journal.specs.declared.faults.JournalFault.TheVariants as journal_fault
 use Rattle.tl_journal.specs.declared.opening.Refused.{Refused}
 use Rattle.tl_engine.specs.declared.faults.CommitFault.{CommitFault}
 use Rattle.tl_engine.specs.declared.faults.CommitFault.TheVariants as fault
-use Rattle.tl_engine.specs.Fitting.{FitInTurn}
+use Rattle.tl_engine.specs.Fitting.{FitInTurn, IsDamaged}
 use Rattle.tl_engine.specs.Plain as plain
-use Rattle.tl_engine.specs.Standing.{HasRoomAlone}
+use Rattle.tl_engine.specs.Standing.{HasRoomAlone, StandsOnDisk}
 
 -- the disk in the answer of an opening
 abbrev pub disk_opened : {D : Type 0} → Result (plain.History D) (Refused D) → D
@@ -26,6 +33,57 @@ pub record IsOpened {D : Type 0} (history : plain.History D) : Type 0 where
   pub commits_alone : history.entries ≡ map commit_entry (commits_of history.entries)
   pub whole : has_break history.entries ≡ false
   pub fitting : FitInTurn history.limits (commits_of history.entries)
+
+-- what an opening with given limits answers, over a disk as it was before
+pub record Opens {D : Type 0} (read : D → Option (List ℕ)) (may_leave : D → List ℕ → Type 0) (moment : D → ℕ) (left_since : D → ℕ → List ℕ → Type 0) (fault_count : D → ℕ) (given : Limits) (disk : D) (answer : Result (plain.History D) (Refused D)) : Type 0 where
+  -- the history has commits alone, which fit in turn
+  pub opened : IfOk answer IsOpened
+  -- its limits are those given
+  pub limits : IfOk answer (λ h. h.limits ≡ given)
+  -- its first count of faults is that of the disk, which has not risen
+  pub count : IfOk answer (λ h. (h.first_count ≡ fault_count disk)
+      × (fault_count h.journal.disk ≡ fault_count disk))
+  -- where the disk told its bytes, it stands for the history
+  pub stands : (b : List ℕ) → read disk ≡ Some b → IfOk answer (StandsOnDisk read may_leave)
+  -- and these bytes are a journal of just the commits of the history
+  pub image : (b : List ℕ) → read disk ≡ Some b
+      → IfOk answer (λ h. IsJournalOf (commits_of h.entries) b)
+  -- a journal whose commits fit in turn, with the limits given or smaller ones, is refused by the
+  -- disk or for memory alone
+  pub honest : (b : List ℕ) (cs : List Commit) (smaller : Limits) → read disk ≡ Some b
+      → StandsFor cs b → AreWithin smaller given → FitInTurn smaller cs
+      → IfErr answer (λ r. IsDeviceOrMemory r.fault)
+  -- at each moment a crash leaves what it could before, and from a sync on a journal of the same
+  -- commits
+  pub any_moment : (b : List ℕ) (cs : List Commit) → read disk ≡ Some b → StandsFor cs b
+      → EachMomentBySync read may_leave moment left_since disk (disk_opened answer)
+      (StandsFor cs)
+  -- where the bytes are no journal, a crash at each moment leaves what it could before
+  pub no_journal : (b : List ℕ) → read disk ≡ Some b
+      → ((cs : List Commit) → StandsFor cs b → ⊥)
+      → EachMoment moment left_since disk (disk_opened answer) (may_leave disk)
+  -- and at the end a read gives these bytes
+  pub no_journal_now : (b : List ℕ) → read disk ≡ Some b
+      → ((cs : List Commit) → StandsFor cs b → ⊥)
+      → IsUntouched read may_leave disk (disk_opened answer)
+  -- a crash at the end leaves what it could before, or a journal of the same commits
+  pub now : (b : List ℕ) (cs : List Commit) → read disk ≡ Some b → StandsFor cs b
+      → (c : List ℕ) → may_leave (disk_opened answer) c
+      → OldOr (may_leave disk) (StandsFor cs) c
+  -- a read at the end gives the same bytes, or those without what stood past the closed gate
+  pub reads : (b : List ℕ) → read disk ≡ Some b
+      → (c : List ℕ) × (read (disk_opened answer) ≡ Some c) × SameOrTrimmed b c
+  -- the count of faults has risen where the fault is of the disk, and not else
+  pub faults : IfErr answer (λ r. CountsFaults r.fault (fault_count disk) (fault_count r.disk))
+  -- `NotInitialised` gives the number of the bytes, fewer than 17, and leaves them
+  pub too_short : (len : ℕ) → IfErr answer (λ r. r.fault ≡ journal_fault.NotInitialised len
+      → (len < 17) × IfSome (read disk) (IsTooShort len) × IsUntouched read may_leave disk r.disk)
+  -- `Damaged` gives the place where the bytes are damaged or a commit does not fit, and leaves them
+  pub damaged : (at : ℕ) → IfErr answer (λ r. r.fault ≡ journal_fault.Damaged at
+      → IfSome (read disk) (IsDamaged given at) × IsUntouched read may_leave disk r.disk)
+  -- `AlreadyInitialised` is not answered
+  pub not_long : (len : ℕ) → IfErr answer (λ r.
+      r.fault ≡ journal_fault.AlreadyInitialised len → ⊥)
 
 -- the history has one entry more, which is made of what the batch becomes over the commits before;
 -- there was no break before

@@ -7,10 +7,11 @@ use Rattle.tl_journal.specs.declared.opening.Refused.{Refused}
 use Rattle.tl_engine.specs.Counting.{GoesOn}
 use Rattle.tl_engine.specs.Plain as plain
 
--- the disk in the answer of an opening that becomes an engine
-abbrev pub disk_attached : {D : Type 0} → Result (plain.Opening D) (Refused D) → D
-disk_attached (Ok opening) = opening.history.journal.disk
-disk_attached (Err refused) = refused.disk
+-- the answer of an opening that becomes an engine, by its history alone
+abbrev pub history_attached : {D : Type 0} → Result (plain.Opening D) (Refused D)
+    → Result (plain.History D) (Refused D)
+history_attached (Ok opening) = Ok opening.history
+history_attached (Err refused) = Err refused
 
 -- these are the table, the entries, the count of faults and the limits of the opening
 pub record IsNameOf {D : Type 0} (table : TableId) (entries : List Entry) (count : ℕ) (limits : Limits) (opening : plain.Opening D) : Type 0 where

@@ -16,7 +16,7 @@ use Rattle.tl_index.specs.Snapshots.{commit_entry, break_entry}
 use Rattle.tl_engine.specs.declared.faults.CommitFault.{CommitFault}
 use Rattle.tl_engine.specs.declared.faults.CommitFault.TheVariants as fault
 
--- a batch of rows names a table that is there
+-- a batch that puts rows names a table that is there
 abbrev pub names_table : plain.Database → Batch → Bool
 names_table db (batch.Create schema) = true
 names_table db (batch.Put name lines) = is_some (find_table name db.tables)

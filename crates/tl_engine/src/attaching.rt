@@ -1,17 +1,10 @@
 //! A history that is opened to become an engine's.
-ghost use Rattle.std.specs.Prelude.{◌≡◌, ◌<◌, ◌++◌, ◌∷◌, [], ℕ, List, Some, true, IfSome, IfOk, IfErr};
-ghost use Rattle.tl_types.specs.declared.commits.Commit.{Commit as CommitValue};
-ghost use Rattle.tl_types.specs.Entries.{commits_of};
+ghost use Rattle.std.specs.Prelude.{◌≡◌, ◌<◌, true, IfOk, IfErr};
 ghost use Rattle.tl_types.specs.Limits.{standard_limits};
 ghost use Rattle.tl_batch.specs.Made.{AreWithin};
-ghost use Rattle.tl_journal.specs.Answers.{CountsFaults, IsTooShort, IsDeviceOrMemory};
-ghost use Rattle.tl_journal.specs.Image.{StandsFor, IsJournalOf};
-ghost use Rattle.tl_journal.specs.Moments.{EachMoment, EachMomentBySync, IsUntouched, OldOr};
-ghost use Rattle.tl_journal.specs.Stands.{SameOrTrimmed};
 ghost use Rattle.tl_journal.specs.declared.faults.JournalFault.TheVariants as journal_fault;
-ghost use Rattle.tl_engine.specs.Answers.{IsOpened};
-ghost use Rattle.tl_engine.specs.Fitting.{FitInTurn, IsDamaged};
-ghost use Rattle.tl_engine.specs.Naming.{disk_attached, IsNameOf};
+ghost use Rattle.tl_engine.specs.Answers.{disk_opened, Opens};
+ghost use Rattle.tl_engine.specs.Naming.{history_attached, IsNameOf};
 ghost use Rattle.tl_engine.specs.Standing.{StandsOnDisk};
 
 use crate::committer::{Committer, Publisher};
@@ -96,7 +89,7 @@ fn refused<D: Disk>(history: History<D>) -> Refused<D>
 fn opening_over<D: Disk>(alloc: Global, history: History<D>) -> Result<Opening<D>, Refused<D>>
     ensures history { IfOk result (λ o. o.history ≡ history) }
     ensures parts { IfOk result (λ o. o.parts ≡ 65536) }
-    ensures disk { disk_attached result ≡ history.journal.disk }
+    ensures disk { disk_opened (history_attached result) ≡ history.journal.disk }
     ensures fault { IfErr result (λ r. r.fault ≡ journal_fault.NoMemory) }
 {
     match head_of(alloc, history.snapshot()) {
@@ -113,46 +106,12 @@ impl<D: Disk> Engine<D, Brand> {
     /// `at` is the offset where they are damaged; or they are one, and `at` is the offset of the
     /// first gate whose commit does not fit those before it with the limits. Both leave the disk as
     /// it is. `Device`: the disk failed in this call. `NoMemory`: memory ran out. After both a
-    /// journal stands for the same commits. A journal whose commits fit one after the other meets
-    /// no other refusal.
+    /// journal stands for the same commits. A journal whose commits fit one after the other, with
+    /// these limits or smaller ones, meets no other refusal.
     pub fn attach(alloc: Global, disk: D, limits: &Limits) -> Result<Opening<D>, Refused<D>>
         requires { AreWithin limits.now standard_limits }
-        ensures opened { IfOk result (λ o. IsOpened o.history) }
-        ensures limits { IfOk result (λ o. o.history.limits ≡ limits.now) }
-        ensures stands { (b : List ℕ) → D.reads disk ≡ Some b →
-            IfOk result (λ o. StandsOnDisk D.reads D.may_leave o.history) }
-        ensures image { (b : List ℕ) → D.reads disk ≡ Some b →
-            IfOk result (λ o. IsJournalOf (commits_of o.history.entries) b) }
-        ensures honest { (b : List ℕ) (cs : List CommitValue) → D.reads disk ≡ Some b →
-            StandsFor cs b → FitInTurn limits.now cs →
-            IfErr result (λ r. IsDeviceOrMemory r.fault) }
-        ensures any_moment { (b : List ℕ) (cs : List CommitValue) → D.reads disk ≡ Some b →
-            StandsFor cs b → EachMomentBySync D.reads D.may_leave D.moment D.left_since
-            disk (disk_attached result) (StandsFor cs) }
-        ensures no_journal { (b : List ℕ) → D.reads disk ≡ Some b →
-            ((cs : List CommitValue) → StandsFor cs b → ⊥) →
-            EachMoment D.moment D.left_since disk (disk_attached result) (D.may_leave disk) }
-        ensures no_journal_now { (b : List ℕ) → D.reads disk ≡ Some b →
-            ((cs : List CommitValue) → StandsFor cs b → ⊥) →
-            IsUntouched D.reads D.may_leave disk (disk_attached result) }
-        ensures now { (b : List ℕ) (cs : List CommitValue) → D.reads disk ≡ Some b →
-            StandsFor cs b → (c : List ℕ) → D.may_leave (disk_attached result) c →
-            OldOr (D.may_leave disk) (StandsFor cs) c }
-        ensures reads { (b : List ℕ) → D.reads disk ≡ Some b → (c : List ℕ)
-            × (D.reads (disk_attached result) ≡ Some c) × SameOrTrimmed b c }
-        ensures count { IfOk result (λ o. (o.history.first_count ≡ D.faults disk)
-            × (D.faults o.history.journal.disk ≡ D.faults disk)) }
-        ensures faults { IfErr result (λ r.
-            CountsFaults r.fault (D.faults disk) (D.faults r.disk)) }
-        ensures too_short { (len : ℕ) → IfErr result (λ r.
-            r.fault ≡ journal_fault.NotInitialised len →
-            (len < 17) × IfSome (D.reads disk) (IsTooShort len)
-            × IsUntouched D.reads D.may_leave disk r.disk) }
-        ensures damaged { (at : ℕ) → IfErr result (λ r. r.fault ≡ journal_fault.Damaged at →
-            IfSome (D.reads disk) (IsDamaged limits.now at)
-            × IsUntouched D.reads D.may_leave disk r.disk) }
-        ensures not_long { (len : ℕ) → IfErr result (λ r.
-            r.fault ≡ journal_fault.AlreadyInitialised len → ⊥) }
+        ensures opens { Opens D.reads D.may_leave D.moment D.left_since D.faults limits.now disk
+            (history_attached result) }
         ensures parts { IfOk result (λ o. o.parts ≡ 65536) }
     {
         match History::open(alloc, disk, limits) {

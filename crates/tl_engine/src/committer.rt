@@ -148,10 +148,9 @@ pub(crate) struct Offer {
 
 impl<D: Disk, J: Named> Committer<D, J> {
     /// Commits, publishes and counts, as `Engine::commit` says.
-    pub fn commit<R: Wait>(
+    pub fn commit<R: AllocGlobal + Wait>(
         &mut self,
         rt: &R,
-        alloc: Global,
         head: &Head<Snapshot>,
         pass: &mut Pass<Snapshot>,
         share: &mut Share<J>,
@@ -164,10 +163,12 @@ impl<D: Disk, J: Named> Committer<D, J> {
         requires matching { IsTrue
             (batch_matches (database_of (commits_of pass.old.seen)) offer.batch) }
         ensures own { pass.new.table ≡ J.table }
+        ensures written { pass.new.seen ≡ self.new }
         ensures parts { share.new.parts ≡ share.old.parts }
         ensures says { CommitSays (becomes J.limits offer.author offer.batch) J.first_count
             pass.old.seen pass.new.seen share.old.amount share.new.amount result }
     {
+        let alloc = rt.alloc();
         let Committer { history, publisher } = self;
         publisher.show(head, pass);
         let Offer { author, batch } = offer;

@@ -1,5 +1,5 @@
 //! The steps of a commit: what the batch becomes, all memory, and the append.
-ghost use Rattle.std.specs.Prelude.{◌≡◌, ◌⊎◌, ◌≤◌, ◌++◌, ◌∷◌, [], ℕ, List, length, None, Ok, false, IsTrue, IfOk, IfErr, OnOk, OnErr};
+ghost use Rattle.std.specs.Prelude.{◌≡◌, ◌≤◌, ◌++◌, ◌∷◌, [], ℕ, List, length, None, Ok, false, IsTrue, IfOk, IfErr, OnOk};
 ghost use Rattle.tl_types.specs.declared.commits.Commit.{Commit as CommitValue};
 ghost use Rattle.tl_types.specs.Entries.{commits_of, has_break};
 ghost use Rattle.tl_types.specs.History.{database_of, fits};
@@ -7,8 +7,6 @@ ghost use Rattle.tl_types.specs.Limits.{standard_limits};
 ghost use Rattle.tl_types.specs.Resolving.{resolved};
 ghost use Rattle.tl_batch.specs.Made.{AreWithin, batch_matches};
 ghost use Rattle.tl_batch.specs.Standing.{StandFor};
-ghost use Rattle.tl_device.specs.Known.{Rose};
-ghost use Rattle.tl_index.specs.Snapshots.{IsLegal};
 ghost use Rattle.tl_journal.specs.Image.{BeforeOrAfter, IsBodyOf};
 ghost use Rattle.tl_journal.specs.Moments.{EachMoment};
 ghost use Rattle.tl_journal.specs.Stands.{StandsAs};

@@ -70,10 +70,9 @@ impl<D: Disk, J: Named> Engine<D, J> {
     /// ran out, and nothing was written. These leave the share as it is. `Device`: the disk failed
     /// in this call; the break of the commit is then the last entry, and the share counts it, as it
     /// counts a commit.
-    pub fn commit<R: Wait>(
+    pub fn commit<R: AllocGlobal + Wait>(
         &self,
         rt: &R,
-        alloc: Global,
         pass: &mut Pass<Snapshot>,
         share: &mut Share<J>,
         author: u32,
@@ -91,7 +90,7 @@ impl<D: Disk, J: Named> Engine<D, J> {
     {
         let offer = Offer { author, batch };
         let mut committer = self.committer.lock(rt);
-        committer.commit(rt, alloc, &self.head, pass, share, offer)
+        committer.commit(rt, &self.head, pass, share, offer)
     }
 
     /// Ends with the engine: a snapshot of all that is written, and the disk. The share that has

@@ -1,22 +1,21 @@
 //! The history.
-ghost use Rattle.std.specs.Prelude.{◌≡◌, ◌+◌, ◌<◌, ◌++◌, ◌∷◌, [], ℕ, List, Some, None, map, false, Ok, IsTrue, IfSome, IfOk, IfErr};
-ghost use Rattle.tl_types.specs.declared.commits.Commit.{Commit as CommitValue};
+ghost use Rattle.std.specs.Prelude.{◌≡◌, ◌+◌, ◌<◌, ◌++◌, ◌∷◌, [], ℕ, List, Some, None, map, false, Ok, IsTrue, IfOk, IfErr};
 ghost use Rattle.tl_types.specs.Entries.{commits_of, has_break};
 ghost use Rattle.tl_types.specs.History.{database_of};
 ghost use Rattle.tl_types.specs.Limits.{standard_limits};
 ghost use Rattle.tl_types.specs.Resolving.{resolved};
 ghost use Rattle.tl_batch.specs.Made.{AreWithin, batch_matches};
 ghost use Rattle.tl_index.specs.Snapshots.{commit_entry, IsLegal};
-ghost use Rattle.tl_journal.specs.Answers.{CountsFaults, IsTooShort, IsDeviceOrMemory};
-ghost use Rattle.tl_journal.specs.Image.{StandsFor, IsJournalOf};
+ghost use Rattle.tl_journal.specs.Answers.{CountsFaults, IsDeviceOrMemory};
+ghost use Rattle.tl_journal.specs.Image.{StandsFor};
 ghost use Rattle.tl_device.specs.Disk.{IsStored};
 ghost use Rattle.tl_journal.specs.Opening.{HasRead, IsAtEnd};
-ghost use Rattle.tl_journal.specs.Moments.{EachMoment, EachMomentBySync, IsUntouched, OldOr};
+ghost use Rattle.tl_journal.specs.Moments.{EachMoment};
 ghost use Rattle.tl_journal.specs.Stands.{IsJournal, SameOrTrimmed};
 ghost use Rattle.tl_journal.specs.declared.faults.JournalFault.TheVariants as journal_fault;
-ghost use Rattle.tl_engine.specs.Answers.{disk_opened, IsOpened, Appends, Fails, version_of};
+ghost use Rattle.tl_engine.specs.Answers.{disk_opened, IsOpened, Opens, Appends, Fails, version_of};
 ghost use Rattle.tl_engine.specs.Writing.{IsDraft, DraftFails, WriteFails};
-ghost use Rattle.tl_engine.specs.Fitting.{FitInTurn, IsDamaged};
+ghost use Rattle.tl_engine.specs.Fitting.{FitInTurn};
 ghost use Rattle.tl_engine.specs.Standing.{IsCount, IsImageOf, HasRoomAlone, IsOneOf, StandsOnDisk};
 
 use crate::committing::{Draft, append, draft_of, resolve};
@@ -86,46 +85,11 @@ impl<D: Disk> History<D> {
     /// `at` is the offset where they are damaged; or they are one, and `at` is the offset of the
     /// first gate whose commit does not fit those before it with the limits. Both leave the disk as
     /// it is. `Device`: the disk failed in this call. `NoMemory`: memory ran out. After both a
-    /// journal stands for the same commits. A journal whose commits fit one after the other meets
-    /// no other refusal.
+    /// journal stands for the same commits. A journal whose commits fit one after the other, with
+    /// these limits or smaller ones, meets no other refusal.
     pub fn open(alloc: Global, disk: D, limits: &Limits) -> Result<History<D>, Refused<D>>
         requires { AreWithin limits.now standard_limits }
-        ensures opened { IfOk result IsOpened }
-        ensures limits { IfOk result (λ h. h.limits ≡ limits.now) }
-        ensures stands { (b : List ℕ) → D.reads disk ≡ Some b →
-            IfOk result (StandsOnDisk D.reads D.may_leave) }
-        ensures image { (b : List ℕ) → D.reads disk ≡ Some b →
-            IfOk result (λ h. IsJournalOf (commits_of h.entries) b) }
-        ensures honest { (b : List ℕ) (cs : List CommitValue) → D.reads disk ≡ Some b →
-            StandsFor cs b → FitInTurn limits.now cs →
-            IfErr result (λ r. IsDeviceOrMemory r.fault) }
-        ensures any_moment { (b : List ℕ) (cs : List CommitValue) → D.reads disk ≡ Some b →
-            StandsFor cs b → EachMomentBySync D.reads D.may_leave D.moment D.left_since
-            disk (disk_opened result) (StandsFor cs) }
-        ensures no_journal { (b : List ℕ) → D.reads disk ≡ Some b →
-            ((cs : List CommitValue) → StandsFor cs b → ⊥) →
-            EachMoment D.moment D.left_since disk (disk_opened result) (D.may_leave disk) }
-        ensures no_journal_now { (b : List ℕ) → D.reads disk ≡ Some b →
-            ((cs : List CommitValue) → StandsFor cs b → ⊥) →
-            IsUntouched D.reads D.may_leave disk (disk_opened result) }
-        ensures now { (b : List ℕ) (cs : List CommitValue) → D.reads disk ≡ Some b →
-            StandsFor cs b → (c : List ℕ) → D.may_leave (disk_opened result) c →
-            OldOr (D.may_leave disk) (StandsFor cs) c }
-        ensures reads { (b : List ℕ) → D.reads disk ≡ Some b → (c : List ℕ)
-            × (D.reads (disk_opened result) ≡ Some c) × SameOrTrimmed b c }
-        ensures count { IfOk result (λ h. (h.first_count ≡ D.faults disk)
-            × (D.faults h.journal.disk ≡ D.faults disk)) }
-        ensures faults { IfErr result (λ r.
-            CountsFaults r.fault (D.faults disk) (D.faults r.disk)) }
-        ensures too_short { (len : ℕ) → IfErr result (λ r.
-            r.fault ≡ journal_fault.NotInitialised len →
-            (len < 17) × IfSome (D.reads disk) (IsTooShort len)
-            × IsUntouched D.reads D.may_leave disk r.disk) }
-        ensures damaged { (at : ℕ) → IfErr result (λ r. r.fault ≡ journal_fault.Damaged at →
-            IfSome (D.reads disk) (IsDamaged limits.now at)
-            × IsUntouched D.reads D.may_leave disk r.disk) }
-        ensures not_long { (len : ℕ) → IfErr result (λ r.
-            r.fault ≡ journal_fault.AlreadyInitialised len → ⊥) }
+        ensures { Opens D.reads D.may_leave D.moment D.left_since D.faults limits.now disk result }
     {
         match begin(alloc, disk, limits) {
             Ok(begun) => finish(begun, *limits),

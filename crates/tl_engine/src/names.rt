@@ -26,6 +26,7 @@ pub trait Named: Ledger {
     ghost told: { Bool };
 }
 
+// Where a function is called with `Brand`, the caller picks the names; these are not read then.
 impl Named for Brand {
     ghost use Rattle.std.specs.Prelude.{[], false};
     ghost use Rattle.tl_types.specs.Limits.{standard_limits};

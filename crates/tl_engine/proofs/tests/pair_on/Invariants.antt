@@ -1,9 +1,0 @@
-use Rattle.std.proofs.Common.{false}
-use Rattle.tl_engine.proofs.tests.pair_on.Given as goal
-
--- the names are those of the opening
-abbrev pub ghosts-commit_by_two-J-Ledger : goal.ghosts-commit_by_two-J-Ledger
-ghosts-commit_by_two-J-Ledger g a = record { name = a.opening.ledger; parts = a.opening.parts }
-
-abbrev pub ghosts-commit_by_two-J-Named : goal.ghosts-commit_by_two-J-Named
-ghosts-commit_by_two-J-Named g a = record { table = a.opening.table; opening = a.opening.history.entries; first_count = a.opening.history.first_count; limits = a.opening.history.limits; told = false }

@@ -1,5 +1,5 @@
 -- The commit that a batch becomes has its author.
-use Rattle.std.proofs.Common.{◌≡◌, ℕ, ◌+◌, nat_le, nat_lt, Bool, true, false, true≢false, cond, List, [], length, Option, Some, None, Result, Ok, Err, refl, sym, ap, ◌∙◌}
+use Rattle.std.proofs.Common.{◌≡◌, ℕ, ◌+◌, nat_le, nat_lt, Bool, true, false, cond, List, [], length, Option, Some, None, Result, Ok, Err, refl, subst}
 use Rattle.std.specs.List.{list_any}
 use Rattle.tl_types.specs.declared.commits.Commit.{Commit}
 use Rattle.tl_types.specs.declared.commits.Body.TheVariants as body
@@ -51,15 +51,5 @@ resolved_by limits db a (batch.Create schema) = create_by limits db a schema
 resolved_by limits db a (batch.Put name lines) = change_by limits db a (find_table name db.tables) (λ schema. put_lines schema lines)
 resolved_by limits db a (batch.Remove name lines) = change_by limits db a (find_table name db.tables) (λ schema. removal_lines lines)
 
-of_result : (a : ℕ) (r : Result Commit BatchFault) (c : Commit) → By a r → r ≡ Ok c → c.author ≡ a
-of_result a (Ok d) c by is = sym (ap from is) ∙ by where
-  from : Result Commit BatchFault → ℕ
-  from (Ok x) = x.author
-  from (Err f) = a
-of_result a (Err f) c by is = absurd (true≢false (sym (ap good is))) where
-  good : Result Commit BatchFault → Bool
-  good (Ok x) = true
-  good (Err g) = false
-
 pub signed : (limits : Limits) (db : plain.Database) (b : Batch) (a : ℕ) (c : Commit) → resolved limits db a b ≡ Ok c → c.author ≡ a
-signed limits db b a c is = of_result a (resolved limits db a b) c (resolved_by limits db a b) is
+signed limits db b a c is = subst (By a) is (resolved_by limits db a b)

@@ -1,9 +1,10 @@
 -- Chains of replies, made longer, from less seen and to more seen; and what sessions ran, put
 -- together.
-use Rattle.std.proofs.Common.{◌≡◌, ◌≢◌, ℕ, zero, suc, ◌+◌, ◌<◌, ◌==◌, length, slice_index_or, map, take, drop, slice_get, Some, List, [], ◌∷◌, ◌++◌, refl, sym, ap, ◌∙◌, subst, arith, append-nil, append_assoc, Bool, cond, true, false, true≢false}
+use Rattle.std.proofs.Common.{◌≡◌, ◌≢◌, ℕ, ◌+◌, ◌<◌, ◌==◌, length, slice_index_or, map, take, drop, slice_get, Some, List, [], ◌∷◌, ◌++◌, refl, sym, ap, ◌∙◌, subst, arith, append-nil, append_assoc, true, false, true≢false}
 use Rattle.std.proofs.lemmas.Bool.Decides.{nat_tests}
-use Rattle.std.proofs.lemmas.List.{map-append, take_more, take-append-drop}
-use Rattle.std.proofs.lemmas.Option.{slice_get_within, get_or_from_slice_get}
+use Rattle.std.proofs.lemmas.List.{map-append, take-append-drop}
+use Rattle.std.proofs.lemmas.List.Elements.{filter-append}
+use Rattle.std.proofs.lemmas.Option.{slice_get-get_or}
 use mathlib.Core.List.{IsPrefix}
 use Rattle.tl_types.specs.declared.commits.Entry.{Entry}
 use Rattle.tl_session.specs.declared.replies.ReplyBody.{ReplyBody}
@@ -11,12 +12,15 @@ use Rattle.tl_session.specs.declared.replies.ReplyBody.TheVariants as body
 use Rattle.tl_session.specs.declared.jobs.Job.{Job as LentJob}
 use Rattle.tl_session.specs.Jobs.{Job, job_of}
 use Rattle.tl_session.specs.Plain as plain
-use Rattle.tl_session.specs.Statements.{IsSame, SeesMore, Answers, Stops, turn_of}
+use Rattle.tl_session.specs.Statements.{IsSame, Answers, Stops}
 use Rattle.tl_session.specs.Phases.{Ran, own_jobs, replies_of}
 use Rattle.tl_session.specs.Turns.{Turn, Meaning, meant}
 use Rattle.tl_session.specs.Promises.{BodySays, Says, Chain, tally, weight}
 use Rattle.tl_session.specs.Written.{jobs_of}
-use Rattle.tl_session.proofs.EntryLemmas.{begins_itself, begins_on, fewer_commits, break_on}
+use Rattle.tl_engine.proofs.CountLemmas.{begins_on}
+use Rattle.tl_session.proofs.EntryLemmas.{begins_itself, fewer_commits, break_on}
+use Rattle.tl_session.proofs.ListLemmas.{take_next}
+use Rattle.tl_session.proofs.SessionLemmas.{own_same}
 
 pub body_from : (m : Meaning) (job : Job) (v : ℕ) (reply : ReplyBody) (a b c : List Entry) → IsPrefix a b → BodySays m job v reply b c → BodySays m job v reply a c
 body_from m job v (body.Rows r) a b c p q = let le = fewer_commits a b p in let at = q.0.1 in ((begins_on a b c p q.0.0, omega (arith, le, at), q.0.2), q.1)
@@ -33,36 +37,28 @@ pub chain_from : (m : Meaning) (a b : List Entry) (ts : List Turn) (c : List Ent
 chain_from m a b [] c p k = begins_on a b c p k
 chain_from m a b (t ∷ ts) c p k = (k.0, says_from m t a b k.0 p k.1, k.2)
 
-pub chain_on : (m : Meaning) (a : List Entry) (xs ys : List Turn) (b c : List Entry) → Chain m a xs b → Chain m b ys c → Chain m a (xs ++ ys) c
-chain_on m a [] ys b c k l = chain_from m a b ys c k l
-chain_on m a (t ∷ xs) ys b c k l = (k.0, k.1, chain_on m k.0 xs ys b c k.2 l)
+pub chain_more : (m : Meaning) (a : List Entry) (xs : List Turn) (t : Turn) (b c : List Entry) → Chain m a xs b → Says m t b c → Chain m a (xs ++ t ∷ []) c
+chain_more m a [] t b c k q = (c, says_from m t a b c k q, begins_itself c)
+chain_more m a (x ∷ xs) t b c k q = (k.0, k.1, chain_more m k.0 xs t b c k.2 q)
 
 pub chain_to : (m : Meaning) (a : List Entry) (ts : List Turn) (b c : List Entry) → Chain m a ts b → IsPrefix b c → Chain m a ts c
 chain_to m a [] b c k p = begins_on a b c k p
 chain_to m a (t ∷ ts) b c k p = (k.0, k.1, chain_to m k.0 ts b c k.2 p)
-
-pub chain_one : (m : Meaning) (t : Turn) (a b : List Entry) → Says m t a b → Chain m a (t ∷ []) b
-chain_one m t a b q = (b, q, begins_itself b)
 
 pub tally_on : (f : Turn → ℕ) (xs ys : List Turn) → tally f (xs ++ ys) ≡ tally f xs + tally f ys
 tally_on f [] ys = omega arith
 tally_on f (t ∷ xs) ys = omega (arith, tally_on f xs ys)
 
 pub jobs_on : (xs ys : List Turn) → jobs_of (xs ++ ys) ≡ jobs_of xs ++ jobs_of ys
-jobs_on [] ys = refl
-jobs_on (t ∷ xs) ys = ap (λ l. t.job ∷ l) (jobs_on xs ys)
+jobs_on = map-append (λ (t : Turn). t.job)
 
 pub replies_on : (xs ys : List Turn) → replies_of (xs ++ ys) ≡ replies_of xs ++ replies_of ys
-replies_on [] ys = refl
-replies_on (t ∷ xs) ys = ap (λ l. t.reply ∷ l) (replies_on xs ys)
+replies_on = map-append (λ (t : Turn). t.reply)
 
 -- SESSIONS
 
 pub same_on : (x y z : plain.Access) → IsSame x y → IsSame y z → IsSame x z
 same_on x y z f g = record { author = g.author ∙ f.author; table = g.table ∙ f.table; parts = g.parts ∙ f.parts }
-
-pub sees_itself : (x : plain.Access) → SeesMore x x
-sees_itself x = record { same = record { author = refl; table = refl; parts = refl }; later = begins_itself x.seen; amount = refl }
 
 -- all of the jobs so far are answered
 pub record RanAll (jobs : List Job) (old new : plain.Session) : Type 0 where
@@ -77,7 +73,7 @@ pub ran_none : (x : plain.Session) → RanAll [] x x
 ran_none x = record {
   turns = [];
   these = refl;
-  same = (sees_itself x.access).same;
+  same = record { author = refl; table = refl; parts = refl };
   replies = sym (append-nil x.replies);
   chain = begins_itself x.access.seen;
   amount = omega arith;
@@ -86,13 +82,14 @@ ran_none x = record {
 -- one job more is answered
 pub ran_more : (x y z : plain.Session) (jobs : List Job) (job : Job) → RanAll jobs x y → Answers job y z → RanAll (jobs ++ job ∷ []) x z
 ran_more x y z jobs job ran answered =
-    let one = turn_of job answered.reply ∷ [] in
+    let turn : Turn = record { job = job; reply = answered.reply } in
+    let one = turn ∷ [] in
     record {
       turns = ran.turns ++ one;
       these = ap (λ l. l ++ job ∷ []) ran.these ∙ sym (jobs_on ran.turns one);
       same = same_on x.access y.access z.access ran.same answered.told.same;
       replies = answered.replies ∙ ap (λ l. l ++ answered.reply ∷ []) ran.replies ∙ append_assoc x.replies (replies_of ran.turns) (answered.reply ∷ []) ∙ ap (λ l. x.replies ++ l) (sym (replies_on ran.turns one));
-      chain = chain_on meant x.access.seen ran.turns one y.access.seen z.access.seen ran.chain (chain_one meant (turn_of job answered.reply) y.access.seen z.access.seen answered.told.says);
+      chain = chain_more meant x.access.seen ran.turns turn y.access.seen z.access.seen ran.chain (answered.told.says, answered.line, answered.told.broken);
       amount = (let p = ran.amount in let q = answered.told.amount in omega (arith, p, q, tally_on weight ran.turns one));
     }
 
@@ -109,57 +106,21 @@ ran_short x y z w jobs rest ran stopped access replies out = record {
   amount = ap (λ (a : plain.Access). a.amount) access ∙ stopped.more.amount ∙ ran.amount;
 }
 
--- all jobs are answered
-pub ran_whole : (x y : plain.Session) (jobs : List Job) → RanAll jobs x y → Ran jobs x y
-ran_whole x y jobs ran = record {
-  same = ran.same;
-  turns = ran.turns;
-  later = [];
-  these = ran.these ∙ sym (append-nil (jobs_of ran.turns));
-  whole = λ e. refl;
-  replies = ran.replies;
-  chain = ran.chain;
-  amount = ran.amount;
-}
-
 -- JOBS ONE BY ONE
 
 own_split : (s : ℕ) (xs ys : List Job) → own_jobs s (xs ++ ys) ≡ own_jobs s xs ++ own_jobs s ys
-own_split s [] ys = refl
-own_split s (j ∷ xs) ys = by_test (j.session == s) (own_split s xs ys) where
-  by_test : (b : Bool) → own_jobs s (xs ++ ys) ≡ own_jobs s xs ++ own_jobs s ys → cond b (j ∷ own_jobs s (xs ++ ys)) (own_jobs s (xs ++ ys)) ≡ cond b (j ∷ own_jobs s xs) (own_jobs s xs) ++ own_jobs s ys
-  by_test true e = ap (λ l. j ∷ l) e
-  by_test false e = e
-
-own_same : (s : ℕ) (j : Job) (js : List Job) → (j.session == s) ≡ true → own_jobs s (j ∷ js) ≡ j ∷ own_jobs s js
-own_same s j js e = rw e refl
-
-own_other : (s : ℕ) (j : Job) (js : List Job) → (j.session == s) ≡ false → own_jobs s (j ∷ js) ≡ own_jobs s js
-own_other s j js e = rw e refl
+own_split s = filter-append (λ (j : Job). j.session == s)
 
 -- the jobs so far, and the next one
 pub taken_next : (s i : ℕ) (lent : List LentJob) (job : LentJob) → Some job ≡ slice_get lent i → own_jobs s (map job_of (take (i + 1) lent)) ≡ own_jobs s (map job_of (take i lent)) ++ own_jobs s (job_of job ∷ [])
 taken_next s i lent job at =
-    let one : take (i + 1) lent ≡ take i lent ++ job ∷ [] = take_next lent i job (sym at) in
-    ap (λ l. own_jobs s (map job_of l)) one ∙ ap (own_jobs s) (map-append job_of (take i lent) (job ∷ [])) ∙ own_split s (map job_of (take i lent)) (map job_of (job ∷ [])) where
-      take_next : (xs : List LentJob) (n : ℕ) (x : LentJob) → slice_get xs n ≡ Some x → take (n + 1) xs ≡ take n xs ++ x ∷ []
-      take_next xs n x is =
-          let within = slice_get_within xs n x is in
-          take_more xs n x within ∙ ap (λ c. take n xs ++ c ∷ []) (get_or_from_slice_get xs n x x is)
+    ap (λ l. own_jobs s (map job_of l)) (take_next lent i job (sym at)) ∙ ap (own_jobs s) (map-append job_of (take i lent) (job ∷ [])) ∙ own_split s (map job_of (take i lent)) (map job_of (job ∷ []))
 
 pub ran_next : (s i : ℕ) (lent : List LentJob) (d : LentJob) (x y z : plain.Session) → i < length lent → (slice_index_or lent i d).session ≡ y.access.author → y.access.author ≡ s → RanAll (own_jobs s (map job_of (take i lent))) x y → Answers (job_of (slice_index_or lent i d)) y z → RanAll (own_jobs s (map job_of (take (i + 1) lent))) x z
 ran_next s i lent d x y z inside own author ran answered =
     let job = slice_index_or lent i d in
     let e : job.session ≡ s = own ∙ author in
-    subst (λ l. RanAll l x z) (sym (taken_next s i lent job (there_job lent i inside) ∙ ap (λ l. own_jobs s (map job_of (take i lent)) ++ l) (own_same s (job_of job) [] (grind (arith, nat_tests))))) (ran_more x y z (own_jobs s (map job_of (take i lent))) (job_of job) ran answered) where
-      there_job : (js : List LentJob) (k : ℕ) → k < length js → Some (slice_index_or js k d) ≡ slice_get js k
-      there_job [] k inside = absurd (omega (arith, inside))
-      there_job (j ∷ js) zero inside = refl
-      there_job (j ∷ js) (suc k) inside = there_job js k (omega (arith, inside))
-
-pub ran_skip : (s i : ℕ) (lent : List LentJob) (job : LentJob) (x y : plain.Session) → Some job ≡ slice_get lent i → (job.session ≡ s → ⊥) → RanAll (own_jobs s (map job_of (take i lent))) x y → RanAll (own_jobs s (map job_of (take (i + 1) lent))) x y
-ran_skip s i lent job x y at other ran =
-    subst (λ l. RanAll l x y) (sym (taken_next s i lent job at ∙ ap (λ l. own_jobs s (map job_of (take i lent)) ++ l) (own_other s (job_of job) [] (let e : job.session ≢ s = other in grind (arith, nat_tests))) ∙ append-nil (own_jobs s (map job_of (take i lent))))) ran
+    subst (λ l. RanAll l x z) (sym (taken_next s i lent job (sym (slice_get-get_or lent i d inside)) ∙ ap (λ l. own_jobs s (map job_of (take i lent)) ++ l) (own_same s (job_of job) [] (grind (arith, nat_tests))))) (ran_more x y z (own_jobs s (map job_of (take i lent))) (job_of job) ran answered)
 
 pub ran_stop : (s i : ℕ) (lent : List LentJob) (x y z w : plain.Session) → RanAll (own_jobs s (map job_of (take i lent))) x y → Stops y z → w ≡ record z { ran_out = true } → Ran (own_jobs s (map job_of lent)) x w
 ran_stop s i lent x y z w ran stopped is =

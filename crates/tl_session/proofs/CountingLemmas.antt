@@ -1,5 +1,6 @@
 -- Each entry past the opening is told of once.
-use Rattle.std.proofs.Common.{◌≡◌, ◌≢◌, ◌⊎◌, inl, inr, ℕ, zero, suc, ◌+◌, ◌<◌, ◌≤◌, ◌==◌, nat_le, Bool, true, false, cond, List, [], ◌∷◌, Option, Some, None, refl, sym, ap, ◌∙◌, arith}
+use Rattle.std.proofs.Common.{◌≡◌, ◌≢◌, ◌⊎◌, inl, inr, ℕ, zero, suc, ◌+◌, ◌<◌, ◌≤◌, ◌==◌, true, false, cond, List, [], ◌∷◌, Option, Some, None, refl, sym, ap, ◌∙◌, arith}
+use Rattle.std.proofs.lemmas.Bool.{cases_lt, cases_eq}
 use Rattle.std.proofs.lemmas.Bool.Decides.{nat_tests}
 use Rattle.tl_session.specs.declared.replies.ReplyBody.{ReplyBody}
 use Rattle.tl_session.specs.declared.replies.ReplyBody.TheVariants as body
@@ -59,12 +60,6 @@ miss k x differ = let e : (x == k) ≡ false = grind (arith, nat_tests) in rw e 
 at_hit : (k x : ℕ) → x ≡ k → hit_of k (Some x) ≡ 1
 at_hit k x is = let e : (x == k) ≡ true = grind (arith, nat_tests) in rw e refl
 
-either : (k x : ℕ) → (x ≡ k) ⊎ (x ≢ k)
-either k x = by_test (x == k) refl where
-  by_test : (b : Bool) → (x == k) ≡ b → (x ≡ k) ⊎ (x ≢ k)
-  by_test true is = inl (grind (arith, nat_tests))
-  by_test false is = inr (λ e. grind (arith, nat_tests))
-
 step_le : (owner : ℕ → ℕ) (s : ℕ) (o : Option ℕ) (a b : ℕ) → StepOf owner s o a b → a ≤ b
 step_le owner s None a b p = p
 step_le owner s (Some x) a b p = let q = p.0 in omega arith
@@ -94,7 +89,7 @@ high owner s a (t ∷ ts) b k p lt =
 -- an entry by another session, or one told of before
 step_own : (owner : ℕ → ℕ) (s : ℕ) (o : Option ℕ) (a b k : ℕ) → StepOf owner s o a b → (hit_of k o ≡ 0) ⊎ ((k ≡ b) × (owner k ≡ s) × (hit_of k o ≡ 1))
 step_own owner s None a b k p = inl refl
-step_own owner s (Some x) a b k p = by_case (either k x) where
+step_own owner s (Some x) a b k p = by_case (cases_eq x k) where
   by_case : (x ≡ k) ⊎ (x ≢ k) → (hit_of k (Some x) ≡ 0) ⊎ ((k ≡ b) × (owner k ≡ s) × (hit_of k (Some x) ≡ 1))
   by_case (inl is) = inr (sym is ∙ p.1, ap owner (sym is ∙ p.1) ∙ p.2, at_hit k x is)
   by_case (inr is) = inl (miss k x is)
@@ -142,10 +137,10 @@ whole_low owner a (phase ∷ phases) b k p le = let q = p.1 in omega (arith, pha
 
 whole_one : (owner : ℕ → ℕ) (a : ℕ) (phases : List (List Turn)) (b k : ℕ) → Walk owner a phases b → whole_tally (hit k) phases ≤ 1
 whole_one owner a [] b k p = omega arith
-whole_one owner a (phase ∷ phases) b k p = by_test (nat_le k p.0) refl (whole_one owner p.0 phases b k p.3) where
-  by_test : (t : Bool) → nat_le k p.0 ≡ t → whole_tally (hit k) phases ≤ 1 → tally (hit k) phase + whole_tally (hit k) phases ≤ 1
-  by_test true is ih = let le : k ≤ p.0 = grind (arith, nat_tests) in omega (arith, phase_one owner a phase p.0 k p.2, whole_low owner p.0 phases b k p.3 le)
-  by_test false is ih = let lt : p.0 < k = grind (arith, nat_tests) in omega (arith, phase_high owner a phase p.0 k p.2 lt, ih)
+whole_one owner a (phase ∷ phases) b k p = by_case (cases_lt p.0 k) (whole_one owner p.0 phases b k p.3) where
+  by_case : (p.0 < k) ⊎ (k ≤ p.0) → whole_tally (hit k) phases ≤ 1 → tally (hit k) phase + whole_tally (hit k) phases ≤ 1
+  by_case (inl lt) ih = omega (arith, phase_high owner a phase p.0 k p.2 lt, ih)
+  by_case (inr le) ih = omega (arith, phase_one owner a phase p.0 k p.2, whole_low owner p.0 phases b k p.3 le)
 
 walk_le : (owner : ℕ → ℕ) (a : ℕ) (phases : List (List Turn)) (b : ℕ) → Walk owner a phases b → a ≤ b
 walk_le owner a [] b p = p
@@ -162,7 +157,7 @@ span_sum f g a (suc d) = omega (arith, span_sum f g (a + 1) d)
 
 span_hit : (x a d : ℕ) → a < x → x ≤ a + d → 1 ≤ span (λ k. hit_of k (Some x)) a d
 span_hit x a zero lo hi = absurd (omega arith)
-span_hit x a (suc d) lo hi = by_case (either (a + 1) x) (λ more. span_hit x (a + 1) d more (omega (arith, hi))) where
+span_hit x a (suc d) lo hi = by_case (cases_eq x (a + 1)) (λ more. span_hit x (a + 1) d more (omega (arith, hi))) where
   by_case : (x ≡ a + 1) ⊎ (x ≢ a + 1) → (a + 1 < x → 1 ≤ span (λ k. hit_of k (Some x)) (a + 1) d) → 1 ≤ span (λ k. hit_of k (Some x)) a (suc d)
   by_case (inl is) ih = omega (arith, at_hit (a + 1) x is)
   by_case (inr is) ih = omega (arith, ih (omega (arith, is, lo)))
@@ -208,7 +203,7 @@ span_most f a (suc d) most = omega (arith, most (a + 1), span_most f (a + 1) d m
 
 span_each : (f : ℕ → ℕ) (a d : ℕ) → ((k : ℕ) → f k ≤ 1) → d ≤ span f a d → (k : ℕ) → a < k → k ≤ a + d → f k ≡ 1
 span_each f a zero most full k lo hi = absurd (omega arith)
-span_each f a (suc d) most full k lo hi = by_case (either (a + 1) k) (λ more. span_each f (a + 1) d most (let m = most (a + 1) in omega (arith, m, full)) k more (omega (arith, hi))) where
+span_each f a (suc d) most full k lo hi = by_case (cases_eq k (a + 1)) (λ more. span_each f (a + 1) d most (let m = most (a + 1) in omega (arith, m, full)) k more (omega (arith, hi))) where
   by_case : (k ≡ a + 1) ⊎ (k ≢ a + 1) → (a + 1 < k → f k ≡ 1) → f k ≡ 1
   by_case (inl is) ih = ap f is ∙ (let m = most (a + 1) in let r = span_most f (a + 1) d most in omega (arith, m, r, full))
   by_case (inr is) ih = ih (omega (arith, is, lo))

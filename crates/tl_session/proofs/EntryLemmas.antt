@@ -1,27 +1,25 @@
 -- Lists of entries, and their beginnings.
-use Rattle.std.proofs.Common.{◌≡◌, ℕ, ◌+◌, ◌≤◌, Bool, true, false, true≢false, List, [], ◌∷◌, ◌++◌, length, take, Option, Some, None, slice_get, refl, sym, ap, ◌∙◌, subst, arith, append-nil, append_assoc, length-append}
+use Rattle.std.proofs.Common.{◌≡◌, ℕ, ◌+◌, ◌≤◌, ◌||◌, Bool, true, false, true≢false, List, [], ◌∷◌, ◌++◌, length, take, Option, Some, None, slice_get, refl, sym, ap, ◌∙◌, subst, arith, append-nil, length-append}
 use Rattle.std.proofs.lemmas.List.{take-append-le}
+use Rattle.std.proofs.lemmas.List.Elements.{filter_map-append}
+use Rattle.std.proofs.lemmas.List.Folds.{list_any-append}
 use Rattle.std.proofs.Math.Seq.{take-append_seam}
 use mathlib.Core.List.{IsPrefix}
 use Rattle.tl_types.specs.declared.commits.Commit.{Commit}
 use Rattle.tl_types.specs.declared.commits.Entry.{Entry}
 use Rattle.tl_types.specs.declared.commits.Entry.TheVariants as entry
-use Rattle.tl_types.specs.Entries.{commits_of, has_break}
+use Rattle.tl_types.specs.Entries.{commit_of, commits_of, is_break, has_break}
 use Rattle.tl_session.specs.Turns.{break_of}
 use Rattle.tl_engine.specs.Counting.{news}
 use Rattle.tl_session.specs.Promises.{AreMarks, EndsAtBreak}
+use Rattle.tl_session.proofs.ListLemmas.{item_at}
 
+-- a list begins with itself
 pub begins_itself : (a : List Entry) → IsPrefix a a
 begins_itself a = ([], append-nil a)
 
-pub begins_on : (a b c : List Entry) → IsPrefix a b → IsPrefix b c → IsPrefix a c
-begins_on a b c p q = (p.0 ++ q.0, sym (append_assoc a p.0 q.0) ∙ (ap (λ z. z ++ q.0) p.1 ∙ q.1))
-
 pub commits_split : (a b : List Entry) → commits_of (a ++ b) ≡ commits_of a ++ commits_of b
-commits_split [] b = refl
-commits_split (entry.Commit c ∷ a) b = ap (λ l. c ∷ l) (commits_split a b)
-commits_split (entry.Mark n v ∷ a) b = commits_split a b
-commits_split (entry.Break c ∷ a) b = commits_split a b
+commits_split = filter_map-append commit_of
 
 pub news_split : (a b : List Entry) → news (a ++ b) ≡ news a + news b
 news_split [] b = omega arith
@@ -35,20 +33,8 @@ fewer_commits a b p = omega (arith, ap (λ l. length (commits_of l)) p.1, ap len
 pub fewer_news : (a b : List Entry) → IsPrefix a b → news a ≤ news b
 fewer_news a b p = omega (arith, ap news p.1, news_split a p.0)
 
-pub break_stays : (a b : List Entry) → has_break a ≡ true → has_break (a ++ b) ≡ true
-break_stays [] b is = absurd (true≢false (sym is))
-break_stays (entry.Commit c ∷ a) b is = break_stays a b is
-break_stays (entry.Mark n v ∷ a) b is = break_stays a b is
-break_stays (entry.Break c ∷ a) b is = refl
-
 pub break_on : (a b : List Entry) → IsPrefix a b → has_break a ≡ true → has_break b ≡ true
-break_on a b p is = sym (ap has_break p.1) ∙ break_stays a p.0 is
-
-pub break_last : (a : List Entry) (c : Commit) → has_break (a ++ entry.Break c ∷ []) ≡ true
-break_last [] c = refl
-break_last (entry.Commit d ∷ a) c = break_last a c
-break_last (entry.Mark n v ∷ a) c = break_last a c
-break_last (entry.Break d ∷ a) c = refl
+break_on a b p is = sym (ap has_break p.1) ∙ list_any-append is_break a p.0 ∙ ap (λ t. t || has_break p.0) is
 
 -- the first commits are those of a beginning
 pub same_front : (a b : List Entry) (v : ℕ) → IsPrefix a b → v ≤ length (commits_of a) → take v (commits_of a) ≡ take v (commits_of b)
@@ -75,12 +61,6 @@ no_commits [] m = refl
 no_commits (entry.Commit c ∷ b) m = absurd m
 no_commits (entry.Mark n v ∷ b) m = no_commits b m
 no_commits (entry.Break c ∷ b) m = absurd m
-
-pub no_break : (b : List Entry) → AreMarks b → break_of b ≡ None
-no_break [] m = refl
-no_break (entry.Commit c ∷ b) m = absurd m
-no_break (entry.Mark n v ∷ b) m = no_break b m
-no_break (entry.Break c ∷ b) m = absurd m
 
 pub no_news : (b : List Entry) → AreMarks b → news b ≡ 0
 no_news [] m = refl
@@ -132,10 +112,6 @@ news_count (entry.Commit c ∷ a) l = omega (arith, news_count a l)
 news_count (entry.Mark n v ∷ a) l = news_count a l
 news_count (entry.Break c ∷ a) l = omega (arith, no_news a l, ap length (no_commits a l))
 
-pub place_of : (xs : List Commit) (c : Commit) (ys : List Commit) → slice_get (xs ++ c ∷ ys) (length xs) ≡ Some c
-place_of [] c ys = refl
-place_of (x ∷ xs) c ys = place_of xs c ys
-
 -- the commit of an entry stands at the number of commits before it
 pub placed : (a : List Entry) (c : Commit) (rest all : List Entry) → a ++ entry.Commit c ∷ rest ≡ all → slice_get (commits_of all) (length (commits_of a)) ≡ Some c
-placed a c rest all is = ap (λ l. slice_get l (length (commits_of a))) (sym (ap commits_of is) ∙ commits_split a (entry.Commit c ∷ rest)) ∙ place_of (commits_of a) c (commits_of rest)
+placed a c rest all is = ap (λ l. slice_get l (length (commits_of a))) (sym (ap commits_of is) ∙ commits_split a (entry.Commit c ∷ rest)) ∙ item_at (commits_of a) c (commits_of rest) (length (commits_of a)) refl

@@ -1,39 +1,19 @@
 -- A phase: the turns of its sessions, put together in the order of its jobs.
-use Rattle.std.proofs.Common.{◌≡◌, ◌≢◌, ◌⊎◌, inl, inr, ℕ, zero, suc, ◌+◌, ◌<◌, ◌≤◌, ◌==◌, nat_lt, Bool, true, false, true≢false, cond, List, [], ◌∷◌, ◌++◌, refl, sym, ap, ◌∙◌, arith}
+use Rattle.std.proofs.Common.{◌≡◌, ◌≢◌, ◌⊎◌, inl, inr, ℕ, zero, suc, ◌+◌, ◌<◌, ◌≤◌, ◌==◌, Bool, true, false, true≢false, cond, List, [], ◌∷◌, ◌++◌, refl, sym, ap, ◌∙◌, arith}
+use Rattle.std.proofs.lemmas.Bool.{cases_lt}
 use Rattle.std.proofs.lemmas.Bool.Decides.{nat_tests}
 use Rattle.tl_session.specs.Jobs.{Job}
 use Rattle.tl_session.specs.Phases.{own_jobs}
 use Rattle.tl_session.specs.Turns.{Turn, of_session}
 use Rattle.tl_session.specs.Promises.{tally}
 use Rattle.tl_session.specs.Written.{jobs_of}
-
--- one number is below the other, or not
-pub below_or_not : (a b : ℕ) → (a < b) ⊎ (b ≤ a)
-below_or_not a b = by_test (nat_lt a b) refl where
-  by_test : (t : Bool) → nat_lt a b ≡ t → (a < b) ⊎ (b ≤ a)
-  by_test true e = inl (grind (arith, nat_tests))
-  by_test false e = inr (grind (arith, nat_tests))
+use Rattle.tl_session.proofs.SessionLemmas.{is_itself, own_same, own_other, turns_same, turns_other}
 
 -- JOBS OF A SESSION
 
 abbrev rest_of : {X : Type 0} → List X → List X
 rest_of [] = []
 rest_of (x ∷ xs) = xs
-
-pub own_same : (s : ℕ) (j : Job) (js : List Job) → (j.session == s) ≡ true → own_jobs s (j ∷ js) ≡ j ∷ own_jobs s js
-own_same s j js e = rw e refl
-
-pub own_other : (s : ℕ) (j : Job) (js : List Job) → (j.session == s) ≡ false → own_jobs s (j ∷ js) ≡ own_jobs s js
-own_other s j js e = rw e refl
-
-turns_same : (s : ℕ) (t : Turn) (ts : List Turn) → (t.job.session == s) ≡ true → of_session s (t ∷ ts) ≡ t ∷ of_session s ts
-turns_same s t ts e = rw e refl
-
-turns_other : (s : ℕ) (t : Turn) (ts : List Turn) → (t.job.session == s) ≡ false → of_session s (t ∷ ts) ≡ of_session s ts
-turns_other s t ts e = rw e refl
-
-is_itself : (s : ℕ) → (s == s) ≡ true
-is_itself s = grind (arith, nat_tests)
 
 are_same : (s o : ℕ) → (s == o) ≡ true → s ≡ o
 are_same s o e = grind (arith, nat_tests)
@@ -133,7 +113,7 @@ own_from f k (suc n) t ts low high = by_test (t.job.session == k) refl (λ l. ow
   by_test false e again =
       let here = ap (tally f) (turns_other k t ts e) in
       let apart : t.job.session ≢ k = λ is. true≢false (sym (is_itself k) ∙ ap (λ x. x == k) (sym is) ∙ e) in
-      let rest = again (by_case (below_or_not k t.job.session)) in
+      let rest = again (by_case (cases_lt k t.job.session)) in
       omega (arith, here, rest) where
         by_case : (k < t.job.session) ⊎ (t.job.session ≤ k) → k + 1 ≤ t.job.session
         by_case (inl less) = omega (arith, less)
@@ -153,7 +133,7 @@ tally_from f n (t ∷ ts) below =
 
 -- no session has a turn above
 none_above : (n : ℕ) (t : Turn) (ts : List Turn) → ((s : ℕ) → n ≤ s → of_session s (t ∷ ts) ≡ []) → t.job.session < n
-none_above n t ts none = by_case (below_or_not t.job.session n) where
+none_above n t ts none = by_case (cases_lt t.job.session n) where
   by_case : (t.job.session < n) ⊎ (n ≤ t.job.session) → t.job.session < n
   by_case (inl less) = less
   by_case (inr more) = let e : t ∷ of_session t.job.session ts ≡ [] = sym (turns_same t.job.session t ts (is_itself t.job.session)) ∙ none t.job.session more in absurd (cc)

@@ -1,5 +1,6 @@
 -- A transcript of phases of one session each, without a break, is a play.
-use Rattle.std.proofs.Common.{◌≡◌, ◌≢◌, ◌⊎◌, inl, inr, ℕ, zero, suc, ◌+◌, ◌<◌, ◌≤◌, ◌==◌, nat_lt, max, Bool, true, false, true≢false, List, [], ◌∷◌, ◌++◌, length, take, slice_get, Option, Some, None, refl, sym, ap, ◌∙◌, subst, arith}
+use Rattle.std.proofs.Common.{◌≡◌, ◌≢◌, ◌⊎◌, inl, inr, ℕ, ◌+◌, ◌<◌, ◌≤◌, ◌==◌, max, true, false, true≢false, List, [], ◌∷◌, ◌++◌, length, take, slice_get, length-take-le, None, refl, sym, ap, ◌∙◌, subst, arith}
+use Rattle.std.proofs.lemmas.Bool.{cases_lt}
 use Rattle.std.proofs.lemmas.Bool.Decides.{nat_tests}
 use Rattle.std.proofs.lemmas.List.{take_all}
 use Rattle.tl_types.specs.declared.commits.Entry.{Entry}
@@ -9,11 +10,13 @@ use Rattle.tl_session.specs.declared.readings.Reading.TheVariants.{Query}
 use Rattle.tl_session.specs.declared.replies.ReplyBody.{ReplyBody}
 use Rattle.tl_session.specs.declared.replies.ReplyBody.TheVariants as body
 use Rattle.tl_session.specs.Turns.{break_of, Turn, Meaning, HasFault, Makes, of_session, all_turns}
-use Rattle.tl_session.specs.Promises.{Promised, tally}
+use Rattle.tl_session.specs.Promises.{Promised, tally, whole_tally}
 use Rattle.tl_session.specs.Transcript.{Each, EachOfAll, OwnLine, RowsRight, RefusedRight, DoneRight, Between, NeverFalls, DoneRises, Above, highest, done_at, done_with, body_breaks, Transcript}
 use Rattle.tl_session.specs.Play.{Acts, IsPlay, AreLone}
+use Rattle.tl_session.proofs.ChainLemmas.{tally_on}
+use Rattle.tl_session.proofs.CountingLemmas.{miss}
 use Rattle.tl_session.proofs.EntryLemmas.{fewer_commits, whole_front}
-use Rattle.tl_session.proofs.RunLemmas.{whole_is}
+use Rattle.tl_session.proofs.ListLemmas.{take_next}
 use Rattle.tl_session.proofs.TranscriptLemmas.{is_transcript, chains_before}
 
 -- FROM PHASES TO ONE LIST
@@ -25,6 +28,10 @@ each_on P (t ∷ xs) ys e f = (e.0, each_on P xs ys e.1 f)
 each_turn : (P : Turn → Type 0) (phases : List (List Turn)) → EachOfAll P phases → Each P (all_turns phases)
 each_turn P [] e = tt
 each_turn P (phase ∷ phases) e = each_on P phase (all_turns phases) e.0 (each_turn P phases e.1)
+
+whole_is : (f : Turn → ℕ) (phases : List (List Turn)) → tally f (all_turns phases) ≡ whole_tally f phases
+whole_is f [] = refl
+whole_is f (phase ∷ phases) = omega (arith, tally_on f phase (all_turns phases), whole_is f phases)
 
 lone_all : (s : ℕ) (ts : List Turn) → Each (λ t. t.job.session ≡ s) ts → of_session s ts ≡ ts
 lone_all s [] e = refl
@@ -58,9 +65,6 @@ climbs_whole top (phase ∷ phases) lone n d =
 
 -- ONE AFTER THE OTHER
 
-miss : (k x : ℕ) → x ≢ k → done_with k body.Done x ≡ 0
-miss k x differ = let e : (x == k) ≡ false = grind (arith, nat_tests) in rw e refl
-
 not_at : (k : ℕ) (b : ReplyBody) (v w : ℕ) → v ≤ w → (b ≡ body.Done → v < w) → k ≤ v → done_with k b w ≡ 0
 not_at k (body.Rows r) v w le lt out = refl
 not_at k (body.Refused f) v w le lt out = refl
@@ -80,12 +84,6 @@ climbs_low : (v : ℕ) (ts : List Turn) (z k : ℕ) → Climbs v ts z → k ≤ 
 climbs_low v [] z k c le = refl
 climbs_low v (t ∷ ts) z k c le = let up = c.0 in
     omega (arith, not_at k t.reply.body v t.reply.version c.0 c.1 le, climbs_low t.reply.version ts z k c.2 (omega (arith, up, le)))
-
-decide : (a b : ℕ) → (a < b) ⊎ (b ≤ a)
-decide a b = by_test (nat_lt a b) refl where
-  by_test : (t : Bool) → nat_lt a b ≡ t → (a < b) ⊎ (b ≤ a)
-  by_test true is = inl (grind (arith, nat_tests))
-  by_test false is = inr (grind (arith, nat_tests))
 
 -- each version above v up to the end has its batch among these
 abbrev Left : ℕ → ℕ → List Turn → Type 0
@@ -115,7 +113,7 @@ at_least v body.BrokenJournal w le lt = omega (arith, le)
 
 -- the version is the next one after a batch that is done, and else the same
 exact : (v end : ℕ) (t : Turn) (ts : List Turn) (z : ℕ) → Climbs v (t ∷ ts) z → t.reply.version ≤ end → Left v end (t ∷ ts) → t.reply.version ≡ v + advance t.reply.body
-exact v end t ts z c top left = by_case (decide (v + advance t.reply.body) t.reply.version) where
+exact v end t ts z c top left = by_case (cases_lt (v + advance t.reply.body) t.reply.version) where
   by_case : (v + advance t.reply.body < t.reply.version) ⊎ (t.reply.version ≤ v + advance t.reply.body) → t.reply.version ≡ v + advance t.reply.body
   by_case (inl more) =
       let one = left (v + 1) (omega arith) (omega (arith, more, top)) in
@@ -124,22 +122,6 @@ exact v end t ts z c top left = by_case (decide (v + advance t.reply.body) t.rep
 
 left_on : (v end : ℕ) (t : Turn) (ts : List Turn) → v ≤ t.reply.version → Left v end (t ∷ ts) → Left t.reply.version end ts
 left_on v end t ts le left k lo hi = let one = left k (omega (arith, le, lo)) hi in omega (arith, one, never_at k t.reply.body t.reply.version (λ e. omega (arith, e, lo)))
-
-take_long : (xs : List Commit) (n : ℕ) → n ≤ length xs → length (take n xs) ≡ n
-take_long xs zero le = refl
-take_long [] (suc n) le = absurd (omega arith)
-take_long (x ∷ xs) (suc n) le = omega (arith, take_long xs n (omega (arith, le)))
-
-take_next : (xs : List Commit) (n : ℕ) (c : Commit) → slice_get xs n ≡ Some c → take (suc n) xs ≡ take n xs ++ c ∷ []
-take_next [] n c is = absurd (true≢false (sym (ap there is))) where
-  there : Option Commit → Bool
-  there None = false
-  there (Some x) = true
-take_next (x ∷ xs) zero c is = ap (λ o. from o ∷ []) is where
-  from : Option Commit → Commit
-  from None = x
-  from (Some y) = y
-take_next (x ∷ xs) (suc n) c is = ap (λ l. x ∷ l) (take_next xs n c is)
 
 -- what is known of each turn
 abbrev Known : Meaning → List Commit → ℕ → Turn → Type 0
@@ -150,20 +132,20 @@ acts m all opened t v le known at = by_body t.reply.body refl at where
   by_body : (b : ReplyBody) → t.reply.body ≡ b → t.reply.version ≡ v + advance b → Acts m t.job t.reply.version b (take v all) (take t.reply.version all)
   by_body (body.Rows r) is e =
       let same : t.reply.version ≡ v = omega (arith, e) in
-      (omega (arith, same, take_long all v le), subst (λ n. m.reads (take n all) t.job (Query r)) same (known.0 r is), ap (λ n. take n all) same)
+      (omega (arith, same, length-take-le v all le), subst (λ n. m.reads (take n all) t.job (Query r)) same (known.0 r is), ap (λ n. take n all) same)
   by_body (body.Refused f) is e =
       let same : t.reply.version ≡ v = omega (arith, e) in
-      (omega (arith, same, take_long all v le), subst (λ n. HasFault m (take n all) t.job f) same (known.1 f is), ap (λ n. take n all) same)
+      (omega (arith, same, length-take-le v all le), subst (λ n. HasFault m (take n all) t.job f) same (known.1 f is), ap (λ n. take n all) same)
   by_body body.Done is e =
       let d = known.2 is in let below = d.1 in
       let same : d.0 ≡ v = omega (arith, e, below) in
-      let next : t.reply.version ≡ suc v = omega (arith, e) in
-      (d.3, omega (arith, e, take_long all v le), subst (λ n. Makes m (take n all) t.job d.3) same d.5, ap (λ n. take n all) next ∙ take_next all v d.3 (ap (slice_get all) (sym same) ∙ d.4))
+      let next : t.reply.version ≡ v + 1 = omega (arith, e) in
+      (d.3, omega (arith, e, length-take-le v all le), subst (λ n. Makes m (take n all) t.job d.3) same d.5, ap (λ n. take n all) next ∙ take_next all v d.3 (ap (slice_get all) (sym same) ∙ d.4))
   by_body body.DeviceFault is e = absurd (true≢false (ap body_breaks (sym is) ∙ known.4))
   by_body body.BrokenJournal is e = absurd (true≢false (ap body_breaks (sym is) ∙ known.4))
 
 plays : (m : Meaning) (all : List Commit) (opened v : ℕ) (ts : List Turn) (z : ℕ) → v ≤ length all → Each (Known m all opened) ts → Climbs v ts z → Left v (length all) ts → IsPlay m (take v all) ts all
-plays m all opened v [] z le known c left = sym (take_all v all (by_case (decide v (length all)))) where
+plays m all opened v [] z le known c left = sym (take_all v all (by_case (cases_lt v (length all)))) where
   by_case : (v < length all) ⊎ (length all ≤ v) → length all ≤ v
   by_case (inl more) = let one = left (v + 1) (omega arith) (omega (arith, more)) in absurd (omega (arith, one))
   by_case (inr done) = done

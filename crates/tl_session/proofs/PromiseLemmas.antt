@@ -15,7 +15,8 @@ use Rattle.tl_session.specs.Promises.{Chain, Chains, Promised, EndsAtBreak, AreM
 use Rattle.tl_session.specs.Play.{AreLone, AreOfOne, AreLonePhases}
 use Rattle.tl_session.specs.Transcript.{Each}
 use Rattle.tl_session.specs.Written.{jobs_of, all_jobs, IsPlayOf, transcript_bytes}
-use Rattle.tl_session.proofs.EntryLemmas.{begins_itself, begins_on}
+use Rattle.tl_engine.proofs.CountLemmas.{begins_on}
+use Rattle.tl_session.proofs.EntryLemmas.{begins_itself}
 use Rattle.tl_session.proofs.ChainLemmas.{chain_from, jobs_on}
 use Rattle.tl_session.proofs.PlayLemmas.{promised_play}
 
@@ -32,7 +33,7 @@ whole_more f (q ∷ phases) turns = omega (arith, whole_more f phases turns)
 pub run_none : (opening : List Entry) → HaveRun opening [] opening 0
 run_none opening = record { chains = begins_itself opening; count = refl }
 
-pub run_more : (opening : List Entry) (phases : List (List Turn)) (turns : List Turn) (old new : plain.Crew) → HaveRun opening phases old.seen old.amount → TakesTurns turns old new → HaveRun opening (phases ++ turns ∷ []) new.seen new.amount
+pub run_more : (opening : List Entry) (phases : List (List Turn)) (turns : List Turn) (old new : plain.SharedAccess) → HaveRun opening phases old.seen old.amount → TakesTurns turns old new → HaveRun opening (phases ++ turns ∷ []) new.seen new.amount
 run_more opening phases turns old new run taken = record {
   chains = chains_more meant opening phases old.seen turns new.seen run.chains taken.later taken.chains;
   count = (let a = run.count in let b = taken.amount in omega (arith, a, b, whole_more weight phases turns));

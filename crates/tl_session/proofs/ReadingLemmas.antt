@@ -1,5 +1,5 @@
 -- A job is one thing, and a block is read for the table that its name finds.
-use Rattle.std.proofs.Common.{◌≡◌, ◌⊎◌, inl, inr, ℕ, List, Some, None, Result, refl, ap, sym, ◌∙◌, slice_get, is_some, subst, true}
+use Rattle.std.proofs.Common.{◌≡◌, ◌⊎◌, inl, inr, ℕ, List, Some, Result, refl, ap, sym, ◌∙◌, slice_get, is_some, true}
 use Rattle.std.specs.List.{list_all}
 use Rattle.std.specs.Option.{option_map}
 use Rattle.tl_types.specs.declared.batches.Batch.{Batch}
@@ -11,7 +11,7 @@ use Rattle.tl_types.specs.Limits.{standard_limits}
 use Rattle.tl_types.specs.Plain as plain
 use Rattle.tl_types.specs.History.{database_of, matches}
 use Rattle.tl_types.specs.Resolving.{find_table}
-use Rattle.tl_types.proofs.FoundTables.{table_found, schema_found, number_none, name_found}
+use Rattle.tl_types.proofs.FoundTables.{table_found, schema_found, name_found}
 use Rattle.tl_batch.specs.Made.{batch_matches, rows_fit_found}
 use Rattle.tl_engine.specs.Saying.{names_table}
 use Rattle.tl_csv.specs.declared.faults.CsvFault.{CsvFault}
@@ -50,39 +50,31 @@ has_one_reading commits job = record {
 
 -- BLOCKS
 
--- a table that no name means
-pub load_unknown : (commits : List Commit) (name : List ℕ) (kind : BatchKind) (block : List ℕ) → option_map (λ found. found.0) (find_table name (database_of commits).tables) ≡ None → load_reading commits name kind block ≡ reading.Fault (refusal.BatchFault batch_fault.UnknownTable)
-load_unknown commits name kind block h = rw (number_none (find_table name (database_of commits).tables) h) refl
-
-load_of : (commits : List Commit) (name : List ℕ) (kind : BatchKind) (block : List ℕ) (number : ℕ) (schema : plain.Schema) (batch : Result Batch CsvFault) → option_map (λ found. found.0) (find_table name (database_of commits).tables) ≡ Some number → Some schema ≡ option_map (λ u. u.schema) (slice_get (database_of commits).tables number) → batch_of standard_limits schema kind block ≡ batch → load_reading commits name kind block ≡ block_reading batch
-load_of commits name kind block number schema batch h e is =
-    let f = table_found (database_of commits) name number h in
-    let s = schema_found (database_of commits) name number schema f e in
-    ap (λ o. load_into o kind block) f.named ∙ (ap (λ t. block_reading (batch_of standard_limits t kind block)) (sym s) ∙ ap block_reading is)
-
 -- what a block for the table with a name is, is what its batch is
 pub lent_load : (commits : List Commit) (name : List ℕ) (kind : BatchKind) (block : List ℕ) (number : ℕ) (schema : plain.Schema) (limits : Limits) (batch : Result Batch CsvFault) → limits ≡ standard_limits → option_map (λ found. found.0) (find_table name (database_of commits).tables) ≡ Some number → Some schema ≡ option_map (λ u. u.schema) (slice_get (database_of commits).tables number) → batch_of limits schema kind block ≡ batch → load_reading commits name kind block ≡ block_reading batch
 lent_load commits name kind block number schema limits batch std h e is =
-    load_of commits name kind block number schema batch h e (subst (λ (l : Limits). batch_of l schema kind block ≡ batch) std is)
+    let f = table_found (database_of commits) name number h in
+    let s = schema_found (database_of commits) name number schema f e in
+    ap (λ o. load_into o kind block) f.named ∙ (ap (λ t. block_reading (batch_of standard_limits t kind block)) (sym s) ∙ ap (λ (l : Limits). block_reading (batch_of l schema kind block)) (sym std) ∙ ap block_reading is)
+
+-- the table that a batch of rows names, where it is one for the table with the name
+put_found : (db : plain.Database) (name own : List ℕ) (number : ℕ) (schema : plain.Schema) → option_map (λ found. found.0) (find_table name db.tables) ≡ Some number → Some schema ≡ option_map (λ u. u.schema) (slice_get db.tables number) → own ≡ schema.name → (t : plain.Table) × (find_table own db.tables ≡ Some (number, t)) × (schema ≡ t.schema)
+put_found db name own number schema h e is =
+    let f = table_found db name number h in
+    let s = schema_found db name number schema f e in
+    let named : own ≡ name = is ∙ (ap (λ (t : plain.Schema). t.name) s ∙ name_found 0 name db.tables number f.table f.named) in
+    (f.table, ap (λ n. find_table n db.tables) named ∙ f.named, s)
 
 -- the batch of a block for the table with a name matches the tables
 pub batch_fits : (db : plain.Database) (name : List ℕ) (number : ℕ) (schema : plain.Schema) (limits : Limits) (kind : BatchKind) (b : Batch) → option_map (λ found. found.0) (find_table name db.tables) ≡ Some number → Some schema ≡ option_map (λ u. u.schema) (slice_get db.tables number) → IsBatchFor limits schema kind b → batch_matches db b ≡ true
 batch_fits db name number schema limits kind (batch.Create made) h e is = absurd is
 batch_fits db name number schema limits kind (batch.Put own rows) h e is =
-    let f = table_found db name number h in
-    let s = schema_found db name number schema f e in
-    let named : own ≡ name = is.1 ∙ (ap (λ (t : plain.Schema). t.name) s ∙ name_found 0 name db.tables number f.table f.named) in
-    let there : find_table own db.tables ≡ Some (number, f.table) = ap (λ n. find_table n db.tables) named ∙ f.named in
-    ap (rows_fit_found rows) there ∙ (ap (λ t. list_all (matches t) rows) (sym s) ∙ is.2.matching)
+    let f = put_found db name own number schema h e is.1 in
+    ap (rows_fit_found rows) f.1 ∙ (ap (λ t. list_all (matches t) rows) (sym f.2) ∙ is.2.matching)
 batch_fits db name number schema limits kind (batch.Remove own keys) h e is = refl
 
 -- and it names a table that is there
 pub batch_known : (db : plain.Database) (name : List ℕ) (number : ℕ) (schema : plain.Schema) (limits : Limits) (kind : BatchKind) (b : Batch) → option_map (λ found. found.0) (find_table name db.tables) ≡ Some number → Some schema ≡ option_map (λ u. u.schema) (slice_get db.tables number) → IsBatchFor limits schema kind b → names_table db b ≡ true
 batch_known db name number schema limits kind (batch.Create made) h e is = absurd is
-batch_known db name number schema limits kind (batch.Put own rows) h e is =
-    let f = table_found db name number h in
-    let s = schema_found db name number schema f e in
-    let named : own ≡ name = is.1 ∙ (ap (λ (t : plain.Schema). t.name) s ∙ name_found 0 name db.tables number f.table f.named) in
-    let there : find_table own db.tables ≡ Some (number, f.table) = ap (λ n. find_table n db.tables) named ∙ f.named in
-    ap is_some there
+batch_known db name number schema limits kind (batch.Put own rows) h e is = ap is_some (put_found db name own number schema h e is.1).1
 batch_known db name number schema limits kind (batch.Remove own keys) h e is = refl

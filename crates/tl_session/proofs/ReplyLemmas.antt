@@ -11,7 +11,9 @@ use Rattle.tl_session.specs.Jobs.{Job}
 use Rattle.tl_session.specs.Turns.{Turn, Meaning, break_of, HasFault, Makes, ReadsWell}
 use Rattle.tl_session.specs.Promises.{Appended, BodySays, Says, EndsAtBreak}
 use Rattle.tl_session.specs.Transcript.{RowsRight, RefusedRight, DoneRight, DeviceRight, BrokenRight, Between, body_breaks}
-use Rattle.tl_session.proofs.EntryLemmas.{begins_on, commits_split, fewer_commits, break_last, same_front, whole_front, all_there, unbroken, break_found, break_there_on, placed}
+use Rattle.tl_engine.proofs.CountLemmas.{begins_on}
+use Rattle.tl_engine.proofs.ListLemmas.{break_there as break_last}
+use Rattle.tl_session.proofs.EntryLemmas.{commits_split, fewer_commits, same_front, whole_front, all_there, unbroken, break_found, break_there_on, placed}
 
 appended : (old base new : List Entry) (e : Entry) → Appended old base new e → IsPrefix old new
 appended old base new e a = begins_on old base new a.0 (e ∷ [], sym a.1)

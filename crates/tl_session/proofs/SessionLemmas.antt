@@ -1,13 +1,31 @@
--- A phase and the turns of each of its sessions.
+-- A phase, and the jobs and the turns of each of its sessions.
 use Rattle.std.proofs.Common.{◌≡◌, ◌≢◌, ℕ, ◌+◌, ◌==◌, Bool, true, false, cond, List, [], ◌∷◌, refl, sym, ap, ◌∙◌, subst, arith}
 use Rattle.std.proofs.lemmas.Bool.Decides.{nat_tests}
+use Rattle.tl_session.specs.Jobs.{Job}
+use Rattle.tl_session.specs.Phases.{own_jobs}
 use Rattle.tl_session.specs.Turns.{Turn, of_session}
 use Rattle.tl_session.specs.Promises.{tally}
 use Rattle.tl_session.specs.Transcript.{Each}
 
+pub is_itself : (s : ℕ) → (s == s) ≡ true
+is_itself s = grind (arith, nat_tests)
+
+-- the first job and the first turn are those of a session, or not
+pub own_same : (s : ℕ) (j : Job) (js : List Job) → (j.session == s) ≡ true → own_jobs s (j ∷ js) ≡ j ∷ own_jobs s js
+own_same s j js e = rw e refl
+
+pub own_other : (s : ℕ) (j : Job) (js : List Job) → (j.session == s) ≡ false → own_jobs s (j ∷ js) ≡ own_jobs s js
+own_other s j js e = rw e refl
+
+pub turns_same : (s : ℕ) (t : Turn) (ts : List Turn) → (t.job.session == s) ≡ true → of_session s (t ∷ ts) ≡ t ∷ of_session s ts
+turns_same s t ts e = rw e refl
+
+pub turns_other : (s : ℕ) (t : Turn) (ts : List Turn) → (t.job.session == s) ≡ false → of_session s (t ∷ ts) ≡ of_session s ts
+turns_other s t ts e = rw e refl
+
 -- a turn stands first among those of its own session
 pub own_first : (t : Turn) (ts : List Turn) → of_session t.job.session (t ∷ ts) ≡ t ∷ of_session t.job.session ts
-own_first t ts = let e : (t.job.session == t.job.session) ≡ true = grind (arith, nat_tests) in rw e refl
+own_first t ts = turns_same t.job.session t ts (is_itself t.job.session)
 
 each_tail : (P : Turn → Type 0) (s : ℕ) (t : Turn) (ts : List Turn) → Each P (of_session s (t ∷ ts)) → Each P (of_session s ts)
 each_tail P s t ts = by_test (t.job.session == s) where
@@ -21,14 +39,6 @@ each_of_sessions P [] e = tt
 each_of_sessions P (t ∷ ts) e =
     let own = subst (λ l. Each P l) (own_first t ts) (e t.job.session) in
     (own.0, each_of_sessions P ts (λ s. each_tail P s t ts (e s)))
-
--- and the other way round
-pub each_session : (P : Turn → Type 0) (s : ℕ) (ts : List Turn) → Each P ts → Each P (of_session s ts)
-each_session P s [] e = tt
-each_session P s (t ∷ ts) e = by_test (t.job.session == s) e.0 (each_session P s ts e.1) where
-  by_test : (b : Bool) → P t → Each P (of_session s ts) → Each P (cond b (t ∷ of_session s ts) (of_session s ts))
-  by_test true h r = (h, r)
-  by_test false h r = r
 
 tally_tail : (f : Turn → ℕ) (s : ℕ) (t : Turn) (ts : List Turn) → tally f (of_session s (t ∷ ts)) ≡ 0 → tally f (of_session s ts) ≡ 0
 tally_tail f s t ts = by_test (t.job.session == s) where

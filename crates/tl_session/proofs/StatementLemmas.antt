@@ -1,19 +1,21 @@
 -- From what the engine answers to a batch, and from what a job reads as, to what a reply says.
-use Rattle.std.proofs.Common.{◌≡◌, inl, inr, ℕ, true, false, true≢false, List, length, take, Option, Some, None, Result, Ok, Err, refl, sym, ap, ◌∙◌, subst, arith}
+use Rattle.std.proofs.Common.{◌≡◌, inl, inr, ℕ, true, false, true≢false, List, length, take, Some, None, IfSome, Result, Ok, Err, refl, sym, ap, ◌∙◌, subst, arith}
 use Rattle.std.proofs.lemmas.List.{take_all}
 use mathlib.Core.List.{IsPrefix}
 use Rattle.tl_types.specs.declared.answers.Answer.{Answer}
 use Rattle.tl_types.specs.declared.batches.Batch.{Batch}
 use Rattle.tl_types.specs.declared.batches.BatchFault.{BatchFault}
+use Rattle.tl_types.specs.declared.commits.Commit.{Commit}
 use Rattle.tl_types.specs.declared.commits.Entry.{Entry}
 use Rattle.tl_types.specs.declared.limits.Limits.{Limits}
 use Rattle.tl_types.specs.Entries.{commits_of, has_break}
 use Rattle.tl_types.specs.History.{database_of}
 use Rattle.tl_types.specs.Limits.{standard_limits}
 use Rattle.tl_types.specs.Resolving.{resolved}
+use Rattle.tl_index.specs.Snapshots.{commit_entry, break_entry}
 use Rattle.tl_engine.specs.declared.faults.CommitFault.{CommitFault}
 use Rattle.tl_engine.specs.declared.faults.CommitFault.TheVariants as fault
-use Rattle.tl_engine.specs.Saying.{CommitSays, becomes}
+use Rattle.tl_engine.specs.Saying.{Adds, CommitSays, becomes}
 use Rattle.tl_session.specs.declared.readings.Reading.{Reading}
 use Rattle.tl_session.specs.declared.readings.Reading.TheVariants as reading
 use Rattle.tl_session.specs.declared.replies.Refusal.{Refusal}
@@ -24,21 +26,15 @@ use Rattle.tl_session.specs.declared.statements.Settled.{Settled}
 use Rattle.tl_session.specs.Jobs.{Job}
 use Rattle.tl_session.specs.Plain as plain
 use Rattle.tl_session.specs.Reading.{Reads}
-use Rattle.tl_session.specs.Turns.{meant, made, HasFault, ReadsWell}
+use Rattle.tl_session.specs.Turns.{meant, made, HasFault, Makes, ReadsWell}
 use Rattle.tl_session.specs.Promises.{Looked}
 use Rattle.tl_session.specs.Statements.{outcome_of, IsSame, Settles, Tells, IsLook, SeesMore}
-use Rattle.tl_session.proofs.EntryLemmas.{begins_on, fewer_commits, break_on}
+use Rattle.tl_session.proofs.EntryLemmas.{fewer_commits, break_on}
 use Rattle.tl_session.proofs.ChainLemmas.{body_from, same_on}
 use Rattle.tl_session.proofs.GrowthLemmas.{reads_on}
 use Rattle.tl_session.proofs.ReadingLemmas.{one_reading}
 
 -- A BATCH
-
-same_outcome : (a b : Settled) → Some a ≡ Some b → a ≡ b
-same_outcome a b e = ap (get a) e where
-  get : Settled → Option Settled → Settled
-  get d None = d
-  get d (Some x) = x
 
 -- what becomes of the batch under the standard limits, by its session
 made_by : (limits : Limits) (author session : ℕ) (batch : Batch) (base : List Entry) → limits ≡ standard_limits → session ≡ author → becomes limits author batch base ≡ made (commits_of base) session batch
@@ -47,33 +43,10 @@ made_by limits author session batch base std own = ap (λ l. resolved l (databas
 no_break_before : (old base : List Entry) → IsPrefix old base → has_break base ≡ false → has_break old ≡ true → ⊥
 no_break_before old base p none is = true≢false (sym (break_on old base p is) ∙ none)
 
-pub settles_done : (limits : Limits) (first v : ℕ) (batch : Batch) (x y : plain.Access) → limits ≡ standard_limits → IsSame x y → CommitSays (becomes limits x.author batch) first x.seen y.seen x.amount y.amount (Ok v) → Settles batch v body.Done x y
-settles_done limits first v batch x y std same s =
-    let adds = s.0 in
-    record {
-      same = same;
-      says = λ job own reads. (adds.base, adds.commit, (adds.begins, adds.entries_are), s.1, (batch, reads_on x.seen adds.base job batch adds.begins reads, sym (made_by limits x.author job.session batch adds.base std own) ∙ adds.makes));
-      broken = λ is. absurd (no_break_before x.seen adds.base adds.begins adds.whole is);
-      amount = s.2;
-    }
-
-pub settles_device : (limits : Limits) (first v count : ℕ) (batch : Batch) (x y : plain.Access) → limits ≡ standard_limits → IsSame x y → CommitSays (becomes limits x.author batch) first x.seen y.seen x.amount y.amount (Err (fault.Device v count)) → Settles batch v body.DeviceFault x y
-settles_device limits first v count batch x y std same s =
-    let adds = s.0 in
-    record {
-      same = same;
-      says = λ job own reads. (adds.base, adds.commit, (adds.begins, adds.entries_are), s.1, (batch, reads_on x.seen adds.base job batch adds.begins reads, sym (made_by limits x.author job.session batch adds.base std own) ∙ adds.makes));
-      broken = λ is. absurd (no_break_before x.seen adds.base adds.begins adds.whole is);
-      amount = s.3;
-    }
-
-pub settles_broken : (limits : Limits) (first v : ℕ) (batch : Batch) (x y : plain.Access) → limits ≡ standard_limits → IsSame x y → CommitSays (becomes limits x.author batch) first x.seen y.seen x.amount y.amount (Err (fault.Broken v)) → Settles batch v body.BrokenJournal x y
-settles_broken limits first v batch x y std same s = record {
-  same = same;
-  says = λ job own reads. (s.0, s.1, s.2, (batch, reads_on x.seen y.seen job batch s.0 reads));
-  broken = λ is. refl;
-  amount = (let e = s.3 in omega (arith, e));
-}
+-- the commit that the answer adds is the batch's over what was seen then
+adds_made : (limits : Limits) (batch : Batch) (of_commit : Commit → Entry) (x : plain.Access) (new : List Entry) (adds : Adds (becomes limits x.author batch) of_commit x.seen new) → limits ≡ standard_limits → (job : Job) → job.session ≡ x.author → Reads (commits_of x.seen) job (reading.Loads batch) → Makes meant (commits_of adds.base) job adds.commit
+adds_made limits batch of_commit x new adds std job own reads =
+    (batch, reads_on x.seen adds.base job batch adds.begins reads, sym (made_by limits x.author job.session batch adds.base std own) ∙ adds.makes)
 
 -- the version is that of what is seen now
 looked_now : (old new : List Entry) (v : ℕ) → IsPrefix old new → v ≡ length (commits_of new) → Looked old new v
@@ -82,28 +55,39 @@ looked_now old new v p is = let le = fewer_commits old new p in (p, omega (arith
 all_taken : (new : List Entry) (v : ℕ) → v ≡ length (commits_of new) → take v (commits_of new) ≡ commits_of new
 all_taken new v is = take_all v (commits_of new) (omega (arith, is))
 
-pub settles_refused : (limits : Limits) (first v : ℕ) (f : BatchFault) (batch : Batch) (x y : plain.Access) → limits ≡ standard_limits → IsSame x y → CommitSays (becomes limits x.author batch) first x.seen y.seen x.amount y.amount (Err (fault.Refused v f)) → Settles batch v (body.Refused (refusal.BatchFault f)) x y
-settles_refused limits first v f batch x y std same s = record {
+-- what the engine's answer to a batch is told as is so
+settled : (limits : Limits) (first : ℕ) (batch : Batch) (x y : plain.Access) (answer : Result ℕ CommitFault) → limits ≡ standard_limits → IsSame x y → CommitSays (becomes limits x.author batch) first x.seen y.seen x.amount y.amount answer → IfSome (outcome_of answer) (λ (s : Settled). Settles batch s.version s.body x y)
+settled limits first batch x y (Ok v) std same s = record {
+  same = same;
+  says = λ job own reads. (s.0.base, s.0.commit, (s.0.begins, s.0.entries_are), s.1, adds_made limits batch commit_entry x y.seen s.0 std job own reads);
+  broken = λ is. absurd (no_break_before x.seen s.0.base s.0.begins s.0.whole is);
+  amount = s.2;
+}
+settled limits first batch x y (Err (fault.Broken v)) std same s = record {
+  same = same;
+  says = λ job own reads. (s.0, s.1, s.2, (batch, reads_on x.seen y.seen job batch s.0 reads));
+  broken = λ is. refl;
+  amount = (let e = s.3 in omega (arith, e));
+}
+settled limits first batch x y (Err (fault.Refused v f)) std same s = record {
   same = same;
   says = λ job own reads. (looked_now x.seen y.seen v s.0 s.2, subst (λ l. HasFault meant l job (refusal.BatchFault f)) (sym (all_taken y.seen v s.2)) (inr (batch, f, reads_on x.seen y.seen job batch s.0 reads, sym (made_by limits x.author job.session batch y.seen std own) ∙ s.4, refl)));
   broken = λ is. absurd (no_break_before x.seen y.seen s.0 s.1 is);
   amount = (let e = s.3 in omega (arith, e));
 }
-
-settles_by : (limits : Limits) (first : ℕ) (batch : Batch) (x y : plain.Access) (answer : Result ℕ CommitFault) (s : Settled) → limits ≡ standard_limits → IsSame x y → CommitSays (becomes limits x.author batch) first x.seen y.seen x.amount y.amount answer → outcome_of answer ≡ Some s → Settles batch s.version s.body x y
-settles_by limits first batch x y (Ok v) s std same says is = subst (λ (o : Settled). Settles batch o.version o.body x y) (same_outcome _ s is) (settles_done limits first v batch x y std same says)
-settles_by limits first batch x y (Err (fault.Broken v)) s std same says is = subst (λ (o : Settled). Settles batch o.version o.body x y) (same_outcome _ s is) (settles_broken limits first v batch x y std same says)
-settles_by limits first batch x y (Err (fault.Refused v f)) s std same says is = subst (λ (o : Settled). Settles batch o.version o.body x y) (same_outcome _ s is) (settles_refused limits first v f batch x y std same says)
-settles_by limits first batch x y (Err fault.NoMemory) s std same says is = absurd (cc)
-settles_by limits first batch x y (Err (fault.Device v n)) s std same says is = subst (λ (o : Settled). Settles batch o.version o.body x y) (same_outcome _ s is) (settles_device limits first v n batch x y std same says)
-
--- what the engine's answer to a batch is told as is so
-pub settles : (limits : Limits) (first : ℕ) (batch : Batch) (x y : plain.Access) (answer : Result ℕ CommitFault) (s : Settled) → limits ≡ standard_limits → y.author ≡ x.author → y.table ≡ x.table → y.parts ≡ x.parts → CommitSays (becomes limits x.author batch) first x.seen y.seen x.amount y.amount answer → outcome_of answer ≡ Some s → Settles batch s.version s.body x y
-settles limits first batch x y answer s std author table parts says is = settles_by limits first batch x y answer s std (record { author = author; table = table; parts = parts }) says is
+settled limits first batch x y (Err fault.NoMemory) std same s = tt
+settled limits first batch x y (Err (fault.Device v count)) std same s = record {
+  same = same;
+  says = λ job own reads. (s.0.base, s.0.commit, (s.0.begins, s.0.entries_are), s.1, adds_made limits batch break_entry x y.seen s.0 std job own reads);
+  broken = λ is. absurd (no_break_before x.seen s.0.base s.0.begins s.0.whole is);
+  amount = s.3;
+}
 
 -- the same of an access that is seen through its parts
 pub settles_lent : (limits : Limits) (first : ℕ) (batch : Batch) (x z y : plain.Access) (answer : Result ℕ CommitFault) (s : Settled) → x ≡ z → limits ≡ standard_limits → y.author ≡ x.author → y.table ≡ x.table → y.parts ≡ x.parts → CommitSays (becomes limits x.author batch) first x.seen y.seen x.amount y.amount answer → outcome_of answer ≡ Some s → Settles batch s.version s.body z y
-settles_lent limits first batch x z y answer s lent std author table parts says is = subst (λ a. Settles batch s.version s.body a y) lent (settles limits first batch x y answer s std author table parts says is)
+settles_lent limits first batch x z y answer s lent std author table parts says is =
+    subst (λ a. Settles batch s.version s.body a y) lent
+    (subst (λ o. IfSome o (λ (r : Settled). Settles batch r.version r.body x y)) is (settled limits first batch x y answer std (record { author = author; table = table; parts = parts }) says))
 
 -- where it is not told, at most more was seen
 pub settles_none : (limits : Limits) (first : ℕ) (batch : Batch) (x y : plain.Access) (answer : Result ℕ CommitFault) → y.author ≡ x.author → y.table ≡ x.table → y.parts ≡ x.parts → CommitSays (becomes limits x.author batch) first x.seen y.seen x.amount y.amount answer → outcome_of answer ≡ None → SeesMore x y
@@ -146,6 +130,3 @@ tells_fault job v f x y more look = record {
 }
 
 -- TWO STEPS
-
-pub sees_on : (x y z : plain.Access) → SeesMore x y → SeesMore y z → SeesMore x z
-sees_on x y z f g = record { same = same_on x y z f.same g.same; later = begins_on x.seen y.seen z.seen f.later g.later; amount = g.amount ∙ f.amount }

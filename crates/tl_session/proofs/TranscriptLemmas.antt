@@ -2,6 +2,7 @@
 use Rattle.std.proofs.Common.{◌≡◌, ℕ, ◌+◌, ◌-◌, ◌<◌, ◌≤◌, ◌==◌, ◌||◌, max, Bool, true, false, true≢false, List, [], ◌∷◌, ◌++◌, length, get_or, Option, Some, None, refl, sym, ap, ◌∙◌, subst, arith}
 use Rattle.std.proofs.Math.Seq.{get_or-append_seam}
 use Rattle.std.proofs.lemmas.Bool.Decides.{nat_tests}
+use Rattle.std.proofs.lemmas.Option.{none-some}
 use mathlib.Core.List.{IsPrefix}
 use Rattle.tl_types.specs.declared.commits.Commit.{Commit}
 use Rattle.tl_types.specs.declared.commits.Entry.{Entry}
@@ -12,12 +13,13 @@ use Rattle.tl_types.specs.Entries.{commits_of, has_break}
 use Rattle.tl_session.specs.declared.replies.ReplyBody.{ReplyBody}
 use Rattle.tl_session.specs.declared.replies.ReplyBody.TheVariants as body
 use Rattle.tl_session.specs.Jobs.{Job}
-use Rattle.tl_session.specs.Turns.{Turn, Meaning, break_of, of_session}
+use Rattle.tl_session.specs.Turns.{Turn, Meaning, Makes, break_of, of_session}
 use Rattle.tl_engine.specs.Counting.{news}
-use Rattle.tl_session.specs.Promises.{BodySays, Says, Chain, Chains, Promised, tally, whole_tally, EndsAtBreak}
+use Rattle.tl_session.specs.Promises.{Appended, BodySays, Says, Chain, Chains, Promised, tally, whole_tally, AreMarks, EndsAtBreak}
 use Rattle.tl_session.specs.Transcript.{Each, EachOfAll, OwnLine, RowsRight, RefusedRight, DoneRight, DeviceRight, BrokenRight, Between, NeverFalls, DoneRises, Above, highest, done_at, done_with, device, body_device, body_breaks, breaks, StaysBroken, AllStayBroken, OneDone, OneDevice, Transcript}
 use Rattle.tl_session.proofs.AuthorLemmas.{signed}
-use Rattle.tl_session.proofs.EntryLemmas.{begins_itself, begins_on, news_split, fewer_commits, fewer_news, break_on, unbroken, news_are, break_there_on, news_count, one_for}
+use Rattle.tl_engine.proofs.CountLemmas.{begins_on}
+use Rattle.tl_session.proofs.EntryLemmas.{begins_itself, news_split, fewer_commits, fewer_news, break_on, unbroken, news_are, break_there_on, news_count, one_for}
 use Rattle.tl_session.proofs.ReplyLemmas.{says_before, says_between, goes_on, rows_right, refused_right, done_right, device_right, broken_right, lies_between, done_above, tells, stays}
 use Rattle.tl_session.proofs.SessionLemmas.{each_of_sessions, of_its_session}
 use Rattle.tl_session.proofs.CountingLemmas.{key_of, hit_of, hit, miss, StepOf, Steps, Walk, each_once}
@@ -42,10 +44,13 @@ chain_each m opening last P fact old (t ∷ ts) new o p k =
     let before = says_before m t.job t.reply.version t.reply.body old k.0 k.1.0 in
     (fact t old k.0 o (begins_on k.0 new last (chain_before m k.0 ts new k.2) p) k.1, chain_each m opening last P fact k.0 ts new (begins_on opening old k.0 o before) p k.2)
 
+phase_each : (m : Meaning) (opening last : List Entry) (P : Turn → Type 0) → Fact m opening last P → (old : List Entry) (phase : List Turn) (new : List Entry) → IsPrefix opening old → IsPrefix new last → ((s : ℕ) → Chain m old (of_session s phase) new) → Each P phase
+phase_each m opening last P fact old phase new o p k = each_of_sessions P phase (λ s. chain_each m opening last P fact old (of_session s phase) new o p (k s))
+
 whole_each : (m : Meaning) (opening last : List Entry) (P : Turn → Type 0) → Fact m opening last P → (old : List Entry) (phases : List (List Turn)) → IsPrefix opening old → Chains m old phases last → EachOfAll P phases
 whole_each m opening last P fact old [] o r = tt
 whole_each m opening last P fact old (phase ∷ phases) o r = (
-  each_of_sessions P phase (λ s. chain_each m opening last P fact old (of_session s phase) r.0 o (chains_before m r.0 phases last r.3) (r.2 s)),
+  phase_each m opening last P fact old phase r.0 o (chains_before m r.0 phases last r.3) r.2,
   whole_each m opening last P fact r.0 phases (begins_on opening old r.0 o r.1) r.3,
 )
 
@@ -77,8 +82,7 @@ highest_most n top (t ∷ ts) le e = let h = e.0 in highest_most n (max top t.re
 
 phase_most : (m : Meaning) (old : List Entry) (phase : List Turn) (new : List Entry) → ((s : ℕ) → Chain m old (of_session s phase) new) → Each (AtMost (length (commits_of new))) phase
 phase_most m old phase new k =
-    each_of_sessions (AtMost (length (commits_of new))) phase
-    (λ s. chain_each m old new (AtMost (length (commits_of new))) (λ t a b o p says. (lies_between m t old a b new o p says).1) old (of_session s phase) new (begins_itself old) (begins_itself new) (k s))
+    phase_each m old new (AtMost (length (commits_of new))) (λ t a b o p says. (lies_between m t old a b new o p says).1) old phase new (begins_itself old) (begins_itself new) k
 
 abbrev Order : Meaning → (ℕ → List Turn → Type 0) → Type 0
 Order m P = (top : ℕ) (old : List Entry) (ts : List Turn) (new : List Entry) → top ≤ length (commits_of old) → Chain m old ts new → P top ts
@@ -105,9 +109,7 @@ told_right new (t ∷ ts) e is = or_told (body_breaks t.reply.body) (breaks ts) 
 
 phase_told : (m : Meaning) (old : List Entry) (phase : List Turn) (new : List Entry) → ((s : ℕ) → Chain m old (of_session s phase) new) → breaks phase ≡ true → has_break new ≡ true
 phase_told m old phase new k =
-    told_right new phase
-    (each_of_sessions (TellsRight new) phase
-    (λ s. chain_each m old new (TellsRight new) (λ t a b o p says is. break_on b new p (tells m t.job t.reply.version t.reply.body a b says.0 is)) old (of_session s phase) new (begins_itself old) (begins_itself new) (k s)))
+    told_right new phase (phase_each m old new (TellsRight new) (λ t a b o p says is. break_on b new p (tells m t.job t.reply.version t.reply.body a b says.0 is)) old phase new (begins_itself old) (begins_itself new) k)
 
 chain_stays : (m : Meaning) (last : List Entry) (told : Bool) (old : List Entry) (ts : List Turn) (new : List Entry) → IsPrefix new last → (told ≡ true → has_break old ≡ true) → Chain m old ts new → StaysBroken m (commits_of last) told ts
 chain_stays m last told old [] new p seen k = tt
@@ -155,23 +157,22 @@ owned a e x rest all k one is at =
     let list : authors all ≡ authors a ++ x ∷ authors rest = sym (ap authors is) ∙ authors_split a (e ∷ rest) ∙ ap (λ l. authors a ++ l) one in
     ap (λ l. get_or l (k - 1) 0) list ∙ ap (λ n. get_or (authors a ++ x ∷ authors rest) n 0) place ∙ get_or-append_seam (authors a) x (authors rest) 0
 
+-- an entry that is new, of the commit that the job makes
+added_step : (m : Meaning) (last : List Entry) → EndsAtBreak last → (job : Job) (old new base : List Entry) (c : Commit) (e : Entry) → Appended old base new e → Makes m (commits_of base) job c → (p : IsPrefix new last) → news (e ∷ []) ≡ 1 → (AreMarks (e ∷ p.0) → ⊥) → authors (e ∷ p.0) ≡ c.author ∷ authors p.0 → (news old < news new) × (length (commits_of base) + 1 ≡ news new) × (owner last (news new) ≡ job.session)
+added_step m last l job old new base c e a makes p one marked by =
+    let goes = goes_on old base new last e a p in
+    let whole = unbroken base (e ∷ p.0) marked (subst EndsAtBreak (sym goes) l) in
+    let more : news new ≡ news base + 1 = ap news a.1 ∙ news_split base (e ∷ []) ∙ ap (λ n. news base + n) one in
+    let low = fewer_news old base a.0 in
+    (omega (arith, more, low), omega (arith, more, news_are base whole), owned base e c.author p.0 last (news new) by goes more ∙ signed standard_limits (database_of (commits_of base)) makes.0 job.session c makes.2)
+
 says_step : (m : Meaning) (last : List Entry) → EndsAtBreak last → (job : Job) (v : ℕ) (b : ReplyBody) (old new : List Entry) → IsPrefix new last → BodySays m job v b old new → StepOf (owner last) job.session (key_of b v) (news old) (news new)
 says_step m last l job v (body.Rows r) old new p b = fewer_news old new b.0.0
 says_step m last l job v (body.Refused f) old new p b = fewer_news old new b.0.0
 says_step m last l job v body.Done old new p b =
-    let base = b.0 in let c = b.1 in
-    let goes = goes_on old base new last (entry.Commit c) b.2 p in
-    let whole = unbroken base (entry.Commit c ∷ p.0) (λ x. x) (subst EndsAtBreak (sym goes) l) in
-    let more : news new ≡ news base + 1 = ap news b.2.1 ∙ news_split base (entry.Commit c ∷ []) in
-    let low = fewer_news old base b.2.0 in let is = b.3 in
-    (omega (arith, more, low), omega (arith, is, more, news_are base whole), owned base (entry.Commit c) c.author p.0 last (news new) refl goes more ∙ signed standard_limits (database_of (commits_of base)) b.4.0 job.session c b.4.2)
+    let r = added_step m last l job old new b.0 b.1 (entry.Commit b.1) b.2 b.4 p refl (λ x. x) refl in (r.0, b.3 ∙ r.1, r.2)
 says_step m last l job v body.DeviceFault old new p b =
-    let base = b.0 in let c = b.1 in
-    let goes = goes_on old base new last (entry.Break c) b.2 p in
-    let whole = unbroken base (entry.Break c ∷ p.0) (λ x. x) (subst EndsAtBreak (sym goes) l) in
-    let more : news new ≡ news base + 1 = ap news b.2.1 ∙ news_split base (entry.Break c ∷ []) in
-    let low = fewer_news old base b.2.0 in let is = b.3 in
-    (omega (arith, more, low), omega (arith, is, more, news_are base whole), owned base (entry.Break c) c.author p.0 last (news new) refl goes more ∙ signed standard_limits (database_of (commits_of base)) b.4.0 job.session c b.4.2)
+    let r = added_step m last l job old new b.0 b.1 (entry.Break b.1) b.2 b.4 p refl (λ x. x) refl in (r.0, ap (λ n. n + 1) b.3 ∙ r.1, r.2)
 says_step m last l job v body.BrokenJournal old new p b = fewer_news old new b.0
 
 chain_steps : (m : Meaning) (last : List Entry) → EndsAtBreak last → (s : ℕ) (old : List Entry) (ts : List Turn) (new : List Entry) → Each (λ t. t.job.session ≡ s) ts → IsPrefix new last → Chain m old ts new → Steps (owner last) s (news old) ts (news new)
@@ -226,16 +227,10 @@ untold : (b : Bool) → (b ≡ true → ⊥) → b ≡ false
 untold true f = absurd (f refl)
 untold false f = refl
 
-some≢none : (c : Commit) → Some c ≡ None → ⊥
-some≢none c e = true≢false (ap is_there e) where
-  is_there : Option Commit → Bool
-  is_there None = false
-  is_there (Some x) = true
-
 one_device : (m : Meaning) (opening last : List Entry) (phases : List (List Turn)) → Promised m opening last phases → (o : Option Commit) → break_of last ≡ o → OneDevice o phases
 one_device m opening last phases p None none =
     each_right m opening last (λ t. body_breaks t.reply.body ≡ false)
-    (λ t old new o q says. untold (body_breaks t.reply.body) (λ is. let there = break_there_on new last q (tells m t.job t.reply.version t.reply.body old new says.0 is) in some≢none there.0 (sym there.1 ∙ none)))
+    (λ t old new o q says. untold (body_breaks t.reply.body) (λ is. let there = break_there_on new last q (tells m t.job t.reply.version t.reply.body old new says.0 is) in none-some there.0 (sym none ∙ there.1)))
     phases p
 one_device m opening last phases p (Some c) there =
     let size = length (commits_of last) + 1 in

@@ -10,7 +10,7 @@ pub record Job : Type 0 where
   pub text : List ℕ
   pub block : Option (List ℕ)
 
--- what a job says that borrows its text and its block
+-- the plain record of a job of the program, which borrows its text and its block
 abbrev pub job_of : LentJob → Job
 job_of job =
     record {

@@ -8,5 +8,4 @@ pub mod Phases
 pub mod Transcript
 pub mod Replies
 pub mod Play
-pub mod Run
 pub mod Written

@@ -1,4 +1,4 @@
--- What sessions do with their jobs, each its own ones and all at once.
+-- What sessions do with the jobs of a phase, all at once, each with its own.
 use Rattle.std.specs.Prelude.{◌≡◌, ℕ, ◌+◌, ◌==◌, ◌<◌, false, List, [], ◌∷◌, ◌++◌, map, Vec, Option, Some, None, option_to_list, Result, Ok, Err, length, set, slice_get, slice_index_or}
 use Rattle.std.specs.List.{filter}
 use Rattle.std.specs.declared.alloc.AllocError.{AllocError}
@@ -17,11 +17,12 @@ use Rattle.tl_session.specs.Written.{jobs_of}
 abbrev pub replies_of : List Turn → List Reply
 replies_of turns = map (λ t. t.reply) turns
 
--- the jobs of a session, in order
+-- the jobs of the session s, in order
 abbrev pub own_jobs : ℕ → List Job → List Job
 own_jobs s jobs = filter (λ j. j.session == s) jobs
 
--- the session answered some of the first of these jobs, and all of them unless memory ran out
+-- the session answered the first so many of these jobs, in order, and all of them unless memory ran
+-- out
 pub record Ran (jobs : List Job) (old new : plain.Session) : Type 0 where
   pub same : IsSame old.access new.access
   pub turns : List Turn
@@ -32,40 +33,41 @@ pub record Ran (jobs : List Job) (old new : plain.Session) : Type 0 where
   pub chain : Chain meant old.access.seen turns new.access.seen
   pub amount : new.access.amount ≡ old.access.amount + tally weight turns
 
--- each session's author is its place
+-- the author of each session is the session's place in the list
 abbrev pub AreNumbered : List plain.Session → Type 0
 AreNumbered sessions =
     (i : ℕ) (d : plain.Session) → i < length sessions
     → (slice_index_or sessions i d).access.author ≡ i
 
--- each session, by its place, ran its own jobs
+-- each session ran the jobs of the session whose number is its place
 abbrev pub AllRan : List Job → List plain.Session → List plain.Session → Type 0
 AllRan jobs old new =
     (i : ℕ) (d : plain.Session) → i < length old
     → Ran (own_jobs i jobs) (slice_index_or old i d) (slice_index_or new i d)
 
--- the parts of all shares of the sessions
+-- the sum of the parts of the sessions' shares
 abbrev pub parts_of : List plain.Session → ℕ
 parts_of [] = 0
 parts_of (x ∷ xs) = x.access.parts + parts_of xs
 
--- what all shares of the sessions count
+-- the sum of what the sessions' shares count
 abbrev pub amounts_of : List plain.Session → ℕ
 amounts_of [] = 0
 amounts_of (x ∷ xs) = x.access.amount + amounts_of xs
 
--- what each of the sessions has seen begins these entries
+-- what each of the sessions has seen begins these entries, all
 abbrev pub AllSeenIn : List Entry → List plain.Session → Type 0
 AllSeenIn all [] = Unit {0}
 AllSeenIn all (x ∷ xs) = IsPrefix x.access.seen all × AllSeenIn all xs
 
--- a session that is new, and has seen these entries
+-- a session that has no reply yet, whose share counts nothing, and that has seen these entries
 pub record IsFresh (seen : List Entry) (x : plain.Session) : Type 0 where
   pub seen_is : x.access.seen ≡ seen
   pub amount_is : x.access.amount ≡ 0
   pub replies_are : x.replies ≡ []
+  pub whole : x.ran_out ≡ false
 
--- each of the sessions is new, and has its place as author
+-- each of the sessions is such a one, and its author is its place
 abbrev pub AllFresh : List Entry → List plain.Session → Type 0
 AllFresh seen xs =
     (i : ℕ) (d : plain.Session) → i < length xs
@@ -76,13 +78,16 @@ abbrev pub NoneRanOut : List plain.Session → Type 0
 NoneRanOut xs =
     (i : ℕ) (d : plain.Session) → i < length xs → (slice_index_or xs i d).ran_out ≡ false
 
--- each of the sessions has the replies of its turns
+-- each session has the replies of those of the turns that are of the session whose number is its
+-- place
 abbrev pub HaveReplies : List plain.Session → List Turn → Type 0
 HaveReplies xs turns =
     (i : ℕ) (d : plain.Session) → i < length xs
     → (slice_index_or xs i d).replies ≡ replies_of (of_session i turns)
 
--- what sessions keep whose replies are handed out
+-- what sessions keep whose replies are taken out: their number, the sums of their parts and of what
+-- their shares count, and what they have seen, in so far as entries that it begins now it began
+-- before
 pub record KeepAll (old new : List plain.Session) : Type 0 where
   pub count : length new ≡ length old
   pub parts : parts_of new ≡ parts_of old
@@ -93,13 +98,13 @@ pub record KeepAll (old new : List plain.Session) : Type 0 where
 abbrev pub with_replies : List Reply → plain.Session → plain.Session
 with_replies replies x = record x { replies = replies }
 
--- the session has lost its last reply, where it has one
+-- this reply was the session's last one and is taken out, or it is none and nothing has changed
 pub record LosesReply (old new : plain.Session) (reply : Option Reply) : Type 0 where
   pub left : List Reply
   pub last : old.replies ≡ left ++ option_to_list reply
   pub new_is : new ≡ with_replies left old
 
--- the session at a place has lost this reply, its last one
+-- the session at a place had this reply as its last one, and it is taken out
 pub record LosesLast (place : ℕ) (old new : List plain.Session) (reply : Reply) : Type 0 where
   pub session : plain.Session
   pub left : List Reply
@@ -107,14 +112,15 @@ pub record LosesLast (place : ℕ) (old new : List plain.Session) (reply : Reply
   pub last : session.replies ≡ left ++ reply ∷ []
   pub new_is : new ≡ set old place (with_replies left session)
 
--- the last reply of the session at a place is taken out, or there is none
+-- the same with a reply; without one nothing has changed
 abbrev pub TakesLast : ℕ → List plain.Session → List plain.Session → Option Reply → Type 0
 TakesLast place old new (Some reply) = LosesLast place old new reply
 TakesLast place old new None = new ≡ old
 
--- these turns were taken by the sessions of a crew, each over what all had seen before, and all
--- have seen now what each saw; the share counts the commits and breaks that the turns stand for
-pub record TakesTurns (turns : List Turn) (old new : plain.Crew) : Type 0 where
+-- sessions took these turns, each from what the shared pass had seen before; what each saw begins
+-- what that pass has seen now, and the shared share counts one more for each reply that tells of a
+-- commit or a break of its own
+pub record TakesTurns (turns : List Turn) (old new : plain.SharedAccess) : Type 0 where
   pub table : new.table ≡ old.table
   pub parts : new.parts ≡ old.parts
   pub count : new.count ≡ old.count
@@ -122,26 +128,28 @@ pub record TakesTurns (turns : List Turn) (old new : plain.Crew) : Type 0 where
   pub chains : (s : ℕ) → Chain meant old.seen (of_session s turns) new.seen
   pub amount : new.amount ≡ old.amount + tally weight turns
 
--- all jobs were answered, and the replies stand in the order of the jobs
-pub record RunsPhase (jobs : List Job) (replies : List Reply) (old new : plain.Crew) : Type 0 where
+-- all jobs were answered, and these are the replies in the order of the jobs
+pub record RunsPhase (jobs : List Job) (replies : List Reply) (old new : plain.SharedAccess) : Type 0 where
   pub turns : List Turn
   pub these : jobs_of turns ≡ jobs
   pub told : replies_of turns ≡ replies
   pub taken : TakesTurns turns old new
 
--- memory ran out: each session answered some of the first of its jobs
-pub record RunsFronts (jobs : List Job) (old new : plain.Crew) : Type 0 where
+-- memory ran out: each session answered the first so many of its jobs
+pub record RunsFronts (jobs : List Job) (old new : plain.SharedAccess) : Type 0 where
   pub turns : List Turn
   pub fronts : (s : ℕ) → (later : List Job)
       × (own_jobs s jobs ≡ jobs_of (of_session s turns) ++ later)
   pub taken : TakesTurns turns old new
 
--- what a phase of these jobs did: all were answered by these replies, or memory ran out
-abbrev pub Runs : List Job → plain.Crew → plain.Crew → Result (Vec Reply Global) AllocError → Type 0
+-- what a phase with these jobs did: all were answered, or memory ran out
+abbrev pub Runs : List Job → plain.SharedAccess → plain.SharedAccess → Result (Vec Reply Global) AllocError → Type 0
 Runs jobs old new (Ok replies) = RunsPhase jobs replies.items old new
 Runs jobs old new (Err e) = RunsFronts jobs old new
 
--- from the opening's entries on these phases were run; this was seen by then, and this is counted
-pub record HaveRun (opening : List Entry) (phases : List (List Turn)) (seen : List Entry) (amount : ℕ) : Type 0 where
+-- these phases were run one after the other from the opening's entries on, and what was seen after
+-- the last of them begins these entries; so many replies tell of a commit or a break of their own
+pub record HaveRun (opening : List Entry) (phases : List (List Turn))
+    (seen : List Entry) (amount : ℕ) : Type 0 where
   pub chains : Chains meant opening phases seen
   pub count : amount ≡ whole_tally weight phases

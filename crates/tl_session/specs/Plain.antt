@@ -1,11 +1,12 @@
--- What contracts see of a session, and of the crew that runs phases.
+-- What contracts see of a session, and of what the sessions of all phases share.
 use Rattle.std.specs.Prelude.{ℕ, Bool, List}
 use Rattle.atomic_table.specs.Seated.{TableId}
 use Rattle.tl_types.specs.declared.commits.Entry.{Entry}
 use Rattle.tl_session.specs.declared.replies.Reply.{Reply}
 
 -- a session's access to an engine: the author of its batches, the table of the head that it reads,
--- the entries that it has seen, the parts of its share and what that counts
+-- the entries that it has seen, the number of parts of its share of the ledger, and how many
+-- commits and breaks this share counts
 pub record Access : Type 0 where
   pub author : ℕ
   pub table : TableId
@@ -13,15 +14,16 @@ pub record Access : Type 0 where
   pub parts : ℕ
   pub amount : ℕ
 
--- a session: its access, its replies, and whether memory ran out
+-- a session: its access, its replies in order, and whether memory ran out before its last job
 pub record Session : Type 0 where
   pub access : Access
   pub replies : List Reply
   pub ran_out : Bool
 
--- a crew: the table of the head that it reads, the entries that its sessions have seen, the parts
--- of its share and what that counts, and the number of its sessions
-pub record Crew : Type 0 where
+-- what sessions share: the table of the head that they read, the entries that they have seen, the
+-- number of parts of the share of the ledger, how many commits and breaks this share counts, and
+-- the number of sessions
+pub record SharedAccess : Type 0 where
   pub table : TableId
   pub seen : List Entry
   pub parts : ℕ

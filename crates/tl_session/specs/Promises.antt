@@ -1,4 +1,5 @@
--- What each session says by its replies, each over the entries that it had seen.
+-- What each session says by its replies: each reply over the entries that the session had seen
+-- before it and has seen after it.
 use Rattle.std.specs.Prelude.{◌≡◌, ℕ, ◌+◌, ◌≤◌, true, false, List, [], ◌∷◌, ◌++◌, length, take}
 use mathlib.Core.List.{IsPrefix}
 use Rattle.tl_types.specs.declared.commits.Commit.{Commit}
@@ -12,16 +13,17 @@ use Rattle.tl_session.specs.declared.replies.ReplyBody.TheVariants as body
 use Rattle.tl_session.specs.Jobs.{Job}
 use Rattle.tl_session.specs.Turns.{Turn, Meaning, HasFault, Makes, ReadsWell, of_session}
 
--- what was seen begins a base; the base and one entry are seen now
+-- what was seen begins a base, and what is seen now is the base and one entry more
 abbrev pub Appended : List Entry → List Entry → List Entry → Entry → Type 0
 Appended old base new e = IsPrefix old base × (new ≡ base ++ e ∷ [])
 
--- what was seen begins what is seen now, and the version lies between
+-- what was seen begins what is seen now, and the version is from the number of commits of that to
+-- the number of commits of this
 abbrev pub Looked : List Entry → List Entry → ℕ → Type 0
 Looked old new v =
     IsPrefix old new × (length (commits_of old) ≤ v) × (v ≤ length (commits_of new))
 
--- what a reply's body says of the entries that were seen before it and after it
+-- what a reply with this body and version says of the entries that were seen before it and after it
 abbrev pub BodySays : Meaning → Job → ℕ → ReplyBody → List Entry → List Entry → Type 0
 BodySays m job v (body.Rows answer) old new =
     Looked old new v × m.reads (take v (commits_of new)) job (Query answer)
@@ -37,15 +39,16 @@ BodySays m job v body.BrokenJournal old new =
     IsPrefix old new × (has_break new ≡ true) × (v ≡ length (commits_of new))
     × ReadsWell m (commits_of new) job
 
--- the same of a turn, whose reply names the job's line; where a break had been seen, a batch that
--- reads well is answered so
+-- the same of a turn, whose reply names the line of its job; where a break had been seen before, a
+-- batch that reads well over the commits of the version is answered that the journal is broken
 abbrev pub Says : Meaning → Turn → List Entry → List Entry → Type 0
 Says m t old new =
     BodySays m t.job t.reply.version t.reply.body old new × (t.reply.line ≡ t.job.line)
     × (has_break old ≡ true → ReadsWell m (take t.reply.version (commits_of new)) t.job
     → t.reply.body ≡ body.BrokenJournal)
 
--- the turns of a session, one after the other
+-- the turns of a session, one after the other: old is what had been seen before them, and what had
+-- been seen after the last begins new
 abbrev pub Chain : Meaning → List Entry → List Turn → List Entry → Type 0
 Chain m old [] new = IsPrefix old new
 Chain m old (t ∷ ts) new = (mid : List Entry) × Says m t old mid × Chain m mid ts new
@@ -58,17 +61,17 @@ Chains m old (phase ∷ phases) new =
     (mid : List Entry) × IsPrefix old mid × ((s : ℕ) → Chain m old (of_session s phase) mid)
     × Chains m mid phases new
 
--- the sum of a number of each turn
+-- the sum of f over the turns
 abbrev pub tally : (Turn → ℕ) → List Turn → ℕ
 tally f [] = 0
 tally f (t ∷ ts) = f t + tally f ts
 
--- the same of all phases
+-- the sum of f over the turns of all phases
 abbrev pub whole_tally : (Turn → ℕ) → List (List Turn) → ℕ
 whole_tally f [] = 0
 whole_tally f (phase ∷ phases) = tally f phase + whole_tally f phases
 
--- 1 for a reply that stands for an entry of its own
+-- 1 for a reply that tells of a commit or a break of its own, else 0
 abbrev pub body_weight : ReplyBody → ℕ
 body_weight (body.Rows answer) = 0
 body_weight (body.Refused f) = 0
@@ -80,23 +83,25 @@ body_weight body.BrokenJournal = 0
 abbrev pub weight : Turn → ℕ
 weight t = body_weight t.reply.body
 
--- only marks are there
+-- all entries are marks
 abbrev pub AreMarks : List Entry → Type 0
 AreMarks [] = Unit {0}
 AreMarks (entry.Commit c ∷ rest) = ⊥
 AreMarks (entry.Mark n v ∷ rest) = AreMarks rest
 AreMarks (entry.Break c ∷ rest) = ⊥
 
--- no commit and no break comes after a break
+-- neither a commit nor a break comes after the first break
 abbrev pub EndsAtBreak : List Entry → Type 0
 EndsAtBreak [] = Unit {0}
 EndsAtBreak (entry.Commit c ∷ rest) = EndsAtBreak rest
 EndsAtBreak (entry.Mark n v ∷ rest) = EndsAtBreak rest
 EndsAtBreak (entry.Break c ∷ rest) = AreMarks rest
 
--- what the sessions of all phases say, from the opening's entries to the last: each what it saw,
--- and all together as many new entries as they were answered with
-pub record Promised (m : Meaning) (opening last : List Entry) (phases : List (List Turn)) : Type 0 where
+-- what the sessions of all phases say between the opening's entries and the last ones: each reply
+-- is right over what its session had seen, and as many replies tell of a commit or a break of their
+-- own as there are commits and breaks more
+pub record Promised (m : Meaning) (opening last : List Entry)
+    (phases : List (List Turn)) : Type 0 where
   pub legal : EndsAtBreak last
   pub whole : has_break opening ≡ false
   pub chains : Chains m opening phases last

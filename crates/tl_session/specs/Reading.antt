@@ -43,12 +43,13 @@ abbrev pub block_reading : Result Batch CsvFault → Reading
 block_reading (Err f) = reading.Fault (refusal.CsvFault f)
 block_reading (Ok batch) = reading.Loads batch
 
--- a block for a table, read as rows or as removals under the table's columns
+-- a block for the table that was found, read as rows or as removals under its schema; without a
+-- table its fault
 abbrev pub load_into : Option (ℕ × plain.Table) → BatchKind → List ℕ → Reading
 load_into None kind block = reading.Fault (refusal.BatchFault batch_fault.UnknownTable)
 load_into (Some t) kind block = block_reading (batch_of standard_limits t.1.schema kind block)
 
--- a block for the table with a name
+-- a block for the table that has this name over the commits
 abbrev pub load_reading : List Commit → List ℕ → BatchKind → List ℕ → Reading
 load_reading commits name kind block =
     load_into (find_table name (database_of commits).tables) kind block
@@ -59,12 +60,12 @@ query_reading commits (Err f) = reading.Fault (refusal.CheckFault f)
 query_reading commits (Ok typed) =
     reading.Query (record { rows = answer_of (database_of commits) typed })
 
--- the bytes of a block, where there is one
+-- the bytes of a block, none where there is no block
 abbrev pub block_of : Option (List ℕ) → List ℕ
 block_of None = []
 block_of (Some block) = block
 
--- what a statement is, with these bytes as its block
+-- what a statement is over the commits, with these bytes as its block
 abbrev pub statement_reading : List Commit → Statement → List ℕ → Reading
 statement_reading commits (statement.Create form) block = create_reading (checked_create form)
 statement_reading commits (statement.Put name) block =
@@ -74,42 +75,42 @@ statement_reading commits (statement.Remove name) block =
 statement_reading commits (statement.Ask query) block =
     query_reading commits (checked (length commits) (database_of commits) query)
 
--- a text with a block is what the statement that it spells is, or has the fault of the text
+-- a text with a block is the fault of the text, or what the statement is that the text spells
 abbrev pub IsReading : List Commit → List ℕ → List ℕ → Reading → Type 0
 IsReading commits text block read =
     ((f : TextFault) × IsFault text f × (read ≡ reading.Fault (refusal.TextFault f)))
     ⊎ ((s : Statement) × Spells text s × (read ≡ statement_reading commits s block))
 
--- what a job is over the commits
+-- the job is this over the commits
 abbrev pub Reads : List Commit → Job → Reading → Type 0
 Reads commits job read = IsReading commits job.text (block_of job.block) read
 
--- a refusal says why; being out of memory is none
+-- the refusal is not that memory ran out
 abbrev pub IsTold : Refusal → Type 0
 IsTold (refusal.TextFault f) = f ≢ text_fault.NoMemory
 IsTold (refusal.CheckFault f) = f ≢ check_fault.NoMemory
 IsTold (refusal.CsvFault f) = f ≢ csv_fault.NoMemory
 IsTold (refusal.BatchFault f) = f ≢ batch_fault.NoMemory
 
--- the same where it is a refusal
+-- the same of a reading that is a fault
 abbrev pub IsFaultTold : Reading → Type 0
 IsFaultTold (reading.Loads batch) = Unit {0}
 IsFaultTold (reading.Query answer) = Unit {0}
 IsFaultTold (reading.Fault why) = IsTold why
 
--- the rows of a batch match the schema of its table, where there is one
+-- a reading that is a batch: its rows match the schema of its table, where there is one
 abbrev pub DoesMatch : plain.Database → Reading → Type 0
 DoesMatch db (reading.Loads batch) = IsTrue (batch_matches db batch)
 DoesMatch db (reading.Query answer) = Unit {0}
 DoesMatch db (reading.Fault why) = Unit {0}
 
--- a batch of rows names a table that is there
+-- a reading that is a batch of rows: it names a table that is there
 abbrev pub IsKnown : plain.Database → Reading → Type 0
 IsKnown db (reading.Loads batch) = IsTrue (names_table db batch)
 IsKnown db (reading.Query answer) = Unit {0}
 IsKnown db (reading.Fault why) = Unit {0}
 
--- a job is one thing over the commits
+-- over the commits a job is one thing, and no other
 pub record HasOneReading (commits : List Commit) (job : Job) : Type 0 where
   pub read : (r : Reading) × Reads commits job r
   pub one : (r s : Reading) → Reads commits job r → Reads commits job s → r ≡ s

@@ -15,40 +15,38 @@ use Rattle.tl_session.specs.declared.statements.Settled.{Settled}
 use Rattle.tl_session.specs.Jobs.{Job}
 use Rattle.tl_session.specs.Plain as plain
 use Rattle.tl_session.specs.Reading.{Reads}
-use Rattle.tl_session.specs.Turns.{Turn, meant, ReadsWell}
-use Rattle.tl_session.specs.Promises.{BodySays, Says, body_weight}
+use Rattle.tl_session.specs.Turns.{meant, ReadsWell}
+use Rattle.tl_session.specs.Promises.{BodySays, body_weight}
 
--- the turn of a job that has this reply
-abbrev pub turn_of : Job → Reply → Turn
-turn_of job reply = record { job = job; reply = reply }
-
--- it is the access of the same session: its author, its table and the parts of its share
+-- the author, the table and the number of parts of the share are the same
 pub record IsSame (old new : plain.Access) : Type 0 where
   pub author : new.author ≡ old.author
   pub table : new.table ≡ old.table
   pub parts : new.parts ≡ old.parts
 
--- at most more has been seen: the share counts no more
+-- more may have been seen, and nothing else has changed
 pub record SeesMore (old new : plain.Access) : Type 0 where
   pub same : IsSame old new
   pub later : IsPrefix old.seen new.seen
   pub amount : new.amount ≡ old.amount
 
--- the reading is the job's over what has been seen, whose commits the version counts
+-- the reading is the job's over the commits that have been seen, and the version is their number
 pub record IsLook (job : Job) (version : ℕ) (reading : Reading) (now : plain.Access) : Type 0 where
   pub version_is : version ≡ length (commits_of now.seen)
   pub reads : Reads (commits_of now.seen) job reading
 
--- a batch is answered so: this holds for any job of the session that is the batch over what had
--- been seen; and the share counts the answer
-pub record Settles (batch : Batch) (version : ℕ) (answer : ReplyBody) (old new : plain.Access) : Type 0 where
+-- a batch is answered with this body at this version: it is what a reply to any job of the session
+-- may say that reads as the batch over what had been seen; where a break had been seen, it says
+-- that the journal is broken; and the share counts it
+pub record Settles (batch : Batch) (version : ℕ) (answer : ReplyBody)
+    (old new : plain.Access) : Type 0 where
   pub same : IsSame old new
   pub says : (job : Job) → job.session ≡ old.author → Reads (commits_of old.seen) job (Loads batch)
       → BodySays meant job version answer old.seen new.seen
   pub broken : has_break old.seen ≡ true → answer ≡ body.BrokenJournal
   pub amount : new.amount ≡ old.amount + body_weight answer
 
--- what the engine's answer to a batch is told as: a version, and a reply's body
+-- the version and the body with which the engine's answer to a batch is told, unless memory ran out
 abbrev pub outcome_of : Result ℕ CommitFault → Option Settled
 outcome_of (Ok v) = Some (record { version = v; body = body.Done })
 outcome_of (Err (fault.Broken v)) = Some (record { version = v; body = body.BrokenJournal })
@@ -58,29 +56,26 @@ outcome_of (Err fault.NoMemory) = None
 outcome_of (Err (fault.Device v count)) =
     Some (record { version = v; body = body.DeviceFault })
 
--- a job is answered so, and the share counts the answer
-pub record Tells (job : Job) (version : ℕ) (answer : ReplyBody) (old new : plain.Access) : Type 0 where
+-- a job is answered with this body at this version: the body says what had been seen and is seen
+-- now; where a break had been seen, a batch that reads well is answered that the journal is broken;
+-- and the share counts the answer
+pub record Tells (job : Job) (version : ℕ) (answer : ReplyBody)
+    (old new : plain.Access) : Type 0 where
   pub same : IsSame old new
   pub says : BodySays meant job version answer old.seen new.seen
   pub broken : has_break old.seen ≡ true
       → ReadsWell meant (take version (commits_of new.seen)) job → answer ≡ body.BrokenJournal
   pub amount : new.amount ≡ old.amount + body_weight answer
 
--- a reply to the job says what had been seen and is seen now, and the share counts it
-pub record IsTold (job : Job) (reply : Reply) (old new : plain.Access) : Type 0 where
-  pub same : IsSame old new
-  pub says : Says meant (turn_of job reply) old.seen new.seen
-  pub amount : new.amount ≡ old.amount + body_weight reply.body
-
--- the session answered the job by exactly one reply
+-- the session answered the job by exactly one reply more, which names the job's line
 pub record Answers (job : Job) (old new : plain.Session) : Type 0 where
   pub reply : Reply
-  pub told : IsTold job reply old.access new.access
+  pub told : Tells job reply.version reply.body old.access new.access
+  pub line : reply.line ≡ job.line
   pub replies : new.replies ≡ old.replies ++ reply ∷ []
   pub ran_out : new.ran_out ≡ old.ran_out
 
--- memory ran out before the session answered: it has no reply more, its share counts no more, and
--- at most more has been seen
+-- memory ran out before the session answered: more may have been seen, and nothing else has changed
 pub record Stops (old new : plain.Session) : Type 0 where
   pub more : SeesMore old.access new.access
   pub replies : new.replies ≡ old.replies

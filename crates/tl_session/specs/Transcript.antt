@@ -1,5 +1,5 @@
--- What the replies of all phases say of the commits and the break. A phase is the list of its turns
--- in the order of their lines, of any sessions.
+-- What the replies of all phases say of the commits and the break. A phase is a list of turns of
+-- any sessions, in the order of their jobs. A version v is that of the first v commits.
 use Rattle.std.specs.Prelude.{◌≡◌, ℕ, ◌+◌, ◌<◌, ◌≤◌, Bool, true, false, ◌||◌, ◌==◌, if◌then◌else◌, List, [], ◌∷◌, length, take, max, Option, Some, None, slice_get}
 use Rattle.tl_types.specs.declared.commits.Commit.{Commit}
 use Rattle.tl_types.specs.declared.answers.Answer.{Answer}
@@ -10,11 +10,12 @@ use Rattle.tl_session.specs.declared.replies.ReplyBody.TheVariants as body
 use Rattle.tl_session.specs.Turns.{Turn, Meaning, HasFault, Makes, ReadsWell, of_session}
 use Rattle.tl_session.specs.Promises.{whole_tally}
 
--- a fact of each turn of a list, and of all phases
+-- P holds of each turn of a list
 abbrev pub Each : (Turn → Type 0) → List Turn → Type 0
 Each P [] = Unit {0}
 Each P (t ∷ ts) = P t × Each P ts
 
+-- P holds of each turn of all phases
 abbrev pub EachOfAll : (Turn → Type 0) → List (List Turn) → Type 0
 EachOfAll P [] = Unit {0}
 EachOfAll P (phase ∷ phases) = Each P phase × EachOfAll P phases
@@ -23,66 +24,68 @@ EachOfAll P (phase ∷ phases) = Each P phase × EachOfAll P phases
 abbrev pub OwnLine : Turn → Type 0
 OwnLine t = t.reply.line ≡ t.job.line
 
--- rows are those of the version
+-- a reply with rows is the answer to its query over the commits of its version
 abbrev pub RowsRight : Meaning → List Commit → Turn → Type 0
 RowsRight m all t =
     (answer : Answer) → t.reply.body ≡ body.Rows answer
     → m.reads (take t.reply.version all) t.job (Query answer)
 
--- a refusal is the first fault at the version
+-- a refusal tells the job's fault over the commits of its version
 abbrev pub RefusedRight : Meaning → List Commit → Turn → Type 0
 RefusedRight m all t =
     (f : Refusal) → t.reply.body ≡ body.Refused f
     → HasFault m (take t.reply.version all) t.job f
 
--- a batch is done by the commit of its version, a new one, which is the batch's over the commits
--- before it
+-- where a batch is done, the last commit of the reply's version is none of the opening's, and it is
+-- what the batch becomes over the commits before it
 abbrev pub DoneRight : Meaning → List Commit → ℕ → Turn → Type 0
 DoneRight m all opened t =
     t.reply.body ≡ body.Done
     → (v : ℕ) × (t.reply.version ≡ v + 1) × (opened ≤ v) × (c : Commit) × (slice_get all v ≡ Some c)
     × Makes m (take v all) t.job c
 
--- a fault of the device comes at the last version, and the break is the batch's commit
+-- a fault of the device names the version of all commits, and the break is the commit that the
+-- batch becomes over these
 abbrev pub DeviceRight : Meaning → List Commit → Option Commit → Turn → Type 0
 DeviceRight m all broke t =
     t.reply.body ≡ body.DeviceFault
     → (t.reply.version ≡ length all) × (c : Commit) × (broke ≡ Some c) × Makes m all t.job c
 
--- a broken journal is told of at the last version, with a break, to a batch that reads well
+-- the answer that the journal is broken names the version of all commits; there is a break, and the
+-- job is a batch that reads well over these
 abbrev pub BrokenRight : Meaning → List Commit → Option Commit → Turn → Type 0
 BrokenRight m all broke t =
     t.reply.body ≡ body.BrokenJournal
     → (t.reply.version ≡ length all) × ((c : Commit) × (broke ≡ Some c)) × ReadsWell m all t.job
 
--- the version is one of those from the opening to the end
+-- the reply's version is one of those from first to last
 abbrev pub Between : ℕ → ℕ → Turn → Type 0
 Between first last t = (first ≤ t.reply.version) × (t.reply.version ≤ last)
 
--- versions never fall in a session
+-- no reply names a version below that of the reply before it, and the first none below the floor
 abbrev pub NeverFalls : ℕ → List Turn → Type 0
 NeverFalls floor [] = Unit {0}
 NeverFalls floor (t ∷ ts) = (floor ≤ t.reply.version) × NeverFalls t.reply.version ts
 
--- a batch that is done names a greater version than each reply before it
+-- a batch that is done names a version above top, and above those of all replies before it
 abbrev pub DoneRises : ℕ → List Turn → Type 0
 DoneRises top [] = Unit {0}
 DoneRises top (t ∷ ts) =
     (t.reply.body ≡ body.Done → top < t.reply.version) × DoneRises (max top t.reply.version) ts
 
--- the greatest version that was named so far
+-- the greatest of top and of the versions that the replies name
 abbrev pub highest : ℕ → List Turn → ℕ
 highest top [] = top
 highest top (t ∷ ts) = highest (max top t.reply.version) ts
 
--- a fact of each session's turns of each phase, and of the greatest version that earlier phases
--- named
+-- in each phase P holds of each session's turns, with the greatest of top and of the versions that
+-- earlier phases named
 abbrev pub Above : (ℕ → List Turn → Type 0) → ℕ → List (List Turn) → Type 0
 Above P top [] = Unit {0}
 Above P top (phase ∷ phases) =
     ((s : ℕ) → P top (of_session s phase)) × Above P (highest top phase) phases
 
--- 1 for a batch that is done at the version
+-- 1 where a reply with this body and the version w says that a batch is done at version v, else 0
 abbrev pub done_with : ℕ → ReplyBody → ℕ → ℕ
 done_with v body.Done w = if w == v then 1 else 0
 done_with v (body.Rows answer) w = 0
@@ -94,7 +97,7 @@ done_with v body.BrokenJournal w = 0
 abbrev pub done_at : ℕ → Turn → ℕ
 done_at v t = done_with v t.reply.body t.reply.version
 
--- 1 for a fault of the device
+-- 1 for a fault of the device, else 0
 abbrev pub body_device : ReplyBody → ℕ
 body_device (body.Rows answer) = 0
 body_device (body.Refused f) = 0
@@ -106,7 +109,7 @@ body_device body.BrokenJournal = 0
 abbrev pub device : Turn → ℕ
 device t = body_device t.reply.body
 
--- the reply tells of a break
+-- the body tells of a break
 abbrev pub body_breaks : ReplyBody → Bool
 body_breaks (body.Rows answer) = false
 body_breaks (body.Refused f) = false
@@ -114,12 +117,13 @@ body_breaks body.Done = false
 body_breaks body.DeviceFault = true
 body_breaks body.BrokenJournal = true
 
--- one of the replies does
+-- one of the replies tells of a break
 abbrev pub breaks : List Turn → Bool
 breaks [] = false
 breaks (t ∷ ts) = body_breaks t.reply.body || breaks ts
 
--- once told of a break, a batch that reads well is answered by it
+-- once a reply told of a break (or told is true, for one before these), each batch that reads well
+-- over the commits of its reply's version is answered that the journal is broken
 abbrev pub StaysBroken : Meaning → List Commit → Bool → List Turn → Type 0
 StaysBroken m all told [] = Unit {0}
 StaysBroken m all told (t ∷ ts) =
@@ -127,25 +131,29 @@ StaysBroken m all told (t ∷ ts) =
     → t.reply.body ≡ body.BrokenJournal)
     × StaysBroken m all (told || body_breaks t.reply.body) ts
 
--- the same for each session of a phase, and for all in the phases after it
+-- the same of each session's turns in each phase, where a reply of any session in an earlier phase
+-- counts as one before them
 abbrev pub AllStayBroken : Meaning → List Commit → Bool → List (List Turn) → Type 0
 AllStayBroken m all told [] = Unit {0}
 AllStayBroken m all told (phase ∷ phases) =
     ((s : ℕ) → StaysBroken m all told (of_session s phase))
     × AllStayBroken m all (told || breaks phase) phases
 
--- each new commit has exactly one batch that it is done for
+-- for each version above first, up to last, exactly one reply says that a batch is done at it
 abbrev pub OneDone : ℕ → ℕ → List (List Turn) → Type 0
 OneDone first last phases =
     (v : ℕ) → first < v → v ≤ last → whole_tally (done_at v) phases ≡ 1
 
--- with a break there is exactly one fault of the device; without one no reply tells of a break
+-- with a break exactly one reply tells of a fault of the device; without one no reply tells of a
+-- break
 abbrev pub OneDevice : Option Commit → List (List Turn) → Type 0
 OneDevice (Some c) phases = whole_tally device phases ≡ 1
 OneDevice None phases = EachOfAll (λ t. body_breaks t.reply.body ≡ false) phases
 
--- the replies of all phases, over the opening's commits, all commits and the break
-pub record Transcript (m : Meaning) (old all : List Commit) (broke : Option Commit) (phases : List (List Turn)) : Type 0 where
+-- the replies of all phases are right over the opening's commits, old, all commits and the break,
+-- or none
+pub record Transcript (m : Meaning) (old all : List Commit) (broke : Option Commit)
+    (phases : List (List Turn)) : Type 0 where
   pub lines : EachOfAll OwnLine phases
   pub rows : EachOfAll (RowsRight m all) phases
   pub refused : EachOfAll (RefusedRight m all) phases

@@ -1,4 +1,4 @@
--- Jobs with their replies, and what a job comes to.
+-- Jobs with their replies, and what becomes of a job over a list of commits.
 use Rattle.std.specs.Prelude.{◌≡◌, ◌⊎◌, ℕ, ◌==◌, List, [], ◌∷◌, ◌++◌, Option, Some, None, Result, Ok, Err}
 use Rattle.std.specs.List.{filter}
 use Rattle.tl_types.specs.declared.commits.Commit.{Commit}
@@ -22,19 +22,15 @@ pub record Turn : Type 0 where
   pub job : Job
   pub reply : Reply
 
--- what jobs are over a list of commits
+-- a meaning of jobs: as what a job reads over a list of commits
 pub record Meaning : Type 1 where
   pub reads : List Commit → Job → Reading → Type 0
 
--- what the jobs of a script are
+-- the meaning of the jobs of a script
 abbrev pub meant : Meaning
 meant = record { reads = Reads }
 
--- a meaning that a function gives
-abbrev pub by_function : (List Commit → Job → Reading) → Meaning
-by_function reads = record { reads = λ commits job read. reads commits job ≡ read }
-
--- the turns of a session, in order
+-- the turns of the session s, in order
 abbrev pub of_session : ℕ → List Turn → List Turn
 of_session s turns = filter (λ t. t.job.session == s) turns
 
@@ -43,29 +39,30 @@ abbrev pub all_turns : List (List Turn) → List Turn
 all_turns [] = []
 all_turns (phase ∷ phases) = phase ++ all_turns phases
 
--- the commit that an append failed with, where one did
+-- the commit of the first break among the entries, where there is one
 abbrev pub break_of : List Entry → Option Commit
 break_of [] = None
 break_of (entry.Commit commit ∷ rest) = break_of rest
 break_of (entry.Mark table version ∷ rest) = break_of rest
 break_of (entry.Break commit ∷ rest) = Some commit
 
--- the commit of a batch by a session over these commits, or the batch's first fault
+-- the commit that a batch of a session becomes over these commits under the standard limits, or the
+-- batch's first fault
 abbrev pub made : List Commit → ℕ → Batch → Result Commit BatchFault
 made commits session batch = resolved standard_limits (database_of commits) session batch
 
--- the job has the fault before its batch is there, or its batch has it
+-- the job reads as this fault, or it reads as a batch that becomes no commit because of it
 abbrev pub HasFault : Meaning → List Commit → Job → Refusal → Type 0
 HasFault m commits job f =
     m.reads commits job (Fault f)
     ⊎ ((b : Batch) × (e : BatchFault) × m.reads commits job (Loads b)
     × (made commits job.session b ≡ Err e) × (f ≡ refusal.BatchFault e))
 
--- the job is a batch, and this is the commit that it becomes
+-- the job reads as a batch, and this is the commit that the batch becomes
 abbrev pub Makes : Meaning → List Commit → Job → Commit → Type 0
 Makes m commits job c =
     (b : Batch) × m.reads commits job (Loads b) × (made commits job.session b ≡ Ok c)
 
--- the job is a batch that reads well
+-- the job reads as a batch
 abbrev pub ReadsWell : Meaning → List Commit → Job → Type 0
 ReadsWell m commits job = (b : Batch) × m.reads commits job (Loads b)

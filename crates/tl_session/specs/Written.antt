@@ -1,5 +1,4 @@
--- The bytes of a transcript, of a run and of a play, for the jobs of a script and the names of its
--- sessions.
+-- The bytes of a transcript and of a play, for the jobs of a script and the names of its sessions.
 use Rattle.std.specs.Prelude.{◌≡◌, ℕ, List, [], ◌∷◌, ◌++◌, map, get_or, Option}
 use Rattle.std.specs.List.{flat_map}
 use Rattle.tl_types.specs.declared.commits.Commit.{Commit}
@@ -8,21 +7,20 @@ use Rattle.tl_session.specs.Replies.{reply_bytes}
 use Rattle.tl_session.specs.Turns.{Turn, all_turns, meant}
 use Rattle.tl_session.specs.Transcript.{Transcript}
 use Rattle.tl_session.specs.Play.{IsPlay}
-use Rattle.tl_session.specs.Run.{IsRun}
 
--- the bytes of a turn's reply, under the name of its session
+-- the bytes of a turn's reply, with the name that stands at the number of its session, if one does
 abbrev pub turn_bytes : List (List ℕ) → Turn → List ℕ
 turn_bytes names t = reply_bytes (get_or names t.job.session []) t.reply
 
--- the replies in the order of their lines
+-- the bytes of the turns' replies, in the order of the turns
 abbrev pub turns_bytes : List (List ℕ) → List Turn → List ℕ
 turns_bytes names turns = flat_map (turn_bytes names) turns
 
--- the same, phase by phase
+-- the same of all phases, one after the other
 abbrev pub transcript_bytes : List (List ℕ) → List (List Turn) → List ℕ
 transcript_bytes names phases = turns_bytes names (all_turns phases)
 
--- the jobs that the turns answer
+-- the jobs of the turns, in order
 abbrev pub jobs_of : List Turn → List Job
 jobs_of turns = map (λ t. t.job) turns
 
@@ -31,21 +29,16 @@ abbrev pub all_jobs : List (List Job) → List Job
 all_jobs [] = []
 all_jobs (phase ∷ phases) = phase ++ all_jobs phases
 
--- the bytes are those of a transcript of these phases, whose sessions have these names: from the
--- opening's commits to all commits, with or without a break
-abbrev pub IsTranscript : List (List ℕ) → List (List Job) → List Commit → List Commit → Option Commit → List ℕ → Type 0
+-- the bytes are those of turns of the phases' jobs, which make a transcript over the opening's
+-- commits, all commits and this break, or none; the sessions have these names
+abbrev pub IsTranscript : List (List ℕ) → List (List Job) → List Commit → List Commit
+    → Option Commit → List ℕ → Type 0
 IsTranscript names phases opening all broke bytes =
     (turns : List (List Turn)) × (map jobs_of turns ≡ phases)
     × Transcript meant opening all broke turns × (bytes ≡ transcript_bytes names turns)
 
--- the bytes are those of the jobs done one after the other, over a history that may break, from
--- these commits and this break on; those are there afterwards
-abbrev pub IsRunOf : List (List ℕ) → List Job → List Commit → Option Commit → List Commit → Option Commit → List ℕ → Type 0
-IsRunOf names jobs opening broke all later bytes =
-    (turns : List Turn) × (jobs_of turns ≡ jobs) × IsRun meant opening broke turns all later
-    × (bytes ≡ turns_bytes names turns)
-
--- the same without a break
+-- the bytes are those of turns of the jobs, which were taken one after the other from the opening's
+-- commits to all commits, without a break; the sessions have these names
 abbrev pub IsPlayOf : List (List ℕ) → List Job → List Commit → List Commit → List ℕ → Type 0
 IsPlayOf names jobs opening all bytes =
     (turns : List Turn) × (jobs_of turns ≡ jobs) × IsPlay meant opening turns all

@@ -1,6 +1,6 @@
 //! The laws of what sessions are answered with. Each function's contract is its law; calling it
 //! does nothing.
-ghost use Rattle.std.specs.Prelude.{◌≡◌, ◌+◌, ◌++◌, ◌∷◌, [], ℕ, List, None, Option, false, map};
+ghost use Rattle.std.specs.Prelude.{◌≡◌, ◌+◌, ◌++◌, ◌∷◌, [], ℕ, List, None, false, map};
 ghost use mathlib.Core.List.{IsPrefix};
 ghost use Rattle.tl_types.specs.declared.commits.Commit.{Commit};
 ghost use Rattle.tl_types.specs.declared.commits.Entry.{Entry};
@@ -9,13 +9,13 @@ ghost use Rattle.tl_index.specs.Snapshots.{IsLegal};
 ghost use Rattle.tl_engine.specs.Counting.{news};
 ghost use Rattle.tl_session.specs.Jobs.{Job};
 ghost use Rattle.tl_session.specs.Phases.{HaveRun, TakesTurns};
-ghost use Rattle.tl_session.specs.Plain.{Crew};
+ghost use Rattle.tl_session.specs.Plain.{SharedAccess};
 ghost use Rattle.tl_session.specs.Reading.{HasOneReading};
 ghost use Rattle.tl_session.specs.Turns.{Turn, meant, break_of, all_turns};
 ghost use Rattle.tl_session.specs.Promises.{Promised};
 ghost use Rattle.tl_session.specs.Transcript.{Transcript};
 ghost use Rattle.tl_session.specs.Play.{AreLone, AreLonePhases, IsPlay};
-ghost use Rattle.tl_session.specs.Written.{IsTranscript, IsRunOf, IsPlayOf, all_jobs, jobs_of, transcript_bytes};
+ghost use Rattle.tl_session.specs.Written.{IsPlayOf, all_jobs, jobs_of, transcript_bytes};
 
 /// A job is one thing over a list of commits: a batch that reads well, a query with its answer, or
 /// its first fault.
@@ -49,12 +49,23 @@ pub fn lone_phases_play()
         (transcript_bytes names phases) }
 {}
 
-/// Before the first phase the opening's entries are seen, and nothing is counted. What a crew does
-/// in a phase is one phase more.
+/// The jobs done one after the other write one text and end with one list of commits; and there
+/// always is such a text and such a list.
+pub fn a_play_is_one()
+    ensures one { (names : List (List ℕ)) (jobs : List Job) (opening all other : List Commit)
+        (bytes others : List ℕ)
+        → IsPlayOf names jobs opening all bytes → IsPlayOf names jobs opening other others
+        → (all ≡ other) × (bytes ≡ others) }
+    ensures there { (names : List (List ℕ)) (jobs : List Job) (opening : List Commit)
+        → (all : List Commit) × (bytes : List ℕ) × IsPlayOf names jobs opening all bytes }
+{}
+
+/// Before the first phase the opening's entries are seen, and nothing is counted. What the sessions
+/// do in a phase is one phase more.
 pub fn phases_go_on()
     ensures none { (opening : List Entry) → HaveRun opening [] opening 0 }
     ensures more { (opening : List Entry) (phases : List (List Turn)) (turns : List Turn)
-        (old new : Crew) → HaveRun opening phases old.seen old.amount
+        (old new : SharedAccess) → HaveRun opening phases old.seen old.amount
         → TakesTurns turns old new
         → HaveRun opening (phases ++ turns ∷ []) new.seen new.amount }
 {}
@@ -66,20 +77,4 @@ pub fn phases_are_promised()
         → HaveRun opening phases seen amount → IsPrefix seen last
         → news opening + amount ≡ news last → IsLegal last → has_break opening ≡ false
         → Promised meant opening last phases }
-{}
-
-/// Jobs done one after the other, over a history that may break, write the bytes of a transcript.
-pub fn runs_make_a_transcript()
-    ensures { (names : List (List ℕ)) (phases : List (List Job)) (opening all : List Commit)
-        (broke : Option Commit) (bytes : List ℕ)
-        → IsRunOf names (all_jobs phases) opening None all broke bytes
-        → IsTranscript names phases opening all broke bytes }
-{}
-
-/// Where nothing broke, they write those of the play.
-pub fn whole_runs_play()
-    ensures { (names : List (List ℕ)) (jobs : List Job) (opening all : List Commit)
-        (bytes : List ℕ)
-        → IsRunOf names jobs opening None all None bytes
-        → IsPlayOf names jobs opening all bytes }
 {}

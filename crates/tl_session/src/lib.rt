@@ -1,7 +1,6 @@
 //! Sessions: what their statements are and what they are answered with, how replies are spelled,
 //! and the run of any number of sessions at once over an engine, phase by phase; and in specs/ the
-//! transcript of any number of sessions, the run of one job after the other over a history that may
-//! break, and the play without one.
+//! transcript of any number of sessions, and the play: jobs done one after the other.
 #![tactic(auto)]
 
 mod jobs;
@@ -14,9 +13,9 @@ mod sessions;
 mod statements;
 
 pub use jobs::Job;
-pub use phases::{Crew, Dismissed, run_phase};
+pub use phases::{AccessParts, SharedAccess, run_phase};
 pub use readings::{Reading, read_job};
 pub use replies::{Refusal, Reply, ReplyBody, put_reply};
-pub use runs::{run_all, run_session};
+pub use runs::run_all;
 pub use sessions::Session;
 pub use statements::run_statement;

@@ -1,4 +1,4 @@
-//! Phases: sessions are made of a crew, answer the jobs of a phase, and are taken in again.
+//! Phases: sessions are made of what they share, answer the jobs of a phase, and are taken in again.
 ghost use Rattle.std.specs.Prelude.{◌≡◌, ◌+◌, ◌<◌, All, List, false, length, map, IfOk, OnOk, OnErr};
 ghost use mathlib.Core.List.{IsPrefix};
 ghost use Rattle.tl_types.specs.Limits.{standard_limits};
@@ -10,7 +10,7 @@ ghost use Rattle.tl_session.specs.Written.{jobs_of};
 use crate::jobs::Job;
 use crate::replies::Reply;
 use crate::runs::run_all;
-use crate::sessions::{Access, Session};
+use crate::sessions::Session;
 use std::alloc::{AllocError, Global};
 use std::marker::Model;
 use std::sync::Wait;
@@ -25,17 +25,17 @@ use tl_types::NoMemory;
 /// What the sessions of all phases share: a pass that has seen what each of them saw in the phases
 /// before, the engine's share, which counts their commits and breaks, and the number of sessions.
 #[derive(Drop)]
-pub struct Crew<J: Named> {
+pub struct SharedAccess<J: Named> {
     pass: Pass<Snapshot>,
     share: Share<J>,
     count: u32,
 }
 
-impl<J: Named> Model for Crew<J> {
+impl<J: Named> Model for SharedAccess<J> {
     ghost use Rattle.std.specs.Prelude.{◌≡◌, ◌<◌};
     ghost use Rattle.tl_session.specs.Plain as plain;
 
-    ghost Value = { plain.Crew };
+    ghost Value = { plain.SharedAccess };
 
     ghost view = { λ c. record {
       table = c.pass.table;
@@ -48,18 +48,18 @@ impl<J: Named> Model for Crew<J> {
     ghost invariant = { λ c. (c.pass.table ≡ J.table) × (c.count < c.share.parts) };
 }
 
-/// What is left of a crew that is dismissed.
-pub struct Dismissed<J: Named> {
-    /// Its pass.
+/// A pass and a share, with which an engine is closed, or further sessions are made.
+pub struct AccessParts<J: Named> {
+    /// The pass.
     pub pass: Pass<Snapshot>,
-    /// Its share.
+    /// The share.
     pub share: Share<J>,
 }
 
-impl<J: Named> Crew<J> {
-    /// A crew of `count` sessions, whose authors are 0 and so on, with a pass of the engine's head
-    /// and a share of its ledger that has more parts than there are sessions.
-    pub fn new(pass: Pass<Snapshot>, share: Share<J>, count: u32) -> Crew<J>
+impl<J: Named> SharedAccess<J> {
+    /// What `count` sessions share, whose authors are 0 and so on: a pass of the engine's head, and
+    /// a share of its ledger that has more parts than there are sessions.
+    pub fn new(pass: Pass<Snapshot>, share: Share<J>, count: u32) -> SharedAccess<J>
         requires own { pass.table ≡ J.table }
         requires parts { count < share.parts }
         ensures table { result.table ≡ pass.table }
@@ -68,11 +68,11 @@ impl<J: Named> Crew<J> {
         ensures amount { result.amount ≡ share.amount }
         ensures count { result.count ≡ count }
     {
-        Crew { pass, share, count }
+        SharedAccess { pass, share, count }
     }
 
-    /// The crew has `count` sessions from now on, fewer than its share has parts.
-    pub fn enlist(&mut self, count: u32)
+    /// `count` sessions share it from now on, fewer than its share has parts.
+    pub fn set_count(&mut self, count: u32)
         requires parts { count < self.old.parts }
         ensures table { self.new.table ≡ self.old.table }
         ensures seen { self.new.seen ≡ self.old.seen }
@@ -83,15 +83,15 @@ impl<J: Named> Crew<J> {
         self.count = count;
     }
 
-    /// The pass and the share of the crew, with which the engine is closed.
-    pub fn dismiss(self) -> Dismissed<J>
+    /// The pass and the share, with which the engine is closed.
+    pub fn into_parts(self) -> AccessParts<J>
         ensures own { result.pass.table ≡ J.table }
         ensures seen { result.pass.seen ≡ self.seen }
         ensures parts { result.share.parts ≡ self.parts }
         ensures amount { result.share.amount ≡ self.amount }
     {
-        let Crew { pass, share, .. } = self;
-        Dismissed { pass, share }
+        let SharedAccess { pass, share, .. } = self;
+        AccessParts { pass, share }
     }
 }
 
@@ -116,16 +116,13 @@ fn sessions_of<D: Disk, J: Named>(
     let mut sessions = Vec::new(alloc);
     sessions.reserve(count as usize)?;
     for author in 0..count {
-        let access = Access {
+        let session = Session::new(
+            alloc,
             author,
-            pass: pass.copy(&engine.head),
-            share: share.split_off(1, 0),
-        };
-        sessions.push_reserved(Session {
-            access,
-            replies: Vec::new(alloc),
-            ran_out: false,
-        });
+            pass.copy(&engine.head),
+            share.split_off(1, 0),
+        );
+        sessions.push_reserved(session);
     }
     Ok(sessions)
 }
@@ -145,24 +142,22 @@ fn take_in<D: Disk, J: Named>(
     ensures amount { share.new.amount ≡ share.old.amount + amounts_of sessions.items }
 {
     while let Some(session) = sessions.pop() {
-        let Session { access, .. } = session;
-        let Access {
-            author: _,
+        let AccessParts {
             pass: theirs,
             share: counted,
-        } = access;
+        } = session.into_parts();
         pass.learn(&engine.head, theirs);
         share.merge(counted);
     }
 }
 
 // Whether memory ran out in one of the sessions.
-#[tactic(auto, using(crate::proofs::CrewLemmas::none_more))]
+#[tactic(auto, using(crate::proofs::SharedLemmas::none_more))]
 fn has_run_out<J: Named>(sessions: &[Session<J>]) -> bool
     ensures { result ≡ false → NoneRanOut sessions.now }
 {
     for session in sessions {
-        if session.ran_out {
+        if session.has_run_out() {
             return true;
         }
     }
@@ -227,29 +222,34 @@ fn hand_out<J: Named>(
     replies_in_order(alloc, sessions, jobs)
 }
 
-/// The sessions of a crew answer the jobs of a phase at once, each its own ones in order, and the
-/// replies are handed out in the order of the jobs. Each session begins with what the crew has
-/// seen; afterwards the crew has seen what each of them saw, and its share counts their commits and
-/// breaks, also where memory ran out.
+/// Sessions answer the jobs of a phase at once, each its own ones in order, and the replies are
+/// handed out in the order of the jobs. Each session begins with what the shared pass has seen;
+/// afterwards that pass has seen what each of them saw, and the shared share counts their commits
+/// and breaks, also where memory ran out.
 ///
 /// The error is `NoMemory`: each session answered some of the first of its jobs.
-pub fn run_phase<D: Disk + Send, J: Named + Send + Sync, G: Gate, R: Threads + Wait + Sync>(
+pub fn run_phase<
+    D: Disk + Send,
+    J: Named + Send + Sync,
+    G: Gate,
+    R: AllocGlobal + Threads + Wait + Sync,
+>(
     rt: &R,
-    alloc: Global,
     engine: &Engine<D, J>,
-    crew: &mut Crew<J>,
+    shared: &mut SharedAccess<J>,
     jobs: &[Job],
     gate: &G,
 ) -> Result<Vec<Reply>, NoMemory>
     requires standard { J.limits ≡ standard_limits }
-    requires sessions { All (λ job. job.session < crew.old.count) jobs.now }
-    ensures { Runs (map job_of jobs.now) crew.old crew.new result }
+    requires sessions { All (λ job. job.session < shared.old.count) jobs.now }
+    ensures { Runs (map job_of jobs.now) shared.old shared.new result }
 {
-    let Crew { pass, share, count } = crew;
+    let alloc = rt.alloc();
+    let SharedAccess { pass, share, count } = shared;
     let Ok(mut sessions) = sessions_of(alloc, engine, pass, share, *count) else {
         return Err(AllocError);
     };
-    run_all(rt, alloc, engine, &mut sessions, jobs, gate);
+    run_all(rt, engine, &mut sessions, jobs, gate);
     let replies = hand_out(alloc, sessions.as_mut_slice(), jobs);
     take_in(engine, pass, share, sessions);
     replies

@@ -1,5 +1,5 @@
 //! What a job is over the commits of a snapshot: a batch, an answered query, or the first fault.
-ghost use Rattle.std.specs.Prelude.{◌≡◌, ◌≢◌, ◌<◌, IfOk, OnOk, length, Some, None};
+ghost use Rattle.std.specs.Prelude.{◌≡◌, ◌≢◌, ◌<◌, IfOk, OnOk, length, Some};
 ghost use Rattle.tl_types.specs.Entries.{commits_of};
 ghost use Rattle.tl_types.specs.History.{database_of};
 ghost use Rattle.tl_types.specs.declared.batches.Batch.TheVariants as batch;

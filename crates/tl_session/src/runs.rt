@@ -7,7 +7,6 @@ ghost use Rattle.tl_session.specs.Phases.{AllRan, AreNumbered, Ran, own_jobs};
 use crate::jobs::Job;
 use crate::sessions::Session;
 use crate::statements::run_statement;
-use std::alloc::Global;
 use std::sync::Wait;
 use std::thread;
 use std::thread::Threads;
@@ -15,9 +14,8 @@ use tl_device::{Disk, Gate};
 use tl_engine::{Engine, Named};
 
 /// A session answers its own ones of these jobs, in order, until memory runs out.
-pub fn run_session<D: Disk, J: Named, G: Gate, R: Wait>(
+pub(crate) fn run_session<D: Disk, J: Named, G: Gate, R: AllocGlobal + Wait>(
     rt: &R,
-    alloc: Global,
     engine: &Engine<D, J>,
     session: &mut Session<J>,
     jobs: &[Job],
@@ -31,7 +29,7 @@ pub fn run_session<D: Disk, J: Named, G: Gate, R: Wait>(
         if job.session != session.access.author {
             continue;
         }
-        let Ok(()) = run_statement(rt, alloc, engine, session, job, gate) else {
+        let Ok(()) = run_statement(rt, engine, session, job, gate) else {
             session.ran_out = true;
             return;
         };
@@ -57,14 +55,12 @@ fn threads_for(jobs: &[Job], sessions: usize) -> usize
 
 /// All sessions answer their own ones of these jobs at once, each in a thread of its own, in order
 /// and until memory runs out. Where the jobs are of one session alone, no thread is started.
-pub fn run_all<D: Disk + Send, J: Named + Send + Sync, G: Gate, R: Threads + Wait + Sync>(
-    rt: &R,
-    alloc: Global,
-    engine: &Engine<D, J>,
-    sessions: &mut Vec<Session<J>>,
-    jobs: &[Job],
-    gate: &G,
-)
+pub fn run_all<
+    D: Disk + Send,
+    J: Named + Send + Sync,
+    G: Gate,
+    R: AllocGlobal + Threads + Wait + Sync,
+>(rt: &R, engine: &Engine<D, J>, sessions: &mut Vec<Session<J>>, jobs: &[Job], gate: &G)
     requires standard { J.limits ≡ standard_limits }
     requires numbered { AreNumbered sessions.old.items }
     ensures count { length sessions.new.items ≡ length sessions.old.items }
@@ -78,6 +74,6 @@ pub fn run_all<D: Disk + Send, J: Named + Send + Sync, G: Gate, R: Threads + Wai
         requires { J.limits ≡ standard_limits }
         ensures { Ran (own_jobs session.entry.now.access.author (map job_of jobs.entry.now))
             session.entry.now session.exit.now }
-    { run_session(rt, alloc, engine, session, jobs, gate) };
+    { run_session(rt, engine, session, jobs, gate) };
     thread::for_each_mut(rt, sessions.as_mut_slice(), threads, &run);
 }

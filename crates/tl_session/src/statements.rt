@@ -7,13 +7,13 @@ ghost use Rattle.tl_batch.specs.Made.{batch_matches};
 ghost use Rattle.tl_engine.specs.Saying.{names_table};
 ghost use Rattle.tl_session.specs.Jobs.{job_of};
 ghost use Rattle.tl_session.specs.Reading.{block_of, DoesMatch, IsKnown};
-ghost use Rattle.tl_session.specs.Statements.{Answers, IsLook, IsTold, SeesMore, Settles, Stops, Tells, outcome_of};
+ghost use Rattle.tl_session.specs.Statements.{Answers, IsLook, SeesMore, Settles, Stops, Tells, outcome_of};
 
 use crate::jobs::Job;
 use crate::readings::{Reading, read_job};
 use crate::replies::{Refusal, Reply, ReplyBody};
 use crate::sessions::{Access, Session};
-use std::alloc::{AllocError, Global};
+use std::alloc::AllocError;
 use std::sync::Wait;
 use tl_device::{Disk, Gate, Place};
 use tl_engine::{CommitFault, Engine, Named};
@@ -44,9 +44,8 @@ fn block_of<'a>(job: &Job<'a>) -> &'a [u8]
 }
 
 // Reads the engine's head once, and what the job is over what has then been seen.
-fn look_at<D: Disk, J: Named, G: Gate, R: Wait>(
+fn look_at<D: Disk, J: Named, G: Gate, R: AllocGlobal + Wait>(
     rt: &R,
-    alloc: Global,
     engine: &Engine<D, J>,
     access: &mut Access<J>,
     job: &Job,
@@ -61,7 +60,7 @@ fn look_at<D: Disk, J: Named, G: Gate, R: Wait>(
 {
     let snapshot = engine.read(rt, &mut access.pass)?;
     let version = snapshot.store().versions();
-    let reading = read_job(alloc, &snapshot, job.text, block_of(job), gate)?;
+    let reading = read_job(rt.alloc(), &snapshot, job.text, block_of(job), gate)?;
     Ok(Look { version, reading })
 }
 
@@ -82,10 +81,9 @@ fn outcome_of(answer: Result<u32, CommitFault>) -> Option<Settled>
 }
 
 // Commits a batch of a session.
-#[tactic(auto, using(crate::proofs::StatementLemmas::settles, crate::proofs::StatementLemmas::settles_none))]
-fn settle<D: Disk, J: Named, R: Wait>(
+#[tactic(auto, using(crate::proofs::StatementLemmas::settles_none))]
+fn settle<D: Disk, J: Named, R: AllocGlobal + Wait>(
     rt: &R,
-    alloc: Global,
     engine: &Engine<D, J>,
     access: &mut Access<J>,
     batch: Batch,
@@ -98,7 +96,7 @@ fn settle<D: Disk, J: Named, R: Wait>(
 {
     let author = access.author;
     let (pass, share) = (&mut access.pass, &mut access.share);
-    let answer = engine.commit(rt, alloc, pass, share, author, batch);
+    let answer = engine.commit(rt, pass, share, author, batch);
     let Some(settled) = outcome_of(answer) else {
         return Err(AllocError);
     };
@@ -106,9 +104,8 @@ fn settle<D: Disk, J: Named, R: Wait>(
 }
 
 // What a job is answered with: a batch is committed.
-fn answer<D: Disk, J: Named, G: Gate, R: Wait>(
+fn answer<D: Disk, J: Named, G: Gate, R: AllocGlobal + Wait>(
     rt: &R,
-    alloc: Global,
     engine: &Engine<D, J>,
     access: &mut Access<J>,
     job: &Job,
@@ -120,10 +117,10 @@ fn answer<D: Disk, J: Named, G: Gate, R: Wait>(
         (λ s. Tells (job_of job.now) s.version s.body access.old access.new) }
     ensures err { OnErr result (SeesMore access.old access.new) }
 {
-    let Look { version, reading } = look_at(rt, alloc, engine, access, job, gate)?;
+    let Look { version, reading } = look_at(rt, engine, access, job, gate)?;
     match reading {
         Reading::Loads(batch) => {
-            let settled = settle(rt, alloc, engine, access, batch)?;
+            let settled = settle(rt, engine, access, batch)?;
             Ok(settled)
         }
         Reading::Query(answer) => Ok(Settled {
@@ -137,37 +134,13 @@ fn answer<D: Disk, J: Named, G: Gate, R: Wait>(
     }
 }
 
-// The reply to a job, which names the job's line.
-fn reply_to<D: Disk, J: Named, G: Gate, R: Wait>(
-    rt: &R,
-    alloc: Global,
-    engine: &Engine<D, J>,
-    access: &mut Access<J>,
-    job: &Job,
-    gate: &G,
-) -> Result<Reply, NoMemory>
-    requires standard { J.limits ≡ standard_limits }
-    requires own { job.now.session ≡ access.old.author }
-    ensures ok { IfOk result
-        (λ reply. IsTold (job_of job.now) reply access.old access.new) }
-    ensures err { OnErr result (SeesMore access.old access.new) }
-{
-    let settled = answer(rt, alloc, engine, access, job, gate)?;
-    Ok(Reply {
-        line: job.line,
-        version: settled.version,
-        body: settled.body,
-    })
-}
-
 /// A session answers a job of its own, once the gate has let it pass: it reads the engine's head
 /// once, and a batch is committed. There is exactly one reply more then. Room for it is made before
 /// a commit, so no commit and no break is without a reply.
 ///
 /// The error is `NoMemory`: there is no reply more, and nothing was committed.
-pub fn run_statement<D: Disk, J: Named, G: Gate, R: Wait>(
+pub fn run_statement<D: Disk, J: Named, G: Gate, R: AllocGlobal + Wait>(
     rt: &R,
-    alloc: Global,
     engine: &Engine<D, J>,
     session: &mut Session<J>,
     job: &Job,
@@ -180,7 +153,12 @@ pub fn run_statement<D: Disk, J: Named, G: Gate, R: Wait>(
 {
     gate.pass(Place::Statement(session.access.author));
     session.replies.reserve(1)?;
-    let reply = reply_to(rt, alloc, engine, &mut session.access, job, gate)?;
+    let settled = answer(rt, engine, &mut session.access, job, gate)?;
+    let reply = Reply {
+        line: job.line,
+        version: settled.version,
+        body: settled.body,
+    };
     session.replies.push_reserved(reply);
     Ok(())
 }

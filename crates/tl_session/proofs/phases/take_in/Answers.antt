@@ -2,8 +2,8 @@ use Rattle.std.proofs.Common.{rules, ◌∙◌, ap, sym, arith, subst}
 use mathlib.Core.List.{IsPrefix}
 use Rattle.tl_session.specs.Plain as plain
 use Rattle.tl_session.specs.Phases.{AllSeenIn, parts_of, amounts_of}
-use Rattle.tl_session.proofs.EntryLemmas.{begins_on}
-use Rattle.tl_session.proofs.CrewLemmas.{one_left, parts_more, amounts_more, seen_more, all_taken_in}
+use Rattle.tl_engine.proofs.CountLemmas.{begins_on}
+use Rattle.tl_session.proofs.SharedLemmas.{one_left, parts_more, amounts_more, seen_more, all_taken_in}
 use Rattle.tl_session.proofs.phases.take_in.Goals as goal
 
 pub loop-session-preserved : goal.loop-session-preserved
@@ -14,11 +14,9 @@ loop-session-preserved g c =
     let i = c.loop-session.invariant in
     let now = c.learn.new.self.seen in
     let split = one_left xs ys x c.pop.result c.pop.ensures.items c.in-Some.is in
-    let access = c.access.view_is in
-    let session = c.session.view_is in
-    let parts = ap (λ (a : plain.Access). a.parts) access ∙ ap (λ (s : plain.Session). s.access.parts) session in
-    let amount = ap (λ (a : plain.Access). a.amount) access ∙ ap (λ (s : plain.Session). s.access.amount) session in
-    let seen = ap (λ (a : plain.Access). a.seen) access ∙ ap (λ (s : plain.Session). s.access.seen) session in (
+    let parts = c.into_parts-theirs.ensures.parts in
+    let amount = c.into_parts-theirs.ensures.amount in
+    let seen = c.into_parts-theirs.ensures.seen in (
       c.learn.ensures.own ∙ i.0,
       omega (arith, i.1, c.merge.ensures.parts, parts, ap parts_of split, parts_more ys x),
       omega (arith, i.2, c.merge.ensures.amount, amount, ap amounts_of split, amounts_more ys x),

@@ -1,6 +1,9 @@
 use Rattle.std.proofs.Common.{rules}
-use Rattle.tl_session.proofs.ChainLemmas.{ran_next, ran_stop}
+use Rattle.tl_session.proofs.ChainLemmas.{ran_none, ran_next, ran_stop}
 use Rattle.tl_session.proofs.runs.run_session.Goals as goal
+
+pub loop-job-init : goal.loop-job-init
+loop-job-init g c = ran_none c.args.session.now
 
 pub loop-job-preserved : goal.loop-job-preserved
 loop-job-preserved g c =

@@ -1,6 +1,8 @@
--- The sessions of a crew, by their places.
+-- Sessions by their places, and what they share.
 use Rattle.std.proofs.Common.{◌≡◌, ◌⊎◌, inl, inr, ℕ, zero, suc, ◌+◌, ◌<◌, ◌≤◌, Bool, false, List, [], ◌∷◌, ◌++◌, length, map, take, drop, All, Vec, Result, Ok, Err, IfOk, OnOk, slice_get, slice_index_or, Option, Some, None, option_to_list, length-append, refl, sym, ap, ◌∙◌, subst, arith}
+use Rattle.std.proofs.lemmas.Bool.{cases_lt}
 use Rattle.std.proofs.lemmas.Bool.Decides.{nat_tests}
+use Rattle.std.proofs.lemmas.List.{get_or_default}
 use Rattle.std.proofs.Math.Seq.{take-append_seam}
 use mathlib.Core.List.{IsPrefix}
 use Rattle.tl_types.specs.declared.commits.Entry.{Entry}
@@ -16,7 +18,8 @@ use Rattle.tl_session.specs.Promises.{Chain, tally, weight}
 use Rattle.tl_session.specs.Written.{jobs_of}
 use Rattle.tl_session.proofs.EntryLemmas.{begins_itself}
 use Rattle.tl_session.proofs.ChainLemmas.{chain_to}
-use Rattle.tl_session.proofs.PhaseLemmas.{below_or_not, own_other, Together, put_together, from_on, tally_from, are_below}
+use Rattle.tl_session.proofs.PhaseLemmas.{Together, put_together, from_on, tally_from, are_below}
+use Rattle.tl_session.proofs.SessionLemmas.{own_other}
 
 -- ONE SESSION MORE, AND ONE LESS
 
@@ -56,8 +59,8 @@ one_left xs ys x o popped is = popped ∙ ap (λ z. ys ++ option_to_list z) is
 pub all_taken_in : (now first : List Entry) (xs all : List plain.Session) → xs ≡ [] → ((end : List Entry) → IsPrefix now end → AllSeenIn end xs → IsPrefix first end × AllSeenIn end all) → IsPrefix first now × AllSeenIn now all
 all_taken_in now first xs all none taken = taken now (begins_itself now) (subst (AllSeenIn now) (sym none) tt)
 
-pub fresh_pushed : (seen : List Entry) (xs ys : List plain.Session) (x : plain.Session) → ys ≡ xs ++ x ∷ [] → AllFresh seen xs → x.access.seen ≡ seen → x.access.amount ≡ 0 → x.replies ≡ [] → x.access.author ≡ length xs → AllFresh seen ys
-fresh_pushed seen xs ys x is all a b c author = subst (AllFresh seen) (sym is) (fresh_more seen xs x all (record { seen_is = a; amount_is = b; replies_are = c }) author)
+pub fresh_pushed : (seen : List Entry) (xs ys : List plain.Session) (x : plain.Session) → ys ≡ xs ++ x ∷ [] → AllFresh seen xs → x.access.seen ≡ seen → x.access.amount ≡ 0 → x.replies ≡ [] → x.ran_out ≡ false → x.access.author ≡ length xs → AllFresh seen ys
+fresh_pushed seen xs ys x is all a b c d author = subst (AllFresh seen) (sym is) (fresh_more seen xs x all (record { seen_is = a; amount_is = b; replies_are = c; whole = d }) author)
 
 pub parts_pushed : (xs ys : List plain.Session) (x : plain.Session) → ys ≡ xs ++ x ∷ [] → parts_of ys ≡ parts_of xs + x.access.parts
 parts_pushed xs ys x is = ap parts_of is ∙ parts_more xs x
@@ -88,12 +91,6 @@ no_own s n (j ∷ js) above below =
     let here = below 0 j (omega arith) in
     own_other s j js (grind (arith, nat_tests)) ∙ no_own s n js above (λ k d inside. below (suc k) d (omega (arith, inside)))
 
--- within a list any other value serves as well
-index_same : (xs : List plain.Session) (i : ℕ) (d e : plain.Session) → i < length xs → slice_index_or xs i d ≡ slice_index_or xs i e
-index_same [] i d e inside = absurd (omega (arith, inside))
-index_same (x ∷ xs) zero d e inside = refl
-index_same (x ∷ xs) (suc i) d e inside = index_same xs i d e (omega (arith, inside))
-
 -- the parts stay
 pub parts_on : (xs ys : List plain.Session) → length ys ≡ length xs → ((i : ℕ) (d : plain.Session) → i < length xs → (slice_index_or ys i d).access.parts ≡ (slice_index_or xs i d).access.parts) → parts_of ys ≡ parts_of xs
 parts_on [] [] same each = refl
@@ -114,8 +111,8 @@ none_more (y ∷ ys) zero x at none before (suc i) d inside = absurd (omega (ari
 none_more (y ∷ ys) (suc k) x at none before zero d inside = before 0 d (omega arith)
 none_more (y ∷ ys) (suc k) x at none before (suc i) d inside = none_more ys k x at none (λ j e within. before (suc j) e (omega (arith, within))) i d (omega (arith, inside))
 
--- what the crew is after its sessions were taken in
-pub record Took (old new : plain.Crew) (ys : List plain.Session) : Type 0 where
+-- what is shared after the sessions were taken in
+pub record Took (old new : plain.SharedAccess) (ys : List plain.Session) : Type 0 where
   pub table : new.table ≡ old.table
   pub parts : new.parts ≡ old.parts
   pub count : new.count ≡ old.count
@@ -125,7 +122,7 @@ pub record Took (old new : plain.Crew) (ys : List plain.Session) : Type 0 where
 
 -- THE TURNS OF A PHASE
 
-module _ (jobs : List Job) (old new : plain.Crew) (xs ys : List plain.Session) (took : Took old new ys) (fresh : AllFresh old.seen xs) (same : length ys ≡ length xs) (below : All (λ (j : Job). j.session < length xs) jobs) (ran : AllRan jobs xs ys) where
+module _ (jobs : List Job) (old new : plain.SharedAccess) (xs ys : List plain.Session) (took : Took old new ys) (fresh : AllFresh old.seen xs) (same : length ys ≡ length xs) (below : All (λ (j : Job). j.session < length xs) jobs) (ran : AllRan jobs xs ys) where
   -- any session
   abbrev some : plain.Session
   some = record { access = record { author = 0; table = old.table; seen = []; parts = 0; amount = 0 }; replies = []; ran_out = false }
@@ -169,30 +166,30 @@ module _ (jobs : List Job) (old new : plain.Crew) (xs ys : List plain.Session) (
   whole_by none s (inr above) = refl
 
   abbrev turns_at : ℕ → List Turn
-  turns_at s = turns_by s (below_or_not s (length xs))
+  turns_at s = turns_by s (cases_lt s (length xs))
 
   abbrev later_at : ℕ → List Job
-  later_at s = later_by s (below_or_not s (length xs))
+  later_at s = later_by s (cases_lt s (length xs))
 
   all_together : Together jobs turns_at later_at
-  all_together = put_together jobs turns_at later_at (λ s. fronts_by s (below_or_not s (length xs)))
+  all_together = put_together jobs turns_at later_at (λ s. fronts_by s (cases_lt s (length xs)))
 
   chain_at : (s : ℕ) → Chain meant old.seen (of_session s all_together.0) new.seen
-  chain_at s = subst (λ ts. Chain meant old.seen ts new.seen) (sym (all_together.1 s)) (chain_by s (below_or_not s (length xs)))
+  chain_at s = subst (λ ts. Chain meant old.seen ts new.seen) (sym (all_together.1 s)) (chain_by s (cases_lt s (length xs)))
 
   amount_at : (i : ℕ) (d : plain.Session) → i < length ys → (slice_index_or ys i d).access.amount ≡ tally weight (of_session (0 + i) all_together.0)
   amount_at i d inside =
-      ap (λ (x : plain.Session). x.access.amount) (index_same ys i d some inside) ∙ amount_by i (below_or_not i (length xs)) (omega (arith, inside, same)) ∙ ap (tally weight) (sym (all_together.1 i)) ∙ ap (λ n. tally weight (of_session n all_together.0)) (the_same i) where
+      ap (λ (x : plain.Session). x.access.amount) (get_or_default ys i d some inside) ∙ amount_by i (cases_lt i (length xs)) (omega (arith, inside, same)) ∙ ap (tally weight) (sym (all_together.1 i)) ∙ ap (λ n. tally weight (of_session n all_together.0)) (the_same i) where
         the_same : (i : ℕ) → i ≡ 0 + i
         the_same i = omega arith
 
   amounts_are : amounts_of ys ≡ tally weight all_together.0
   amounts_are =
-      amounts_from ys 0 all_together.0 amount_at ∙ sym (tally_from weight (length ys) all_together.0 (are_below (length ys) all_together.0 (λ s above. all_together.1 s ∙ none_by s (below_or_not s (length xs)) (omega (arith, above, same)))))
+      amounts_from ys 0 all_together.0 amount_at ∙ sym (tally_from weight (length ys) all_together.0 (are_below (length ys) all_together.0 (λ s above. all_together.1 s ∙ none_by s (cases_lt s (length xs)) (omega (arith, above, same)))))
 
   have_replies : HaveReplies ys all_together.0
   have_replies i d inside =
-      ap (λ (x : plain.Session). x.replies) (index_same ys i d some inside) ∙ replies_by i (below_or_not i (length xs)) (omega (arith, inside, same)) ∙ ap replies_of (sym (all_together.1 i))
+      ap (λ (x : plain.Session). x.replies) (get_or_default ys i d some inside) ∙ replies_by i (cases_lt i (length xs)) (omega (arith, inside, same)) ∙ ap replies_of (sym (all_together.1 i))
 
   takes : TakesTurns all_together.0 old new
   takes = record {
@@ -208,14 +205,14 @@ module _ (jobs : List Job) (old new : plain.Crew) (xs ys : List plain.Session) (
   pub fronts_run : RunsFronts jobs old new
   fronts_run = record {
     turns = all_together.0;
-    fronts = λ s. (later_at s, fronts_by s (below_or_not s (length xs)) ∙ ap (λ ts. jobs_of ts ++ later_at s) (sym (all_together.1 s)));
+    fronts = λ s. (later_at s, fronts_by s (cases_lt s (length xs)) ∙ ap (λ ts. jobs_of ts ++ later_at s) (sym (all_together.1 s)));
     taken = takes;
   }
 
   -- all jobs were answered, where memory ran out in no session
   pub phase_runs : (replies : List Reply) → NoneRanOut ys → ((turns : List Turn) → jobs_of turns ≡ jobs → HaveReplies ys turns → replies ≡ replies_of turns) → RunsPhase jobs replies old new
   phase_runs replies none told =
-      let these = all_together.2 (λ s. whole_by none s (below_or_not s (length xs))) in
+      let these = all_together.2 (λ s. whole_by none s (cases_lt s (length xs))) in
       record {
         turns = all_together.0;
         these = these;
@@ -226,7 +223,7 @@ module _ (jobs : List Job) (old new : plain.Crew) (xs ys : List plain.Session) (
 -- THE WHOLE OF A PHASE
 
 -- no session could be made
-pub none_run : (jobs : List Job) (x z y : plain.Crew) → x ≡ z → y.table ≡ x.table → y.seen ≡ x.seen → y.parts ≡ x.parts → y.amount ≡ x.amount → y.count ≡ x.count → RunsFronts jobs z y
+pub none_run : (jobs : List Job) (x z y : plain.SharedAccess) → x ≡ z → y.table ≡ x.table → y.seen ≡ x.seen → y.parts ≡ x.parts → y.amount ≡ x.amount → y.count ≡ x.count → RunsFronts jobs z y
 none_run jobs x z y lent table seen parts amount count = subst (λ w. RunsFronts jobs w y) lent (record {
   turns = [];
   fronts = λ s. (own_jobs s jobs, refl);
@@ -258,7 +255,7 @@ parts_back jobs xs ys ws vs zs left old now same ran lent kept back split joined
     let b = ap parts_of lent in let d = kept.parts in let e = ap parts_of back in
     omega (arith, a, b, d, e, split, joined)
 
-taken_back : (x y : plain.Crew) (ys ws vs zs : List plain.Session) → ws ≡ ys → KeepAll ws vs → zs ≡ vs → y.table ≡ x.table → y.parts ≡ x.parts → y.count ≡ x.count → IsPrefix x.seen y.seen → AllSeenIn y.seen zs → y.amount ≡ x.amount + amounts_of zs → Took x y ys
+taken_back : (x y : plain.SharedAccess) (ys ws vs zs : List plain.Session) → ws ≡ ys → KeepAll ws vs → zs ≡ vs → y.table ≡ x.table → y.parts ≡ x.parts → y.count ≡ x.count → IsPrefix x.seen y.seen → AllSeenIn y.seen zs → y.amount ≡ x.amount + amounts_of zs → Took x y ys
 taken_back x y ys ws vs zs lent kept back table parts count later seen amount = record {
   table = table;
   parts = parts;
@@ -268,12 +265,12 @@ taken_back x y ys ws vs zs lent kept back table parts count later seen amount = 
   amount = amount ∙ ap (λ n. x.amount + n) (ap amounts_of back ∙ kept.amounts ∙ ap amounts_of lent);
 }
 
-phase_ends : (jobs : List Job) (x y : plain.Crew) (xs ys : List plain.Session) (result : Result (Vec Reply Global) AllocError) → Took x y ys → AllFresh x.seen xs → length ys ≡ length xs → All (λ (j : Job). j.session < length xs) jobs → AllRan jobs xs ys → OnOk result (NoneRanOut ys) → ((turns : List Turn) → jobs_of turns ≡ jobs → HaveReplies ys turns → IfOk result (λ r. r.items ≡ replies_of turns)) → Runs jobs x y result
+phase_ends : (jobs : List Job) (x y : plain.SharedAccess) (xs ys : List plain.Session) (result : Result (Vec Reply Global) AllocError) → Took x y ys → AllFresh x.seen xs → length ys ≡ length xs → All (λ (j : Job). j.session < length xs) jobs → AllRan jobs xs ys → OnOk result (NoneRanOut ys) → ((turns : List Turn) → jobs_of turns ≡ jobs → HaveReplies ys turns → IfOk result (λ r. r.items ≡ replies_of turns)) → Runs jobs x y result
 phase_ends jobs x y xs ys (Ok r) took fresh same below ran none told = phase_runs jobs x y xs ys took fresh same below ran r.items none told
 phase_ends jobs x y xs ys (Err e) took fresh same below ran none told = fronts_run jobs x y xs ys took fresh same below ran
 
 -- sessions were made, ran, handed their replies out and were taken in
-pub phase_done : (lent : List LentJob) (x z y : plain.Crew) (xs ys ws vs zs : List plain.Session) (result : Result (Vec Reply Global) AllocError) → x ≡ z → AllFresh x.seen xs → length xs ≡ x.count → length ys ≡ length xs → All (λ (j : LentJob). j.session < z.count) lent → AllRan (map job_of lent) xs ys → ws ≡ ys → KeepAll ws vs → zs ≡ vs → OnOk result (NoneRanOut ws) → ((turns : List Turn) → jobs_of turns ≡ map job_of lent → HaveReplies ws turns → IfOk result (λ r. r.items ≡ replies_of turns)) → y.table ≡ x.table → y.parts ≡ x.parts → y.count ≡ x.count → IsPrefix x.seen y.seen → AllSeenIn y.seen zs → y.amount ≡ x.amount + amounts_of zs → Runs (map job_of lent) z y result
+pub phase_done : (lent : List LentJob) (x z y : plain.SharedAccess) (xs ys ws vs zs : List plain.Session) (result : Result (Vec Reply Global) AllocError) → x ≡ z → AllFresh x.seen xs → length xs ≡ x.count → length ys ≡ length xs → All (λ (j : LentJob). j.session < z.count) lent → AllRan (map job_of lent) xs ys → ws ≡ ys → KeepAll ws vs → zs ≡ vs → OnOk result (NoneRanOut ws) → ((turns : List Turn) → jobs_of turns ≡ map job_of lent → HaveReplies ws turns → IfOk result (λ r. r.items ≡ replies_of turns)) → y.table ≡ x.table → y.parts ≡ x.parts → y.count ≡ x.count → IsPrefix x.seen y.seen → AllSeenIn y.seen zs → y.amount ≡ x.amount + amounts_of zs → Runs (map job_of lent) z y result
 phase_done lent x z y xs ys ws vs zs result seen_as fresh long same below ran handed kept back none told table parts count later seen amount =
-    let number : z.count ≡ length xs = sym (long ∙ ap (λ (v : plain.Crew). v.count) seen_as) in
+    let number : z.count ≡ length xs = sym (long ∙ ap (λ (v : plain.SharedAccess). v.count) seen_as) in
     subst (λ v. Runs (map job_of lent) v y result) seen_as (phase_ends (map job_of lent) x y xs ys result (taken_back x y ys ws vs zs handed kept back table parts count later seen amount) fresh same (subst (λ n. All (λ (j : Job). j.session < n) (map job_of lent)) number (below_lent z.count lent below)) ran (subst (λ l. OnOk result (NoneRanOut l)) handed none) (λ turns are held. told turns are (subst (λ l. HaveReplies l turns) (sym handed) held)))

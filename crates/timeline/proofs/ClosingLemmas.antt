@@ -9,7 +9,7 @@ use Rattle.timeline.specs.Ending.{Closes, EndsFor, status_for}
 subst_status : (fault : JournalFault) (wanted : Status) (old new : Option (List ℕ)) (before after : ℕ) (ended : Status) → wanted ≡ status_for fault → Closes [] wanted old new before after ended → Closes [] (status_for fault) old new before after ended
 subst_status fault wanted old new before after ended is h = subst (λ (s : Status). Closes [] s old new before after ended) is h
 
--- a fault that is not want of memory closes the run with its line
+-- a fault that is not being out of memory closes the run with its line
 pub ends_for : (fault : JournalFault) (wanted : Status) (old new : Option (List ℕ)) (before after : ℕ) (ended : Status) → fault ≢ journal.NoMemory → wanted ≡ status_for fault → Closes [] wanted old new before after ended → EndsFor fault old new before after ended
 ends_for journal.NoMemory wanted old new before after ended other is h = absurd (other refl)
 ends_for (journal.Device faults) wanted old new before after ended other is h = subst_status (journal.Device faults) wanted old new before after ended is h

@@ -1,6 +1,7 @@
 -- Phases that come one after the other.
-use Rattle.std.proofs.Common.{◌≡◌, ◌⊎◌, inl, inr, ℕ, ◌+◌, ◌≤◌, Bool, true, false, List, [], ◌∷◌, ◌++◌, length, Option, Some, None, Result, Ok, Err, IfSome, refl, sym, ap, ◌∙◌, subst, arith, append_assoc, append-nil}
+use Rattle.std.proofs.Common.{◌≡◌, inl, inr, ℕ, ◌+◌, ◌≤◌, Bool, true, false, List, [], ◌∷◌, ◌++◌, length, Option, Some, None, IfSome, refl, sym, ap, ◌∙◌, subst, append_assoc, append-nil}
 use Rattle.tl_device.specs.Known.{prepend_known}
+use Rattle.tl_device.proofs.Known.{prepend_none, read_more}
 use Rattle.tl_script.specs.declared.jobs.ScriptFault.{ScriptFault}
 use Rattle.tl_script.specs.Script.{Job, Reading}
 use Rattle.tl_script.specs.Phases.{with_phase, no_phase, no_phase_but}
@@ -8,18 +9,6 @@ use Rattle.tl_script.specs.Reader.{with_phases, Grows}
 use Rattle.tl_script.specs.Taking.{IsAtEnd}
 use Rattle.timeline.specs.Coming.{Coming, Comes, GivesPhase, GivesNoMore, IsFaulty, ReadsOn, HaveCome}
 use Rattle.timeline.specs.Running.{IsFresh}
-
--- bytes taken one after the other
-prepend_twice : (a b : List ℕ) (left : Option (List ℕ)) → prepend_known a (prepend_known b left) ≡ prepend_known (a ++ b) left
-prepend_twice a b None = refl
-prepend_twice a b (Some l) = ap Some (sym (append_assoc a b l))
-
-prepend_none : (left : Option (List ℕ)) → left ≡ prepend_known [] left
-prepend_none None = refl
-prepend_none (Some l) = refl
-
-pub taken_more : (first mid left : Option (List ℕ)) (a b : List ℕ) → first ≡ prepend_known a mid → mid ≡ prepend_known b left → first ≡ prepend_known (a ++ b) left
-taken_more first mid left a b e f = e ∙ (ap (prepend_known a) f ∙ prepend_twice a b left)
 
 -- what the source has left, where it tells it
 abbrev pub rest_of : Option (List ℕ) → List ℕ
@@ -47,7 +36,7 @@ phases_then phases jobs more = ap (λ ps. record { names = more.names; phases = 
 pub none_come : (first : Coming) (left : Option (List ℕ)) → IsFresh first → HaveCome first left [] [] first left
 none_come first left fresh =
     record {
-      order = prepend_none left;
+      order = sym (prepend_none left);
       most = refl;
       few = fresh.few;
       known = fresh.known;
@@ -67,7 +56,7 @@ reads_more first bytes phases old mid taken jobs new left live (inl reads) (inr 
 pub one_more_come : (first : Coming) (before : Option (List ℕ)) (bytes : List ℕ) (phases : List (List Job)) (old : Coming) (mid : Option (List ℕ)) (taken : List ℕ) (jobs : List Job) (new : Coming) (left : Option (List ℕ)) → HaveCome first before bytes phases old mid → mid ≡ prepend_known taken left → (old.at_end ≡ true → ⊥) → GivesPhase old taken jobs new left → HaveCome first before (bytes ++ taken) (phases ++ jobs ∷ []) new left
 one_more_come first before bytes phases old mid taken jobs new left come order live gives =
     record {
-      order = taken_more before mid left bytes taken come.order order;
+      order = read_more before mid left bytes taken (bytes ++ taken) come.order order refl;
       most = gives.most ∙ come.most;
       few = subst (λ (n : ℕ). length new.names ≤ n) come.most (gives.few (subst (λ (n : ℕ). length old.names ≤ n) (sym come.most) come.few));
       known = gives.known;
@@ -81,7 +70,7 @@ one_more_come first before bytes phases old mid taken jobs new left come order l
 pub at_the_end : (first : Coming) (before : Option (List ℕ)) (bytes : List ℕ) (phases : List (List Job)) (old : Coming) (mid : Option (List ℕ)) (taken : List ℕ) (left : Option (List ℕ)) → HaveCome first before bytes phases old mid → mid ≡ prepend_known taken left → (old.at_end ≡ true → taken ≡ []) → GivesNoMore old taken left → IsAtEnd left
 at_the_end first before bytes phases old mid taken left come order idle gives = by_test old.at_end refl where
   same : (l : Option (List ℕ)) → l ≡ prepend_known [] left → IsAtEnd l → IsAtEnd left
-  same l e none = subst IsAtEnd (e ∙ sym (prepend_none left)) none
+  same l e none = subst IsAtEnd (e ∙ prepend_none left) none
 
   by_test : (t : Bool) → old.at_end ≡ t → IsAtEnd left
   by_test true e = same mid (order ∙ ap (λ b. prepend_known b left) (idle e)) (come.ended e)

@@ -1,39 +1,17 @@
 -- The numbers that words spell.
-use Rattle.std.proofs.Common.{◌≡◌, ℕ, ◌<◌, ◌^◌, nat_lt, nat_le, Bool, true, false, ◌&&◌, cond, List, [], ◌∷◌, length, get_or, Option, Some, None, IfSome, Result, Ok, Err, refl, ap, sym, ◌∙◌, arith}
-use Rattle.std.specs.Result.{OkIff, result_ok}
+use Rattle.std.proofs.Common.{◌≡◌, ℕ, ◌<◌, ◌^◌, nat_lt, nat_le, Bool, true, false, ◌&&◌, cond, List, [], ◌∷◌, length, get_or, Option, Some, None, IfSome, Result, refl, ap, sym, ◌∙◌, arith}
+use Rattle.std.specs.Result.{result_ok}
 use Rattle.std.specs.Char.{is_ascii_digit}
 use Rattle.std.specs.List.{list_all}
 use Rattle.std.specs.Str.{all_ascii_digits, IsUtf8, is_utf8}
 use Rattle.std.proofs.lemmas.Str.{IsUtf8-from_is_utf8}
 use Rattle.std.proofs.lemmas.List.Folds.{list_all_at}
 use Rattle.std.specs.Str.Parse.{digits_value, ParsesUnsigned}
-use Rattle.std.proofs.lemmas.Str.Parse.{IsNumeralModel, numerals_by_value, tells_all_ascii_digits, parse_digits}
+use Rattle.std.proofs.lemmas.Str.Parse.{parse_digits}
 use Rattle.std.proofs.lemmas.Bool.{ltb-true}
 use Rattle.std.proofs.lemmas.Bool.Decides.{nat_tests}
-use Rattle.std.proofs.lemmas.Grind.{common_steps}
+use Rattle.tl_csv.proofs.NumberLemmas.{own, ok_by_test, both_tests, all_tests, lt_true}
 use Rattle.timeline.specs.Commands.{spelled_number, within}
-
-own : IsNumeralModel (λ ds. all_ascii_digits ds ≡ true) (digits_value 10)
-own = numerals_by_value _ tells_all_ascii_digits
-
-lt_true : (a b : ℕ) → a < b → nat_lt a b ≡ true
-lt_true a b h = grind (arith, common_steps)
-
--- a result that is right exactly where a test is
-ok_by_test : {E : Type 0} {P : Type 0} (r : Result ℕ E) (t : Bool) (v : ℕ) → OkIff r P v → (t ≡ true → P) → (P → t ≡ true) → result_ok r ≡ cond t (Some v) None
-ok_by_test (Ok x) true v h to from = ap Some h.1
-ok_by_test (Ok x) false v h to from = absurd (let e = from h.0 in cc)
-ok_by_test (Err e) true v h to from = absurd (h (to refl))
-ok_by_test (Err e) false v h to from = refl
-
-both_tests : (a b c : Bool) → (a && b && c) ≡ true → (a ≡ true) × (b ≡ true) × (c ≡ true)
-both_tests true true true h = (refl, refl, refl)
-both_tests true true false h = absurd (cc)
-both_tests true false c h = absurd (cc)
-both_tests false b c h = absurd (cc)
-
-all_tests : (a b c : Bool) → a ≡ true → b ≡ true → c ≡ true → (a && b && c) ≡ true
-all_tests a b c p q r = cc
 
 all_digits : (bs : List ℕ) → all_ascii_digits bs ≡ list_all is_ascii_digit bs
 all_digits [] = refl

@@ -1,12 +1,12 @@
--- The commits and the break of a list of entries that grows.
-use Rattle.std.proofs.Common.{◌≡◌, ℕ, Bool, true, false, List, [], ◌∷◌, ◌++◌, Some, None, is_some, refl, ap, sym, ◌∙◌, inl, inr, ◌⊎◌, append-nil}
+-- The commits and the break of a list of entries.
+use Rattle.std.proofs.Common.{◌≡◌, true, false, List, [], ◌∷◌, ◌++◌, Some, None, is_some, refl, ap, sym, ◌∙◌, append-nil}
 use Rattle.std.specs.declared.option.Option.{Option}
 use Rattle.tl_types.specs.declared.commits.Commit.{Commit}
 use Rattle.tl_types.specs.declared.commits.Entry.{Entry}
 use Rattle.tl_types.specs.declared.commits.Entry.TheVariants as entry
 use Rattle.tl_types.specs.Entries.{commits_of, has_break}
 use Rattle.tl_session.specs.Turns.{break_of}
-use Rattle.tl_index.specs.Snapshots.{commit_entry, break_entry, BreaksLast}
+use Rattle.tl_index.specs.Snapshots.{BreaksLast}
 use Rattle.tl_engine.specs.Lists.{tried_commits}
 
 pub break_none : (es : List Entry) → has_break es ≡ false → break_of es ≡ None
@@ -26,32 +26,6 @@ has_break_is [] = refl
 has_break_is (entry.Commit c ∷ es) = has_break_is es
 has_break_is (entry.Mark n v ∷ es) = has_break_is es
 has_break_is (entry.Break c ∷ es) = refl
-
--- ONE ENTRY MORE
-
-pub commits_more : (es : List Entry) (c : Commit) → commits_of (es ++ commit_entry c ∷ []) ≡ commits_of es ++ c ∷ []
-commits_more [] c = refl
-commits_more (entry.Commit d ∷ es) c = ap (λ cs. d ∷ cs) (commits_more es c)
-commits_more (entry.Mark n v ∷ es) c = commits_more es c
-commits_more (entry.Break d ∷ es) c = commits_more es c
-
-pub commits_same : (es : List Entry) (c : Commit) → commits_of (es ++ break_entry c ∷ []) ≡ commits_of es
-commits_same [] c = refl
-commits_same (entry.Commit d ∷ es) c = ap (λ cs. d ∷ cs) (commits_same es c)
-commits_same (entry.Mark n v ∷ es) c = commits_same es c
-commits_same (entry.Break d ∷ es) c = commits_same es c
-
-pub break_still_none : (es : List Entry) (c : Commit) → has_break es ≡ false → break_of (es ++ commit_entry c ∷ []) ≡ None
-break_still_none [] c h = refl
-break_still_none (entry.Commit d ∷ es) c h = break_still_none es c h
-break_still_none (entry.Mark n v ∷ es) c h = break_still_none es c h
-break_still_none (entry.Break d ∷ es) c h = absurd (cc)
-
-pub break_now : (es : List Entry) (c : Commit) → has_break es ≡ false → break_of (es ++ break_entry c ∷ []) ≡ Some c
-break_now [] c h = refl
-break_now (entry.Commit d ∷ es) c h = break_now es c h
-break_now (entry.Mark n v ∷ es) c h = break_now es c h
-break_now (entry.Break d ∷ es) c h = absurd (cc)
 
 -- THE BREAK COMES LAST
 

@@ -1,11 +1,11 @@
 -- What a run over a journal that is opened comes to.
-use Rattle.std.proofs.Common.{◌≡◌, ℕ, ◌+◌, Bool, true, false, List, [], ◌∷◌, Some, None, is_some, refl, sym, ap, ◌∙◌, subst}
+use Rattle.std.proofs.Common.{◌≡◌, ℕ, ◌+◌, Bool, true, false, List, Some, is_some, sym, ap, ◌∙◌, subst}
 use Rattle.std.specs.declared.option.Option.{Option}
 use mathlib.Core.List.{IsPrefix}
 use Rattle.tl_types.specs.declared.commits.Entry.{Entry}
 use Rattle.tl_types.specs.Entries.{commits_of, has_break}
 use Rattle.tl_script.specs.Script.{Reading}
-use Rattle.tl_session.specs.Turns.{Turn, break_of}
+use Rattle.tl_session.specs.Turns.{break_of}
 use Rattle.tl_session.specs.Phases.{HaveRun}
 use Rattle.tl_index.specs.Snapshots.{IsLegal}
 use Rattle.tl_journal.specs.Stands.{IsJournal}
@@ -22,11 +22,6 @@ use Rattle.timeline.proofs.ToldLemmas.{MakesTranscript, MakesPlay, told}
 -- where bytes are told, something is
 pub told_some : (o : Option (List ℕ)) (b : List ℕ) → o ≡ Some b → is_some o ≡ true
 told_some o b e = ap is_some e
-
--- what holds for the bytes that are told holds where some are
-pub some_told : (o : Option (List ℕ)) (P : Type 0) → ((b : List ℕ) → o ≡ Some b → P) → is_some o ≡ true → P
-some_told None P f e = absurd (cc)
-some_told (Some b) P f e = f b refl
 
 pub finished : {D : Type 0} (reads : D → Option (List ℕ)) (may_leave : D → List ℕ → Type 0) (faults : D → ℕ) (begun disk : D) (entries named start seen last : List Entry) (first count amount : ℕ) (tells : Bool) (script : Bool → List ℕ → Reading) (before after : Streams) (why : Stop) (broke : Bool)
     → entries ≡ named → first ≡ count → tells ≡ is_some (reads begun) → has_break named ≡ false → MakesTranscript → MakesPlay → start ≡ named

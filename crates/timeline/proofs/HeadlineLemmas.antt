@@ -1,17 +1,15 @@
 -- What a run that is done, or that a break came into, printed and keeps.
-use Rattle.std.proofs.Common.{◌≡◌, ℕ, Bool, true, false, List, [], ◌∷◌, ◌++◌, map, Some, None, is_some, IfSome, refl, ap, subst, sym, ◌∙◌, inl, inr, ◌⊎◌}
+use Rattle.std.proofs.Common.{◌≡◌, ℕ, ◌+◌, Bool, true, false, List, [], ◌∷◌, ◌++◌, map, Some, None, is_some, IfSome, refl, ap, subst, sym, ◌∙◌, inl, inr, append-nil}
 use Rattle.std.specs.declared.option.Option.{Option}
 use Rattle.tl_types.specs.declared.commits.Commit.{Commit}
 use Rattle.tl_device.specs.Known.{append_known, prepend_known, Rose}
 use Rattle.tl_script.specs.declared.jobs.ScriptFault.{ScriptFault}
-use Rattle.tl_script.specs.Script.{Reading}
+use Rattle.tl_script.specs.Script.{Reading, Job as ScriptJob}
 use Rattle.tl_script.specs.Taking.{IsAtEnd}
-use Rattle.tl_session.specs.Jobs.{Job}
 use Rattle.tl_session.specs.Turns.{Turn, all_turns}
 use Rattle.tl_session.specs.Transcript.{Each}
-use Rattle.tl_session.specs.Play.{AreLone}
+use Rattle.tl_session.specs.Play.{AreLone, AreOfOne, AreLonePhases}
 use Rattle.tl_session.specs.Written.{all_jobs, jobs_of, transcript_bytes}
-use Rattle.tl_journal.specs.Image.{StandsFor}
 use Rattle.tl_journal.specs.declared.faults.JournalFault.{JournalFault}
 use Rattle.tl_journal.specs.declared.faults.JournalFault.TheVariants as journal
 use Rattle.timeline.specs.declared.statuses.Status.{Status}
@@ -21,12 +19,13 @@ use Rattle.timeline.specs.declared.stops.Stop.TheVariants as stop
 use Rattle.timeline.specs.declared.commands.Command.{Command}
 use Rattle.timeline.specs.declared.commands.Command.TheVariants as command
 use Rattle.timeline.specs.Status.{closing_line}
-use Rattle.timeline.specs.Commands.{command_of, put_text}
+use Rattle.timeline.specs.Commands.{put_text}
 use Rattle.timeline.specs.Coming.{script_reads, block_reads}
 use Rattle.timeline.specs.Jobs.{phases_asked}
-use Rattle.timeline.specs.Ending.{status_for, wanted_by, Writes, Closes, EndsFor, EndsRefused, Told, ClosesAfter, PhasesEnd, OpenedEnds, RunEnds, EndsBy, Ends}
-use Rattle.timeline.specs.Headline.{AreOf, AreLoneJobs, PrintsTranscript, FailsToOpen, PrintsAll, PrintsBreak, PrintsToFault, PrintsClosed, RunTells, RunHeadline, HeadlineBy, Headline}
-use Rattle.timeline.specs.Outside.{Outside, Streams, streams_of, OpensWith, HoldsJournal}
+use Rattle.timeline.specs.Sample.{puts_from, blocks_of, sample_reading}
+use Rattle.timeline.specs.Ending.{SampleEnds, sink_alone, status_for, wanted_by, Writes, EndsFor, EndsRefused, Told, ClosesAfter, OpenedEnds, RunEnds, EndsBy}
+use Rattle.timeline.specs.Headline.{PrintsPlay, PrintsTranscript, PrintsAll, PrintsBreak, PrintsToFault, PrintsClosed, RunTells, RunHeadline, HeadlineBy}
+use Rattle.timeline.specs.Outside.{Outside, streams_of, HoldsJournal}
 use Rattle.timeline.specs.Stopping.{RunsAll, Stops}
 use Rattle.timeline.proofs.RunningLemmas.{written_more}
 use Rattle.timeline.proofs.TopLemmas.{told_script}
@@ -136,16 +135,12 @@ closed_as (stop.Source n) broke faults seen old new before after ended h e memor
 closed_as (stop.Sink n) broke faults seen old new before after ended h e memory sink = absurd (sink n (sym e ∙ h.0))
 closed_as stop.NoMemory broke faults seen old new before after ended h e memory sink = absurd (memory (sym e ∙ h.0))
 
--- what was written first, and then more
-then_written : (first old new : Option (List ℕ)) (xs ys : List ℕ) → old ≡ append_known first xs → new ≡ append_known old ys → new ≡ append_known first (xs ++ ys)
-then_written first old new xs ys e f = written_more first old new xs ys e f
-
 -- the turns of a phase of one session's jobs
-lone_turns : (s : ℕ) (ts : List Turn) → AreOf s (jobs_of ts) → Each (λ t. t.job.session ≡ s) ts
+lone_turns : (s : ℕ) (ts : List Turn) → AreOfOne s (jobs_of ts) → Each (λ t. t.job.session ≡ s) ts
 lone_turns s [] h = tt
 lone_turns s (t ∷ ts) h = (h.0, lone_turns s ts h.1)
 
-lone_phases : (turns : List (List Turn)) → AreLoneJobs (map jobs_of turns) → AreLone turns
+lone_phases : (turns : List (List Turn)) → AreLonePhases (map jobs_of turns) → AreLone turns
 lone_phases [] h = tt
 lone_phases (q ∷ turns) h = ((h.0.0, lone_turns h.0.0 q h.0.1), lone_phases turns h.1)
 
@@ -165,12 +160,12 @@ prints reading opening all broke closing before after at turns answers told firs
       bytes = transcript_bytes reading.names turns;
       begins = told.begins;
       transcript = (turns, answers, told.transcript, refl);
-      written = then_written before.written at after.written (transcript_bytes reading.names turns) (closing_line closing) first then_;
+      written = written_more before.written at after.written (transcript_bytes reading.names turns) (closing_line closing) first then_;
       holds = holds;
       play = λ none lone. (
         all_turns turns,
         all_jobs_of turns ∙ ap all_jobs answers,
-        told.play none (lone_phases turns (subst AreLoneJobs (sym answers) lone)),
+        told.play none (lone_phases turns (subst AreLonePhases (sym answers) lone)),
         refl,
       );
     }
@@ -291,7 +286,40 @@ run_tells reads before after ended (inl refused) = λ script image opening told 
 run_tells reads before after ended (inr (own, h)) = λ script image opening told is stands.
     subst (λ (cs : List Commit). RunTells reads script cs before after ended) (sym ((h.opens.stands image is).only opening stands)) (opened_tells reads script own before after ended told h)
 
--- a run that ends for want of memory tells nothing
+-- all jobs of a sample are of its one session
+puts_lone : (number : ℕ) (blocks : List (List ℕ)) (more : List (List ScriptJob)) → AreLonePhases (phases_asked more) → AreLonePhases (phases_asked (puts_from number blocks ++ more))
+puts_lone number [] more h = h
+puts_lone number (block ∷ blocks) more h = ((0, (refl, tt)), puts_lone (number + 1) blocks more h)
+
+sample_lone : (lines start : ℕ) → AreLonePhases (phases_asked (sample_reading lines start).phases)
+sample_lone lines start = ((0, (refl, tt)), puts_lone 2 (blocks_of lines start) _ ((0, (refl, (refl, (refl, tt)))), tt))
+
+-- a sample that is done printed its jobs done one after the other
+sample_tells : (reading : Reading) (old new : Option (List ℕ)) (before after : ℕ) (ended : Status) → AreLonePhases (phases_asked reading.phases) → SampleEnds reading old new before after ended → ended ≡ status.Done → PrintsPlay reading old new
+sample_tells reading old new before after ended lone (inl h) e = absurd (no_memory_done (sym e ∙ h.0))
+sample_tells reading old new before after ended lone (inr (all, h)) e = by_why h.why h.stops h.closes where
+  by_why : (why : Stop) → Stops (Told [] all None) (λ whole bytes. reading) why (sink_alone old before) h.at → ClosesAfter why false 0 h.at.written new h.at.sink_faults after ended → PrintsPlay reading old new
+  by_why stop.Ended stops closes =
+      let w = closed_as stop.Ended false 0 status.Done h.at.written new h.at.sink_faults after ended closes e no_memory_done no_sink_done in
+      record {
+        bytes = transcript_bytes reading.names stops.turns;
+        all = all;
+        play = (
+          all_turns stops.turns,
+          all_jobs_of stops.turns ∙ ap all_jobs stops.answers,
+          stops.ran.play refl (lone_phases stops.turns (subst AreLonePhases (sym stops.answers) lone)),
+          refl,
+        );
+        written = written_more old h.at.written new (transcript_bytes reading.names stops.turns) [] stops.written w.1 ∙ ap (append_known old) (append-nil (transcript_bytes reading.names stops.turns));
+      }
+  by_why (stop.Fault f) stops closes =
+      let w = closed_as (stop.Fault f) false 0 status.Done h.at.written new h.at.sink_faults after ended closes e no_memory_done no_sink_done in absurd (let x = w.0 in cc)
+  by_why (stop.Source n) stops closes =
+      let w = closed_as (stop.Source n) false 0 status.Done h.at.written new h.at.sink_faults after ended closes e no_memory_done no_sink_done in absurd (let x = w.0 in cc)
+  by_why (stop.Sink n) stops closes = absurd (no_sink_done n (sym e ∙ closes.0))
+  by_why stop.NoMemory stops closes = absurd (no_memory_done (sym e ∙ closes.0))
+
+-- a run that is out of memory tells nothing
 silent_tells : (reads : Bool → List ℕ → Reading) (script : List ℕ) (opening : List Commit) (before after : Outside) (ended : Status) → ended ≡ status.NoMemory → RunTells reads script opening before after ended
 silent_tells reads script opening before after ended is =
     record {
@@ -301,21 +329,18 @@ silent_tells reads script opening before after ended is =
       failing = λ faults e. absurd (let x : status.SourceFault faults ≡ status.NoMemory = sym e ∙ is in cc);
     }
 
-by_command : (c : Option Command) (before after : Outside) (ended : Status) → EndsBy c before after ended → HeadlineBy c before after ended
-by_command None before after ended h = tt
-by_command (Some command.Init) before after ended h = tt
-by_command (Some command.Run) before after ended h = run_tells script_reads before after ended h
-by_command (Some (command.Load table)) before after ended h = run_tells (block_reads (put_text table)) before after ended h
-by_command (Some (command.Sample lines start)) before after ended h = tt
+-- what a command came to
+pub command_tells : (c : Option Command) (before after : Outside) (ended : Status) → EndsBy c before after ended → HeadlineBy c before after ended
+command_tells None before after ended h = tt
+command_tells (Some command.Init) before after ended h = tt
+command_tells (Some command.Run) before after ended h = run_tells script_reads before after ended h
+command_tells (Some (command.Load table)) before after ended h = run_tells (block_reads (put_text table)) before after ended h
+command_tells (Some (command.Sample lines start)) before after ended h = λ e. sample_tells (sample_reading lines start) before.written after.written before.sink_faults after.sink_faults ended (sample_lone lines start) h.1 e
 
-out_of_memory : (c : Option Command) (before after : Outside) (ended : Status) → ended ≡ status.NoMemory → HeadlineBy c before after ended
-out_of_memory None before after ended e = tt
-out_of_memory (Some command.Init) before after ended e = tt
-out_of_memory (Some command.Run) before after ended e = λ script image opening told reads stands. silent_tells script_reads script opening before after ended e
-out_of_memory (Some (command.Load table)) before after ended e = λ script image opening told reads stands. silent_tells (block_reads (put_text table)) script opening before after ended e
-out_of_memory (Some (command.Sample lines start)) before after ended e = tt
-
--- what ends so tells its headline
-pub ends_tell : (words : List (List ℕ)) (before after : Outside) (ended : Status) → Ends words before after ended → Headline words before after ended
-ends_tell words before after ended (inl none) = out_of_memory (command_of words) before after ended none.0.0
-ends_tell words before after ended (inr h) = by_command (command_of words) before after ended h
+-- out of memory
+pub memory_tells : (c : Option Command) (before after : Outside) (ended : Status) → ended ≡ status.NoMemory → HeadlineBy c before after ended
+memory_tells None before after ended e = tt
+memory_tells (Some command.Init) before after ended e = tt
+memory_tells (Some command.Run) before after ended e = λ script image opening told reads stands. silent_tells script_reads script opening before after ended e
+memory_tells (Some (command.Load table)) before after ended e = λ script image opening told reads stands. silent_tells (block_reads (put_text table)) script opening before after ended e
+memory_tells (Some (command.Sample lines start)) before after ended e = λ done. absurd (no_memory_done (sym done ∙ e))

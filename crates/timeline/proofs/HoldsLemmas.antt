@@ -1,5 +1,5 @@
 -- What the disk holds once a history is closed.
-use Rattle.std.proofs.Common.{◌≡◌, ℕ, Bool, true, false, List, [], ◌∷◌, ◌++◌, Some, None, refl, ap, sym, ◌∙◌, subst, inl, inr, ◌⊎◌}
+use Rattle.std.proofs.Common.{◌≡◌, ℕ, Bool, true, false, List, [], ◌∷◌, ◌++◌, Some, None, refl, sym, subst, inl, inr, ◌⊎◌}
 use Rattle.std.specs.declared.option.Option.{Option}
 use Rattle.tl_types.specs.declared.commits.Commit.{Commit}
 use Rattle.tl_types.specs.declared.commits.Entry.{Entry}
@@ -9,10 +9,9 @@ use Rattle.tl_session.specs.Turns.{break_of}
 use Rattle.tl_journal.specs.Image.{header, StandsFor, BeforeOrAfter}
 use Rattle.tl_journal.specs.Stands.{IsJournal}
 use Rattle.tl_index.specs.Snapshots.{IsLegal}
-use Rattle.tl_engine.specs.Lists.{tried_commits}
 use Rattle.tl_engine.specs.Standing.{IsCount, IsImageOf as IsTriedImage}
 use Rattle.timeline.specs.Outside.{Outside, IsImageOf, IsSettled, CountsBreak, HoldsJournal}
-use Rattle.timeline.proofs.EntryLemmas.{break_none, break_some, has_break_is, tried_none, tried_some}
+use Rattle.timeline.proofs.EntryLemmas.{break_none, break_some, tried_none, tried_some}
 
 pub some_same : (xs ys : List ℕ) → Some xs ≡ Some ys → xs ≡ ys
 some_same xs ys e = cc
@@ -62,5 +61,5 @@ holds es before after legal count leaves reads whole =
     }
 
 -- a whole journal is what a read gives, and all that a crash leaves
-pub whole_image : {D : Type 0} (reads : D → Option (List ℕ)) (may_leave : D → List ℕ → Type 0) (disk : D) (commits : List Commit) (gate : ℕ) → IsJournal reads may_leave disk commits gate → (bytes : List ℕ) × (reads disk ≡ Some bytes) × Only bytes (may_leave disk)
-whole_image reads may_leave disk commits gate h = ((header ++ h.front) ++ 0 ∷ [], h.stored.reads_as, h.stored.only)
+pub whole_image : {D : Type 0} (reads : D → Option (List ℕ)) (may_leave : D → List ℕ → Type 0) (disk : D) (commits : List Commit) → (gate : ℕ) × IsJournal reads may_leave disk commits gate → (bytes : List ℕ) × (reads disk ≡ Some bytes) × Only bytes (may_leave disk)
+whole_image reads may_leave disk commits (gate, h) = ((header ++ h.front) ++ 0 ∷ [], h.stored.reads_as, h.stored.only)

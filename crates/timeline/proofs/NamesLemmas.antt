@@ -1,13 +1,13 @@
 -- The names of the sessions of a script that is read on: those so far stay the first, and there are
 -- no more than there may be.
-use Rattle.std.proofs.Common.{◌≡◌, ◌⊎◌, inl, inr, ℕ, ◌+◌, ◌<◌, ◌≤◌, min, nat_lt, nat_le, Bool, true, false, ◌||◌, not, List, [], ◌∷◌, ◌++◌, length, length-append, Option, Some, None, refl, sym, ap, ◌∙◌, subst, arith, append_assoc, append-nil, codes}
+use Rattle.std.proofs.Common.{◌≡◌, ℕ, ◌+◌, ◌<◌, ◌≤◌, nat_lt, nat_le, Bool, true, false, ◌||◌, not, List, [], ◌∷◌, ◌++◌, length, length-append, Option, Some, None, refl, sym, ap, ◌∙◌, subst, arith, append_assoc, append-nil, codes}
 use Rattle.std.proofs.lemmas.Bool.Decides.{nat_tests}
 use Rattle.std.specs.Str.{is_utf8}
 use Rattle.tl_types.specs.declared.limits.Limits.{Limits}
 use Rattle.tl_types.specs.Names.{same_bytes}
 use Rattle.tl_script.specs.declared.jobs.ScriptFault.{ScriptFault}
-use Rattle.tl_script.specs.Script.{Job, Reading, lines_of, text_of, is_passed_over, statement_of, has_block, stands_in, ends_block}
-use Rattle.tl_script.specs.Phases.{Place, Outside, Inside, Spot, Step, Fails, Goes, Ends, behind_go, session_number, most_sessions, with_name, statement, after_statement, outside, inside, early_fault, unless_early, at_place, in_phase, after_line, after_part, line_step, last_phase, end_at, behind_lines, with_step, reading_lines, reading_from}
+use Rattle.tl_script.specs.Script.{Job, lines_of, text_of, is_passed_over, statement_of, has_block, stands_in, ends_block}
+use Rattle.tl_script.specs.Phases.{Place, Outside, Inside, Spot, Step, Fails, Goes, Ends, behind_go, session_number, most_sessions, with_name, statement, after_statement, outside, inside, early_fault, unless_early, at_place, in_phase, line_step, last_phase, behind_lines, reading_lines, reading_from}
 use Rattle.tl_script.specs.Reader.{Grows}
 
 pub grows_itself : (xs : List (List ℕ)) → Grows xs xs

@@ -1,5 +1,5 @@
 -- Why a journal is not opened or made.
-use Rattle.std.proofs.Common.{◌≡◌, ℕ, ◌<◌, List, [], Some, IfSome, refl, ap, sym, ◌∙◌, subst, inl, inr}
+use Rattle.std.proofs.Common.{◌≡◌, ℕ, ◌<◌, IfSome, refl}
 use Rattle.tl_types.specs.Limits.{standard_limits}
 use Rattle.tl_journal.specs.Answers.{IsTooShort, IsTooLong}
 use Rattle.tl_journal.specs.declared.faults.JournalFault.{JournalFault}

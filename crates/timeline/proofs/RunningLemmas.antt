@@ -1,106 +1,51 @@
 -- The running of phases, one after the other.
-use Rattle.std.proofs.Common.{◌≡◌, ◌⊎◌, inl, inr, ℕ, zero, suc, ◌+◌, ◌<◌, ◌≤◌, ◌==◌, Bool, true, false, List, [], ◌∷◌, ◌++◌, length, take, drop, map, get_or, All, slice_index_or, Option, Some, None, IfSome, Result, Ok, Err, OnOk, IfErr, refl, sym, ap, ◌∙◌, subst, arith, append_assoc, append-nil, length-append}
+use Rattle.std.proofs.Common.{◌≡◌, inl, inr, ℕ, zero, suc, ◌+◌, ◌<◌, ◌==◌, Bool, true, false, List, [], ◌∷◌, ◌++◌, length, take, map, get_or, All, Option, Some, None, Result, Ok, Err, refl, sym, ap, ◌∙◌, subst, arith, append_assoc, append-nil, length-append}
 use Rattle.std.proofs.lemmas.List.{map-append}
 use mathlib.Core.List.{IsPrefix}
 use Rattle.tl_types.specs.declared.commits.Entry.{Entry}
-use Rattle.tl_types.specs.declared.commits.Entry.TheVariants as entry
-use Rattle.tl_types.specs.Entries.{commits_of, has_break}
 use Rattle.tl_device.specs.Known.{append_known, prepend_known, Rose}
+use Rattle.tl_device.proofs.Known.{append_both, read_more}
 use Rattle.tl_script.specs.declared.jobs.ScriptFault.{ScriptFault}
 use Rattle.tl_script.specs.declared.phases.NextError.{NextError}
 use Rattle.tl_script.specs.declared.phases.NextError.TheVariants as next
 use Rattle.tl_script.specs.declared.phases.Phase.{Phase}
 use Rattle.tl_script.specs.Script.{Job as ScriptJob, Reading}
-use Rattle.tl_script.specs.Phases.{with_phase, no_phase, no_phase_but}
+use Rattle.tl_script.specs.Phases.{no_phase, no_phase_but}
 use Rattle.tl_script.specs.Reader.{with_phases, Grows, NextFaults}
-use Rattle.tl_script.specs.Taking.{IsAtEnd}
 use Rattle.tl_session.specs.declared.replies.Reply.{Reply}
-use Rattle.tl_session.specs.declared.replies.ReplyBody.{ReplyBody}
-use Rattle.tl_session.specs.declared.replies.ReplyBody.TheVariants as body
 use Rattle.tl_session.specs.declared.jobs.Job.{Job as LentJob}
 use Rattle.tl_session.specs.Jobs.{Job, job_of}
 use Rattle.tl_session.specs.Plain as plain
 use Rattle.tl_session.specs.Replies.{reply_bytes}
-use Rattle.tl_session.specs.Turns.{Turn, Meaning, meant, of_session, all_turns}
-use Rattle.tl_session.specs.Promises.{Looked, BodySays, Says, Chain, Chains, tally, whole_tally, weight}
+use Rattle.tl_session.specs.Turns.{Turn, meant, of_session, all_turns}
+use Rattle.tl_session.specs.Promises.{Chain, tally, weight}
 use Rattle.tl_session.specs.Transcript.{Each, EachOfAll}
 use Rattle.tl_session.specs.Phases.{own_jobs, replies_of, TakesTurns, RunsPhase as RunsAtOnce, RunsFronts, HaveRun}
 use Rattle.tl_session.specs.Written.{turn_bytes, turns_bytes, transcript_bytes, jobs_of}
+use Rattle.tl_session.proofs.EntryLemmas.{begins_itself}
+use Rattle.tl_session.proofs.PromiseLemmas.{run_more}
 use Rattle.timeline.specs.declared.stops.Stop.{Stop}
 use Rattle.timeline.specs.declared.stops.Stop.TheVariants as stop
-use Rattle.timeline.specs.Coming.{Coming, GivesPhase, GivesNoMore, IsFaulty, StopsFor, Answers, ReadsOn, HaveCome}
+use Rattle.timeline.specs.Coming.{Coming, GivesPhase, GivesNoMore, IsFaulty, Answers, ReadsOn}
 use Rattle.timeline.specs.Jobs.{asked, phases_asked}
 use Rattle.timeline.specs.Outside.{Streams}
 use Rattle.timeline.specs.Running.{Advances, RunsWhole, RunsUnwritten, RunsShort, RunsPhase, IsFresh, Progress, GoesOn, replies_bytes}
 use Rattle.timeline.specs.Writing.{WritesBytes}
-use Rattle.timeline.specs.Stopping.{RunsAll, StopsAtSource, StopsAtSink, AreFronts, StopsShort, Stops, stop_for}
-use Rattle.timeline.proofs.ComingLemmas.{taken_more, rest_of, whole_told, all_told, none_come, one_more_come, at_the_end, all_read, fault_read, closed_read, so_far_read}
+use Rattle.timeline.specs.Stopping.{RunsAll, StopsAtSource, StopsAtSink, AreFronts, StopsShort, stop_for}
+use Rattle.timeline.proofs.ComingLemmas.{rest_of, whole_told, all_told, none_come, one_more_come, at_the_end, all_read, fault_read, closed_read, so_far_read}
 
 -- WHAT SESSIONS SAY
 
-pub begins_on : (a b c : List Entry) → IsPrefix a b → IsPrefix b c → IsPrefix a c
-begins_on a b c p q = (p.0 ++ q.0, sym (append_assoc a p.0 q.0) ∙ (ap (λ z. z ++ q.0) p.1 ∙ q.1))
-
-pub begins_itself : (a : List Entry) → IsPrefix a a
-begins_itself a = ([], append-nil a)
-
-break_stays : (a b : List Entry) → has_break a ≡ true → has_break (a ++ b) ≡ true
-break_stays [] b h = absurd (cc)
-break_stays (entry.Commit c ∷ a) b h = break_stays a b h
-break_stays (entry.Mark n v ∷ a) b h = break_stays a b h
-break_stays (entry.Break c ∷ a) b h = refl
-
-break_on : (a b : List Entry) → IsPrefix a b → has_break a ≡ true → has_break b ≡ true
-break_on a b p h = subst (λ (l : List Entry). has_break l ≡ true) p.1 (break_stays a p.0 h)
-
-pub commits_split : (a b : List Entry) → commits_of (a ++ b) ≡ commits_of a ++ commits_of b
-commits_split [] b = refl
-commits_split (entry.Commit c ∷ rest) b = ap (λ l. c ∷ l) (commits_split rest b)
-commits_split (entry.Mark n v ∷ rest) b = commits_split rest b
-commits_split (entry.Break c ∷ rest) b = commits_split rest b
-
-fewer_commits : (a b : List Entry) → IsPrefix a b → length (commits_of a) ≤ length (commits_of b)
-fewer_commits a b p = let e : length (commits_of b) ≡ length (commits_of a ++ commits_of p.0) = ap (λ l. length (commits_of l)) (sym p.1) ∙ ap length (commits_split a p.0) in omega (arith, e, length-append (commits_of a) (commits_of p.0))
-
-looked_from : (x y z : List Entry) → IsPrefix x y → (v : ℕ) → Looked y z v → Looked x z v
-looked_from x y z p v (q, low, high) = (begins_on x y z p q, low_from, high) where
-  low_from : length (commits_of x) ≤ v
-  low_from = let few = fewer_commits x y p in omega (arith, few, low)
-
-body_from : (m : Meaning) (job : Job) (v : ℕ) (b : ReplyBody) (x y z : List Entry) → IsPrefix x y → BodySays m job v b y z → BodySays m job v b x z
-body_from m job v (body.Rows answer) x y z p (l, r) = (looked_from x y z p v l, r)
-body_from m job v (body.Refused f) x y z p (l, r) = (looked_from x y z p v l, r)
-body_from m job v body.Done x y z p s = (s.0, s.1, (begins_on x y s.0 p s.2.0, s.2.1), s.3, s.4)
-body_from m job v body.DeviceFault x y z p s = (s.0, s.1, (begins_on x y s.0 p s.2.0, s.2.1), s.3, s.4)
-body_from m job v body.BrokenJournal x y z p s = (begins_on x y z p s.0, s.1, s.2, s.3)
-
-chain_from : (m : Meaning) (x y : List Entry) (ts : List Turn) (z : List Entry) → IsPrefix x y → Chain m y ts z → Chain m x ts z
-chain_from m x y [] z p k = begins_on x y z p k
-chain_from m x y (t ∷ ts) z p k = (k.0, (body_from m t.job t.reply.version t.reply.body x y k.0 p k.1.0, k.1.1, λ broke. k.1.2 (break_on x y p broke)), k.2)
-
 -- a phase more
-pub chains_more : (m : Meaning) (a : List Entry) (phases : List (List Turn)) (b : List Entry) (phase : List Turn) (c : List Entry) → Chains m a phases b → IsPrefix b c → ((s : ℕ) → Chain m b (of_session s phase) c) → Chains m a (phases ++ phase ∷ []) c
-chains_more m a [] b phase c r p k = (c, begins_on a b c r p, (λ s. chain_from m a b (of_session s phase) c r (k s)), begins_itself c)
-chains_more m a (q ∷ phases) b phase c r p k = (r.0, r.1, r.2, chains_more m r.0 phases b phase c r.3 p k)
-
-whole_more : (f : Turn → ℕ) (phases : List (List Turn)) (phase : List Turn) → whole_tally f (phases ++ phase ∷ []) ≡ whole_tally f phases + tally f phase
-whole_more f [] phase = omega arith
-whole_more f (q ∷ phases) phase = omega (arith, whole_more f phases phase)
-
-pub have_run_more : (opening : List Entry) (turns : List (List Turn)) (last : List Turn) (old new : plain.Crew) → HaveRun opening turns old.seen old.amount → Advances last old new → HaveRun opening (turns ++ last ∷ []) new.seen new.amount
+pub have_run_more : (opening : List Entry) (turns : List (List Turn)) (last : List Turn) (old new : plain.SharedAccess) → HaveRun opening turns old.seen old.amount → Advances last old new → HaveRun opening (turns ++ last ∷ []) new.seen new.amount
 have_run_more opening turns last old new ran on =
-    record {
-      chains = chains_more meant opening turns old.seen last new.seen ran.chains on.later on.chains;
-      count = (let a = ran.count in let b = on.amount in omega (arith, a, b, whole_more weight turns last));
-    }
+    run_more opening turns last (record old { table = new.table; count = new.count }) new ran
+    (record { table = refl; parts = on.parts; count = refl; later = on.later; chains = on.chains; amount = on.amount })
 
--- no turn more, which is a phase without one
-pub have_run_none : (opening : List Entry) (turns : List (List Turn)) (seen : List Entry) (amount : ℕ) → HaveRun opening turns seen amount → HaveRun opening (turns ++ [] ∷ []) seen amount
-have_run_none opening turns seen amount ran =
-    record {
-      chains = chains_more meant opening turns seen [] seen ran.chains (begins_itself seen) (λ s. begins_itself seen);
-      count = (let a = ran.count in omega (arith, a, whole_more weight turns []));
-    }
+-- no turn is taken
+no_turn : (shared : plain.SharedAccess) → Advances [] shared shared
+no_turn shared =
+    record { parts = refl; later = begins_itself shared.seen; chains = λ s. begins_itself shared.seen; amount = omega arith }
 
 -- BYTES
 
@@ -118,8 +63,7 @@ transcript_more names (q ∷ phases) phase =
 
 -- what was written, and then more
 pub written_more : (first old new : Option (List ℕ)) (xs ys : List ℕ) → old ≡ append_known first xs → new ≡ append_known old ys → new ≡ append_known first (xs ++ ys)
-written_more None old new xs ys e f = f ∙ ap (λ o. append_known o ys) e
-written_more (Some b) old new xs ys e f = f ∙ (ap (λ o. append_known o ys) e ∙ ap Some (append_assoc b xs ys))
+written_more first old new xs ys e f = f ∙ (ap (λ o. append_known o ys) e ∙ sym (append_both first xs ys))
 
 pub written_none : (written : Option (List ℕ)) → written ≡ append_known written []
 written_none None = refl
@@ -185,7 +129,7 @@ phases_more phases jobs turns last e f =
     ∙ (ap (λ j. phases_asked phases ++ j ∷ []) f ∙ sym (map-append (λ js. map asked js) phases (jobs ∷ []))))
 
 -- a phase was run, and its replies are written
-pub one_more_run : (first : Coming) (opening : List Entry) (begun : Streams) (old new : Coming) (before after : plain.Crew) (at end : Streams) (taken : List ℕ) (jobs : List ScriptJob)
+pub one_more_run : (first : Coming) (opening : List Entry) (begun : Streams) (old new : Coming) (before after : plain.SharedAccess) (at end : Streams) (taken : List ℕ) (jobs : List ScriptJob)
     → Progress first opening begun old before at → at.left ≡ prepend_known taken end.left → (old.at_end ≡ true → ⊥) → GivesPhase old taken jobs new end.left
     → end.source_faults ≡ at.source_faults → RunsWhole new.names (map asked jobs) before after at.written end.written at.sink_faults end.sink_faults → Progress first opening begun new after end
 one_more_run first opening begun old new before after at end taken jobs p order live gives sure ran =
@@ -228,16 +172,16 @@ written_grown : (begun at : Option (List ℕ)) (names more : List (List ℕ)) (t
 written_grown begun at names more turns e g inside = e ∙ ap (append_known begun) (same_transcript names more turns g inside)
 
 -- no phase comes any more
-pub all_run : (first : Coming) (opening : List Entry) (begun : Streams) (old : Coming) (crew : plain.Crew) (at end : Streams) (taken : List ℕ)
-    → Progress first opening begun old crew at → at.left ≡ prepend_known taken end.left → (old.at_end ≡ true → taken ≡ []) → GivesNoMore old taken end.left
+pub all_run : (first : Coming) (opening : List Entry) (begun : Streams) (old : Coming) (shared : plain.SharedAccess) (at end : Streams) (taken : List ℕ)
+    → Progress first opening begun old shared at → at.left ≡ prepend_known taken end.left → (old.at_end ≡ true → taken ≡ []) → GivesNoMore old taken end.left
     → end.source_faults ≡ at.source_faults → end.written ≡ at.written → end.sink_faults ≡ at.sink_faults
-    → RunsAll (λ turns. HaveRun opening turns crew.seen crew.amount) (first.reads true) None begun end
-all_run first opening begun old crew at end taken p order idle gives source written sink =
+    → RunsAll (λ turns. HaveRun opening turns shared.seen shared.amount) (first.reads true) None begun end
+all_run first opening begun old shared at end taken p order idle gives source written sink =
     let read = all_read first begun.left p.bytes p.phases old at.left taken end.left p.come idle gives in
     let none = at_the_end first begun.left p.bytes p.phases old at.left taken end.left p.come order idle gives in
     record {
       script = p.bytes ++ taken;
-      told = all_told begun.left end.left (p.bytes ++ taken) (taken_more begun.left at.left end.left p.bytes taken p.come.order order) none;
+      told = all_told begun.left end.left (p.bytes ++ taken) (read_more begun.left at.left end.left p.bytes taken (p.bytes ++ taken) p.come.order order refl) none;
       fault_is = ap (λ (r : Reading). r.fault) read;
       whole = λ e. none;
       turns = p.turns;
@@ -249,16 +193,16 @@ all_run first opening begun old crew at end taken p order idle gives source writ
     }
 
 -- the next phase has a fault
-pub faulty_run : (first : Coming) (opening : List Entry) (begun : Streams) (old : Coming) (crew : plain.Crew) (at end : Streams) (taken : List ℕ) (f : ScriptFault)
-    → Progress first opening begun old crew at → at.left ≡ prepend_known taken end.left → (old.at_end ≡ true → ⊥) → IsFaulty old taken f end.left
+pub faulty_run : (first : Coming) (opening : List Entry) (begun : Streams) (old : Coming) (shared : plain.SharedAccess) (at end : Streams) (taken : List ℕ) (f : ScriptFault)
+    → Progress first opening begun old shared at → at.left ≡ prepend_known taken end.left → (old.at_end ≡ true → ⊥) → IsFaulty old taken f end.left
     → end.source_faults ≡ at.source_faults → end.written ≡ at.written → end.sink_faults ≡ at.sink_faults
-    → RunsAll (λ turns. HaveRun opening turns crew.seen crew.amount) (first.reads true) (Some f) begun end
-faulty_run first opening begun old crew at end taken f p order live faulty source written sink =
+    → RunsAll (λ turns. HaveRun opening turns shared.seen shared.amount) (first.reads true) (Some f) begun end
+faulty_run first opening begun old shared at end taken f p order live faulty source written sink =
     let read = fault_read first begun.left p.bytes p.phases old at.left taken f end.left p.come live faulty in
     let script = (p.bytes ++ taken) ++ rest_of end.left in
     record {
       script = script;
-      told = whole_told begun.left end.left (p.bytes ++ taken) (taken_more begun.left at.left end.left p.bytes taken p.come.order order);
+      told = whole_told begun.left end.left (p.bytes ++ taken) (read_more begun.left at.left end.left p.bytes taken (p.bytes ++ taken) p.come.order order refl);
       fault_is = ap (λ (r : Reading). r.fault) read;
       whole = λ e. absurd (cc);
       turns = p.turns;
@@ -270,15 +214,15 @@ faulty_run first opening begun old crew at end taken f p order live faulty sourc
     }
 
 -- the source failed
-pub failed_run : (first : Coming) (opening : List Entry) (begun : Streams) (old : Coming) (crew : plain.Crew) (at end : Streams) (taken : List ℕ)
-    → Progress first opening begun old crew at → at.left ≡ prepend_known taken end.left → (old.at_end ≡ true → ⊥) → old.reads false taken ≡ no_phase old.names
+pub failed_run : (first : Coming) (opening : List Entry) (begun : Streams) (old : Coming) (shared : plain.SharedAccess) (at end : Streams) (taken : List ℕ)
+    → Progress first opening begun old shared at → at.left ≡ prepend_known taken end.left → (old.at_end ≡ true → ⊥) → old.reads false taken ≡ no_phase old.names
     → Rose at.source_faults end.source_faults → end.written ≡ at.written → end.sink_faults ≡ at.sink_faults
-    → StopsAtSource (λ turns. HaveRun opening turns crew.seen crew.amount) (first.reads false) begun end
-failed_run first opening begun old crew at end taken p order live none rose written sink =
+    → StopsAtSource (λ turns. HaveRun opening turns shared.seen shared.amount) (first.reads false) begun end
+failed_run first opening begun old shared at end taken p order live none rose written sink =
     let read = closed_read first begun.left p.bytes p.phases old at.left taken p.come live none in
     record {
       taken = p.bytes ++ taken;
-      order = taken_more begun.left at.left end.left p.bytes taken p.come.order order;
+      order = read_more begun.left at.left end.left p.bytes taken (p.bytes ++ taken) p.come.order order refl;
       rose = subst (λ (n : ℕ). Rose n end.source_faults) p.source_sure rose;
       turns = p.turns;
       answers = p.answers ∙ sym (asked_all p.phases (first.reads false (p.bytes ++ taken)) (no_phase old.names) read refl);
@@ -288,22 +232,22 @@ failed_run first opening begun old crew at end taken p order live none rose writ
     }
 
 -- memory ran out before a phase was run
-pub short_run : (first : Coming) (opening : List Entry) (begun : Streams) (old : Coming) (crew : plain.Crew) (at end : Streams) (taken : List ℕ)
-    → Progress first opening begun old crew at → at.left ≡ prepend_known taken end.left → (old.at_end ≡ true → ⊥)
+pub short_run : (first : Coming) (opening : List Entry) (begun : Streams) (old : Coming) (shared : plain.SharedAccess) (at end : Streams) (taken : List ℕ)
+    → Progress first opening begun old shared at → at.left ≡ prepend_known taken end.left → (old.at_end ≡ true → ⊥)
     → end.source_faults ≡ at.source_faults → end.written ≡ at.written → end.sink_faults ≡ at.sink_faults
-    → StopsShort (λ turns. HaveRun opening turns crew.seen crew.amount) (first.reads true) begun end
-short_run first opening begun old crew at end taken p order live source written sink =
+    → StopsShort (λ turns. HaveRun opening turns shared.seen shared.amount) (first.reads true) begun end
+short_run first opening begun old shared at end taken p order live source written sink =
     let reads = ahead p.come.reads in
     let script = (p.bytes ++ taken) ++ rest_of end.left in
     record {
       script = script;
-      told = whole_told begun.left end.left (p.bytes ++ taken) (taken_more begun.left at.left end.left p.bytes taken p.come.order order);
+      told = whole_told begun.left end.left (p.bytes ++ taken) (read_more begun.left at.left end.left p.bytes taken (p.bytes ++ taken) p.come.order order refl);
       turns = p.turns;
       last = [];
       later = phases_asked (old.reads true (taken ++ rest_of end.left)).phases;
       answers = asked_then p.phases (first.reads true script) (old.reads true (taken ++ rest_of end.left)) reads ∙ ap (λ l. l ++ phases_asked (old.reads true (taken ++ rest_of end.left)).phases) (sym p.answers);
       fronts = none_answered (phases_asked (old.reads true (taken ++ rest_of end.left)).phases);
-      ran = have_run_none opening p.turns crew.seen crew.amount p.ran;
+      ran = have_run_more opening p.turns [] shared shared p.ran (no_turn shared);
       written = written_grown begun.written end.written old.names (first.reads true script).names p.turns (written ∙ p.written) (subst (λ (n : List (List ℕ)). Grows old.names n) (sym (ap (λ (r : Reading). r.names) reads)) (p.come.known (taken ++ rest_of end.left))) p.inside;
       source_sure = source ∙ p.source_sure;
       sink_sure = sink ∙ p.sink_sure;
@@ -313,7 +257,7 @@ short_run first opening begun old crew at end taken p order live source written 
       ahead (inr (none, ended, read)) = absurd (live ended)
 
 -- the sink failed while it was given the replies of the next phase
-pub unwritten_run : (first : Coming) (opening : List Entry) (begun : Streams) (old new : Coming) (before after : plain.Crew) (at end : Streams) (taken : List ℕ) (jobs : List ScriptJob)
+pub unwritten_run : (first : Coming) (opening : List Entry) (begun : Streams) (old new : Coming) (before after : plain.SharedAccess) (at end : Streams) (taken : List ℕ) (jobs : List ScriptJob)
     → Progress first opening begun old before at → at.left ≡ prepend_known taken end.left → (old.at_end ≡ true → ⊥) → GivesPhase old taken jobs new end.left
     → end.source_faults ≡ at.source_faults → RunsUnwritten new.names (map asked jobs) before after at.written end.written at.sink_faults end.sink_faults
     → StopsAtSink (λ turns. HaveRun opening turns after.seen after.amount) (first.reads true) begun end
@@ -342,7 +286,7 @@ unwritten_run first opening begun old new before after at end taken jobs p order
     }
 
 -- memory ran out in the next phase
-pub stopped_run : (first : Coming) (opening : List Entry) (begun : Streams) (old new : Coming) (before after : plain.Crew) (at end : Streams) (taken : List ℕ) (jobs : List ScriptJob)
+pub stopped_run : (first : Coming) (opening : List Entry) (begun : Streams) (old new : Coming) (before after : plain.SharedAccess) (at end : Streams) (taken : List ℕ) (jobs : List ScriptJob)
     → Progress first opening begun old before at → at.left ≡ prepend_known taken end.left → (old.at_end ≡ true → ⊥) → GivesPhase old taken jobs new end.left
     → end.source_faults ≡ at.source_faults → RunsShort (map asked jobs) before after at.written end.written at.sink_faults end.sink_faults
     → StopsShort (λ turns. HaveRun opening turns after.seen after.amount) (first.reads true) begun end
@@ -373,7 +317,7 @@ not_over : (old : Coming) (taken : List ℕ) (answer : Result (Option Phase) Nex
 not_over old taken answer idle other ended = other (idle ended).1
 
 -- a phase came, and was run
-pub phase_came : (first : Coming) (opening : List Entry) (begun : Streams) (old new : Coming) (before after : plain.Crew) (at end : Streams) (phase : Phase) (why : Option Stop)
+pub phase_came : (first : Coming) (opening : List Entry) (begun : Streams) (old new : Coming) (before after : plain.SharedAccess) (at end : Streams) (phase : Phase) (why : Option Stop)
     → (answers : Answers old at.left (Ok (Some phase)) new end.left) → end.source_faults ≡ at.source_faults
     → RunsPhase new.names (map asked phase.jobs.items) before after at.written end.written at.sink_faults end.sink_faults why
     → Progress first opening begun old before at → GoesOn first opening begun new after end why
@@ -391,28 +335,21 @@ phase_came first opening begun old new before after at end phase (Some stop.NoMe
   ran.advances.parts ∙ p.parts,
 )
 
--- no further phase came
-pub none_came : (first : Coming) (opening : List Entry) (begun : Streams) (old new now : Coming) (crew : plain.Crew) (at end : Streams)
-    → (answers : Answers old at.left (Ok None) new end.left) → end.source_faults ≡ at.source_faults → end.written ≡ at.written → end.sink_faults ≡ at.sink_faults
-    → Progress first opening begun old crew at → GoesOn first opening begun now crew end (Some stop.Ended)
-none_came first opening begun old new now crew at end h sure written sink p =
-    (all_run first opening begun old crew at end h.taken p h.order (λ e. (h.idle e).0) h.says sure written sink, p.parts)
-
 -- the phases stopped
-pub stop_came : (first : Coming) (opening : List Entry) (begun : Streams) (old new now : Coming) (crew : plain.Crew) (at end : Streams) (e : NextError)
+pub stop_came : (first : Coming) (opening : List Entry) (begun : Streams) (old new now : Coming) (shared : plain.SharedAccess) (at end : Streams) (e : NextError)
     → (answers : Answers old at.left (Err e) new end.left) → NextFaults e at.source_faults end.source_faults → end.written ≡ at.written → end.sink_faults ≡ at.sink_faults
-    → Progress first opening begun old crew at → GoesOn first opening begun now crew end (Some (stop_for e))
-stop_came first opening begun old new now crew at end next.NoMemory h faults written sink p =
-    (short_run first opening begun old crew at end h.taken p h.order (not_over old h.taken (Err next.NoMemory) h.idle (λ e. cc)) faults written sink, p.parts)
-stop_came first opening begun old new now crew at end (next.Source n) h faults written sink p =
-    ((failed_run first opening begun old crew at end h.taken p h.order (not_over old h.taken (Err (next.Source n)) h.idle (λ e. cc)) h.says faults.1 written sink, faults.0), p.parts)
-stop_came first opening begun old new now crew at end (next.Fault f) h faults written sink p =
-    (faulty_run first opening begun old crew at end h.taken f p h.order (not_over old h.taken (Err (next.Fault f)) h.idle (λ e. cc)) h.says faults written sink, p.parts)
+    → Progress first opening begun old shared at → GoesOn first opening begun now shared end (Some (stop_for e))
+stop_came first opening begun old new now shared at end next.NoMemory h faults written sink p =
+    (short_run first opening begun old shared at end h.taken p h.order (not_over old h.taken (Err next.NoMemory) h.idle (λ e. cc)) faults written sink, p.parts)
+stop_came first opening begun old new now shared at end (next.Source n) h faults written sink p =
+    ((failed_run first opening begun old shared at end h.taken p h.order (not_over old h.taken (Err (next.Source n)) h.idle (λ e. cc)) h.says faults.1 written sink, faults.0), p.parts)
+stop_came first opening begun old new now shared at end (next.Fault f) h faults written sink p =
+    (faulty_run first opening begun old shared at end h.taken f p h.order (not_over old h.taken (Err (next.Fault f)) h.idle (λ e. cc)) h.says faults written sink, p.parts)
 
 -- THE START
 
-pub no_phase_yet : (first : Coming) (crew : plain.Crew) (begun : Streams) → IsFresh first → crew.parts ≡ 65536 → crew.amount ≡ 0 → Progress first crew.seen begun first crew begun
-no_phase_yet first crew begun fresh parts amount =
+pub no_phase_yet : (first : Coming) (shared : plain.SharedAccess) (begun : Streams) → IsFresh first → shared.parts ≡ 65536 → shared.amount ≡ 0 → Progress first shared.seen begun first shared begun
+no_phase_yet first shared begun fresh parts amount =
     record {
       bytes = [];
       phases = [];
@@ -422,7 +359,7 @@ no_phase_yet first crew begun fresh parts amount =
       turns = [];
       answers = refl;
       inside = tt;
-      ran = record { chains = begins_itself crew.seen; count = amount };
+      ran = record { chains = begins_itself shared.seen; count = amount };
       written = written_none begun.written;
       source_sure = refl;
       sink_sure = refl;
@@ -448,11 +385,11 @@ same_sessions n m lent own jobs same count e all =
     subst (λ (ls : List LentJob). All (λ job. job.session < m) ls) (sym same) (subst (λ (k : ℕ). All (λ job. job.session < k) own) (sym count) (sessions_lent n own jobs e all))
 
 -- no job was done
-pub nothing_run : (jobs : List Job) (crew : plain.Crew) (written : Option (List ℕ)) (faults : ℕ) → RunsShort jobs crew crew written written faults faults
-nothing_run jobs crew written faults =
-    record { turns = []; fronts = λ s. (own_jobs s jobs, refl); advances = record { parts = refl; later = begins_itself crew.seen; chains = λ s. begins_itself crew.seen; amount = omega arith }; unwritten = refl; sure = refl }
+pub nothing_run : (jobs : List Job) (shared : plain.SharedAccess) (written : Option (List ℕ)) (faults : ℕ) → RunsShort jobs shared shared written written faults faults
+nothing_run jobs shared written faults =
+    record { turns = []; fronts = λ s. (own_jobs s jobs, refl); advances = no_turn shared; unwritten = refl; sure = refl }
 
-advances_from : (turns : List Turn) (old mid new : plain.Crew) → mid.seen ≡ old.seen → mid.parts ≡ old.parts → mid.amount ≡ old.amount → TakesTurns turns mid new → Advances turns old new
+advances_from : (turns : List Turn) (old mid new : plain.SharedAccess) → mid.seen ≡ old.seen → mid.parts ≡ old.parts → mid.amount ≡ old.amount → TakesTurns turns mid new → Advances turns old new
 advances_from turns old mid new seen parts amount h =
     record {
       parts = h.parts ∙ parts;
@@ -462,7 +399,7 @@ advances_from turns old mid new seen parts amount h =
     }
 
 -- memory ran out in the phase
-pub some_run : (jobs own : List Job) (old mid new : plain.Crew) (written : Option (List ℕ)) (faults : ℕ) → own ≡ jobs → mid.seen ≡ old.seen → mid.parts ≡ old.parts → mid.amount ≡ old.amount → RunsFronts own mid new → RunsShort jobs old new written written faults faults
+pub some_run : (jobs own : List Job) (old mid new : plain.SharedAccess) (written : Option (List ℕ)) (faults : ℕ) → own ≡ jobs → mid.seen ≡ old.seen → mid.parts ≡ old.parts → mid.amount ≡ old.amount → RunsFronts own mid new → RunsShort jobs old new written written faults faults
 some_run jobs own old mid new written faults same seen parts amount h =
     subst (λ (js : List Job). RunsShort js old new written written faults faults) same
     (record { turns = h.turns; fronts = h.fronts; advances = advances_from h.turns old mid new seen parts amount h.taken; unwritten = refl; sure = refl })
@@ -480,7 +417,7 @@ all_fronts : (jobs : List Job) (ts : List Turn) → jobs_of ts ≡ jobs → (s :
 all_fronts jobs ts these s = ([], ap (own_jobs s) (sym these) ∙ (own_of s ts ∙ sym (append-nil (jobs_of (of_session s ts)))))
 
 -- memory ran out once all jobs were done
-pub all_unwritten : (jobs own : List Job) (replies : List Reply) (old mid new : plain.Crew) (written : Option (List ℕ)) (faults : ℕ) → own ≡ jobs → mid.seen ≡ old.seen → mid.parts ≡ old.parts → mid.amount ≡ old.amount → RunsAtOnce own replies mid new → RunsShort jobs old new written written faults faults
+pub all_unwritten : (jobs own : List Job) (replies : List Reply) (old mid new : plain.SharedAccess) (written : Option (List ℕ)) (faults : ℕ) → own ≡ jobs → mid.seen ≡ old.seen → mid.parts ≡ old.parts → mid.amount ≡ old.amount → RunsAtOnce own replies mid new → RunsShort jobs old new written written faults faults
 all_unwritten jobs own replies old mid new written faults same seen parts amount h =
     record {
       turns = h.turns;
@@ -496,7 +433,7 @@ turns_text names [] = refl
 turns_text names (t ∷ ts) = ap (λ b. turn_bytes names t ++ b) (turns_text names ts)
 
 -- all jobs were done, and the replies are written or not
-pub phase_written : (names : List (List ℕ)) (jobs own : List Job) (replies told : List Reply) (text bytes : List ℕ) (old mid new : plain.Crew) (before after : Option (List ℕ)) (first last : ℕ) (why : Option Stop)
+pub phase_written : (names : List (List ℕ)) (jobs own : List Job) (replies told : List Reply) (text bytes : List ℕ) (old mid new : plain.SharedAccess) (before after : Option (List ℕ)) (first last : ℕ) (why : Option Stop)
     → own ≡ jobs → mid.seen ≡ old.seen → mid.parts ≡ old.parts → mid.amount ≡ old.amount → RunsAtOnce own replies mid new → told ≡ replies → text ≡ replies_bytes names own told → bytes ≡ text → WritesBytes bytes before after first last why
     → RunsPhase names jobs old new before after first last why
 phase_written names jobs own replies told text bytes old mid new before after first last why same seen parts amount h given is lent written = by_why why (subst (λ (b : List ℕ). WritesBytes b before after first last why) whole written) where

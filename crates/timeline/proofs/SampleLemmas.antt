@@ -1,16 +1,13 @@
 -- The blocks and the phases of the sample.
-use Rattle.std.proofs.Common.{◌≡◌, ℕ, zero, suc, ◌+◌, ◌-◌, ◌<◌, ◌≤◌, min, ◌==◌, Bool, true, false, List, [], ◌∷◌, ◌++◌, append-nil, append_assoc, length, codes, All, Option, Some, None, Ok, Err, inl, subst, refl, ap, sym, ◌∙◌, arith}
+use Rattle.std.proofs.Common.{◌≡◌, ℕ, zero, suc, ◌+◌, ◌-◌, ◌<◌, ◌≤◌, min, ◌==◌, Bool, true, false, List, [], ◌∷◌, ◌++◌, append-nil, length, codes, All, Option, Some, None, Ok, inl, subst, refl, ap, sym, ◌∙◌, arith}
 use Rattle.std.proofs.lemmas.Bool.Decides.{nat_tests}
 use Rattle.std.proofs.lemmas.Grind.{common_steps}
 use Rattle.tl_csv.specs.Sample.{Sample, block_end, block_of}
-use Rattle.tl_device.specs.Known.{prepend_known}
-use Rattle.tl_script.specs.declared.phases.NextError.TheVariants as next
+use Rattle.tl_device.proofs.Known.{prepend_none}
 use Rattle.tl_script.specs.declared.phases.Phase.{Phase}
-use Rattle.tl_script.specs.Taking.{IsAtEnd}
 use Rattle.tl_script.specs.Script.{Job, Reading}
 use Rattle.timeline.specs.Coming.{Answers}
-use Rattle.timeline.specs.Running.{IsFresh}
-use Rattle.timeline.specs.Sample.{before_blocks, next_blocks, blocks_of, job_with, phase_with, phases_with, puts_from, queries_from, SampleState, blocks_left, rows_from, left_behind, left_of, phases_left, sample_names, sample_coming, sample_reading, GivesNext}
+use Rattle.timeline.specs.Sample.{before_blocks, next_blocks, blocks_of, phase_with, phases_with, puts_from, queries_from, SampleState, blocks_left, rows_from, left_behind, left_of, phases_left, sample_names, sample_coming, sample_reading, GivesNext}
 
 -- BLOCKS
 
@@ -54,17 +51,6 @@ one_block_left old block within is = by_left (old.lines - old.given) refl where
       ∙ (ap (λ b. before_blocks b (next_blocks n after)) is
       ∙ ap (λ bs. block ∷ bs) (enough n (old.lines - block_end old) after (within_next old.given old.lines) (left_next old.given old.lines n (omega (arith, e))) (omega arith)))
 
--- no block is left
-pub no_block_left : (sample : Sample) → block_of sample ≡ None → blocks_left sample ≡ []
-no_block_left sample none = none_next (sample.lines - sample.given) sample none
-
--- a block is put where some lines are left
-pub more_given : (sample : Sample) (block : List ℕ) → sample.given ≤ sample.lines → block_of sample ≡ Some block → sample.given + 1 ≤ block_end sample
-more_given sample block within is = by_test (sample.given == sample.lines) refl where
-  by_test : (t : Bool) → (sample.given == sample.lines) ≡ t → sample.given + 1 ≤ block_end sample
-  by_test true t = absurd (let e : None ≡ Some block = sym (no_block sample t) ∙ is in cc)
-  by_test false t = grind (arith, common_steps, nat_tests)
-
 -- PHASES
 
 -- the phases of rows behind one more
@@ -75,12 +61,6 @@ rows_more given block blocks =
     ap (λ n. phase_with (given + 1) (codes "PUT sample") (Some block) ∷ (puts_from (given + 1 + 1) blocks ++ queries_from n (suc (length blocks) + given) ∷ [])) a
     ∙ ap (λ n. phase_with (given + 1) (codes "PUT sample") (Some block) ∷ (puts_from (given + 1 + 1) blocks ++ queries_from (length blocks + (given + 1) + 1) n ∷ [])) b
 
-rows_none : (given : ℕ) → rows_from given [] ≡ queries_from (given + 1) given ∷ []
-rows_none given =
-    let a : 0 + given + 1 ≡ given + 1 = omega arith in
-    let b : 0 + given ≡ given = omega arith in
-    ap (λ n. queries_from n (0 + given) ∷ []) a ∙ ap (λ n. queries_from (given + 1) n ∷ []) b
-
 later_left : (given : ℕ) (sample : Sample) → 0 < given → left_behind given sample ≡ rows_from given (blocks_left sample)
 later_left zero sample h = absurd (omega (arith, h))
 later_left (suc n) sample h = refl
@@ -88,23 +68,6 @@ later_left (suc n) sample h = refl
 one_alone : (number : ℕ) (text : List ℕ) (block : Option (List ℕ)) → All (λ job. job.session < 1) (phase_with number text block)
 one_alone number text block zero d inside = omega arith
 one_alone number text block (suc k) d inside = absurd (omega (arith, inside))
-
-three_alone : (number last : ℕ) → All (λ job. job.session < 1) (queries_from number last)
-three_alone number last zero d inside = omega arith
-three_alone number last (suc zero) d inside = omega arith
-three_alone number last (suc (suc zero)) d inside = omega arith
-three_alone number last (suc (suc (suc k))) d inside = absurd (omega (arith, inside))
-
--- the table was made
-pub table_given : (old new : SampleState) (jobs : List Job) → old.given ≡ 0 → old.asked ≡ false → jobs ≡ phase_with 1 (codes "CREATE TABLE sample (id INT, grp INT, val INT) KEY id") None → new ≡ record old { given = 1 } → GivesNext old jobs new
-table_given old new jobs first open_ is later = record {
-  next =
-      ap (λ a. left_of a old.given old.sample) open_
-      ∙ (ap (λ n. left_of false n old.sample) first
-      ∙ (ap (λ js. js ∷ rows_from 1 (blocks_left old.sample)) (sym is)
-      ∙ ap (λ ps. jobs ∷ ps) (sym (ap phases_left later ∙ ap (λ a. left_of a 1 old.sample) open_))));
-  alone = subst (λ (js : List Job). All (λ job. job.session < 1) js) (sym is) (one_alone 1 (codes "CREATE TABLE sample (id INT, grp INT, val INT) KEY id") None);
-}
 
 -- a block was put
 pub block_put : (old new : SampleState) (jobs : List Job) (block : List ℕ) → 0 < old.given → old.asked ≡ false → old.sample.given ≤ old.sample.lines → block_of old.sample ≡ Some block
@@ -122,18 +85,6 @@ block_put old new jobs block behind open_ within some is later = record {
   after : Sample
   after = record old.sample { given = block_end old.sample }
 
--- the queries were asked
-pub queries_put : (old new : SampleState) (jobs : List Job) → 0 < old.given → old.asked ≡ false → block_of old.sample ≡ None → jobs ≡ queries_from (old.given + 1) old.given → new.asked ≡ true → GivesNext old jobs new
-queries_put old new jobs behind open_ none is later = record {
-  next =
-      ap (λ a. left_of a old.given old.sample) open_
-      ∙ (later_left old.given old.sample behind
-      ∙ (ap (rows_from old.given) (no_block_left old.sample none)
-      ∙ (rows_none old.given
-      ∙ (ap (λ js. js ∷ []) (sym is) ∙ ap (λ ps. jobs ∷ ps) (sym (ap (λ a. left_of a new.given new.sample) later))))));
-  alone = subst (λ (js : List Job). All (λ job. job.session < 1) js) (sym is) (three_alone (old.given + 1) old.given);
-}
-
 -- a new sample is the script of the sample
 pub all_left : (lines start : ℕ) → phases_left (record { sample = record { lines = lines; start = start; given = 0 }; given = 0; asked = false }) ≡ phases_with (blocks_of lines start)
 all_left lines start =
@@ -146,17 +97,10 @@ all_left lines start =
 
 -- ANSWERS
 
-nothing_taken : (left : Option (List ℕ)) → left ≡ prepend_known [] left
-nothing_taken None = refl
-nothing_taken (Some l) = refl
-
-pub fresh_sample : (lines start : ℕ) → IsFresh (sample_coming (record { sample = record { lines = lines; start = start; given = 0 }; given = 0; asked = false }))
-fresh_sample lines start = record { live = refl; at_end = refl; few = omega arith; most = omega arith; known = λ more. ([], sym (append-nil sample_names)) }
-
 pub sample_gives : (old new : SampleState) (left : Option (List ℕ)) (phase : Phase) → GivesNext old phase.jobs.items new → Answers (sample_coming old) left (Ok (Some phase)) (sample_coming new) left
 sample_gives old new left phase h = record {
   taken = [];
-  order = nothing_taken left;
+  order = sym (prepend_none left);
   idle = λ e. absurd (cc);
   says = record {
     live = refl;
@@ -169,13 +113,6 @@ sample_gives old new left phase h = record {
     comes = inl (λ whole more. ap (λ ps. record { names = sample_names; phases = ps; fault = None }) h.next);
   };
 }
-
-pub sample_over : (old new : SampleState) (left : Option (List ℕ)) → IsAtEnd left → old.asked ≡ true → Answers (sample_coming old) left (Ok None) (sample_coming new) left
-sample_over old new left none asked =
-    record { taken = []; order = nothing_taken left; idle = λ e. absurd (cc); says = record { none_left = λ e. none; read = ap (λ a. record { names = sample_names; phases = left_of a old.given old.sample; fault = None }) asked } }
-
-pub sample_stops : (old new : SampleState) (left : Option (List ℕ)) → Answers (sample_coming old) left (Err next.NoMemory) (sample_coming new) left
-sample_stops old new left = record { taken = []; order = nothing_taken left; idle = λ e. absurd (cc); says = tt }
 
 -- what is read of a new sample
 pub sample_script : (state : SampleState) (lines start : ℕ) → state ≡ record { sample = record { lines = lines; start = start; given = 0 }; given = 0; asked = false } → (sample_coming state).reads ≡ (λ whole bytes. sample_reading lines start)

@@ -1,17 +1,16 @@
 -- The phases of a script come one after the other.
-use Rattle.std.proofs.Common.{◌≡◌, ◌⊎◌, inl, inr, ℕ, ◌<◌, ◌≤◌, Bool, true, false, List, [], ◌∷◌, ◌++◌, length, All, slice_index_or, zero, suc, nat_lt, Option, Some, None, Result, Ok, Err, refl, sym, ap, ◌∙◌, subst, arith, append-nil}
+use Rattle.std.proofs.Common.{◌≡◌, ◌⊎◌, inl, inr, ℕ, ◌<◌, ◌≤◌, Bool, true, false, List, [], ◌∷◌, ◌++◌, length, All, slice_index_or, zero, suc, nat_lt, Option, Some, None, Result, Ok, Err, refl, sym, ap, ◌∙◌, subst, arith}
 use Rattle.tl_types.specs.declared.limits.Limits.{Limits}
 use Rattle.tl_types.specs.Limits.{standard_limits}
-use Rattle.tl_device.specs.Known.{prepend_known}
 use Rattle.tl_script.specs.declared.phases.NextError.{NextError}
 use Rattle.tl_script.specs.declared.phases.NextError.TheVariants as next
 use Rattle.tl_script.specs.declared.phases.Phase.{Phase}
 use Rattle.tl_script.specs.Script.{Job, Reading, load_of, job_with}
-use Rattle.tl_script.specs.Phases.{with_phase, no_phase, no_phase_but, most_sessions, reading_from, reading_of, phases_closed}
-use Rattle.tl_script.specs.Reader.{ScriptState, new_state, spot_of, reading_ahead, Grows, ComesNext, ComesLast, Stops, LoadSays, Loads}
+use Rattle.tl_script.specs.Phases.{with_phase, no_phase, most_sessions, reading_from}
+use Rattle.tl_script.specs.Reader.{ScriptState, new_state, spot_of, reading_ahead, Grows, ComesNext, ComesLast, Loads}
 use Rattle.tl_script.specs.Reader as reader
 use Rattle.tl_script.specs.Taking.{IsAtEnd}
-use Rattle.timeline.specs.Coming.{Coming, Comes, GivesPhase, GivesNoMore, StopsFor, Says, Answers, script_reads, script_coming, loader_names, block_reads, block_coming}
+use Rattle.timeline.specs.Coming.{Comes, GivesPhase, StopsFor, Says, Answers, script_coming, loader_names, block_coming}
 use Rattle.timeline.specs.Running.{IsFresh}
 use Rattle.timeline.proofs.NamesLemmas.{names_kept, not_longer, grows_itself}
 
@@ -80,9 +79,6 @@ new_script_fresh limits few =
 
 -- A BLOCK
 
-pub fresh_block : (text : List ℕ) → IsFresh (block_coming text false)
-fresh_block text = record { live = refl; at_end = refl; few = omega arith; most = omega arith; known = λ more. ((block_reads text true more).names, refl) }
-
 -- the one job of a block is the first session's
 one_job : (text bytes : List ℕ) (jobs : List Job) → load_of standard_limits.phase text bytes ≡ with_phase jobs (no_phase loader_names) → jobs ≡ job_with 1 text (Some bytes) ∷ []
 one_job text bytes jobs e = by_test (nat_lt standard_limits.phase (length bytes)) refl where
@@ -117,22 +113,3 @@ block_given text before after phase h = record {
     comes = inr (h.says.0, refl, h.says.1);
   };
 }
-
-block_stops : (text taken : List ℕ) (e : NextError) (left : Option (List ℕ)) → LoadSays standard_limits text taken (Err e) left → StopsFor (block_coming text false) taken e left
-block_stops text taken next.NoMemory left h = tt
-block_stops text taken (next.Source faults) left h = refl
-block_stops text taken (next.Fault f) left h = inl h
-
--- the source is no block, or it failed, or memory ran out
-pub block_not_given : (text : List ℕ) (before after : Option (List ℕ)) (e : NextError) (new : Coming) → Loads standard_limits text before (Err e) after → Answers (block_coming text false) before (Err e) new after
-block_not_given text before after e new h =
-    record { taken = h.taken; order = h.order; idle = λ z. absurd (cc); says = block_stops text h.taken e after h.says }
-
-nothing_taken : (left : Option (List ℕ)) → left ≡ prepend_known [] left
-nothing_taken None = refl
-nothing_taken (Some l) = refl
-
--- no phase comes behind it
-pub block_over : (text : List ℕ) (left : Option (List ℕ)) (new : Coming) → Answers (block_coming text true) left (Ok None) new left
-block_over text left new =
-    record { taken = []; order = nothing_taken left; idle = λ z. (refl, refl); says = record { none_left = λ z. absurd (cc); read = refl } }

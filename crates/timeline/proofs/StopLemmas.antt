@@ -1,5 +1,5 @@
 -- Where the phases stopped: what is known of the turns may be said otherwise.
-use Rattle.std.proofs.Common.{◌≡◌, ℕ, Bool, true, false, List, [], ◌∷◌, ◌++◌, Some, None}
+use Rattle.std.proofs.Common.{ℕ, Bool, true, List, [], ◌∷◌, ◌++◌, Some, None}
 use Rattle.tl_script.specs.Script.{Reading}
 use Rattle.tl_session.specs.Turns.{Turn}
 use Rattle.timeline.specs.declared.stops.Stop.{Stop}
@@ -7,7 +7,7 @@ use Rattle.timeline.specs.declared.stops.Stop.TheVariants as stop
 use Rattle.tl_script.specs.declared.jobs.ScriptFault.{ScriptFault}
 use Rattle.std.specs.declared.option.Option.{Option}
 use Rattle.timeline.specs.Outside.{Streams}
-use Rattle.timeline.specs.Stopping.{RunsAll, StopsAtSource, StopsAtSink, StopsShort, Stops}
+use Rattle.timeline.specs.Stopping.{RunsAll, Stops}
 
 all_as : (P Q : List (List Turn) → Type 0) (reads : List ℕ → Reading) (fault : Option ScriptFault) (before after : Streams) → ((turns : List (List Turn)) → P turns → Q turns) → RunsAll P reads fault before after → RunsAll Q reads fault before after
 all_as P Q reads fault before after f h =

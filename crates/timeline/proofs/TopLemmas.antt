@@ -1,32 +1,27 @@
 -- How a run ends, and when it is done.
-use Rattle.std.proofs.Common.{◌≡◌, ℕ, Bool, true, false, ◌<◌, ◌≤◌, List, [], ◌∷◌, ◌++◌, length, Some, None, is_some, Result, Ok, Err, IfSome, IsSome, refl, ap, subst, sym, ◌∙◌, inl, inr, ◌⊎◌, arith}
+use Rattle.std.proofs.Common.{◌≡◌, ℕ, Bool, true, false, ◌≤◌, List, [], length, Some, None, is_some, IfSome, refl, ap, subst, sym, ◌∙◌, inl, inr, arith}
 use Rattle.std.specs.declared.option.Option.{Option}
-use Rattle.tl_types.specs.declared.commits.Commit.{Commit}
-use Rattle.tl_types.specs.declared.commits.Entry.{Entry}
-use Rattle.tl_types.specs.Entries.{commits_of, has_break}
-use Rattle.tl_types.specs.Limits.{standard_limits}
 use Rattle.tl_device.specs.Known.{Rose}
 use Rattle.tl_script.specs.Script.{Reading}
 use Rattle.tl_session.specs.Turns.{Turn}
-use Rattle.tl_journal.specs.Image.{StandsFor}
-use Rattle.tl_journal.specs.Answers.{CountsFaults, IsTooShort, IsTooLong, IsDeviceOrMemory}
+use Rattle.tl_journal.specs.Answers.{CountsFaults, IsTooLong}
 use Rattle.tl_journal.specs.declared.faults.JournalFault.{JournalFault}
 use Rattle.tl_journal.specs.declared.faults.JournalFault.TheVariants as journal
-use Rattle.tl_engine.specs.Fitting.{FitInTurn}
 use Rattle.timeline.specs.declared.statuses.Status.{Status}
 use Rattle.timeline.specs.declared.statuses.Status.TheVariants as status
 use Rattle.timeline.specs.declared.commands.Command.{Command}
 use Rattle.timeline.specs.declared.commands.Command.TheVariants as command
 use Rattle.timeline.specs.declared.stops.Stop.{Stop}
 use Rattle.timeline.specs.declared.stops.Stop.TheVariants as stop
-use Rattle.timeline.specs.Commands.{command_of, put_text}
+use Rattle.timeline.specs.Commands.{put_text}
 use Rattle.timeline.specs.Status.{closing_line}
 use Rattle.timeline.specs.Coming.{script_reads, block_reads}
 use Rattle.timeline.specs.Sample.{sample_reading}
 use Rattle.timeline.specs.Stopping.{Stops}
-use Rattle.timeline.specs.Ending.{wanted_by, Writes, WritesNothing, SinkFails, Closes, Told, ClosesAfter, PhasesEnd, EndsFor, RefusedBy, EndsRefused, NotMadeBy, InitEnds, OpenedEnds, RunEnds, sink_alone, SampleEnds, EndsBy, Ends}
-use Rattle.timeline.specs.Headline.{IsDoneOrNoMemory, StaysSure, IsHonest, IsFaultless, RunCompletes, CompletesBy, Completes}
-use Rattle.timeline.specs.Outside.{Outside, Streams, streams_of, OpensWith, HoldsJournal, CountsBreak}
+use Rattle.timeline.specs.Ending.{wanted_by, Writes, Told, ClosesAfter, PhasesEnd, EndsFor, EndsRefused, NotMadeBy, InitEnds, RunEnds, sink_alone, SampleEnds, EndsBy}
+use Rattle.timeline.specs.Headline.{IsDoneOrNoMemory, StaysSure, IsHonest, RunCompletes, CompletesBy}
+use Rattle.timeline.specs.Outside.{Outside, Streams, streams_of}
+use Rattle.timeline.proofs.EndLemmas.{no_rise, no_break, only_memory}
 
 -- COMPLETENESS
 
@@ -36,21 +31,10 @@ writes_complete bytes wanted old new before after ended w (inl done) sink = inl 
 writes_complete bytes wanted old new before after ended w (inr (inl none)) sink = inr none.0
 writes_complete bytes wanted old new before after ended w (inr (inr failed)) sink = absurd (sink failed.1)
 
--- a fault that comes of want of memory alone
-memory_alone : (fault : JournalFault) (before now : ℕ) (old new : Option (List ℕ)) (first last : ℕ) (ended : Status) → CountsFaults fault before now → (Rose before now → ⊥) → IsDeviceOrMemory fault → EndsFor fault old new first last ended → IsDoneOrNoMemory ended
-memory_alone fault before now old new first last ended counts sure (inl e) ends =
-    let h = subst (λ (f : JournalFault). EndsFor f old new first last ended) e ends in inr h.0
-memory_alone fault before now old new first last ended counts sure (inr (n, e)) ends =
-    let h = subst (λ (f : JournalFault). CountsFaults f before now) e counts in absurd (sure h.1)
-
 refused_complete : (before after : Outside) (ended : Status) → EndsRefused before after ended → IsHonest before → StaysSure before after → IsDoneOrNoMemory ended
 refused_complete before after ended h honest sure =
-    memory_alone h.fault before.disk_faults after.disk_faults before.written after.written before.sink_faults after.sink_faults ended h.counts sure.disk (h.honest honest.image honest.commits honest.told honest.stands honest.fitting) h.ends
-
--- no break came where the count did not rise
-no_break : (broke : Option Commit) (first now : ℕ) → CountsBreak broke first now → (Rose first now → ⊥) → is_some broke ≡ false
-no_break None first now h sure = refl
-no_break (Some c) first now h sure = absurd (sure h)
+    let memory = only_memory h.fault before.disk_faults after.disk_faults h.counts sure.disk (h.honest honest.image honest.commits honest.told honest.stands honest.fitting) in
+    inr (subst (λ (f : JournalFault). EndsFor f before.written after.written before.sink_faults after.sink_faults ended) memory h.ends).0
 
 pub told_script : (left : Option (List ℕ)) (script own : List ℕ) → left ≡ Some own → IfSome left (λ l. l ≡ script) → own ≡ script
 told_script None script own e told = absurd (cc)
@@ -76,10 +60,7 @@ run_complete reads before after ended (inl refused) = λ honest faultless sure. 
 run_complete reads before after ended (inr (opening, h)) = λ honest faultless sure.
     phases_complete (Told opening h.all h.broke) reads (is_some h.broke) after.disk_faults (streams_of before) (streams_of after) ended h.ends
     (λ script told. ap (λ s. (reads true s).fault) (sym (told_script before.left script faultless.script faultless.told told)) ∙ faultless.whole)
-    (no_break h.broke before.disk_faults after.disk_faults h.holds.counts sure.disk) sure.source sure.sink
-
-no_rise : Rose 0 0 → ⊥
-no_rise h = let k : 1 ≤ 0 = h.higher in omega (arith, k)
+    (ap is_some (no_break h.broke before.disk_faults after.disk_faults h.holds.counts sure.disk)) sure.source sure.sink
 
 sample_complete : (lines start : ℕ) (before after : Outside) (ended : Status) → SampleEnds (sample_reading lines start) before.written after.written before.sink_faults after.sink_faults ended → StaysSure before after → IsDoneOrNoMemory ended
 sample_complete lines start before after ended (inl none) sure = inr none.0
@@ -99,21 +80,18 @@ init_complete : (before after : Outside) (ended : Status) → InitEnds before af
 init_complete before after ended (inl made) b told short sure = inl made.ends.0
 init_complete before after ended (inr failed) b told short sure = made_complete failed.fault before after ended b failed.refused failed.counts failed.ends told short sure.disk
 
-by_command : (c : Option Command) (before after : Outside) (ended : Status) → EndsBy c before after ended → CompletesBy c before after ended
-by_command None before after ended h = tt
-by_command (Some command.Init) before after ended h = λ b told short sure. init_complete before after ended h.1 b told short sure
-by_command (Some command.Run) before after ended h = run_complete script_reads before after ended h
-by_command (Some (command.Load table)) before after ended h = run_complete (block_reads (put_text table)) before after ended h
-by_command (Some (command.Sample lines start)) before after ended h = λ sure. sample_complete lines start before after ended h.1 sure
+-- what a command came to
+pub command_completes : (c : Option Command) (before after : Outside) (ended : Status) → EndsBy c before after ended → CompletesBy c before after ended
+command_completes None before after ended h = tt
+command_completes (Some command.Init) before after ended h = λ b told short sure. init_complete before after ended h.1 b told short sure
+command_completes (Some command.Run) before after ended h = run_complete script_reads before after ended h
+command_completes (Some (command.Load table)) before after ended h = run_complete (block_reads (put_text table)) before after ended h
+command_completes (Some (command.Sample lines start)) before after ended h = λ sure. sample_complete lines start before after ended h.1 sure
 
-out_of_memory : (c : Option Command) (before after : Outside) (ended : Status) → ended ≡ status.NoMemory → CompletesBy c before after ended
-out_of_memory None before after ended e = tt
-out_of_memory (Some command.Init) before after ended e = λ b told short sure. inr e
-out_of_memory (Some command.Run) before after ended e = λ honest faultless sure. inr e
-out_of_memory (Some (command.Load table)) before after ended e = λ honest faultless sure. inr e
-out_of_memory (Some (command.Sample lines start)) before after ended e = λ sure. inr e
-
--- what ends so is complete
-pub ends_complete : (words : List (List ℕ)) (before after : Outside) (ended : Status) → Ends words before after ended → Completes words before after ended
-ends_complete words before after ended (inl none) = out_of_memory (command_of words) before after ended none.0.0
-ends_complete words before after ended (inr h) = by_command (command_of words) before after ended h
+-- out of memory
+pub memory_completes : (c : Option Command) (before after : Outside) (ended : Status) → ended ≡ status.NoMemory → CompletesBy c before after ended
+memory_completes None before after ended e = tt
+memory_completes (Some command.Init) before after ended e = λ b told short sure. inr e
+memory_completes (Some command.Run) before after ended e = λ honest faultless sure. inr e
+memory_completes (Some (command.Load table)) before after ended e = λ honest faultless sure. inr e
+memory_completes (Some (command.Sample lines start)) before after ended e = λ sure. inr e

@@ -1,5 +1,5 @@
 -- What a run leaves outside, and why it ended.
-use Rattle.std.specs.Prelude.{◌≡◌, ◌⊎◌, ℕ, Bool, true, false, ◌<◌, ◌≤◌, List, [], ◌∷◌, ◌++◌, length, take, codes, Some, None, IfSome, is_some}
+use Rattle.std.specs.Prelude.{◌≡◌, ◌⊎◌, ℕ, Bool, true, false, ◌<◌, ◌≤◌, List, [], ◌++◌, length, take, Some, None, IfSome, is_some}
 use Rattle.std.specs.declared.option.Option.{Option}
 use mathlib.Core.List.{IsPrefix}
 use Rattle.tl_types.specs.declared.commits.Commit.{Commit}
@@ -169,7 +169,7 @@ wanted_by false faults = status.Done
 wanted_by true faults = status.DiskFault faults
 
 -- What closes a run behind its replies, by why its phases stopped, whether a break came, and the
--- disk's count of faults: a closing line, but for the faults of the sink and want of memory. What
+-- disk's count of faults: a closing line, but for the faults of the sink and being out of memory. What
 -- is written and the sink's count are given before and after.
 abbrev pub ClosesAfter : Stop → Bool → ℕ → Option (List ℕ) → Option (List ℕ) → ℕ → ℕ → Status → Type 0
 ClosesAfter stop.Ended broke faults old new before after ended =

@@ -1,5 +1,5 @@
 -- What a run over a journal that is opened comes to, once its engine is closed.
-use Rattle.std.specs.Prelude.{◌≡◌, ℕ, Bool, true, false, List, Some}
+use Rattle.std.specs.Prelude.{◌≡◌, ℕ, Bool, false, List, Some}
 use Rattle.std.specs.declared.option.Option.{Option}
 use Rattle.tl_types.specs.declared.commits.Entry.{Entry}
 use Rattle.tl_types.specs.Entries.{commits_of, has_break}

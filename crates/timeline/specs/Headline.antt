@@ -1,5 +1,5 @@
 -- What is proved of a run as a whole: when it is done, and what it prints and keeps then.
-use Rattle.std.specs.Prelude.{◌≡◌, ◌⊎◌, ℕ, ◌≤◌, Bool, true, false, List, [], ◌∷◌, ◌++◌, length, take, map, Some, None, IfSome, IsSome}
+use Rattle.std.specs.Prelude.{◌≡◌, ◌⊎◌, ℕ, ◌≤◌, Bool, true, false, List, [], ◌++◌, length, Some, None}
 use Rattle.std.specs.declared.option.Option.{Option}
 use mathlib.Core.List.{IsPrefix}
 use Rattle.tl_types.specs.declared.commits.Commit.{Commit}
@@ -8,10 +8,8 @@ use Rattle.tl_device.specs.Known.{append_known, prepend_known, Rose}
 use Rattle.tl_script.specs.declared.jobs.ScriptFault.{ScriptFault}
 use Rattle.tl_script.specs.Script.{Reading}
 use Rattle.tl_script.specs.Taking.{IsAtEnd}
-use Rattle.tl_session.specs.Jobs.{Job}
-use Rattle.tl_session.specs.Turns.{Turn, meant}
-use Rattle.tl_session.specs.Transcript.{Transcript}
-use Rattle.tl_session.specs.Written.{IsTranscript, IsPlayOf, all_jobs, jobs_of, turns_bytes, transcript_bytes}
+use Rattle.tl_session.specs.Play.{AreLonePhases}
+use Rattle.tl_session.specs.Written.{IsTranscript, IsPlayOf, all_jobs}
 use Rattle.tl_journal.specs.Image.{StandsFor}
 use Rattle.tl_engine.specs.Fitting.{FitInTurn}
 use Rattle.timeline.specs.declared.statuses.Status.{Status}
@@ -22,6 +20,7 @@ use Rattle.timeline.specs.Status.{closing_line}
 use Rattle.timeline.specs.Commands.{command_of, put_text}
 use Rattle.timeline.specs.Coming.{script_reads, block_reads}
 use Rattle.timeline.specs.Jobs.{phases_asked}
+use Rattle.timeline.specs.Sample.{sample_reading}
 use Rattle.timeline.specs.Outside.{Outside, IsUnread, KeepsJournal, HoldsJournal}
 
 -- COMPLETENESS
@@ -76,16 +75,6 @@ Completes words before after ended = CompletesBy (command_of words) before after
 
 -- THE HEADLINE
 
--- the jobs are of one session
-abbrev pub AreOf : ℕ → List Job → Type 0
-AreOf s [] = Unit {0}
-AreOf s (job ∷ jobs) = (job.session ≡ s) × AreOf s jobs
-
--- the jobs of each phase are of one session
-abbrev pub AreLoneJobs : List (List Job) → Type 0
-AreLoneJobs [] = Unit {0}
-AreLoneJobs (phase ∷ phases) = ((s : ℕ) × AreOf s phase) × AreLoneJobs phases
-
 -- A transcript of what is read was printed, from the opening's commits to all commits, with or
 -- without a break, and this closing line behind it; the disk holds these commits. Where nothing
 -- broke and each phase has jobs of one session, it is the play: the jobs done one after the other.
@@ -95,7 +84,7 @@ pub record PrintsTranscript (reading : Reading) (opening all : List Commit) (bro
   pub transcript : IsTranscript reading.names (phases_asked reading.phases) opening all broke bytes
   pub written : after.written ≡ append_known before.written (bytes ++ closing_line closing)
   pub holds : HoldsJournal all broke before after
-  pub play : broke ≡ None → AreLoneJobs (phases_asked reading.phases)
+  pub play : broke ≡ None → AreLonePhases (phases_asked reading.phases)
       → IsPlayOf reading.names (all_jobs (phases_asked reading.phases)) opening all bytes
 
 -- the journal was not opened: its closing line alone was written, nothing was read, and the disk
@@ -136,6 +125,13 @@ pub record PrintsClosed (closed : List ℕ → Reading) (opening : List Commit) 
   pub broke : Option Commit
   pub prints : PrintsTranscript (closed taken) opening all broke closing before after
 
+-- the jobs of what is read, done one after the other from no commits on, were printed
+pub record PrintsPlay (reading : Reading) (old new : Option (List ℕ)) : Type 0 where
+  pub bytes : List ℕ
+  pub all : List Commit
+  pub play : IsPlayOf reading.names (all_jobs (phases_asked reading.phases)) [] all bytes
+  pub written : new ≡ append_known old bytes
+
 -- what is proved of the run of a script over a journal of these commits
 pub record RunTells (reads : Bool → List ℕ → Reading) (script : List ℕ) (opening : List Commit) (before after : Outside) (ended : Status) : Type 0 where
   pub done : ended ≡ status.Done → PrintsAll (reads true script) opening before after
@@ -158,14 +154,15 @@ RunHeadline reads before after ended =
     → before.left ≡ Some script → before.reads ≡ Some image → StandsFor opening image
     → RunTells reads script opening before after ended
 
--- the same by what the words ask for
+-- the same by what the words ask for; a sample that is done printed its jobs done one after the other
 abbrev pub HeadlineBy : Option Command → Outside → Outside → Status → Type 0
 HeadlineBy None before after ended = Unit {0}
 HeadlineBy (Some command.Init) before after ended = Unit {0}
 HeadlineBy (Some command.Run) before after ended = RunHeadline script_reads before after ended
 HeadlineBy (Some (command.Load table)) before after ended =
     RunHeadline (block_reads (put_text table)) before after ended
-HeadlineBy (Some (command.Sample lines start)) before after ended = Unit {0}
+HeadlineBy (Some (command.Sample lines start)) before after ended =
+    ended ≡ status.Done → PrintsPlay (sample_reading lines start) before.written after.written
 
 abbrev pub Headline : List (List ℕ) → Outside → Outside → Status → Type 0
 Headline words before after ended = HeadlineBy (command_of words) before after ended

@@ -1,8 +1,7 @@
 -- The jobs of a script as the sessions that are asked to do them see them.
 use Rattle.std.specs.Prelude.{List, map}
-use Rattle.tl_script.specs.Script.{Job as ScriptJob, Reading}
+use Rattle.tl_script.specs.Script.{Job as ScriptJob}
 use Rattle.tl_session.specs.Jobs.{Job}
-use Rattle.tl_session.specs.Written.{all_jobs}
 
 -- a job of a script, for its session
 abbrev pub asked : ScriptJob → Job
@@ -12,7 +11,3 @@ asked job =
 -- the phases of a script, for its sessions
 abbrev pub phases_asked : List (List ScriptJob) → List (List Job)
 phases_asked phases = map (λ jobs. map asked jobs) phases
-
--- all jobs that are read of a script, in order
-abbrev pub jobs_asked : Reading → List Job
-jobs_asked reading = all_jobs (phases_asked reading.phases)

@@ -1,5 +1,5 @@
 -- What the running of phases does, phase by phase.
-use Rattle.std.specs.Prelude.{◌≡◌, ℕ, ◌+◌, ◌<◌, ◌≤◌, true, false, List, [], ◌∷◌, ◌++◌, length, take, map, get_or, Option, Some, None, IsTrue}
+use Rattle.std.specs.Prelude.{◌≡◌, ℕ, ◌+◌, ◌<◌, ◌≤◌, true, false, List, [], ◌∷◌, ◌++◌, length, take, map, get_or, Option, Some, None}
 use mathlib.Core.List.{IsPrefix}
 use Rattle.tl_types.specs.declared.commits.Entry.{Entry}
 use Rattle.tl_device.specs.Known.{append_known, Rose}
@@ -21,16 +21,16 @@ use Rattle.timeline.specs.Outside.{Streams}
 use Rattle.timeline.specs.Coming.{Coming, HaveCome}
 use Rattle.timeline.specs.Stopping.{Stops}
 
--- a crew took these turns: each session began with what the crew had seen, the crew has seen what
--- each of them saw, and its share counts the commits and breaks
-pub record Advances (turns : List Turn) (old new : plain.Crew) : Type 0 where
+-- sessions took these turns: each began with what the shared pass had seen, that pass has seen what
+-- each of them saw, and the shared share counts the commits and breaks
+pub record Advances (turns : List Turn) (old new : plain.SharedAccess) : Type 0 where
   pub parts : new.parts ≡ old.parts
   pub later : IsPrefix old.seen new.seen
   pub chains : (s : ℕ) → Chain meant old.seen (of_session s turns) new.seen
   pub amount : new.amount ≡ old.amount + tally weight turns
 
 -- all jobs of a phase were answered, and the replies are written
-pub record RunsWhole (names : List (List ℕ)) (jobs : List Job) (old new : plain.Crew) (before after : Option (List ℕ)) (first last : ℕ) : Type 0 where
+pub record RunsWhole (names : List (List ℕ)) (jobs : List Job) (old new : plain.SharedAccess) (before after : Option (List ℕ)) (first last : ℕ) : Type 0 where
   pub turns : List Turn
   pub these : jobs_of turns ≡ jobs
   pub advances : Advances turns old new
@@ -38,7 +38,7 @@ pub record RunsWhole (names : List (List ℕ)) (jobs : List Job) (old new : plai
   pub sure : last ≡ first
 
 -- all jobs of a phase were answered, and the sink failed behind some prefix of the replies
-pub record RunsUnwritten (names : List (List ℕ)) (jobs : List Job) (old new : plain.Crew) (before after : Option (List ℕ)) (first last : ℕ) : Type 0 where
+pub record RunsUnwritten (names : List (List ℕ)) (jobs : List Job) (old new : plain.SharedAccess) (before after : Option (List ℕ)) (first last : ℕ) : Type 0 where
   pub turns : List Turn
   pub these : jobs_of turns ≡ jobs
   pub advances : Advances turns old new
@@ -47,7 +47,7 @@ pub record RunsUnwritten (names : List (List ℕ)) (jobs : List Job) (old new : 
   pub rose : Rose first last
 
 -- memory ran out: of each session some of the first jobs were answered, and nothing is written
-pub record RunsShort (jobs : List Job) (old new : plain.Crew) (before after : Option (List ℕ)) (first last : ℕ) : Type 0 where
+pub record RunsShort (jobs : List Job) (old new : plain.SharedAccess) (before after : Option (List ℕ)) (first last : ℕ) : Type 0 where
   pub turns : List Turn
   pub fronts : (s : ℕ) → (rest : List Job)
       × (own_jobs s jobs ≡ jobs_of (of_session s turns) ++ rest)
@@ -56,7 +56,7 @@ pub record RunsShort (jobs : List Job) (old new : plain.Crew) (before after : Op
   pub sure : last ≡ first
 
 -- what became of a phase of these jobs, by why the phases stop with it, if they do
-abbrev pub RunsPhase : List (List ℕ) → List Job → plain.Crew → plain.Crew → Option (List ℕ)
+abbrev pub RunsPhase : List (List ℕ) → List Job → plain.SharedAccess → plain.SharedAccess → Option (List ℕ)
     → Option (List ℕ) → ℕ → ℕ → Option Stop → Type 0
 RunsPhase names jobs old new before after first last None =
     RunsWhole names jobs old new before after first last
@@ -68,7 +68,7 @@ RunsPhase names jobs old new before after first last (Some (stop.Sink faults)) =
 RunsPhase names jobs old new before after first last (Some stop.NoMemory) =
     RunsShort jobs old new before after first last
 
--- phases that may come, none of which has come yet
+-- phases that are still to come, of a source that is not at its end yet
 pub record IsFresh (first : Coming) : Type 0 where
   pub live : first.live ≡ true
   pub at_end : first.at_end ≡ false
@@ -77,26 +77,26 @@ pub record IsFresh (first : Coming) : Type 0 where
   pub known : (more : List ℕ) → Grows first.names (first.reads true more).names
 
 -- the phases that have come were run, each behind the one before it, and their replies are written
-pub record Progress (first : Coming) (opening : List Entry) (begun : Streams) (now : Coming) (crew : plain.Crew) (at : Streams) : Type 0 where
+pub record Progress (first : Coming) (opening : List Entry) (begun : Streams) (now : Coming) (shared : plain.SharedAccess) (at : Streams) : Type 0 where
   pub bytes : List ℕ
   pub phases : List (List ScriptJob)
   pub come : HaveCome first begun.left bytes phases now at.left
   pub live : now.live ≡ true
-  pub parts : crew.parts ≡ 65536
+  pub parts : shared.parts ≡ 65536
   pub turns : List (List Turn)
   pub answers : map jobs_of turns ≡ phases_asked phases
   pub inside : EachOfAll (λ t. t.job.session < length now.names) turns
-  pub ran : HaveRun opening turns crew.seen crew.amount
+  pub ran : HaveRun opening turns shared.seen shared.amount
   pub written : at.written ≡ append_known begun.written (transcript_bytes now.names turns)
   pub source_sure : at.source_faults ≡ begun.source_faults
   pub sink_sure : at.sink_faults ≡ begun.sink_faults
 
 -- the phases go on behind this one, or they stopped, and this was done by then
-abbrev pub GoesOn : Coming → List Entry → Streams → Coming → plain.Crew → Streams → Option Stop → Type 0
-GoesOn first opening begun now crew at None = Progress first opening begun now crew at
-GoesOn first opening begun now crew at (Some why) =
-    Stops (λ turns. HaveRun opening turns crew.seen crew.amount) first.reads why begun at
-    × (crew.parts ≡ 65536)
+abbrev pub GoesOn : Coming → List Entry → Streams → Coming → plain.SharedAccess → Streams → Option Stop → Type 0
+GoesOn first opening begun now shared at None = Progress first opening begun now shared at
+GoesOn first opening begun now shared at (Some why) =
+    Stops (λ turns. HaveRun opening turns shared.seen shared.amount) first.reads why begun at
+    × (shared.parts ≡ 65536)
 
 -- the replies to jobs, each under the name of its session
 abbrev pub replies_bytes : List (List ℕ) → List Job → List Reply → List ℕ

@@ -1,6 +1,6 @@
 -- Where the phases of a run stopped, and what was done by then: which were run, what the sessions
 -- were answered with, and what was written.
-use Rattle.std.specs.Prelude.{◌≡◌, ◌⊎◌, ℕ, Bool, true, false, List, [], ◌∷◌, ◌++◌, take, map, Option, Some, None, IfSome}
+use Rattle.std.specs.Prelude.{◌≡◌, ℕ, Bool, true, false, List, [], ◌∷◌, ◌++◌, take, map, Option, Some, None, IfSome}
 use Rattle.tl_device.specs.Known.{append_known, prepend_known, Rose}
 use Rattle.tl_script.specs.declared.jobs.ScriptFault.{ScriptFault}
 use Rattle.tl_script.specs.declared.phases.NextError.{NextError}

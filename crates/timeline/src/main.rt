@@ -46,6 +46,6 @@ fn main(rt: HostRuntime) -> ExitCode {
     let mut source = RealSource::new(rt.stdin());
     let mut sink = RealSink::new(rt.stdout());
     let disk = FileDisk::new(&rt, path);
-    let ending = timeline(&rt, alloc, &words, &mut source, &mut sink, disk, &OpenGate);
+    let ending = timeline(&rt, &words, &mut source, &mut sink, disk, &OpenGate);
     ExitCode::from(ending.status.number())
 }

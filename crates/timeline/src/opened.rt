@@ -12,14 +12,13 @@ ghost use Rattle.timeline.specs.Running.{IsFresh};
 use crate::phases::Phases;
 use crate::running::{Running, run_phases};
 use crate::stops::Stop;
-use std::alloc::Global;
 use std::snapshot::Snapshot;
 use std::sync::Wait;
 use std::thread::Threads;
 use tl_device::{Disk, Gate, Sink, Source};
 use tl_engine::{Closed, Named, Opening, Started};
 use tl_session::laws::{lone_sessions_play, sessions_make_a_transcript};
-use tl_session::{Crew, Dismissed};
+use tl_session::{AccessParts, SharedAccess};
 
 /// A journal that is opened, and its disk as it was before that.
 pub(crate) struct Attached<D: Disk> {
@@ -62,16 +61,8 @@ pub(crate) fn run_opened<
     P: Phases<S>,
     K: Sink,
     G: Gate,
-    R: Threads + Wait + Sync,
->(
-    rt: &R,
-    alloc: Global,
-    attached: Attached<D>,
-    phases: P,
-    source: &mut S,
-    sink: &mut K,
-    gate: &G,
-) -> Finished<D>
+    R: AllocGlobal + Threads + Wait + Sync,
+>(rt: &R, attached: Attached<D>, phases: P, source: &mut S, sink: &mut K, gate: &G) -> Finished<D>
     requires names { IsNameOf J.table J.opening J.first_count J.limits attached.opening }
     requires ledger { (attached.opening.ledger ≡ J.name) × (attached.opening.parts ≡ J.parts) }
     requires told { J.told ≡ is_some (D.reads attached.begun.value) }
@@ -97,16 +88,16 @@ pub(crate) fn run_opened<
     } = opening.start::<J>();
     let mut running = Running {
         engine,
-        crew: Crew::new(pass, share, 0),
+        shared: SharedAccess::new(pass, share, 0),
         phases,
     };
-    let stop = run_phases::<S, D, J, P, K, G, R>(rt, alloc, &mut running, source, sink, gate);
+    let stop = run_phases::<S, D, J, P, K, G, R>(rt, &mut running, source, sink, gate);
     let Running {
         engine,
-        crew,
+        shared,
         phases: _,
     } = running;
-    let Dismissed { pass, share } = crew.dismiss();
+    let AccessParts { pass, share } = shared.into_parts();
     let closed = engine.close(rt, pass, share);
     finish(stop, closed)
 }

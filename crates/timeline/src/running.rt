@@ -1,6 +1,6 @@
 //! The phases of a run, one after the other: the sessions of each answer its jobs at once, and the
 //! replies are written before the next phase is asked for.
-ghost use Rattle.std.specs.Prelude.{◌≡◌, ◌<◌, ◌≤◌, ℕ, List, All, IfOk, length, map, option_map, true, Some};
+ghost use Rattle.std.specs.Prelude.{◌≡◌, ◌<◌, ◌≤◌, List, All, IfOk, length, map, option_map, true, Some};
 ghost use Rattle.tl_types.specs.declared.commits.Entry.{Entry};
 ghost use Rattle.tl_types.specs.Limits.{standard_limits};
 ghost use Rattle.tl_session.specs.Jobs.{job_of};
@@ -20,7 +20,7 @@ use std::thread::Threads;
 use tl_device::{Disk, Gate, Sink, Source};
 use tl_engine::{Engine, Named};
 use tl_script::{Job, Phase};
-use tl_session::{Crew, Job as LentJob, Reply, put_reply, run_phase};
+use tl_session::{Job as LentJob, Reply, SharedAccess, put_reply, run_phase};
 use tl_types::{Bytes, NoMemory};
 
 /// A run: the engine over its journal, what the sessions of its phases share, and the phases that
@@ -29,7 +29,7 @@ pub(crate) struct Running<D: Disk, J: Named, P> {
     /// The engine.
     pub engine: Engine<D, J>,
     /// What the sessions share.
-    pub crew: Crew<J>,
+    pub shared: SharedAccess<J>,
     /// The phases.
     pub phases: P,
 }
@@ -93,30 +93,24 @@ fn run_one<
     P: Phases<S>,
     K: Sink,
     G: Gate,
-    R: Threads + Wait + Sync,
->(
-    rt: &R,
-    alloc: Global,
-    running: &mut Running<D, J, P>,
-    phase: &Phase,
-    sink: &mut K,
-    gate: &G,
-) -> Option<Stop>
+    R: AllocGlobal + Threads + Wait + Sync,
+>(rt: &R, running: &mut Running<D, J, P>, phase: &Phase, sink: &mut K, gate: &G) -> Option<Stop>
     requires standard { J.limits ≡ standard_limits }
     requires few { length (P.coming running.old.phases).names < 65536 }
-    requires parts { running.old.crew.parts ≡ 65536 }
+    requires parts { running.old.shared.parts ≡ 65536 }
     requires sessions { All (λ job. job.session < length (P.coming running.old.phases).names)
         phase.now.jobs.items }
     ensures ran { RunsPhase (P.coming running.old.phases).names
-        (map asked phase.now.jobs.items) running.old.crew running.new.crew
+        (map asked phase.now.jobs.items) running.old.shared running.new.shared
         (K.written sink.old) (K.written sink.new) (K.faults sink.old) (K.faults sink.new) result }
     ensures same { running.new.phases ≡ running.old.phases }
 {
+    let alloc = rt.alloc();
     let Ok(jobs) = lent_jobs(alloc, &phase.jobs) else {
         return Some(Stop::NoMemory);
     };
-    running.crew.enlist(running.phases.session_count());
-    let Ok(replies) = run_phase(rt, alloc, &running.engine, &mut running.crew, &jobs, gate) else {
+    running.shared.set_count(running.phases.session_count());
+    let Ok(replies) = run_phase(rt, &running.engine, &mut running.shared, &jobs, gate) else {
         return Some(Stop::NoMemory);
     };
     let Ok(text) = text_of::<S, P>(alloc, &running.phases, &jobs, &replies) else {
@@ -133,29 +127,22 @@ fn run_next<
     P: Phases<S>,
     K: Sink,
     G: Gate,
-    R: Threads + Wait + Sync,
->(
-    rt: &R,
-    alloc: Global,
-    running: &mut Running<D, J, P>,
-    source: &mut S,
-    sink: &mut K,
-    gate: &G,
-) -> Option<Stop>
+    R: AllocGlobal + Threads + Wait + Sync,
+>(rt: &R, running: &mut Running<D, J, P>, source: &mut S, sink: &mut K, gate: &G) -> Option<Stop>
     requires standard { J.limits ≡ standard_limits }
     requires live { (P.coming running.old.phases).live ≡ true }
     requires few { length (P.coming running.old.phases).names
         ≤ (P.coming running.old.phases).most }
     requires most { (P.coming running.old.phases).most < 65536 }
-    requires parts { running.old.crew.parts ≡ 65536 }
+    requires parts { running.old.shared.parts ≡ 65536 }
     ensures { (first : Coming) (opening : List Entry) (begun : Streams)
-        → Progress first opening begun (P.coming running.old.phases) running.old.crew
+        → Progress first opening begun (P.coming running.old.phases) running.old.shared
         (streams S.left S.faults K.written K.faults source.old sink.old)
-        → GoesOn first opening begun (P.coming running.new.phases) running.new.crew
+        → GoesOn first opening begun (P.coming running.new.phases) running.new.shared
         (streams S.left S.faults K.written K.faults source.new sink.new) result }
 {
-    match running.phases.next(alloc, source) {
-        Ok(Some(phase)) => run_one::<S, D, J, P, K, G, R>(rt, alloc, running, &phase, sink, gate),
+    match running.phases.next(rt.alloc(), source) {
+        Ok(Some(phase)) => run_one::<S, D, J, P, K, G, R>(rt, running, &phase, sink, gate),
         Ok(None) => Some(Stop::Ended),
         Err(error) => Some(stop_for(error)),
     }
@@ -170,27 +157,20 @@ pub(crate) fn run_phases<
     P: Phases<S>,
     K: Sink,
     G: Gate,
-    R: Threads + Wait + Sync,
->(
-    rt: &R,
-    alloc: Global,
-    running: &mut Running<D, J, P>,
-    source: &mut S,
-    sink: &mut K,
-    gate: &G,
-) -> Stop
+    R: AllocGlobal + Threads + Wait + Sync,
+>(rt: &R, running: &mut Running<D, J, P>, source: &mut S, sink: &mut K, gate: &G) -> Stop
     requires standard { J.limits ≡ standard_limits }
     requires fresh { IsFresh (P.coming running.old.phases) }
-    requires parts { running.old.crew.parts ≡ 65536 }
-    requires amount { running.old.crew.amount ≡ 0 }
-    ensures stops { Stops (λ turns. HaveRun running.old.crew.seen turns running.new.crew.seen
-        running.new.crew.amount) (P.coming running.old.phases).reads result
+    requires parts { running.old.shared.parts ≡ 65536 }
+    requires amount { running.old.shared.amount ≡ 0 }
+    ensures stops { Stops (λ turns. HaveRun running.old.shared.seen turns running.new.shared.seen
+        running.new.shared.amount) (P.coming running.old.phases).reads result
         (streams S.left S.faults K.written K.faults source.old sink.old)
         (streams S.left S.faults K.written K.faults source.new sink.new) }
-    ensures parts { running.new.crew.parts ≡ 65536 }
+    ensures parts { running.new.shared.parts ≡ 65536 }
 {
     'phases: for _ in rt.forever() {
-        let stop = run_next::<S, D, J, P, K, G, R>(rt, alloc, running, source, sink, gate);
+        let stop = run_next::<S, D, J, P, K, G, R>(rt, running, source, sink, gate);
         if let Some(stop) = stop {
             return stop;
         }

@@ -1,5 +1,5 @@
 //! The sample: its phases, one after the other.
-ghost use Rattle.std.specs.Prelude.{◌≡◌, ◌<◌, ◌+◌, ◌^◌, ◌∷◌, [], IfOk, OnOk, map, length, option_map, false, true};
+ghost use Rattle.std.specs.Prelude.{◌≡◌, ◌<◌, ◌+◌, ◌^◌, IfOk, false, true};
 ghost use Rattle.std.specs.String.{string_bytes};
 ghost use Rattle.timeline.specs.Sample.{job_with, phase_with, queries_from, sum_text, sample_coming, GivesNext};
 

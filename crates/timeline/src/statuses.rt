@@ -12,7 +12,7 @@ use tl_types::NoMemory;
 pub enum Status {
     /// The input was read to its end, and all replies are written.
     Done,
-    /// Memory ran out, and nothing was written.
+    /// Memory ran out. The replies of the phases before that are written.
     NoMemory,
     /// The words are no command.
     Usage,

@@ -34,33 +34,33 @@ id,dept,pay
 \\.
 ";
 
-// A table, two batches, and a query.
-const BATCHES: &[u8] = b"a> CREATE TABLE emp (id INT) KEY id
-a> PUT emp
+// Three phases: a table, a batch of each of two sessions, and a query.
+const PHASES: &[u8] = b"a> CREATE TABLE emp (id INT) KEY id
+GO
+b> PUT emp
 id
 1
 \\.
-a> PUT emp
+c> PUT emp
 id
 2
 \\.
+GO
 a> SELECT * FROM emp
 ";
 
-// The numbers of the reads of the source, the writes to the sink and the calls of the disk that
-// fail.
-#[derive(Clone, Copy)]
-struct Failing<'a> {
-    reads: &'a [u64],
-    writes: &'a [u64],
-    calls: &'a [u64],
-}
+// A query that shows what a journal holds.
+const QUERY: &[u8] = b"z> SELECT * FROM emp\n";
 
-const NOTHING: Failing = Failing {
-    reads: &[],
-    writes: &[],
-    calls: &[],
-};
+// What fails in a run: nothing, or the read of the source, the write to the sink or the call of the
+// disk that has this number, counted from 1.
+#[derive(Clone, Copy)]
+enum Failing {
+    Nothing,
+    Read(u64),
+    Write(u64),
+    Call(u64),
+}
 
 // What a run left: its status number, what it wrote, and what the disk reads as.
 #[derive(Drop)]
@@ -76,18 +76,23 @@ fn run<R: Threads + Wait + Sync + AllocGlobal>(
     words: &[&str],
     input: &[u8],
     image: &[u8],
-    failing: &Failing,
+    failing: Failing,
 ) -> Result<Left, NoMemory> {
     let alloc = rt.alloc();
+    let (read, write, call) = match failing {
+        Failing::Nothing => (0, 0, 0),
+        Failing::Read(number) => (number, 0, 0),
+        Failing::Write(number) => (0, number, 0),
+        Failing::Call(number) => (0, 0, number),
+    };
     let mut texts = Vec::new(alloc);
     for word in words {
         texts.push(String::from_str(alloc, word)?)?;
     }
-    let reads = failing.reads.to_vec(alloc)?;
-    let mut source = MemorySource::in_pieces(input.to_vec(alloc)?, reads, 7);
-    let mut sink = MemorySink::new(alloc, failing.writes.to_vec(alloc)?);
-    let disk = MemoryDisk::new(alloc, image.to_vec(alloc)?, failing.calls.to_vec(alloc)?);
-    let ending = timeline(rt, alloc, &texts, &mut source, &mut sink, disk, &OpenGate);
+    let mut source = MemorySource::in_pieces(input.to_vec(alloc)?, vec![in alloc; read]?, 7);
+    let mut sink = MemorySink::new(alloc, vec![in alloc; write]?);
+    let disk = MemoryDisk::new(alloc, image.to_vec(alloc)?, vec![in alloc; call]?);
+    let ending = timeline(rt, &texts, &mut source, &mut sink, disk, &OpenGate);
     Ok(Left {
         status: ending.status.number(),
         written: sink.bytes().to_vec(alloc)?,
@@ -97,26 +102,26 @@ fn run<R: Threads + Wait + Sync + AllocGlobal>(
 
 #[test]
 fn a_journal_is_made_run_loaded_and_opened_again(rt: HostRuntime) -> Result<(), Fail> {
-    let made = run(&rt, &["init"], b"", b"", &NOTHING)?;
+    let made = run(&rt, &["init"], b"", b"", Failing::Nothing)?;
     assert_eq!(rt; made.status, 0);
     assert_eq!(rt; made.image.as_slice(), EMPTY);
-    let first = run(&rt, &["run"], SCRIPT, &made.image, &NOTHING)?;
+    let first = run(&rt, &["run"], SCRIPT, &made.image, Failing::Nothing)?;
     assert_eq!(rt;
         first.written.as_slice(),
         b"a @1 ok\na @2 ok\na @3 ok\na @4 ok\na @5 ok\n".as_slice()
     );
     assert_eq!(rt; first.image.len(), 221);
     let rows = b"id,dept,pay\n3,ops,10\n";
-    let loaded = run(&rt, &["load", "emp"], rows, &first.image, &NOTHING)?;
+    let loaded = run(&rt, &["load", "emp"], rows, &first.image, Failing::Nothing)?;
     assert_eq!(rt; loaded.written.as_slice(), b"load @6 ok\n".as_slice());
-    let again = run(&rt, &["init"], b"", &first.image, &NOTHING)?;
+    let again = run(&rt, &["init"], b"", &first.image, Failing::Nothing)?;
     assert_eq!(rt;
         again.written.as_slice(),
         b"! journal AlreadyInitialised 221\n".as_slice()
     );
     let mut cut = first.image;
     cut.truncate(200);
-    let damaged = run(&rt, &["run"], b"", &cut, &NOTHING)?;
+    let damaged = run(&rt, &["run"], b"", &cut, Failing::Nothing)?;
     assert_eq!(rt;
         damaged.written.as_slice(),
         b"! journal Damaged 178\n".as_slice()
@@ -124,11 +129,14 @@ fn a_journal_is_made_run_loaded_and_opened_again(rt: HostRuntime) -> Result<(), 
     if let Some(gate) = cut.get_mut(178) {
         *gate = 0;
     }
-    let whole = run(&rt, &["run"], b"a> SELECT id FROM emp\n", &cut, &NOTHING)?;
-    assert_eq!(rt; whole.written.as_slice(), b"a @4 rows 1\n1\n".as_slice());
+    let whole = run(&rt, &["run"], QUERY, &cut, Failing::Nothing)?;
+    assert_eq!(rt;
+        whole.written.as_slice(),
+        b"z @4 rows 1\n1,ops,150\n".as_slice()
+    );
     assert_eq!(rt; whole.image.len(), 179);
     cut.truncate(12);
-    let short = run(&rt, &["run"], b"", &cut, &NOTHING)?;
+    let short = run(&rt, &["run"], b"", &cut, Failing::Nothing)?;
     assert_eq!(rt;
         short.written.as_slice(),
         b"! journal NotInitialised 12\n".as_slice()
@@ -136,47 +144,49 @@ fn a_journal_is_made_run_loaded_and_opened_again(rt: HostRuntime) -> Result<(), 
     Ok(())
 }
 
+// Whether a run of `PHASES` in which this fails ends with this status number, and writes, together
+// with what `QUERY` then writes over the journal that it left, one of these, by which session was
+// first.
+fn ends_so<R: Threads + Wait + Sync + AllocGlobal>(
+    rt: &R,
+    failing: Failing,
+    status: u8,
+    first: &str,
+    second: &str,
+) -> Result<bool, NoMemory> {
+    let left = run(rt, &["run"], PHASES, EMPTY, failing)?;
+    let again = run(rt, &["run"], QUERY, &left.image, Failing::Nothing)?;
+    let as_wanted = left.status == status;
+    let mut text = left.written;
+    text.extend_from_slice(&again.written)?;
+    let is_one = text.as_slice() == first.as_bytes() || text.as_slice() == second.as_bytes();
+    Ok(as_wanted && is_one)
+}
+
 #[test]
-fn what_fails_outside_ends_the_run(rt: HostRuntime) -> Result<(), Fail> {
-    let cases: [(Failing, u8, &[u8]); 4] = [
-        (
-            Failing {
-                reads: &[3],
-                ..NOTHING
-            },
-            3,
-            b"! source\n",
-        ),
-        (
-            Failing {
-                writes: &[1],
-                ..NOTHING
-            },
-            4,
-            b"",
-        ),
-        (
-            Failing {
-                calls: &[1],
-                ..NOTHING
-            },
-            5,
-            b"! device\n",
-        ),
-        (
-            Failing {
-                calls: &[9],
-                ..NOTHING
-            },
-            5,
-            b"a @1 ok\na @1 ! device\na @1 ! broken\na @1 rows 0\n! device\n",
-        ),
-    ];
-    for (failing, status, written) in &cases {
-        let left = run(&rt, &["run"], BATCHES, EMPTY, failing)?;
-        assert_eq!(rt; left.status, *status);
-        assert_eq!(rt; left.written.as_slice(), *written);
-    }
+fn a_source_or_a_sink_that_fails_ends_the_run(rt: HostRuntime) -> Result<(), Fail> {
+    let none = "! source\nz @0 ! UnknownTable 14\n";
+    assert!(rt; ends_so(&rt, Failing::Read(3), 3, none, none)?);
+    let one = "a @1 ok\n! source\nz @1 rows 0\n";
+    assert!(rt; ends_so(&rt, Failing::Read(8), 3, one, one)?);
+    let unwritten = "z @1 rows 0\n";
+    assert!(rt; ends_so(&rt, Failing::Write(1), 4, unwritten, unwritten)?);
+    let b_first = "a @1 ok\nz @3 rows 2\n1\n2\n";
+    let c_first = "a @1 ok\nz @3 rows 2\n2\n1\n";
+    assert!(rt; ends_so(&rt, Failing::Write(2), 4, b_first, c_first)?);
+    Ok(())
+}
+
+#[test]
+fn a_disk_that_fails_is_told_once(rt: HostRuntime) -> Result<(), Fail> {
+    let unopened = "! device\nz @0 ! UnknownTable 14\n";
+    assert!(rt; ends_so(&rt, Failing::Call(1), 5, unopened, unopened)?);
+    let b_first = "a @1 ok\nb @1 ! device\nc @1 ! broken\na @1 rows 0\n! device\nz @1 rows 0\n";
+    let c_first = "a @1 ok\nb @1 ! broken\nc @1 ! device\na @1 rows 0\n! device\nz @1 rows 0\n";
+    assert!(rt; ends_so(&rt, Failing::Call(9), 5, b_first, c_first)?);
+    let b_first = "a @1 ok\nb @2 ok\nc @2 ! device\na @2 rows 1\n1\n! device\nz @2 rows 1\n1\n";
+    let c_first = "a @1 ok\nb @2 ! device\nc @2 ok\na @2 rows 1\n2\n! device\nz @2 rows 1\n2\n";
+    assert!(rt; ends_so(&rt, Failing::Call(13), 5, b_first, c_first)?);
     Ok(())
 }
 
@@ -227,7 +237,7 @@ fn the_sessions_of_a_phase_run_at_once(rt: HostRuntime) -> Result<(), Fail> {
     let mut source = MemorySource::new(PAIR.to_vec(alloc)?, Vec::new(alloc));
     let mut sink = MemorySink::new(alloc, Vec::new(alloc));
     let disk = MemoryDisk::new(alloc, EMPTY.to_vec(alloc)?, Vec::new(alloc));
-    let ending = timeline(&rt, alloc, &words, &mut source, &mut sink, disk, &gate);
+    let ending = timeline(&rt, &words, &mut source, &mut sink, disk, &gate);
     assert_eq!(rt; ending.status.number(), 0);
     assert!(rt; !gate.ran_out.load(Ordering::SeqCst));
     assert_eq!(rt;

@@ -67,15 +67,14 @@ fn init<K: Sink, D: Disk>(alloc: Global, sink: &mut K, disk: D) -> Ending<D>
 }
 
 // Runs phases over the journal on the disk.
-fn run<R: Threads + Wait + Sync, S: Source, K: Sink, D: Disk + Send, P: Phases<S>, G: Gate>(
-    rt: &R,
-    alloc: Global,
-    phases: P,
-    source: &mut S,
-    sink: &mut K,
-    disk: D,
-    gate: &G,
-) -> Ending<D>
+fn run<
+    R: AllocGlobal + Threads + Wait + Sync,
+    S: Source,
+    K: Sink,
+    D: Disk + Send,
+    P: Phases<S>,
+    G: Gate,
+>(rt: &R, phases: P, source: &mut S, sink: &mut K, disk: D, gate: &G) -> Ending<D>
     requires { IsFresh (P.coming phases) }
     ensures { RunEnds (P.coming phases).reads
         (outside S.left S.faults K.written K.faults D.reads D.may_leave D.faults
@@ -84,6 +83,7 @@ fn run<R: Threads + Wait + Sync, S: Source, K: Sink, D: Disk + Send, P: Phases<S
         source.new sink.new result.disk)
         result.status }
 {
+    let alloc = rt.alloc();
     let begun = Snapshot::of(&disk);
     match Engine::<D, Brand>::attach(alloc, disk, &Limits::standard()) {
         Err(Refused { fault, disk }) => Ending {
@@ -93,7 +93,7 @@ fn run<R: Threads + Wait + Sync, S: Source, K: Sink, D: Disk + Send, P: Phases<S
         Ok(opening) => {
             let attached = Attached { opening, begun };
             let Finished { stop, broke, disk } = run_opened::<S, D, Brand, P, K, G, R>(
-                rt, alloc, attached, phases, source, sink, gate,
+                rt, attached, phases, source, sink, gate,
             );
             let faults = disk.faults();
             Ending {
@@ -105,9 +105,8 @@ fn run<R: Threads + Wait + Sync, S: Source, K: Sink, D: Disk + Send, P: Phases<S
 }
 
 // Runs the script that the source has.
-fn run_script<R: Threads + Wait + Sync, S: Source, K: Sink, D: Disk + Send, G: Gate>(
+fn run_script<R: AllocGlobal + Threads + Wait + Sync, S: Source, K: Sink, D: Disk + Send, G: Gate>(
     rt: &R,
-    alloc: Global,
     source: &mut S,
     sink: &mut K,
     disk: D,
@@ -120,14 +119,13 @@ fn run_script<R: Threads + Wait + Sync, S: Source, K: Sink, D: Disk + Send, G: G
         source.new sink.new result.disk)
         result.status }
 {
-    let script = Script::new(alloc, &Limits::standard());
-    run::<R, S, K, D, Script, G>(rt, alloc, script, source, sink, disk, gate)
+    let script = Script::new(rt.alloc(), &Limits::standard());
+    run::<R, S, K, D, Script, G>(rt, script, source, sink, disk, gate)
 }
 
 // Loads a table with what the source has.
-fn load<R: Threads + Wait + Sync, S: Source, K: Sink, D: Disk + Send, G: Gate>(
+fn load<R: AllocGlobal + Threads + Wait + Sync, S: Source, K: Sink, D: Disk + Send, G: Gate>(
     rt: &R,
-    alloc: Global,
     table: &str,
     source: &mut S,
     sink: &mut K,
@@ -141,7 +139,7 @@ fn load<R: Threads + Wait + Sync, S: Source, K: Sink, D: Disk + Send, G: Gate>(
         source.new sink.new result.disk)
         result.status }
 {
-    let Ok(text) = put_text(alloc, table) else {
+    let Ok(text) = put_text(rt.alloc(), table) else {
         return Ending {
             status: Status::NoMemory,
             disk,
@@ -151,14 +149,13 @@ fn load<R: Threads + Wait + Sync, S: Source, K: Sink, D: Disk + Send, G: Gate>(
         text: text.as_str(),
         given: false,
     };
-    run::<R, S, K, D, BlockPhase, G>(rt, alloc, phase, source, sink, disk, gate)
+    run::<R, S, K, D, BlockPhase, G>(rt, phase, source, sink, disk, gate)
 }
 
 // Runs the sample of so many lines, whose generator begins with `start`, over a journal of its own
 // in memory.
-fn run_sample<R: Threads + Wait + Sync, K: Sink, G: Gate>(
+fn run_sample<R: AllocGlobal + Threads + Wait + Sync, K: Sink, G: Gate>(
     rt: &R,
-    alloc: Global,
     lines: u32,
     start: u64,
     sink: &mut K,
@@ -167,32 +164,25 @@ fn run_sample<R: Threads + Wait + Sync, K: Sink, G: Gate>(
     ensures { SampleEnds (sample_reading lines start) (K.written sink.old) (K.written sink.new)
         (K.faults sink.old) (K.faults sink.new) result }
 {
-    let Ok(disk) = empty_disk(alloc) else {
+    let Ok(disk) = empty_disk(rt.alloc()) else {
         return Status::NoMemory;
     };
-    let begun = Snapshot::of(&disk);
-    let Ok(opening) = Engine::<SureDisk, Brand>::attach(alloc, disk, &Limits::standard()) else {
-        return Status::NoMemory;
-    };
-    let attached = Attached { opening, begun };
     let phases = SamplePhases::new(lines, start);
     let mut source = NoSource;
-    let finished = run_opened::<NoSource, SureDisk, Brand, SamplePhases, K, G, R>(
+    let ending = run::<R, NoSource, K, SureDisk, SamplePhases, G>(
         rt,
-        alloc,
-        attached,
         phases,
         &mut source,
         sink,
+        disk,
         gate,
     );
-    close_run(alloc, sink, finished.stop, finished.broke, 0)
+    ending.status
 }
 
 // Does a command, where the words are one.
-fn do_command<R: Threads + Wait + Sync, S: Source, K: Sink, D: Disk + Send, G: Gate>(
+fn do_command<R: AllocGlobal + Threads + Wait + Sync, S: Source, K: Sink, D: Disk + Send, G: Gate>(
     rt: &R,
-    alloc: Global,
     command: Option<Command>,
     source: &mut S,
     sink: &mut K,
@@ -210,46 +200,14 @@ fn do_command<R: Threads + Wait + Sync, S: Source, K: Sink, D: Disk + Send, G: G
 {
     match command {
         None => Ending {
-            status: close(alloc, sink, Status::Usage),
+            status: close(rt.alloc(), sink, Status::Usage),
             disk,
         },
-        Some(Command::Init) => init(alloc, sink, disk),
-        Some(Command::Run) => run_script(rt, alloc, source, sink, disk, gate),
-        Some(Command::Load { table }) => {
-            load(rt, alloc, table.as_str(), source, sink, disk, gate)
-        }
+        Some(Command::Init) => init(rt.alloc(), sink, disk),
+        Some(Command::Run) => run_script(rt, source, sink, disk, gate),
+        Some(Command::Load { table }) => load(rt, table.as_str(), source, sink, disk, gate),
         Some(Command::Sample { lines, start }) => Ending {
-            status: run_sample(rt, alloc, lines, start, sink, gate),
-            disk,
-        },
-    }
-}
-
-// Does what the words ask for.
-fn do_words<R: Threads + Wait + Sync, S: Source, K: Sink, D: Disk + Send, G: Gate>(
-    rt: &R,
-    alloc: Global,
-    words: &[String],
-    source: &mut S,
-    sink: &mut K,
-    disk: D,
-    gate: &G,
-) -> Ending<D>
-    ensures ends { Ends (texts_of words.now)
-        (outside S.left S.faults K.written K.faults D.reads D.may_leave D.faults
-        source.old sink.old disk)
-        (outside S.left S.faults K.written K.faults D.reads D.may_leave D.faults
-        source.new sink.new result.disk)
-        result.status }
-    ensures unread { reads_source (command_of (texts_of words.now)) ≡ false
-        → source.new ≡ source.old }
-    ensures unused { uses_disk (command_of (texts_of words.now)) ≡ false
-        → result.disk ≡ disk }
-{
-    match command_of(alloc, words) {
-        Ok(command) => do_command(rt, alloc, command, source, sink, disk, gate),
-        Err(_) => Ending {
-            status: Status::NoMemory,
+            status: run_sample(rt, lines, start, sink, gate),
             disk,
         },
     }
@@ -297,16 +255,13 @@ fn do_words<R: Threads + Wait + Sync, S: Source, K: Sink, D: Disk + Send, G: Gat
 /// With the words of a command, a disk whose bytes are a journal (for `init` at most 17 bytes), a
 /// script without a fault and no count that rises, the status is `Done` or `NoMemory`. The call may
 /// wait, and starts threads of its own, which end with it.
-#[tactic(auto, using(crate::proofs::TopLemmas::ends_complete, crate::proofs::HeadlineLemmas::ends_tell))]
-pub fn timeline<R: Threads + Wait + Sync, S: Source, K: Sink, D: Disk + Send, G: Gate>(
-    rt: &R,
-    alloc: Global,
-    words: &[String],
-    source: &mut S,
-    sink: &mut K,
-    disk: D,
-    gate: &G,
-) -> Ending<D>
+pub fn timeline<
+    R: AllocGlobal + Threads + Wait + Sync,
+    S: Source,
+    K: Sink,
+    D: Disk + Send,
+    G: Gate,
+>(rt: &R, words: &[String], source: &mut S, sink: &mut K, disk: D, gate: &G) -> Ending<D>
     ensures ends { Ends (texts_of words.now)
         (outside S.left S.faults K.written K.faults D.reads D.may_leave D.faults
         source.old sink.old disk)
@@ -330,5 +285,11 @@ pub fn timeline<R: Threads + Wait + Sync, S: Source, K: Sink, D: Disk + Send, G:
     ensures unused { uses_disk (command_of (texts_of words.now)) ≡ false
         → result.disk ≡ disk }
 {
-    do_words(rt, alloc, words, source, sink, disk, gate)
+    match command_of(rt.alloc(), words) {
+        Ok(command) => do_command(rt, command, source, sink, disk, gate),
+        Err(_) => Ending {
+            status: Status::NoMemory,
+            disk,
+        },
+    }
 }

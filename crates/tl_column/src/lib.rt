@@ -7,8 +7,6 @@
 mod dictionary;
 mod int_column;
 mod runs;
-#[cfg(test)]
-mod tests;
 mod text_column;
 mod text_list;
 

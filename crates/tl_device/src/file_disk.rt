@@ -9,8 +9,9 @@ use std::rt::Files;
 
 /// A disk over a file of the system. It opens its file at its first call other than `room`, an
 /// empty one where it is missing, and keeps what is there. It is always ready, and tells nothing of
-/// content: a crash may leave anything. A call is answered `Failed` exactly where the system answers it by an error, the
-/// opening included, or where the end of a write passes 2^64; the count of faults then rose.
+/// content: a crash may leave anything. A call is answered `Failed` exactly where the system
+/// answers it by an error, the opening included, or where the end of a write passes 2^64; the count
+/// of faults then rose.
 #[derive(Drop)]
 pub struct FileDisk<'a, R: Files> {
     file: NamedFile<'a, R>,

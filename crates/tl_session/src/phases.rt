@@ -1,4 +1,5 @@
-//! Phases: sessions are made of what they share, answer the jobs of a phase, and are taken in again.
+//! Phases: sessions are made of what they share, answer the jobs of a phase, and are taken in
+//! again.
 ghost use Rattle.std.specs.Prelude.{◌≡◌, ◌+◌, ◌<◌, All, List, false, length, map, IfOk, OnOk, OnErr};
 ghost use mathlib.Core.List.{IsPrefix};
 ghost use Rattle.tl_types.specs.Limits.{standard_limits};

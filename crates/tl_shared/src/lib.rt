@@ -9,8 +9,6 @@ mod chunk_list;
 mod list;
 mod shareable;
 mod shared;
-#[cfg(test)]
-mod tests;
 
 pub use chunk::Chunk;
 pub use list::{CHUNK, SharedList};

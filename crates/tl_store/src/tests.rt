@@ -1,5 +1,8 @@
 //! A worked history: a table of employees, two rows, of which one is changed, and the other
-//! removed and put again.
+//! removed and put again. Lists, columns and values, on which tables stand, are tried here too.
+mod columns;
+mod lists;
+
 ghost use Rattle.std.specs.Prelude.{◌≡◌, ◌≤◌, ◌<◌, ◌^◌, IfOk, length};
 
 use crate::Store;
@@ -232,23 +235,24 @@ fn valid_periods(rt: HostRuntime) -> Result<(), Fail> {
     Ok(())
 }
 
+// Whether a copy of a commit is equal to it, and of an entry made of it.
+fn is_copied(commit: &Commit) -> Result<bool, NoMemory> {
+    let entry = Entry::Break {
+        commit: commit.clone()?,
+    };
+    let copy = Entry::Commit(commit.clone()?);
+    Ok(commit.clone()? == *commit && has_break(&[entry.clone()?]) && !has_break(&[copy]))
+}
+
 #[test]
 fn values_and_their_copies_are_equal(rt: HostRuntime) -> Result<(), Fail> {
     let alloc = rt.alloc();
     let row = opened(alloc, -1, "ops", Some(Period::new(0, 10)))?;
     assert!(rt; row.clone()? == row);
-    for commit in &commits(alloc)? {
-        assert!(rt; commit.clone()? == *commit);
-        let entry = Entry::Break {
-            commit: commit.clone()?,
-        };
-        assert!(rt; has_break(&[entry.clone()?]));
-        assert!(rt; !has_break(&[Entry::Commit(commit.clone()?)]));
-    }
+    assert!(rt; is_copied(&create(alloc, "emp", true)?)?);
+    assert!(rt; is_copied(&change(alloc, 0, Some(1), Vec::new(alloc))?)?);
     assert_eq!(rt; Line::new(alloc, "SELECT")?.as_str(), "SELECT");
-    assert_eq!(rt;
-        Bytes::from_vec(vec![in alloc; 1, 2]?).as_slice(),
-        [1, 2].as_slice()
-    );
+    let bytes = Bytes::from_vec(vec![in alloc; 1, 2]?);
+    assert_eq!(rt; bytes.as_slice(), [1, 2].as_slice());
     Ok(())
 }

@@ -22,6 +22,3 @@ mod resolving;
 mod untimed;
 
 pub use keys::Keys;
-
-#[cfg(test)]
-mod tests;

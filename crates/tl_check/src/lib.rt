@@ -16,6 +16,3 @@ mod selects;
 
 pub use checking::check;
 pub use creates::check_create;
-
-#[cfg(test)]
-mod tests;

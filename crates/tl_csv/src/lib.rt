@@ -16,9 +16,6 @@ mod reading;
 mod records;
 mod rows;
 mod samples;
-#[cfg(test)]
-mod tests;
-
 pub use answers::answer_bytes;
 pub use batches::read_batch;
 pub use faults::CsvFault;

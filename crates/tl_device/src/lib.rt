@@ -22,8 +22,6 @@ mod source;
 mod sure_disk;
 mod sure_sink;
 mod sure_source;
-#[cfg(test)]
-mod tests;
 mod unread;
 mod whole;
 mod written;

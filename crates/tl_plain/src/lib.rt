@@ -21,6 +21,3 @@ mod values;
 pub use answers::answer_plain;
 pub use database::Tables;
 pub use rows::Row;
-
-#[cfg(test)]
-mod tests;

@@ -17,6 +17,3 @@ mod table;
 
 pub use shown::{CellRef, SystemPeriod};
 pub use store::Store;
-
-#[cfg(test)]
-mod tests;

@@ -1,0 +1,127 @@
+//! Plain answers over the worked history.
+use crate::worked::commits;
+use std::alloc::Global;
+use std::test::Fail;
+use tl_plain::{Row, Tables, answer_plain};
+use tl_query::{AggKind, Span, Typed, TypedItem, TypedPred};
+use tl_types::{Commit, Field, Limits, NoMemory, Seq};
+
+// Applies a commit if it fits, and tells whether it does.
+fn applied(alloc: Global, tables: &mut Tables, commit: &Commit) -> Result<bool, NoMemory> {
+    let fits = tables.fits(commit, &Limits::standard());
+    if fits {
+        tables.apply(alloc, commit)?;
+    }
+    Ok(fits)
+}
+
+// The tables after the worked history, as far as its commits fit.
+fn worked(alloc: Global) -> Result<Tables, Fail> {
+    let mut tables = Tables::empty(alloc);
+    let commits = commits(alloc)?;
+    for commit in &commits {
+        let _ = applied(alloc, &mut tables, commit)?;
+    }
+    Ok(tables)
+}
+
+fn shown_field(alloc: Global, field: &Field) -> Result<String, NoMemory> {
+    match field {
+        Field::Number(number) => format!(in alloc; "{number}"),
+        Field::Text(text) => String::from_str(alloc, text.as_str()),
+        Field::Ratio { sum, count } => format!(in alloc; "{sum}/{count}"),
+        Field::Empty => Ok(String::new(alloc)),
+        Field::Forever => String::from_str(alloc, "FOREVER"),
+    }
+}
+
+// The answer to a query, each field with a comma behind it, each row with a bar.
+fn shown(alloc: Global, tables: &Tables, query: &Typed) -> Result<String, NoMemory> {
+    let answer = answer_plain(alloc, tables, query)?;
+    let mut shown = String::new(alloc);
+    for row in answer.rows.as_slice() {
+        for field in row.as_slice() {
+            shown.push_str(shown_field(alloc, field)?.as_str())?;
+            shown.push(',')?;
+        }
+        shown.push('|')?;
+    }
+    Ok(shown)
+}
+
+fn any_row(alloc: Global) -> TypedPred {
+    TypedPred {
+        any: Seq::new(alloc),
+    }
+}
+
+fn select_at_two(alloc: Global) -> Result<Typed, NoMemory> {
+    let mut items = Vec::new(alloc);
+    items.push(TypedItem::Column(0))?;
+    items.push(TypedItem::Column(2))?;
+    Ok(Typed::Select {
+        table: 0,
+        items: Seq::from_vec(items),
+        pred: any_row(alloc),
+        valid_at: None,
+        version: 2,
+    })
+}
+
+#[test]
+fn answers(rt: HostRuntime) -> Result<(), Fail> {
+    let alloc = rt.alloc();
+    let tables = worked(alloc)?;
+    assert_eq!(rt; (tables.version(), tables.tables()), (5, 1));
+    let at_two = shown(alloc, &tables, &select_at_two(alloc)?)?;
+    assert_eq!(rt; at_two.as_str(), "1,100,|2,50,|");
+    let span = Span::System { from: 2, to: 6 };
+    let average = Typed::Agg {
+        table: 0,
+        kind: AggKind::Avg,
+        column: Some(2),
+        by: Some(1),
+        pred: any_row(alloc),
+        span,
+    };
+    let expected = "dev,2,4,50/1,|dev,5,6,50/1,|ops,2,3,100/1,|ops,3,6,150/1,|";
+    assert_eq!(rt; shown(alloc, &tables, &average)?.as_str(), expected);
+    let join = Typed::Join {
+        left: 0,
+        left_pred: any_row(alloc),
+        right: 0,
+        right_pred: any_row(alloc),
+        left_on: 1,
+        right_on: 1,
+        span,
+    };
+    let joined = shown(alloc, &tables, &join)?;
+    let first = "2,3,1,ops,100,1,ops,100,|2,4,2,dev,50,2,dev,50,|";
+    let last = "|3,6,1,ops,150,1,ops,150,|5,6,2,dev,50,2,dev,50,|";
+    assert!(rt; joined.as_str().starts_with(first));
+    assert!(rt; joined.as_str().ends_with(last));
+    Ok(())
+}
+
+fn shown_life(alloc: Global, row: &Row) -> Result<String, NoMemory> {
+    let (from, to) = (row.from(), row.to());
+    let (open, at_three) = (row.is_open(), row.is_visible(3));
+    let cells = row.cells().len();
+    let valid = row.period().is_some();
+    format!(in alloc; "{from} {to} {open} {at_three} {cells} {valid}|")
+}
+
+#[test]
+fn lives(rt: HostRuntime) -> Result<(), Fail> {
+    let alloc = rt.alloc();
+    let tables = worked(alloc)?;
+    let mut shown = String::new(alloc);
+    for row in tables.rows(0) {
+        shown.push_str(shown_life(alloc, row)?.as_str())?;
+    }
+    let ended = "2 3 false false 3 false|2 4 false true 3 false|";
+    let current = "3 4294967295 true true 3 false|5 4294967295 true false 3 false|";
+    assert!(rt; shown.as_str().starts_with(ended));
+    assert!(rt; shown.as_str().ends_with(current));
+    Ok(())
+}

@@ -1,0 +1,147 @@
+//! Checks of queries over two small tables, and of a new table; statements printed again.
+ghost use Rattle.std.specs.Prelude.{IfOk};
+ghost use Rattle.tl_query.specs.Parsed.{IsParsed};
+
+use std::alloc::Global;
+use std::test::Fail;
+use tl_check::{check, check_create};
+use tl_query::{Span, Statement, Typed, TypedItem, parse, print};
+use tl_store::Store;
+use tl_types::{Body, Commit, Limits, Schema};
+
+fn statement(alloc: Global, text: &str) -> Result<Statement, Fail>
+    ensures { IfOk result (λ s. IsParsed s) }
+{
+    match parse(alloc, text) {
+        Ok(statement) => Ok(statement),
+        Err(_) => Err("no statement".into()),
+    }
+}
+
+fn schema(alloc: Global, text: &str) -> Result<Schema, Fail> {
+    match statement(alloc, text)? {
+        Statement::Create(form) => Ok(check_create(alloc, &form).ok().ok_or("no schema")?),
+        _ => Err("no new table".into()),
+    }
+}
+
+fn checked(alloc: Global, text: &str, store: &Store) -> Result<Typed, Fail> {
+    match statement(alloc, text)? {
+        Statement::Ask(query) => Ok(check(alloc, &query, store).ok().ok_or("a fault")?),
+        _ => Err("no query".into()),
+    }
+}
+
+fn with_table(alloc: Global, store: Store, schema: Schema) -> Result<Store, Fail> {
+    let commit = Commit {
+        author: 0,
+        body: Body::Create(schema),
+    };
+    if store.fits(&commit, &Limits::standard()) {
+        Ok(store.apply(alloc, &commit)?)
+    } else {
+        Err("a commit that does not fit".into())
+    }
+}
+
+// Two commits: the tables `emp`, without valid time, and `q`, with valid time.
+fn two_tables(alloc: Global) -> Result<Store, Fail> {
+    let emp = schema(
+        alloc,
+        "CREATE TABLE emp (id INT, dept TEXT, pay INT) KEY id",
+    )?;
+    let q = schema(alloc, "CREATE TABLE q (id INT, dept TEXT) KEY id VALID")?;
+    let store = with_table(alloc, Store::empty(alloc), emp)?;
+    with_table(alloc, store, q)
+}
+
+#[test]
+fn creates(rt: HostRuntime) -> Result<(), Fail> {
+    let found = schema(rt.alloc(), "CREATE TABLE t (a INT, b INT) KEY b")?;
+    assert!(rt; found.columns().len() == 2 && found.key() == 1 && !found.valid());
+    Ok(())
+}
+
+#[test]
+fn selects(rt: HostRuntime) -> Result<(), Fail> {
+    let alloc = rt.alloc();
+    let store = two_tables(alloc)?;
+    let found = checked(alloc, "SELECT * FROM q VALID AT 10", &store)?;
+    let expected = [
+        TypedItem::Column(0),
+        TypedItem::Column(1),
+        TypedItem::ValidFrom,
+        TypedItem::ValidTo,
+    ];
+    assert!(rt;
+        matches!(&found, Typed::Select { table: 1, items, valid_at: Some(10), version: 2, .. }
+        if items.as_slice() == expected.as_slice())
+    );
+    Ok(())
+}
+
+#[test]
+fn joins(rt: HostRuntime) -> Result<(), Fail> {
+    let alloc = rt.alloc();
+    let store = two_tables(alloc)?;
+    let text = "JOIN emp WHERE pay = 1 WITH q ON pay = id OVER SYSTEM ALL";
+    let found = checked(alloc, text, &store)?;
+    assert!(rt;
+        matches!(&found, Typed::Join { left: 0, right: 1, left_on: 2, right_on: 0, span, .. }
+        if *span == Span::System { from: 0, to: 3 })
+    );
+    Ok(())
+}
+
+#[test]
+fn aggregates(rt: HostRuntime) -> Result<(), Fail> {
+    let alloc = rt.alloc();
+    let store = two_tables(alloc)?;
+    let found = checked(alloc, "SUM pay FROM emp BY dept OVER SYSTEM 1 TO 3", &store)?;
+    assert!(rt;
+        matches!(
+            &found,
+            Typed::Agg {
+                table: 0,
+                column: Some(2),
+                by: Some(1),
+                ..
+            }
+        )
+    );
+    Ok(())
+}
+
+// Whether what a text says is printed so.
+fn is_printed(alloc: Global, text: &str, wanted: &str) -> Result<bool, Fail> {
+    let printed = print(alloc, &statement(alloc, text)?)?;
+    Ok(printed.as_slice() == wanted.as_bytes())
+}
+
+#[test]
+fn statements_are_printed_again(rt: HostRuntime) -> Result<(), Fail> {
+    let alloc = rt.alloc();
+    let table = "CREATE TABLE emp (id INT, dept TEXT) KEY id VALID";
+    assert!(rt;
+        is_printed(
+            alloc,
+            "CREATE  TABLE emp(id INT , dept TEXT)KEY id VALID;",
+            table
+        )?
+    );
+    assert!(rt; is_printed(alloc, "PUT emp ;", "PUT emp")?);
+    let query = "SELECT x, valid_to FROM q WHERE d = 'o''p' AND p < -7 VALID AT 3 AS OF 2";
+    let text = "SELECT x,valid_to FROM q WHERE d='o''p' AND p<-007 VALID AT 3 AS OF 02";
+    assert!(rt; is_printed(alloc, text, query)?);
+    let text = "COUNT FROM c OVER VALID -0 TO 9223372036854775807 AS OF 1";
+    assert!(rt; is_printed(alloc, text, "COUNT FROM c OVER VALID 0 TO FOREVER AS OF 1")?);
+    let text = "JOIN l WHERE k>=1 WITH r ON k=k OVER SYSTEM ALL";
+    assert!(rt;
+        is_printed(
+            alloc,
+            text,
+            "JOIN l WHERE k >= 1 WITH r ON k = k OVER SYSTEM ALL"
+        )?
+    );
+    Ok(())
+}

@@ -1,0 +1,159 @@
+//! The store over the worked history.
+ghost use Rattle.std.specs.Prelude.{◌≡◌, ◌<◌, IfOk, length};
+
+use crate::worked::{change, commits, create, opened, put};
+use std::alloc::Global;
+use std::marker::Brand;
+use std::sync::ledger::{Blank, Ledger};
+use std::test::Fail;
+use tl_store::Store;
+use tl_types::{Commit, Limits, Opened, Period, Steps};
+
+// The store after one more commit, if it fits.
+fn after(alloc: Global, store: Store, commit: &Commit) -> Result<Store, Fail> {
+    if store.fits(commit, &Limits::standard()) {
+        Ok(store.apply(alloc, commit)?)
+    } else {
+        Err("a commit that does not fit".into())
+    }
+}
+
+fn worked(alloc: Global) -> Result<Store, Fail> {
+    let mut store = Store::empty(alloc);
+    let commits = commits(alloc)?;
+    for commit in &commits {
+        store = after(alloc, store, commit)?;
+    }
+    Ok(store)
+}
+
+// A row: its versions, and its cells.
+fn shown_row<L: Ledger>(
+    alloc: Global,
+    store: &Store,
+    row: u32,
+    steps: &mut Steps<L>,
+) -> Result<String, Fail> {
+    if store.tables() == 0 || row >= store.rows(0) || store.schema(0).columns().len() != 3 {
+        return Err("no such row".into());
+    }
+    let lives = store.period_at(0, row, steps);
+    let (from, to) = (lives.from, lives.to);
+    let id = store.cell(0, row, 0, steps);
+    let dept = store.cell(0, row, 1, steps);
+    let pay = store.cell(0, row, 2, steps);
+    Ok(format!(in alloc; "{from} {to} {id:?} {dept:?} {pay:?}|")?)
+}
+
+fn shown_rows<L: Ledger>(alloc: Global, blank: Blank, store: &Store) -> Result<String, Fail>
+    requires name { blank.name ≡ L.name }
+    requires parts { blank.parts ≡ L.parts }
+    requires some { 0 < blank.parts }
+{
+    let mut steps: Steps<L> = Steps::new(blank);
+    let mut shown = String::new(alloc);
+    if store.tables() == 0 {
+        return Ok(shown);
+    }
+    for row in 0..store.rows(0) {
+        shown.push_str(shown_row(alloc, store, row, &mut steps)?.as_str())?;
+    }
+    Ok(shown)
+}
+
+#[test]
+fn rows_by_version(rt: HostRuntime) -> Result<(), Fail> {
+    let alloc = rt.alloc();
+    let store = worked(alloc)?;
+    let shown = shown_rows::<Brand>(alloc, Blank::new(1), &store)?;
+    let expected = "2 3 Int(1) Text(\"ops\") Int(100)|2 4 Int(2) Text(\"dev\") Int(50)|\
+                    3 4294967295 Int(1) Text(\"ops\") Int(150)|\
+                    5 4294967295 Int(2) Text(\"dev\") Int(50)|";
+    assert_eq!(rt; shown.as_str(), expected);
+    assert_eq!(rt; (store.versions(), store.tables()), (5, 1));
+    assert_eq!(rt; (store.find("emp"), store.find("emps")), (Some(0), None));
+    Ok(())
+}
+
+fn same_commits<L: Ledger>(alloc: Global, blank: Blank, store: &Store) -> Result<bool, Fail>
+    requires name { blank.name ≡ L.name }
+    requires parts { blank.parts ≡ L.parts }
+    requires some { 0 < blank.parts }
+{
+    let mut steps: Steps<L> = Steps::new(blank);
+    let mut same = true;
+    let mut version = 0u32;
+    let commits = commits(alloc)?;
+    for commit in &commits {
+        if version < store.versions() {
+            version += 1;
+            same = same && store.commit_at(alloc, version, &mut steps)? == *commit;
+        }
+    }
+    Ok(same && version == 5)
+}
+
+#[test]
+fn each_commit_is_read_again(rt: HostRuntime) -> Result<(), Fail> {
+    let alloc = rt.alloc();
+    let store = worked(alloc)?;
+    assert!(rt; same_commits::<Brand>(alloc, Blank::new(1), &store)?);
+    Ok(())
+}
+
+// Rows of this number.
+fn many(alloc: Global, count: u32) -> Result<Vec<Opened>, Fail>
+    ensures { IfOk result (λ rows. length rows.items ≡ count) }
+{
+    let mut rows = Vec::new(alloc);
+    for id in 0..count {
+        rows.push(opened(alloc, id as i64, "ops", 1, None)?)?;
+    }
+    Ok(rows)
+}
+
+fn grown(alloc: Global, store: &Store, closed: u32, count: u32) -> Result<Store, Fail> {
+    let commit = change(alloc, Some(closed), many(alloc, count)?)?;
+    if !store.fits(&commit, &Limits::standard()) {
+        return Err("a commit that does not fit".into());
+    }
+    Ok(store.apply(alloc, &commit)?)
+}
+
+#[test]
+fn an_older_store_stays(rt: HostRuntime) -> Result<(), Fail> {
+    let alloc = rt.alloc();
+    let older = worked(alloc)?;
+    let before = shown_rows::<Brand>(alloc, Blank::new(1), &older)?;
+    let newest = grown(alloc, &grown(alloc, &older, 2, 2000)?, 1500, 100)?;
+    let same = shown_rows::<Brand>(alloc, Blank::new(1), &older)?;
+    assert!(rt; before.as_str() == same.as_str());
+    assert_eq!(rt; (older.versions(), newest.versions()), (5, 7));
+    assert_eq!(rt; newest.tables(), 1);
+    assert_eq!(rt; newest.rows(0), 2104);
+    Ok(())
+}
+
+fn last_period<L: Ledger>(blank: Blank, store: &Store) -> Option<Period>
+    requires name { blank.name ≡ L.name }
+    requires parts { blank.parts ≡ L.parts }
+    requires some { 0 < blank.parts }
+{
+    let mut steps: Steps<L> = Steps::new(blank);
+    if store.tables() == 0 || store.rows(0) == 0 || !store.schema(0).valid() {
+        return None;
+    }
+    let row = store.rows(0) - 1;
+    Some(store.valid_at(0, row, &mut steps))
+}
+
+#[test]
+fn valid_periods(rt: HostRuntime) -> Result<(), Fail> {
+    let alloc = rt.alloc();
+    let store = after(alloc, Store::empty(alloc), &create(alloc, "q", true)?)?;
+    let row = opened(alloc, 1, "ops", 9, Some(Period::new(-5, Period::FOREVER)))?;
+    let store = after(alloc, store, &put(alloc, None, row)?)?;
+    let period = last_period::<Brand>(Blank::new(1), &store).ok_or("no period")?;
+    assert_eq!(rt; (period.from(), period.to()), (-5, Period::FOREVER));
+    Ok(())
+}

@@ -16,6 +16,7 @@ mod reading;
 mod records;
 mod rows;
 mod samples;
+
 pub use answers::answer_bytes;
 pub use batches::read_batch;
 pub use faults::CsvFault;

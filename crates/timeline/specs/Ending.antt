@@ -28,7 +28,7 @@ use Rattle.timeline.specs.Commands.{command_of, put_text}
 use Rattle.timeline.specs.Coming.{script_reads, block_reads}
 use Rattle.timeline.specs.Sample.{sample_reading}
 use Rattle.timeline.specs.Stopping.{Stops}
-use Rattle.timeline.specs.Outside.{Outside, Streams, streams_of, IsUnread, IsSameDisk, KeepsJournal, OpensWith, HoldsJournal}
+use Rattle.timeline.specs.Outside.{Outside, Streams, streams_of, IsUnread, IsSameDisk, LosesNothing, KeepsJournal, OpensWith, HoldsJournal}
 
 -- THE SINK
 
@@ -99,6 +99,7 @@ RefusedBy journal.NoMemory before after = Unit {0}
 RefusedBy (journal.Device faults) before after = Unit {0}
 RefusedBy (journal.NotInitialised len) before after =
     (len < 17) × IfSome before.reads (IsTooShort len) × IsSameDisk before after
+    × LosesNothing before after
 RefusedBy (journal.AlreadyInitialised len) before after = ⊥
 RefusedBy (journal.Damaged at) before after =
     IfSome before.reads (IsDamaged standard_limits at) × IsSameDisk before after
@@ -128,6 +129,7 @@ NotMadeBy (journal.Device faults) before after = MayBeShort before after
 NotMadeBy (journal.NotInitialised len) before after = ⊥
 NotMadeBy (journal.AlreadyInitialised len) before after =
     (17 < len) × IfSome before.reads (IsTooLong len) × IsSameDisk before after
+    × LosesNothing before after
 NotMadeBy (journal.Damaged at) before after = ⊥
 
 -- the journal was not made, for this fault

@@ -100,47 +100,42 @@ fn run<R: Threads + Wait + Sync + AllocGlobal>(
     })
 }
 
+// Whether a run ended without a fault from outside, wrote this text, and left a disk of so many
+// bytes.
+fn is_left(left: &Left, status: u8, text: &str, bytes: usize) -> bool {
+    left.status == status && left.written.as_slice() == text.as_bytes() && left.image.len() == bytes
+}
+
 #[test]
 fn a_journal_is_made_run_loaded_and_opened_again(rt: HostRuntime) -> Result<(), Fail> {
     let made = run(&rt, &["init"], b"", b"", Failing::Nothing)?;
-    assert_eq!(rt; made.status, 0);
-    assert_eq!(rt; made.image.as_slice(), EMPTY);
+    assert!(rt; is_left(&made, 0, "", 17) && made.image.as_slice() == EMPTY);
     let first = run(&rt, &["run"], SCRIPT, &made.image, Failing::Nothing)?;
-    assert_eq!(rt;
-        first.written.as_slice(),
-        b"a @1 ok\na @2 ok\na @3 ok\na @4 ok\na @5 ok\n".as_slice()
-    );
-    assert_eq!(rt; first.image.len(), 221);
+    let five = "a @1 ok\na @2 ok\na @3 ok\na @4 ok\na @5 ok\n";
+    assert!(rt; is_left(&first, 0, five, 221));
     let rows = b"id,dept,pay\n3,ops,10\n";
     let loaded = run(&rt, &["load", "emp"], rows, &first.image, Failing::Nothing)?;
-    assert_eq!(rt; loaded.written.as_slice(), b"load @6 ok\n".as_slice());
+    assert!(rt; loaded.written.as_slice() == b"load @6 ok\n".as_slice());
     let again = run(&rt, &["init"], b"", &first.image, Failing::Nothing)?;
-    assert_eq!(rt;
-        again.written.as_slice(),
-        b"! journal AlreadyInitialised 221\n".as_slice()
-    );
+    assert!(rt; is_left(&again, 8, "! journal AlreadyInitialised 221\n", 221));
+    Ok(())
+}
+
+#[test]
+fn a_damaged_journal_is_refused(rt: HostRuntime) -> Result<(), Fail> {
+    let first = run(&rt, &["run"], SCRIPT, EMPTY, Failing::Nothing)?;
     let mut cut = first.image;
     cut.truncate(200);
     let damaged = run(&rt, &["run"], b"", &cut, Failing::Nothing)?;
-    assert_eq!(rt;
-        damaged.written.as_slice(),
-        b"! journal Damaged 178\n".as_slice()
-    );
+    assert!(rt; is_left(&damaged, 9, "! journal Damaged 178\n", 200));
     if let Some(gate) = cut.get_mut(178) {
         *gate = 0;
     }
     let whole = run(&rt, &["run"], QUERY, &cut, Failing::Nothing)?;
-    assert_eq!(rt;
-        whole.written.as_slice(),
-        b"z @4 rows 1\n1,ops,150\n".as_slice()
-    );
-    assert_eq!(rt; whole.image.len(), 179);
+    assert!(rt; is_left(&whole, 0, "z @4 rows 1\n1,ops,150\n", 179));
     cut.truncate(12);
     let short = run(&rt, &["run"], b"", &cut, Failing::Nothing)?;
-    assert_eq!(rt;
-        short.written.as_slice(),
-        b"! journal NotInitialised 12\n".as_slice()
-    );
+    assert!(rt; is_left(&short, 7, "! journal NotInitialised 12\n", 12));
     Ok(())
 }
 
@@ -240,9 +235,7 @@ fn the_sessions_of_a_phase_run_at_once(rt: HostRuntime) -> Result<(), Fail> {
     let ending = timeline(&rt, &words, &mut source, &mut sink, disk, &gate);
     assert_eq!(rt; ending.status.number(), 0);
     assert!(rt; !gate.ran_out.load(Ordering::SeqCst));
-    assert_eq!(rt;
-        sink.bytes(),
-        b"a @0 ! UnknownTable 14\nb @0 ! UnknownTable 14\n".as_slice()
-    );
+    let wanted = b"a @0 ! UnknownTable 14\nb @0 ! UnknownTable 14\n";
+    assert!(rt; sink.bytes() == wanted.as_slice());
     Ok(())
 }

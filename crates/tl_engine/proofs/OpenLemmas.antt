@@ -123,6 +123,7 @@ module _ {D : Type 0} (read : D → Option (List ℕ)) (may_leave : D → List �
         reads = λ b told. subst (λ d. (c : List ℕ) × (read d ≡ Some c) × SameOrTrimmed b c) (sym at) (opens.reads b told);
         faults = subst (λ f. CountsFaults f (fault_count disk) (fault_count r.disk)) (sym no_memory) (ap fault_count at ∙ opens.count.1);
         too_short = λ len is. absurd (not_short len (inl (sym is ∙ no_memory)));
+        no_less = λ len is. absurd (not_short len (inl (sym is ∙ no_memory)));
         damaged = λ at is. absurd (not_damaged at (inl (sym is ∙ no_memory)));
         not_long = λ len is. not_long len (inl (sym is ∙ no_memory));
       }

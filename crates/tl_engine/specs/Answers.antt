@@ -13,7 +13,7 @@ use Rattle.tl_device.specs.Known.{Rose}
 use Rattle.tl_index.specs.Snapshots.{commit_entry, break_entry}
 use Rattle.tl_journal.specs.Answers.{CountsFaults, IsTooShort, IsDeviceOrMemory}
 use Rattle.tl_journal.specs.Image.{StandsFor, IsJournalOf}
-use Rattle.tl_journal.specs.Moments.{EachMoment, EachMomentBySync, IsUntouched, OldOr}
+use Rattle.tl_journal.specs.Moments.{EachMoment, EachMomentBySync, IsUntouched, LosesNothing, OldOr}
 use Rattle.tl_journal.specs.Stands.{SameOrTrimmed}
 use Rattle.tl_journal.specs.declared.faults.JournalFault.TheVariants as journal_fault
 use Rattle.tl_journal.specs.declared.opening.Refused.{Refused}
@@ -78,6 +78,9 @@ pub record Opens {D : Type 0} (read : D → Option (List ℕ)) (may_leave : D �
   -- `NotInitialised` gives the number of the bytes, fewer than 17, and leaves them
   pub too_short : (len : ℕ) → IfErr answer (λ r. r.fault ≡ journal_fault.NotInitialised len
       → (len < 17) × IfSome (read disk) (IsTooShort len) × IsUntouched read may_leave disk r.disk)
+  -- and a crash then leaves all that it could leave before
+  pub no_less : (len : ℕ) → IfErr answer (λ r. r.fault ≡ journal_fault.NotInitialised len
+      → LosesNothing read may_leave disk r.disk)
   -- `Damaged` gives the place where the bytes are damaged or a commit does not fit, and leaves them
   pub damaged : (at : ℕ) → IfErr answer (λ r. r.fault ≡ journal_fault.Damaged at
       → IfSome (read disk) (IsDamaged given at) × IsUntouched read may_leave disk r.disk)

@@ -5,7 +5,7 @@ ghost use Rattle.tl_types.specs.Limits.{standard_limits};
 ghost use Rattle.tl_batch.specs.Made.{AreWithin};
 ghost use Rattle.tl_journal.specs.Answers.{CountsFaults, IsTooShort};
 ghost use Rattle.tl_journal.specs.Image.{IsJournalOf};
-ghost use Rattle.tl_journal.specs.Moments.{EachMoment, IsUntouched};
+ghost use Rattle.tl_journal.specs.Moments.{EachMoment, IsUntouched, LosesNothing};
 ghost use Rattle.tl_journal.specs.Opening.{HasRead, IsAtEnd};
 ghost use Rattle.tl_journal.specs.declared.faults.JournalFault.TheVariants as journal_fault;
 ghost use Rattle.tl_engine.specs.Fitting.{FitInTurn, IsDamaged};
@@ -49,6 +49,9 @@ pub(crate) fn begin<D: Disk>(
     ensures too_short { (len : ℕ) → IfErr result (λ r.
         r.fault ≡ journal_fault.NotInitialised len →
         (len < 17) × IfSome (D.reads disk) (IsTooShort len)) }
+    ensures no_less { (len : ℕ) → IfErr result (λ r.
+        r.fault ≡ journal_fault.NotInitialised len →
+        LosesNothing D.reads D.may_leave disk r.disk) }
     ensures damaged { (at : ℕ) → IfErr result (λ r. r.fault ≡ journal_fault.Damaged at →
         IfSome (D.reads disk) (IsDamaged limits.now at)) }
     ensures not_long { (len : ℕ) → IfErr result (λ r.

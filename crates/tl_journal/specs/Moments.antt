@@ -13,6 +13,11 @@ pub record IsUntouched {D : Type 0} (reads : D → Option (List ℕ)) (may_leave
   pub reads_same : reads new ≡ reads old
   pub no_more : (c : List ℕ) → may_leave new c → may_leave old c
 
+-- of a disk that tells its bytes a crash now leaves all that it could leave before
+abbrev pub LosesNothing : {D : Type 0} → (D → Option (List ℕ)) → (D → List ℕ → Type 0) → D → D → Type 0
+LosesNothing reads may_leave old new =
+    (b : List ℕ) → reads old ≡ Some b → (c : List ℕ) → may_leave old c → may_leave new c
+
 -- what it could be before, or what has P
 abbrev pub OldOr : (List ℕ → Type 0) → (List ℕ → Type 0) → List ℕ → Type 0
 OldOr old P c = old c ⊎ P c

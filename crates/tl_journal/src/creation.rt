@@ -2,7 +2,7 @@
 ghost use Rattle.std.specs.Prelude.{◌≡◌, ◌+◌, ◌≤◌, ◌<◌, ℕ, List, length, Some, IfSome, IfErr, OnOk, OnErr, Err};
 ghost use Rattle.tl_device.specs.Known.{Rose};
 ghost use Rattle.tl_device.specs.Disk.{IsStored};
-ghost use Rattle.tl_journal.specs.Moments.{EachMoment, EachMomentBySync, IsUntouched, IsShort, OldOr};
+ghost use Rattle.tl_journal.specs.Moments.{EachMoment, EachMomentBySync, IsUntouched, LosesNothing, IsShort, OldOr};
 ghost use Rattle.tl_journal.specs.Stands.{empty_journal};
 ghost use Rattle.tl_journal.specs.Answers.{CountsFaults, IsTooLong};
 ghost use Rattle.tl_journal.specs.declared.faults.JournalFault.TheVariants as fault;
@@ -51,6 +51,8 @@ pub(crate) fn create<D: Disk>(disk: &mut D) -> Result<(), JournalFault>
         (17 < len) × IfSome (D.reads disk.old) (IsTooLong len) }
     ensures kept { (len : ℕ) → result ≡ Err (fault.AlreadyInitialised len) →
         IsUntouched D.reads D.may_leave disk.old disk.new }
+    ensures no_less { (len : ℕ) → result ≡ Err (fault.AlreadyInitialised len) →
+        LosesNothing D.reads D.may_leave disk.old disk.new }
     ensures not_short { (len : ℕ) → result ≡ Err (fault.NotInitialised len) → ⊥ }
     ensures not_damaged { (at : ℕ) → result ≡ Err (fault.Damaged at) → ⊥ }
     ensures any_moment { (b : List ℕ) → D.reads disk.old ≡ Some b →

@@ -4,7 +4,7 @@ ghost use Rattle.tl_types.specs.declared.commits.Commit.{Commit as CommitValue};
 ghost use Rattle.tl_device.specs.Known.{Rose};
 ghost use Rattle.tl_device.specs.Disk.{IsStored};
 ghost use Rattle.tl_journal.specs.Image.{StandsFor, BeforeOrAfter, IsBodyOf, IsJournalOf, IsDamagedOnlyAt};
-ghost use Rattle.tl_journal.specs.Moments.{EachMoment, EachMomentBySync, IsUntouched, IsShort, OldOr};
+ghost use Rattle.tl_journal.specs.Moments.{EachMoment, EachMomentBySync, IsUntouched, LosesNothing, IsShort, OldOr};
 ghost use Rattle.tl_journal.specs.Opening.{HasRead, IsOpening, commits_of, HaveGatesFrom};
 ghost use Rattle.tl_journal.specs.Stands.{StandsAs, IsReady, SameOrTrimmed, empty_journal};
 ghost use Rattle.tl_journal.specs.Answers.{disk_begun, disk_attached, CountsFaults, IsTooShort, IsTooLong};
@@ -69,6 +69,8 @@ impl<D: Disk> Journal<D> {
             (17 < len) × IfSome (D.reads disk) (IsTooLong len) }
         ensures kept { (len : ℕ) → result.done ≡ Err (fault.AlreadyInitialised len) →
             IsUntouched D.reads D.may_leave disk result.disk }
+        ensures no_less { (len : ℕ) → result.done ≡ Err (fault.AlreadyInitialised len) →
+            LosesNothing D.reads D.may_leave disk result.disk }
         ensures not_short { (len : ℕ) → result.done ≡ Err (fault.NotInitialised len) → ⊥ }
         ensures not_damaged { (at : ℕ) → result.done ≡ Err (fault.Damaged at) → ⊥ }
         ensures any_moment { (b : List ℕ) → D.reads disk ≡ Some b →
@@ -104,6 +106,8 @@ impl<D: Disk> Journal<D> {
             CountsFaults r.fault (D.faults disk) (D.faults r.disk)) }
         ensures too_short { (len : ℕ) → IfErr result (λ r. r.fault ≡ fault.NotInitialised len →
             (len < 17) × IfSome (D.reads disk) (IsTooShort len)) }
+        ensures no_less { (len : ℕ) → IfErr result (λ r. r.fault ≡ fault.NotInitialised len →
+            LosesNothing D.reads D.may_leave disk r.disk) }
         ensures damaged { (at : ℕ) → IfErr result (λ r. r.fault ≡ fault.Damaged at →
             (at ≡ 0) × IfSome (D.reads disk) (IsDamagedOnlyAt at)) }
         ensures not_long { (len : ℕ) → IfErr result (λ r.
@@ -151,6 +155,8 @@ impl<D: Disk> Journal<D> {
         ensures too_short { (len : ℕ) → IfErr result (λ r. r.fault ≡ fault.NotInitialised len →
             (len < 17) × IfSome (D.reads disk) (IsTooShort len)
             × IsUntouched D.reads D.may_leave disk r.disk) }
+        ensures no_less { (len : ℕ) → IfErr result (λ r. r.fault ≡ fault.NotInitialised len →
+            LosesNothing D.reads D.may_leave disk r.disk) }
         ensures damaged { (at : ℕ) → IfErr result (λ r. r.fault ≡ fault.Damaged at →
             IfSome (D.reads disk) (IsDamagedOnlyAt at)
             × IsUntouched D.reads D.may_leave disk r.disk) }

@@ -2,7 +2,7 @@
 ghost use Rattle.std.specs.Prelude.{◌≡◌, ◌<◌, ℕ, List, Some, Err, IfSome, IfOk, IfErr, OnOk};
 ghost use Rattle.tl_device.specs.Disk.{IsStored};
 ghost use Rattle.tl_journal.specs.Image.{BeginsAsJournal, HasAnotherName};
-ghost use Rattle.tl_journal.specs.Moments.{EachMoment, IsUntouched};
+ghost use Rattle.tl_journal.specs.Moments.{EachMoment, IsUntouched, LosesNothing};
 ghost use Rattle.tl_journal.specs.Answers.{CountsFaults, IsTooShort, IsNoJournal};
 ghost use Rattle.tl_journal.specs.declared.faults.JournalFault.TheVariants as fault;
 
@@ -53,6 +53,8 @@ pub(crate) fn image_of<D: Disk>(alloc: Global, disk: &mut D) -> Result<Vec<u8>, 
     ensures faults { IfErr result (λ e. CountsFaults e (D.faults disk.old) (D.faults disk.new)) }
     ensures too_short { (len : ℕ) → result ≡ Err (fault.NotInitialised len) →
         (len < 17) × IfSome (D.reads disk.old) (IsTooShort len) }
+    ensures no_less { (len : ℕ) → result ≡ Err (fault.NotInitialised len) →
+        LosesNothing D.reads D.may_leave disk.old disk.new }
     ensures damaged { (at : ℕ) → result ≡ Err (fault.Damaged at) →
         (at ≡ 0) × IfSome (D.reads disk.old) HasAnotherName }
     ensures not_long { (len : ℕ) → result ≡ Err (fault.AlreadyInitialised len) → ⊥ }

@@ -1,7 +1,7 @@
 //! The calls with which a journal is opened that change nothing of the disk.
 ghost use Rattle.std.specs.Prelude.{◌≡◌, ◌+◌, ◌≤◌, ◌<◌, ◌^◌, ℕ, List, length, Some, IfSome, IfOk, OnOk, IfErr};
 ghost use Rattle.tl_device.specs.Disk.{IsStored};
-ghost use Rattle.tl_journal.specs.Moments.{EachMoment, IsUntouched};
+ghost use Rattle.tl_journal.specs.Moments.{EachMoment, IsUntouched, LosesNothing};
 ghost use Rattle.tl_journal.specs.Answers.{CountsFaults, IsDeviceOrMemory};
 ghost use Rattle.tl_journal.specs.declared.faults.JournalFault.TheVariants as fault;
 
@@ -23,6 +23,7 @@ pub(crate) fn length_of<D: Disk>(disk: &mut D) -> Result<u64, JournalFault>
     ensures len { (b : List ℕ) → D.reads disk.old ≡ Some b → IfOk result (λ n. length b ≡ n) }
     ensures at { IfOk result (λ n. IfSome (D.reads disk.new) (λ b. n ≤ length b)) }
     ensures untouched { IsUntouched D.reads D.may_leave disk.old disk.new }
+    ensures no_less { LosesNothing D.reads D.may_leave disk.old disk.new }
     ensures any_moment { EachMoment D.moment D.left_since disk.old disk.new
         (D.may_leave disk.old) }
     ensures sure { OnOk result (D.faults disk.new ≡ D.faults disk.old) }

@@ -27,6 +27,7 @@ returns-in-Err g c = λ left faults.
             c.init-done.ensures.too_long len (c.in-Err.is ∙ ap Err e),
             let kept = c.init-done.ensures.kept len (c.in-Err.is ∙ ap Err e) in
                 record { reads_same = kept.reads_same; no_more = kept.no_more },
+            c.init-done.ensures.no_less len (c.in-Err.is ∙ ap Err e),
           ));
       counts = rw c.in-Err.is at c.init-done.ensures.faults;
       ends = c.end_refused.ensures;

@@ -17,7 +17,7 @@ returns-in-Err g c =
     inl (record {
       fault = c.in-Err.field-0.fault;
       refused = refused_by c.in-Err.field-0.fault before after
-          (λ len e. let h = c.in-Err.ensures.opens.too_short len e in (h.0, h.1, record { reads_same = h.2.reads_same; no_more = h.2.no_more }))
+          (λ len e. let h = c.in-Err.ensures.opens.too_short len e in (h.0, h.1, record { reads_same = h.2.reads_same; no_more = h.2.no_more }, c.in-Err.ensures.opens.no_less len e))
           (λ len e. c.in-Err.ensures.opens.not_long len e)
           (λ at e.
           let h = c.in-Err.ensures.opens.damaged at e in (

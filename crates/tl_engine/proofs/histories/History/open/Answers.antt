@@ -40,6 +40,7 @@ returns-in-Ok g c =
           now_there read may_leave (disk_opened answer) found cs (may_leave disk) same (made.now (begun.image b told).stored) image left;
       reads = λ b told. made.reads b (begun.untouched.reads_same ∙ told);
       faults = subst (λ n. IfErr answer (λ r. CountsFaults r.fault n (fault_count r.disk))) begun.sure made.faults;
+      no_less = λ len. other_fault read may_leave moment left_since fault_count answer (fault.NotInitialised len) _ (not_short len) made.kinds;
       too_short = λ len. other_fault read may_leave moment left_since fault_count answer (fault.NotInitialised len) _ (not_short len) made.kinds;
       damaged = λ at. other_fault read may_leave moment left_since fault_count answer (fault.Damaged at) _ (not_damaged at) made.kinds;
       not_long = λ len. other_fault read may_leave moment left_since fault_count answer (fault.AlreadyInitialised len) _ (not_long len) made.kinds;
@@ -62,6 +63,7 @@ returns-in-Err g c =
       now = λ b cs told stands image left. inl (begun.untouched.no_more image left);
       reads = λ b told. (b, begun.untouched.reads_same ∙ told, inl refl);
       faults = begun.faults;
+      no_less = begun.no_less;
       too_short = λ len e. let s = begun.too_short len e in (s.0, s.1, begun.untouched);
       damaged = λ at e. (begun.damaged at e, begun.untouched);
       not_long = begun.not_long;

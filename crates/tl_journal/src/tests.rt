@@ -55,9 +55,17 @@ fn change(alloc: Global, closed: Option<u32>, opens: Vec<Opened>) -> Result<Comm
     })
 }
 
-fn put(alloc: Global, closed: Option<u32>, row: Opened) -> Result<Commit, NoMemory> {
+fn put(
+    alloc: Global,
+    closed: Option<u32>,
+    id: i64,
+    dept: &str,
+    pay: i64,
+) -> Result<Commit, NoMemory>
+    requires { length dept.now ≤ 65535 }
+{
     let mut opens = Vec::new(alloc);
-    opens.push(row)?;
+    opens.push(opened(alloc, id, dept, pay)?)?;
     change(alloc, closed, opens)
 }
 
@@ -73,9 +81,9 @@ fn commits(alloc: Global) -> Result<Vec<Commit>, Fail> {
     let mut commits = Vec::new(alloc);
     commits.push(create(alloc)?)?;
     commits.push(second(alloc)?)?;
-    commits.push(put(alloc, Some(0), opened(alloc, 1, "ops", 150)?)?)?;
+    commits.push(put(alloc, Some(0), 1, "ops", 150)?)?;
     commits.push(change(alloc, Some(1), Vec::new(alloc))?)?;
-    commits.push(put(alloc, None, opened(alloc, 2, "dev", 50)?)?)?;
+    commits.push(put(alloc, None, 2, "dev", 50)?)?;
     Ok(commits)
 }
 
@@ -99,11 +107,19 @@ fn attached(alloc: Global, disk: MemoryDisk) -> Result<Journal<MemoryDisk>, Fail
     Ok(attached.journal)
 }
 
+// The disk with a journal made on it.
+fn made(disk: MemoryDisk) -> Result<MemoryDisk, Fail> {
+    let run = Journal::init(disk);
+    match run.done {
+        Ok(()) => Ok(run.disk),
+        Err(_) => Err("not made".into()),
+    }
+}
+
 // A disk with a journal of no commit, of which the calls with these numbers fail.
 fn fresh(alloc: Global, failing: &[u64]) -> Result<MemoryDisk, Fail> {
-    let run = Journal::init(disk_of(alloc, &[], &[])?);
-    run.done.ok().ok_or("not made")?;
-    Ok(disk_of(alloc, run.disk.bytes(), failing)?)
+    let disk = made(disk_of(alloc, &[], &[])?)?;
+    Ok(disk_of(alloc, disk.bytes(), failing)?)
 }
 
 fn append_well(
@@ -115,12 +131,21 @@ fn append_well(
     Ok(())
 }
 
+fn append_all(
+    alloc: Global,
+    journal: &mut Journal<MemoryDisk>,
+    commits: &[Commit],
+) -> Result<(), Fail> {
+    for commit in commits {
+        append_well(alloc, journal, commit)?;
+    }
+    Ok(())
+}
+
 // The bytes of the journal of the worked history.
 fn image(alloc: Global) -> Result<Vec<u8>, Fail> {
     let mut journal = attached(alloc, fresh(alloc, &[])?)?;
-    for commit in commits(alloc)?.as_slice() {
-        append_well(alloc, &mut journal, commit)?;
-    }
+    append_all(alloc, &mut journal, &commits(alloc)?)?;
     Ok(journal.disk().bytes().to_vec(alloc)?)
 }
 
@@ -130,6 +155,11 @@ fn found(alloc: Global, disk: MemoryDisk) -> Result<usize, JournalFault> {
         Ok(attached) => Ok(attached.found.len()),
         Err(refused) => Err(refused.fault),
     }
+}
+
+// Whether opening finds so many commits.
+fn finds(alloc: Global, disk: MemoryDisk, number: usize) -> bool {
+    found(alloc, disk) == Ok(number)
 }
 
 // Whether the commit of this number is found, at that gate.
@@ -148,6 +178,14 @@ fn are_found(alloc: Global, found: &[Found]) -> Result<bool, Fail> {
     Ok(found.len() == 5 && first && next && is_found(found, &commits, 4, 178))
 }
 
+// Whether opening finds the worked history in these bytes, and cuts them to its journal.
+fn holds(alloc: Global, bytes: &[u8]) -> Result<bool, Fail> {
+    let disk = disk_of(alloc, bytes, &[])?;
+    let attached = Journal::attach(alloc, disk).ok().ok_or("not opened")?;
+    let found = are_found(alloc, attached.found.as_slice())?;
+    Ok(found && attached.journal.disk().bytes().len() == 221)
+}
+
 #[test]
 fn a_journal_holds_its_commits(rt: HostRuntime) -> Result<(), Fail> {
     let alloc = rt.alloc();
@@ -155,10 +193,7 @@ fn a_journal_holds_its_commits(rt: HostRuntime) -> Result<(), Fail> {
     assert!(rt; bytes.len() == 221);
     bytes[44] = 255;
     bytes.push(7)?;
-    let disk = disk_of(alloc, &bytes, &[])?;
-    let attached = Journal::attach(alloc, disk).ok().ok_or("not opened")?;
-    assert!(rt; attached.journal.disk().bytes().len() == 221);
-    assert!(rt; are_found(alloc, attached.found.as_slice())?);
+    assert!(rt; holds(alloc, &bytes)?);
     Ok(())
 }
 
@@ -196,15 +231,35 @@ fn a_journal_cut_short_is_refused(rt: HostRuntime) -> Result<(), Fail> {
     Ok(())
 }
 
-// Whether an append fails in this call, and a second one for that; so many commits are found then.
-fn append_fails(alloc: Global, call: u64, number: usize) -> Result<bool, Fail> {
+// Whether an append fails so.
+fn is_not_appended(
+    alloc: Global,
+    journal: &mut Journal<MemoryDisk>,
+    commit: &Commit,
+    wanted: AppendFault,
+) -> Result<bool, NoMemory> {
+    match append(alloc, journal, commit)? {
+        Ok(()) => Ok(false),
+        Err(fault) => Ok(fault == wanted),
+    }
+}
+
+// Whether an append fails on the disk, and a second one for that.
+fn fails_twice(alloc: Global, journal: &mut Journal<MemoryDisk>) -> Result<bool, Fail> {
     let commit = create(alloc)?;
+    let device = AppendFault::Device { faults: 1 };
+    let first = is_not_appended(alloc, journal, &commit, device)?;
+    let broken = AppendFault::Broken { faults: 1 };
+    let second = is_not_appended(alloc, journal, &commit, broken)?;
+    Ok(first && second)
+}
+
+// Whether appends fail from this call on; so many commits are found then.
+fn append_fails(alloc: Global, call: u64, number: usize) -> Result<bool, Fail> {
     let mut journal = attached(alloc, fresh(alloc, &[call])?)?;
-    let first = append(alloc, &mut journal, &commit)?;
-    let second = append(alloc, &mut journal, &commit)?;
-    let failed = first == Err(AppendFault::Device { faults: 1 });
-    let broken = second == Err(AppendFault::Broken { faults: 1 });
-    Ok(failed && broken && found(alloc, journal.into_disk()) == Ok(number))
+    let fails = fails_twice(alloc, &mut journal)?;
+    let finds = finds(alloc, journal.into_disk(), number);
+    Ok(fails && finds)
 }
 
 #[test]
@@ -220,7 +275,8 @@ fn each_call_of_an_append_fails_in_turn(rt: HostRuntime) -> Result<(), Fail> {
 // Whether no journal is made where this call fails, and one is made on the disk then.
 fn making_fails(alloc: Global, call: u64) -> Result<bool, NoMemory> {
     let run = Journal::init(disk_of(alloc, &[9; 12], &[call])?);
-    Ok(run.done == Err(JournalFault::Device { faults: 1 }) && is_made(run.disk))
+    let made = is_made(run.disk);
+    Ok(made && run.done == Err(JournalFault::Device { faults: 1 }))
 }
 
 #[test]
@@ -233,11 +289,14 @@ fn each_call_of_making_fails_in_turn(rt: HostRuntime) -> Result<(), Fail> {
 
 // Whether a journal is refused where this call fails, and all five commits are found on the disk
 // then.
-fn opening_fails(alloc: Global, bytes: &[u8], call: u64) -> Result<bool, Fail> {
-    let refused = Journal::attach(alloc, disk_of(alloc, bytes, &[call])?).err();
-    let refused = refused.ok_or("opened")?;
-    let failed = refused.fault == JournalFault::Device { faults: 1 };
-    Ok(failed && found(alloc, refused.disk) == Ok(5))
+fn opening_fails(alloc: Global, bytes: &[u8], call: u64) -> Result<bool, NoMemory> {
+    match Journal::attach(alloc, disk_of(alloc, bytes, &[call])?) {
+        Ok(_) => Ok(false),
+        Err(refused) => {
+            let finds = finds(alloc, refused.disk, 5);
+            Ok(finds && refused.fault == JournalFault::Device { faults: 1 })
+        }
+    }
 }
 
 #[test]

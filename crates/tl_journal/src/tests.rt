@@ -2,7 +2,7 @@
 //! its disk failing in turn.
 ghost use Rattle.std.specs.Prelude.{◌≤◌, ◌<◌, ◌^◌, length};
 
-use crate::{AppendFault, Journal, JournalFault};
+use crate::{AppendFault, Found, Journal, JournalFault};
 use std::alloc::Global;
 use std::test::Fail;
 use tl_device::MemoryDisk;
@@ -10,9 +10,6 @@ use tl_record::encode_with_gate;
 use tl_types::{
     Body, Cell, Change, Column, ColumnKind, Commit, NoMemory, Opened, Schema, Seq, Text,
 };
-
-// The offsets of the gates, and of the byte behind each record but the last.
-const GATES: [(u64, u64); 5] = [(16, 44), (44, 112), (112, 158), (158, 178), (178, 220)];
 
 fn column(alloc: Global, name: &str, kind: ColumnKind) -> Result<Column, NoMemory>
     requires { length name.now ≤ 65535 }
@@ -58,9 +55,17 @@ fn change(alloc: Global, closed: Option<u32>, opens: Vec<Opened>) -> Result<Comm
     })
 }
 
-fn put(alloc: Global, closed: Option<u32>, row: Opened) -> Result<Commit, NoMemory> {
+fn put(
+    alloc: Global,
+    closed: Option<u32>,
+    id: i64,
+    dept: &str,
+    pay: i64,
+) -> Result<Commit, NoMemory>
+    requires { length dept.now ≤ 65535 }
+{
     let mut opens = Vec::new(alloc);
-    opens.push(row)?;
+    opens.push(opened(alloc, id, dept, pay)?)?;
     change(alloc, closed, opens)
 }
 
@@ -76,9 +81,9 @@ fn commits(alloc: Global) -> Result<Vec<Commit>, Fail> {
     let mut commits = Vec::new(alloc);
     commits.push(create(alloc)?)?;
     commits.push(second(alloc)?)?;
-    commits.push(put(alloc, Some(0), opened(alloc, 1, "ops", 150)?)?)?;
+    commits.push(put(alloc, Some(0), 1, "ops", 150)?)?;
     commits.push(change(alloc, Some(1), Vec::new(alloc))?)?;
-    commits.push(put(alloc, None, opened(alloc, 2, "dev", 50)?)?)?;
+    commits.push(put(alloc, None, 2, "dev", 50)?)?;
     Ok(commits)
 }
 
@@ -102,21 +107,45 @@ fn attached(alloc: Global, disk: MemoryDisk) -> Result<Journal<MemoryDisk>, Fail
     Ok(attached.journal)
 }
 
+// The disk with a journal made on it.
+fn made(disk: MemoryDisk) -> Result<MemoryDisk, Fail> {
+    let run = Journal::init(disk);
+    match run.done {
+        Ok(()) => Ok(run.disk),
+        Err(_) => Err("not made".into()),
+    }
+}
+
 // A disk with a journal of no commit, of which the calls with these numbers fail.
 fn fresh(alloc: Global, failing: &[u64]) -> Result<MemoryDisk, Fail> {
-    let run = Journal::init(disk_of(alloc, &[], &[])?);
-    run.done.ok().ok_or("not made")?;
-    Ok(disk_of(alloc, run.disk.bytes(), failing)?)
+    let disk = made(disk_of(alloc, &[], &[])?)?;
+    Ok(disk_of(alloc, disk.bytes(), failing)?)
+}
+
+fn append_well(
+    alloc: Global,
+    journal: &mut Journal<MemoryDisk>,
+    commit: &Commit,
+) -> Result<(), Fail> {
+    append(alloc, journal, commit)?.ok().ok_or("not appended")?;
+    Ok(())
+}
+
+fn append_all(
+    alloc: Global,
+    journal: &mut Journal<MemoryDisk>,
+    commits: &[Commit],
+) -> Result<(), Fail> {
+    for commit in commits {
+        append_well(alloc, journal, commit)?;
+    }
+    Ok(())
 }
 
 // The bytes of the journal of the worked history.
 fn image(alloc: Global) -> Result<Vec<u8>, Fail> {
     let mut journal = attached(alloc, fresh(alloc, &[])?)?;
-    for commit in commits(alloc)?.as_slice() {
-        append(alloc, &mut journal, commit)?
-            .ok()
-            .ok_or("not appended")?;
-    }
+    append_all(alloc, &mut journal, &commits(alloc)?)?;
     Ok(journal.disk().bytes().to_vec(alloc)?)
 }
 
@@ -128,41 +157,68 @@ fn found(alloc: Global, disk: MemoryDisk) -> Result<usize, JournalFault> {
     }
 }
 
-// Why the first bytes of the journal, so many, are refused.
-fn refusal(len: u64) -> JournalFault {
-    if len < 17 {
-        return JournalFault::NotInitialised { len };
+// Whether opening finds so many commits.
+fn finds(alloc: Global, disk: MemoryDisk, number: usize) -> bool {
+    found(alloc, disk) == Ok(number)
+}
+
+// Whether the commit of this number is found, at that gate.
+fn is_found(found: &[Found], commits: &[Commit], number: usize, at: u64) -> bool {
+    match (found.get(number), commits.get(number)) {
+        (Some(found), Some(commit)) => found.at == at && found.commit == *commit,
+        _ => false,
     }
-    for (at, end) in GATES {
-        if len <= end {
-            return JournalFault::Damaged { at };
-        }
-    }
-    JournalFault::NoMemory
+}
+
+// Whether the commits of the worked history are found, each at its gate.
+fn are_found(alloc: Global, found: &[Found]) -> Result<bool, Fail> {
+    let commits = commits(alloc)?;
+    let first = is_found(found, &commits, 0, 16) && is_found(found, &commits, 1, 44);
+    let next = is_found(found, &commits, 2, 112) && is_found(found, &commits, 3, 158);
+    Ok(found.len() == 5 && first && next && is_found(found, &commits, 4, 178))
+}
+
+// Whether opening finds the worked history in these bytes, and cuts them to its journal.
+fn holds(alloc: Global, bytes: &[u8]) -> Result<bool, Fail> {
+    let disk = disk_of(alloc, bytes, &[])?;
+    let attached = Journal::attach(alloc, disk).ok().ok_or("not opened")?;
+    let found = are_found(alloc, attached.found.as_slice())?;
+    Ok(found && attached.journal.disk().bytes().len() == 221)
 }
 
 #[test]
 fn a_journal_holds_its_commits(rt: HostRuntime) -> Result<(), Fail> {
     let alloc = rt.alloc();
     let mut bytes = image(alloc)?;
-    assert_eq!(rt; bytes.len(), 221);
+    assert!(rt; bytes.len() == 221);
     bytes[44] = 255;
     bytes.push(7)?;
-    let disk = disk_of(alloc, &bytes, &[])?;
-    let attached = Journal::attach(alloc, disk).ok().ok_or("not opened")?;
-    assert_eq!(rt; attached.journal.disk().bytes().len(), 221);
-    let commits = commits(alloc)?;
-    assert_eq!(rt; attached.found.len(), commits.len());
-    for (found, ((at, _), commit)) in attached
-        .found
-        .as_slice()
-        .iter()
-        .zip(GATES.iter().zip(commits.as_slice()))
-    {
-        assert_eq!(rt; found.at, *at);
-        assert!(rt; found.commit == *commit);
-    }
+    assert!(rt; holds(alloc, &bytes)?);
     Ok(())
+}
+
+// Why the first bytes of the journal, so many, are refused.
+fn refusal(len: u64) -> JournalFault {
+    match len {
+        0..=16 => JournalFault::NotInitialised { len },
+        17..=44 => JournalFault::Damaged { at: 16 },
+        45..=112 => JournalFault::Damaged { at: 44 },
+        113..=158 => JournalFault::Damaged { at: 112 },
+        159..=178 => JournalFault::Damaged { at: 158 },
+        _ => JournalFault::Damaged { at: 178 },
+    }
+}
+
+// Whether a journal is made on this disk.
+fn is_made(disk: MemoryDisk) -> bool {
+    Journal::init(disk).done.is_ok()
+}
+
+// Whether a journal of these bytes is refused, and made anew only where they are few.
+fn is_refused(alloc: Global, bytes: &[u8]) -> Result<bool, NoMemory> {
+    let found = found(alloc, disk_of(alloc, bytes, &[])?);
+    let made = is_made(disk_of(alloc, bytes, &[])?);
+    Ok(found == Err(refusal(bytes.len() as u64)) && made == (bytes.len() <= 17))
 }
 
 #[test]
@@ -170,36 +226,86 @@ fn a_journal_cut_short_is_refused(rt: HostRuntime) -> Result<(), Fail> {
     let alloc = rt.alloc();
     let bytes = image(alloc)?;
     for len in 0..bytes.len() {
-        let disk = disk_of(alloc, &bytes[..len], &[])?;
-        assert_eq!(rt; found(alloc, disk), Err(refusal(len as u64)));
-        let run = Journal::init(disk_of(alloc, &bytes[..len], &[])?);
-        assert_eq!(rt; run.done.is_ok(), len <= 17);
+        assert!(rt; is_refused(alloc, &bytes[..len])?);
     }
     Ok(())
 }
 
-#[test]
-fn each_call_fails_in_turn(rt: HostRuntime) -> Result<(), Fail> {
-    let alloc = rt.alloc();
-    let commit = create(alloc)?;
-    for (call, number) in [(4, 0), (5, 0), (6, 0), (7, 1)] {
-        let mut journal = attached(alloc, fresh(alloc, &[call])?)?;
-        let first = append(alloc, &mut journal, &commit)?;
-        assert_eq!(rt; first, Err(AppendFault::Device { faults: 1 }));
-        let second = append(alloc, &mut journal, &commit)?;
-        assert_eq!(rt; second, Err(AppendFault::Broken { faults: 1 }));
-        assert_eq!(rt; found(alloc, journal.into_disk()), Ok(number));
+// Whether an append fails so.
+fn is_not_appended(
+    alloc: Global,
+    journal: &mut Journal<MemoryDisk>,
+    commit: &Commit,
+    wanted: AppendFault,
+) -> Result<bool, NoMemory> {
+    match append(alloc, journal, commit)? {
+        Ok(()) => Ok(false),
+        Err(fault) => Ok(fault == wanted),
     }
-    for call in [1, 2, 3, 4, 5] {
-        let run = Journal::init(disk_of(alloc, &[9; 12], &[call])?);
-        assert_eq!(rt; run.done, Err(JournalFault::Device { faults: 1 }));
-        assert!(rt; Journal::init(run.disk).done.is_ok());
-        let mut bytes = image(alloc)?;
-        bytes.push(9)?;
-        let refused = Journal::attach(alloc, disk_of(alloc, &bytes, &[call])?).err();
-        let refused = refused.ok_or("opened")?;
-        assert_eq!(rt; refused.fault, JournalFault::Device { faults: 1 });
-        assert_eq!(rt; found(alloc, refused.disk), Ok(5));
+}
+
+// Whether an append fails on the disk, and a second one for that.
+fn fails_twice(alloc: Global, journal: &mut Journal<MemoryDisk>) -> Result<bool, Fail> {
+    let commit = create(alloc)?;
+    let device = AppendFault::Device { faults: 1 };
+    let first = is_not_appended(alloc, journal, &commit, device)?;
+    let broken = AppendFault::Broken { faults: 1 };
+    let second = is_not_appended(alloc, journal, &commit, broken)?;
+    Ok(first && second)
+}
+
+// Whether appends fail from this call on; so many commits are found then.
+fn append_fails(alloc: Global, call: u64, number: usize) -> Result<bool, Fail> {
+    let mut journal = attached(alloc, fresh(alloc, &[call])?)?;
+    let fails = fails_twice(alloc, &mut journal)?;
+    let finds = finds(alloc, journal.into_disk(), number);
+    Ok(fails && finds)
+}
+
+#[test]
+fn each_call_of_an_append_fails_in_turn(rt: HostRuntime) -> Result<(), Fail> {
+    let alloc = rt.alloc();
+    assert!(rt; append_fails(alloc, 4, 0)?);
+    assert!(rt; append_fails(alloc, 5, 0)?);
+    assert!(rt; append_fails(alloc, 6, 0)?);
+    assert!(rt; append_fails(alloc, 7, 1)?);
+    Ok(())
+}
+
+// Whether no journal is made where this call fails, and one is made on the disk then.
+fn making_fails(alloc: Global, call: u64) -> Result<bool, NoMemory> {
+    let run = Journal::init(disk_of(alloc, &[9; 12], &[call])?);
+    let made = is_made(run.disk);
+    Ok(made && run.done == Err(JournalFault::Device { faults: 1 }))
+}
+
+#[test]
+fn each_call_of_making_fails_in_turn(rt: HostRuntime) -> Result<(), Fail> {
+    for call in 1..6 {
+        assert!(rt; making_fails(rt.alloc(), call)?);
+    }
+    Ok(())
+}
+
+// Whether a journal is refused where this call fails, and all five commits are found on the disk
+// then.
+fn opening_fails(alloc: Global, bytes: &[u8], call: u64) -> Result<bool, NoMemory> {
+    match Journal::attach(alloc, disk_of(alloc, bytes, &[call])?) {
+        Ok(_) => Ok(false),
+        Err(refused) => {
+            let finds = finds(alloc, refused.disk, 5);
+            Ok(finds && refused.fault == JournalFault::Device { faults: 1 })
+        }
+    }
+}
+
+#[test]
+fn each_call_of_opening_fails_in_turn(rt: HostRuntime) -> Result<(), Fail> {
+    let alloc = rt.alloc();
+    let mut bytes = image(alloc)?;
+    bytes.push(9)?;
+    for call in 1..6 {
+        assert!(rt; opening_fails(alloc, &bytes, call)?);
     }
     Ok(())
 }

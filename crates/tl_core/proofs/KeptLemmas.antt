@@ -19,13 +19,17 @@ use Rattle.tl_core.specs.Kept.{fits_store, seen_at, IsKept}
 use Rattle.tl_core.proofs.EntryLemmas.{commits_of-append, legal_at}
 use Rattle.tl_core.proofs.LegalLemmas.{legal_append, mark_follows}
 
+-- an entry that may follow fits the store of those before it
+pub fits_behind : (es : List Entry) (store : List Commit) (e : Entry) → store ≡ commits_of es → may_follow es e ≡ true → fits_store store e ≡ true
+fits_behind es store (entry.Commit c) k m = rw k (and_right (not (has_break es)) (fits standard_limits (database_of (commits_of es)) c) m)
+fits_behind es store (entry.Mark t v) k m = refl
+fits_behind es store (entry.Break c) k m = refl
+
 -- an entry of a legal list fits the store of those before it
 pub fits_at : (es : List Entry) (i : ℕ) (e : Entry) (store : List Commit) → are_legal es ≡ true → i < length es → e ≡ get_or es i e → store ≡ commits_of (take i es) → fits_store store e ≡ true
-fits_at es i e store h l s k = let m : may_follow (take i es) (get_or es i e) ≡ true = legal_at [] es i e h l in by_entry e (subst (λ (f : Entry). may_follow (take i es) f ≡ true) (sym s) m) where
-  by_entry : (f : Entry) → may_follow (take i es) f ≡ true → fits_store store f ≡ true
-  by_entry (entry.Commit c) m = rw k (and_right (not (has_break (take i es))) (fits standard_limits (database_of (commits_of (take i es))) c) m)
-  by_entry (entry.Mark t v) m = refl
-  by_entry (entry.Break c) m = refl
+fits_at es i e store h l s k =
+    let m : may_follow (take i es) (get_or es i e) ≡ true = legal_at [] es i e h l in
+    fits_behind (take i es) store e k (subst (λ (f : Entry). may_follow (take i es) f ≡ true) (sym s) m)
 
 -- before an entry that may follow there is no break
 no_break : (es : List Entry) (e : Entry) → may_follow es e ≡ true → has_break es ≡ false
@@ -33,7 +37,7 @@ no_break es (entry.Commit c) m = not-true (has_break es) (and_left (not (has_bre
 no_break es (entry.Mark t v) m = grind arith
 no_break es (entry.Break c) m = not-true (has_break es) (and_left (not (has_break es)) (fits standard_limits (database_of (commits_of es)) c) m)
 
-broken_is : (es : List Entry) (e : Entry) → may_follow es e ≡ true → is_break e ≡ has_break (es ++ e ∷ [])
+pub broken_is : (es : List Entry) (e : Entry) → may_follow es e ≡ true → is_break e ≡ has_break (es ++ e ∷ [])
 broken_is es e m = sym (list_any-append is_break es (e ∷ []) ∙ ap (λ b. b || (is_break e || false)) (no_break es e m) ∙ last (is_break e)) where
   last : (b : Bool) → (false || (b || false)) ≡ b
   last true = refl

@@ -3,4 +3,5 @@ pub mod CheckpointLemmas
 pub mod LegalLemmas
 pub mod LawLemmas
 pub mod KeptLemmas
+pub mod PrefixLemmas
 mod Examples

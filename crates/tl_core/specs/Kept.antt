@@ -1,5 +1,5 @@
 -- What is kept beside the entries of a world, for speed.
-use Rattle.std.specs.Prelude.{◌≡◌, ℕ, Bool, true, List, Option, Some, None}
+use Rattle.std.specs.Prelude.{◌≡◌, ℕ, Bool, true, ◌&&◌, not, List, Option, Some, None}
 use Rattle.tl_types.specs.declared.commits.Commit.{Commit}
 use Rattle.tl_types.specs.declared.commits.Entry.{Entry}
 use Rattle.tl_types.specs.declared.commits.Entry.TheVariants as entry
@@ -14,6 +14,10 @@ abbrev pub fits_store : List Commit → Entry → Bool
 fits_store commits (entry.Commit commit) = fits standard_limits (database_of commits) commit
 fits_store commits (entry.Mark table version) = true
 fits_store commits (entry.Break commit) = true
+
+-- there was no break, and the commit fits these, by the standard limits
+abbrev pub takes : Bool → List Commit → Commit → Bool
+takes broken commits commit = not broken && fits standard_limits (database_of commits) commit
 
 -- how many entries a pass has seen, none where there is no pass
 abbrev pub seen_at : Option PassState → ℕ

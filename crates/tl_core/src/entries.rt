@@ -2,11 +2,11 @@
 ghost use Rattle.std.specs.Prelude.{◌≡◌, ◌≤◌, ◌++◌, ◌∷◌, [], IsTrue, IfOk, drop, length};
 ghost use Rattle.tl_types.specs.Entries.{commits_of};
 ghost use Rattle.tl_core.specs.World.{are_legal, is_mark, has_mark};
-ghost use Rattle.tl_core.specs.Kept.{fits_store};
+ghost use Rattle.tl_core.specs.Kept.{fits_store, takes};
 
 use std::alloc::Global;
 use tl_store::Store;
-use tl_types::{Entry, NoMemory};
+use tl_types::{Commit, Entry, Limits, NoMemory};
 
 // The store of the commits among the entries.
 #[tactic(auto, using(crate::proofs::EntryLemmas::commits_more, crate::proofs::KeptLemmas::fits_at))]
@@ -22,7 +22,7 @@ pub(crate) fn store_of(alloc: Global, entries: &[Entry]) -> Result<Store, NoMemo
 }
 
 // The store once it has followed the entry.
-fn followed_by(alloc: Global, store: Store, entry: &Entry) -> Result<Store, NoMemory>
+pub(crate) fn followed_by(alloc: Global, store: Store, entry: &Entry) -> Result<Store, NoMemory>
     requires { IsTrue (fits_store store entry.now) }
     ensures { IfOk result (λ next. next ≡ store ++ commits_of (entry.now ∷ [])) }
 {
@@ -30,6 +30,14 @@ fn followed_by(alloc: Global, store: Store, entry: &Entry) -> Result<Store, NoMe
         Entry::Commit(commit) => store.apply(alloc, commit),
         _ => Ok(store),
     }
+}
+
+// Whether a commit may be appended behind the commits of the store, among which the flag says
+// whether there is a break.
+pub(crate) fn takes_commit(store: &Store, broken: bool, commit: &Commit) -> bool
+    ensures { result ≡ takes broken store.now commit.now }
+{
+    !broken && store.fits(commit, &Limits::standard())
 }
 
 // The number of commits behind the first entries, so many.

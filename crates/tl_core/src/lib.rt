@@ -7,11 +7,13 @@
 
 mod entries;
 mod laws;
+mod legality;
 mod passes;
 mod steps;
 mod worlds;
 
 pub use laws::every_run_goes_on;
+pub use legality::is_legal;
 pub use passes::{Build, PassState};
 pub use steps::Step;
 pub use worlds::World;

@@ -1,7 +1,7 @@
 //! A walk over all steps: two passes, and the commits of a table of employees.
 ghost use Rattle.std.specs.Prelude.{◌≤◌, ◌<◌, ◌^◌, length};
 
-use crate::{Build, PassState, Step, World};
+use crate::{Build, PassState, Step, World, is_legal};
 use std::alloc::Global;
 use std::test::Fail;
 use tl_types::{
@@ -99,7 +99,11 @@ fn a_walk_over_all_steps(rt: HostRuntime) -> Result<(), Fail> {
     let world = World::start(alloc, Seq::new(alloc), 2)?;
     let world = world.run(alloc, Seq::from_vec(first_half(alloc)?))?;
     let world = world.run(alloc, Seq::from_vec(second_half(alloc)?))?;
-    assert!(rt; world.entries() == expected(alloc)?.as_slice());
+    let mut entries = expected(alloc)?;
+    assert!(rt; world.entries() == entries.as_slice());
+    assert!(rt; is_legal(alloc, entries.as_slice())?);
+    entries.push(mark(1))?;
+    assert!(rt; !is_legal(alloc, entries.as_slice())?);
     let reader = PassState {
         seen: 6,
         build: None,

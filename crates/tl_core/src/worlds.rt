@@ -7,13 +7,13 @@ ghost use Rattle.tl_core.specs.World.{IsLegal, IsLegalBuild, IsLegalPass, are_le
 ghost use Rattle.tl_core.specs.Law.{GoesOn};
 ghost use Rattle.tl_core.specs.Kept.{seen_at};
 
-use crate::entries::{count_behind, has_mark, store_of};
+use crate::entries::{count_behind, has_mark, store_of, takes_commit};
 use crate::passes::{Build, PassState};
 use crate::steps::Step;
 use std::alloc::Global;
 use std::marker::Model;
 use tl_store::Store;
-use tl_types::{Commit, Entry, Limits, NoMemory, Seq, has_break};
+use tl_types::{Commit, Entry, NoMemory, Seq, has_break};
 
 /// The entries of a history, and of each pass how many of them it has seen and which checkpoint it
 /// builds. It is always legal: each entry may stand behind those before it, no pass has seen more
@@ -38,8 +38,8 @@ impl Model for World {
 }
 
 impl World {
-    /// The world of these entries with so many passes, each of which has seen all entries and
-    /// builds nothing. The error is `NoMemory`.
+    /// The world of these entries, which are legal (`is_legal` tells), with so many passes, each of
+    /// which has seen all entries and builds nothing. The error is `NoMemory`.
     pub fn start(alloc: Global, entries: Seq<Entry>, passes: u32) -> Result<World, NoMemory>
         requires { IsTrue (are_legal entries) }
         ensures value { IfOk result (λ world. world ≡ start_of entries passes) }
@@ -97,7 +97,7 @@ impl World {
     fn takes_commit(&self, commit: &Commit) -> bool
         ensures { result ≡ takes_commit self.now.entries commit.now }
     {
-        !self.broken && self.store.fits(commit, &Limits::standard())
+        takes_commit(&self.store, self.broken, commit)
     }
 
     // What the pass with this number builds.

@@ -62,53 +62,48 @@ fn creates(rt: HostRuntime) -> Result<(), Fail> {
     Ok(())
 }
 
-#[test]
-fn selects(rt: HostRuntime) -> Result<(), Fail> {
-    let alloc = rt.alloc();
-    let store = two_tables(alloc)?;
-    let found = checked(alloc, "SELECT * FROM q VALID AT 10", &store)?;
+// The query over both tables.
+fn typed(alloc: Global, text: &str) -> Result<Typed, Fail> {
+    checked(alloc, text, &two_tables(alloc)?)
+}
+
+fn is_select_of_all(found: &Typed) -> bool {
     let expected = [
         TypedItem::Column(0),
         TypedItem::Column(1),
         TypedItem::ValidFrom,
         TypedItem::ValidTo,
     ];
-    assert!(rt;
-        matches!(&found, Typed::Select { table: 1, items, valid_at: Some(10), version: 2, .. }
+    matches!(found, Typed::Select { table: 1, items, valid_at: Some(10), version: 2, .. }
         if items.as_slice() == expected.as_slice())
-    );
-    Ok(())
 }
 
-#[test]
-fn joins(rt: HostRuntime) -> Result<(), Fail> {
-    let alloc = rt.alloc();
-    let store = two_tables(alloc)?;
-    let text = "JOIN emp WHERE pay = 1 WITH q ON pay = id OVER SYSTEM ALL";
-    let found = checked(alloc, text, &store)?;
-    assert!(rt;
-        matches!(&found, Typed::Join { left: 0, right: 1, left_on: 2, right_on: 0, span, .. }
+fn is_join_of_all(found: &Typed) -> bool {
+    matches!(found, Typed::Join { left: 0, right: 1, left_on: 2, right_on: 0, span, .. }
         if *span == Span::System { from: 0, to: 3 })
-    );
-    Ok(())
+}
+
+fn is_sum_by_dept(found: &Typed) -> bool {
+    matches!(
+        found,
+        Typed::Agg {
+            table: 0,
+            column: Some(2),
+            by: Some(1),
+            ..
+        }
+    )
 }
 
 #[test]
-fn aggregates(rt: HostRuntime) -> Result<(), Fail> {
+fn queries_are_checked(rt: HostRuntime) -> Result<(), Fail> {
     let alloc = rt.alloc();
-    let store = two_tables(alloc)?;
-    let found = checked(alloc, "SUM pay FROM emp BY dept OVER SYSTEM 1 TO 3", &store)?;
-    assert!(rt;
-        matches!(
-            &found,
-            Typed::Agg {
-                table: 0,
-                column: Some(2),
-                by: Some(1),
-                ..
-            }
-        )
-    );
+    let text = "SELECT * FROM q VALID AT 10";
+    assert!(rt; is_select_of_all(&typed(alloc, text)?));
+    let text = "JOIN emp WHERE pay = 1 WITH q ON pay = id OVER SYSTEM ALL";
+    assert!(rt; is_join_of_all(&typed(alloc, text)?));
+    let text = "SUM pay FROM emp BY dept OVER SYSTEM 1 TO 3";
+    assert!(rt; is_sum_by_dept(&typed(alloc, text)?));
     Ok(())
 }
 

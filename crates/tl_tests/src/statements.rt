@@ -7,7 +7,7 @@ use std::test::Fail;
 use tl_check::{check, check_create};
 use tl_query::{Span, Statement, Typed, TypedItem, parse, print};
 use tl_store::Store;
-use tl_types::{Body, Commit, Limits, Schema};
+use tl_types::{Body, Commit, Limits, NoMemory, Schema};
 
 fn statement(alloc: Global, text: &str) -> Result<Statement, Fail>
     ensures { IfOk result (λ s. IsParsed s) }
@@ -18,18 +18,32 @@ fn statement(alloc: Global, text: &str) -> Result<Statement, Fail>
     }
 }
 
+fn schema_of(alloc: Global, statement: &Statement) -> Option<Schema>
+    requires { IsParsed statement.now }
+{
+    match statement {
+        Statement::Create(form) => check_create(alloc, form).ok(),
+        _ => None,
+    }
+}
+
 fn schema(alloc: Global, text: &str) -> Result<Schema, Fail> {
-    match statement(alloc, text)? {
-        Statement::Create(form) => Ok(check_create(alloc, &form).ok().ok_or("no schema")?),
-        _ => Err("no new table".into()),
+    let statement = statement(alloc, text)?;
+    Ok(schema_of(alloc, &statement).ok_or("no schema")?)
+}
+
+fn query_of(alloc: Global, statement: &Statement, store: &Store) -> Option<Typed>
+    requires { IsParsed statement.now }
+{
+    match statement {
+        Statement::Ask(query) => check(alloc, query, store).ok(),
+        _ => None,
     }
 }
 
 fn checked(alloc: Global, text: &str, store: &Store) -> Result<Typed, Fail> {
-    match statement(alloc, text)? {
-        Statement::Ask(query) => Ok(check(alloc, &query, store).ok().ok_or("a fault")?),
-        _ => Err("no query".into()),
-    }
+    let statement = statement(alloc, text)?;
+    Ok(query_of(alloc, &statement, store).ok_or("no query")?)
 }
 
 fn with_table(alloc: Global, store: Store, schema: Schema) -> Result<Store, Fail> {
@@ -107,10 +121,17 @@ fn queries_are_checked(rt: HostRuntime) -> Result<(), Fail> {
     Ok(())
 }
 
+// Whether a statement is printed so.
+fn prints(alloc: Global, statement: &Statement, wanted: &str) -> Result<bool, NoMemory>
+    requires { IsParsed statement.now }
+{
+    Ok(print(alloc, statement)?.as_slice() == wanted.as_bytes())
+}
+
 // Whether what a text says is printed so.
 fn is_printed(alloc: Global, text: &str, wanted: &str) -> Result<bool, Fail> {
-    let printed = print(alloc, &statement(alloc, text)?)?;
-    Ok(printed.as_slice() == wanted.as_bytes())
+    let statement = statement(alloc, text)?;
+    Ok(prints(alloc, &statement, wanted)?)
 }
 
 #[test]

@@ -46,6 +46,25 @@ fn followed(alloc: Global, column: &TextColumn, cells: &[Text]) -> Result<TextCo
     Ok(column.push_all(alloc, cells)?)
 }
 
+// A column of three cells.
+fn three(alloc: Global) -> Result<TextColumn, Fail> {
+    let cells = texts(alloc, "sea", "air", "sea")?;
+    followed(alloc, &TextColumn::none(alloc), &cells)
+}
+
+// The column followed by three cells.
+fn three_more(alloc: Global, column: &TextColumn) -> Result<TextColumn, Fail> {
+    let cells = texts(alloc, "", "air", "land")?;
+    followed(alloc, column, &cells)
+}
+
+// The column followed by six cells, in two steps.
+fn six_more(alloc: Global, column: &TextColumn) -> Result<TextColumn, Fail> {
+    let cells = texts(alloc, "sky", "rail", "sea")?;
+    let longer = three_more(alloc, column)?;
+    followed(alloc, &longer, &cells)
+}
+
 // Whether the cell of a row is a text, by a code.
 fn is_coded(column: &TextColumn, row: u32, text: &str, code: u32) -> bool {
     if row as u64 >= column.len() {
@@ -75,11 +94,8 @@ fn are_coded(older: &TextColumn, newer: &TextColumn) -> bool {
 
 #[test]
 fn codes_in_the_order_of_first_appearance(rt: HostRuntime) -> Result<(), Fail> {
-    let alloc = rt.alloc();
-    let cells = texts(alloc, "sea", "air", "sea")?;
-    let older = followed(alloc, &TextColumn::none(alloc), &cells)?;
-    let newer = followed(alloc, &older, &texts(alloc, "", "air", "land")?)?;
-    let newer = followed(alloc, &newer, &texts(alloc, "sky", "rail", "sea")?)?;
+    let older = three(rt.alloc())?;
+    let newer = six_more(rt.alloc(), &older)?;
     assert!(rt; are_coded(&older, &newer));
     Ok(())
 }

@@ -7,7 +7,7 @@ use std::test::Fail;
 use tl_check::{check, check_create};
 use tl_query::{Span, Statement, Typed, TypedItem, parse, print};
 use tl_store::Store;
-use tl_types::{Body, Commit, Limits, NoMemory, Schema};
+use tl_types::{Body, Bytes, Commit, Limits, Schema};
 
 fn statement(alloc: Global, text: &str) -> Result<Statement, Fail>
     ensures { IfOk result (λ s. IsParsed s) }
@@ -27,11 +27,6 @@ fn schema_of(alloc: Global, statement: &Statement) -> Option<Schema>
     }
 }
 
-fn schema(alloc: Global, text: &str) -> Result<Schema, Fail> {
-    let statement = statement(alloc, text)?;
-    Ok(schema_of(alloc, &statement).ok_or("no schema")?)
-}
-
 fn query_of(alloc: Global, statement: &Statement, store: &Store) -> Option<Typed>
     requires { IsParsed statement.now }
 {
@@ -41,9 +36,27 @@ fn query_of(alloc: Global, statement: &Statement, store: &Store) -> Option<Typed
     }
 }
 
-fn checked(alloc: Global, text: &str, store: &Store) -> Result<Typed, Fail> {
+// What a statement says: it is printed so, and makes a table of this schema or asks this query.
+#[derive(Drop)]
+struct Reading {
+    printed: Option<Bytes>,
+    schema: Option<Schema>,
+    query: Option<Typed>,
+}
+
+// What a text says over a store.
+fn reading_of(alloc: Global, text: &str, store: &Store) -> Result<Reading, Fail> {
     let statement = statement(alloc, text)?;
-    Ok(query_of(alloc, &statement, store).ok_or("no query")?)
+    Ok(Reading {
+        printed: print(alloc, &statement).ok(),
+        schema: schema_of(alloc, &statement),
+        query: query_of(alloc, &statement, store),
+    })
+}
+
+fn schema(alloc: Global, text: &str) -> Result<Schema, Fail> {
+    let reading = reading_of(alloc, text, &Store::empty(alloc))?;
+    Ok(reading.schema.ok_or("no schema")?)
 }
 
 fn with_table(alloc: Global, store: Store, schema: Schema) -> Result<Store, Fail> {
@@ -78,7 +91,8 @@ fn creates(rt: HostRuntime) -> Result<(), Fail> {
 
 // The query over both tables.
 fn typed(alloc: Global, text: &str) -> Result<Typed, Fail> {
-    checked(alloc, text, &two_tables(alloc)?)
+    let reading = reading_of(alloc, text, &two_tables(alloc)?)?;
+    Ok(reading.query.ok_or("no query")?)
 }
 
 fn is_select_of_all(found: &Typed) -> bool {
@@ -121,17 +135,13 @@ fn queries_are_checked(rt: HostRuntime) -> Result<(), Fail> {
     Ok(())
 }
 
-// Whether a statement is printed so.
-fn prints(alloc: Global, statement: &Statement, wanted: &str) -> Result<bool, NoMemory>
-    requires { IsParsed statement.now }
-{
-    Ok(print(alloc, statement)?.as_slice() == wanted.as_bytes())
-}
-
 // Whether what a text says is printed so.
 fn is_printed(alloc: Global, text: &str, wanted: &str) -> Result<bool, Fail> {
-    let statement = statement(alloc, text)?;
-    Ok(prints(alloc, &statement, wanted)?)
+    let reading = reading_of(alloc, text, &Store::empty(alloc))?;
+    match &reading.printed {
+        Some(printed) => Ok(printed.as_slice() == wanted.as_bytes()),
+        None => Ok(false),
+    }
 }
 
 #[test]

@@ -221,23 +221,45 @@ fn shown(alloc: Global, made: &Result<Commit, BatchFault>) -> Result<String, NoM
     }
 }
 
-// The first case whose batch becomes something else than it says, with what it becomes; none where
-// all are as they say.
-fn first_wrong(alloc: Global, limits: &Limits, cases: &[Case]) -> Result<Option<String>, Fail>
+// What the batch of a case becomes.
+fn made_of(
+    alloc: Global,
+    keys: &Keys,
+    store: &Store,
+    case: &Case,
+    limits: &Limits,
+) -> Result<Result<Commit, BatchFault>, Fail>
+    requires stands { StandFor keys.now (database_of store.now) }
+    requires within { AreWithin limits.now standard_limits }
+    ensures { IfOk result (λ r. IfOk r
+        (λ c. IsTrue (fits standard_limits (database_of store.now) c))) }
+{
+    let (kind, name, lines, _) = case;
+    let batch = batch(alloc, *kind, name, lines)?;
+    resolved(alloc, keys, store, batch, limits)
+}
+
+fn is_shown(
+    alloc: Global,
+    made: &Result<Commit, BatchFault>,
+    expected: &str,
+) -> Result<bool, NoMemory> {
+    Ok(shown(alloc, made)?.as_str() == expected)
+}
+
+// Whether the batch of each case becomes what it says.
+fn all_become(alloc: Global, limits: &Limits, cases: &[Case]) -> Result<bool, Fail>
     requires { AreWithin limits.now standard_limits }
 {
     let mut keys = Keys::empty(alloc);
     let mut store = Store::empty(alloc);
-    for (i, (kind, name, lines, expected)) in cases.iter().enumerate() {
-        let batch = batch(alloc, *kind, name, lines)?;
-        let made = resolved(alloc, &keys, &store, batch, limits)?;
-        let shown = shown(alloc, &made)?;
-        if shown.as_str() != *expected {
-            return Ok(Some(format!(in alloc; "{i}: {shown}")?));
-        }
+    let mut right = true;
+    for case in cases {
+        let made = made_of(alloc, &keys, &store, case, limits)?;
+        right = is_shown(alloc, &made, case.3)? && right;
         store = after(alloc, &mut keys, store, &made)?;
     }
-    Ok(None)
+    Ok(right)
 }
 
 #[test]
@@ -276,8 +298,7 @@ fn tables_without_valid_time(rt: HostRuntime) -> Result<(), Fail> {
             "KeyTwice { rec: 4 }",
         ),
     ];
-    let wrong = first_wrong(rt.alloc(), &Limits::standard(), cases.as_slice())?;
-    assert!(rt; wrong.is_none(), "{wrong:?}");
+    assert!(rt; all_become(rt.alloc(), &Limits::standard(), cases.as_slice())?);
     Ok(())
 }
 
@@ -346,8 +367,7 @@ fn tables_with_valid_time(rt: HostRuntime) -> Result<(), Fail> {
             "NoRow { rec: 2 }",
         ),
     ];
-    let wrong = first_wrong(rt.alloc(), &Limits::standard(), cases.as_slice())?;
-    assert!(rt; wrong.is_none(), "{wrong:?}");
+    assert!(rt; all_become(rt.alloc(), &Limits::standard(), cases.as_slice())?);
     Ok(())
 }
 
@@ -375,8 +395,7 @@ fn limits_that_are_met(rt: HostRuntime) -> Result<(), Fail> {
         rows: 2,
         ..Limits::standard()
     };
-    let wrong = first_wrong(rt.alloc(), &limits, cases.as_slice())?;
-    assert!(rt; wrong.is_none(), "{wrong:?}");
+    assert!(rt; all_become(rt.alloc(), &limits, cases.as_slice())?);
     Ok(())
 }
 
@@ -393,7 +412,6 @@ fn remainders_past_the_limit(rt: HostRuntime) -> Result<(), Fail> {
         rows: 2,
         ..Limits::standard()
     };
-    let wrong = first_wrong(rt.alloc(), &limits, cases.as_slice())?;
-    assert!(rt; wrong.is_none(), "{wrong:?}");
+    assert!(rt; all_become(rt.alloc(), &limits, cases.as_slice())?);
     Ok(())
 }

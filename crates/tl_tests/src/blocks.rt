@@ -1,4 +1,6 @@
 //! Blocks of CSV: a file as a spreadsheet writes it, removals, each fault, an answer, and a sample.
+ghost use Rattle.std.specs.Prelude.{◌≤◌, length};
+
 use crate::worked::column;
 use std::alloc::Global;
 use std::test::Fail;
@@ -33,36 +35,57 @@ fn read(
     }
 }
 
+// Whether a block is read as this batch.
+fn is_read(alloc: Global, block: &[u8], kind: BatchKind, batch: Batch) -> Result<bool, NoMemory> {
+    Ok(read(alloc, block, kind)? == Some(Ok(batch)))
+}
+
+// A person of this name, with the number -7, from day 3 on.
+fn person(alloc: Global, name: &str) -> Result<Opened, NoMemory>
+    requires { length name.now ≤ 65535 }
+{
+    let mut cells = Seq::new(alloc);
+    cells.push(Cell::Text(Text::new(alloc, name)?))?;
+    cells.push(Cell::Int(-7))?;
+    Ok(Opened::new(cells, Some(Period::new(3, Period::FOREVER))))
+}
+
 #[test]
 fn a_spreadsheet_file(rt: HostRuntime) -> Result<(), Fail> {
     let alloc = rt.alloc();
     let block = b"\xEF\xBB\xBFvalid_to,name,id,valid_from\r\nFOREVER,\"x,\"\"\",-7,+3\r\n";
-    let mut cells = Seq::new(alloc);
-    cells.push(Cell::Text(Text::new(alloc, "x,\"")?))?;
-    cells.push(Cell::Int(-7))?;
     let mut lines = Seq::new(alloc);
-    lines.push(Opened::new(cells, Some(Period::new(3, Period::FOREVER))))?;
+    lines.push(person(alloc, "x,\"")?)?;
     let table = Text::new(alloc, "p")?;
-    let read = read(alloc, block, BatchKind::PutKind)?;
-    assert!(rt; read == Some(Ok(Batch::Put { table, lines })));
+    assert!(rt;
+        is_read(
+            alloc,
+            block,
+            BatchKind::PutKind,
+            Batch::Put { table, lines }
+        )?
+    );
     Ok(())
 }
 
 #[test]
 fn removals(rt: HostRuntime) -> Result<(), Fail> {
     let alloc = rt.alloc();
+    let block = b"valid_from,id,valid_to\n0,1,5\n";
     let mut lines = Seq::new(alloc);
     lines.push(KeyLine {
         key: Cell::Int(1),
         period: Some(Period::new(0, 5)),
     })?;
     let table = Text::new(alloc, "p")?;
-    let read = read(
-        alloc,
-        b"valid_from,id,valid_to\n0,1,5\n",
-        BatchKind::RemoveKind,
-    )?;
-    assert!(rt; read == Some(Ok(Batch::Remove { table, lines })));
+    assert!(rt;
+        is_read(
+            alloc,
+            block,
+            BatchKind::RemoveKind,
+            Batch::Remove { table, lines }
+        )?
+    );
     Ok(())
 }
 
@@ -111,9 +134,8 @@ fn faults_of_a_record(rt: HostRuntime) -> Result<(), Fail> {
     Ok(())
 }
 
-#[test]
-fn an_answer(rt: HostRuntime) -> Result<(), Fail> {
-    let alloc = rt.alloc();
+// A row with a field of each kind.
+fn row(alloc: Global) -> Result<Seq<Field>, NoMemory> {
     let mut row = Seq::new(alloc);
     row.push(Field::Number(-100))?;
     row.push(Field::Text(Text::new(alloc, "a, \"b\"\n")?))?;
@@ -123,22 +145,34 @@ fn an_answer(rt: HostRuntime) -> Result<(), Fail> {
         count: 2,
     })?;
     row.push(Field::Empty)?;
+    Ok(row)
+}
+
+#[test]
+fn an_answer(rt: HostRuntime) -> Result<(), Fail> {
+    let alloc = rt.alloc();
     let mut rows = Seq::new(alloc);
-    rows.push(row)?;
-    let bytes = answer_bytes(alloc, &Answer { rows })?;
-    assert!(rt; bytes.as_slice() == b"-100,\"a, \"\"b\"\"\n\",FOREVER,-100/2,\n".as_slice());
+    rows.push(row(alloc)?)?;
+    let expected = b"-100,\"a, \"\"b\"\"\n\",FOREVER,-100/2,\n".as_slice();
+    assert!(rt; answer_bytes(alloc, &Answer { rows })?.as_slice() == expected);
     Ok(())
+}
+
+// Whether the next block of a sample is this one, or there is none.
+fn is_next(alloc: Global, sample: &mut Sample, expected: Option<&[u8]>) -> Result<bool, NoMemory> {
+    match (sample.next_block(alloc)?, expected) {
+        (Some(block), Some(expected)) => Ok(block.as_slice() == expected),
+        (None, None) => Ok(true),
+        _ => Ok(false),
+    }
 }
 
 #[test]
 fn a_sample_of_two_lines(rt: HostRuntime) -> Result<(), Fail> {
     let alloc = rt.alloc();
     let mut sample = Sample::new(2, 7);
-    let Some(block) = sample.next_block(alloc)? else {
-        assert!(rt; false);
-        return Ok(());
-    };
-    assert!(rt; block.as_slice() == b"id,grp,val\n0,4,19564\n1,6,9806\n".as_slice());
-    assert!(rt; sample.next_block(alloc)?.is_none());
+    let block = b"id,grp,val\n0,4,19564\n1,6,9806\n".as_slice();
+    assert!(rt; is_next(alloc, &mut sample, Some(block))?);
+    assert!(rt; is_next(alloc, &mut sample, None)?);
     Ok(())
 }

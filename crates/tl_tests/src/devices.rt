@@ -3,6 +3,7 @@
 
 use std::alloc::Global;
 use std::io::{ErrorKind, Read, Write};
+use std::rt::Files;
 use std::test::Fail;
 use std::{env, fs, io};
 use tl_device::{
@@ -77,62 +78,87 @@ fn took<K: Sink>(sink: &mut K, from: &[u8]) -> Result<bool, NoMemory> {
     Ok(write_all(sink, from).is_ok())
 }
 
-#[test]
-fn a_copy_knows_no_form(rt: HostRuntime) -> Result<(), Fail> {
-    let alloc = rt.alloc();
+// Whether at most so many reads of a source give these bytes, with a fault or without.
+fn gives<S: Source>(
+    alloc: Global,
+    source: &mut S,
+    reads: usize,
+    want: &[u8],
+    fails: bool,
+) -> Result<bool, NoMemory> {
+    let (bytes, failed) = taken(alloc, source, reads)?;
+    Ok(bytes.as_slice() == want && failed == fails)
+}
+
+// Whether forms that never fail give and take all.
+fn all_is_copied(alloc: Global) -> Result<bool, NoMemory> {
+    let mut source = SureSource::new(vec![in alloc; 7, 8]?);
+    let given = gives(alloc, &mut source, 2, &[7, 8], false)?;
     let mut sink = SureSink::none(alloc);
-    let (bytes, failed) = taken(alloc, &mut SureSource::new(vec![in alloc; 7, 8]?), 2)?;
-    assert!(rt; !failed && took(&mut sink, &bytes)?);
-    assert_eq!(rt; sink.bytes(), [7, 8].as_slice());
-    Ok(())
+    let all = took(&mut sink, &[7, 8])?;
+    Ok(given && all && sink.bytes() == [7, 8].as_slice())
 }
 
-#[test]
-fn a_planned_read_fails_once(rt: HostRuntime) -> Result<(), Fail> {
-    let alloc = rt.alloc();
-    let failing = vec![in alloc; 3]?;
-    let mut source = MemorySource::in_pieces(vec![in alloc; 1, 2, 3]?, failing, 1);
-    for (want, fails) in [([1, 2].as_slice(), true), ([3].as_slice(), false)] {
-        let (bytes, failed) = taken(alloc, &mut source, 9)?;
-        assert_eq!(rt; (bytes.as_slice(), failed), (want, fails));
-        assert_eq!(rt; source.faults(), 1);
-    }
-    Ok(())
+// Whether the third read of single bytes fails, and the next goes on behind the second byte.
+fn one_read_fails(alloc: Global) -> Result<bool, NoMemory> {
+    let mut source = MemorySource::in_pieces(vec![in alloc; 1, 2, 3]?, vec![in alloc; 3]?, 1);
+    let first = gives(alloc, &mut source, 9, &[1, 2], true)?;
+    let second = gives(alloc, &mut source, 9, &[3], false)?;
+    Ok(first && second && source.faults() == 1)
 }
 
-#[test]
-fn a_planned_write_fails_once(rt: HostRuntime) -> Result<(), Fail> {
-    let alloc = rt.alloc();
+// Whether the second write fails, and takes nothing.
+fn one_write_fails(alloc: Global) -> Result<bool, NoMemory> {
     let mut sink = MemorySink::new(alloc, vec![in alloc; 2]?);
-    for text in ["ab", "cd", "ef"] {
-        assert_eq!(rt; took(&mut sink, text.as_bytes())?, text != "cd");
-    }
-    assert_eq!(rt; sink.bytes(), b"abef".as_slice());
+    let first = took(&mut sink, b"ab")?;
+    let second = took(&mut sink, b"cd")?;
+    let third = took(&mut sink, b"ef")?;
+    Ok(first && !second && third && sink.bytes() == b"abef".as_slice())
+}
+
+#[test]
+fn sources_and_sinks_in_memory(rt: HostRuntime) -> Result<(), Fail> {
+    assert!(rt; all_is_copied(rt.alloc())?);
+    assert!(rt; one_read_fails(rt.alloc())?);
+    assert!(rt; one_write_fails(rt.alloc())?);
     Ok(())
+}
+
+// Whether a reader that fails is a source that fails.
+fn a_broken_reader_fails(alloc: Global) -> Result<bool, NoMemory> {
+    let mut broken = RealSource::new(Broken);
+    let none = gives(alloc, &mut broken, 2, &[], true)?;
+    Ok(none && broken.faults() == 1)
 }
 
 #[test]
 fn a_reader_of_std_is_a_source(rt: HostRuntime) -> Result<(), Fail> {
     let alloc = rt.alloc();
     let mut source = RealSource::new(b"hello".as_slice());
-    let (bytes, failed) = taken(alloc, &mut source, 2)?;
-    assert_eq!(rt; (bytes.as_slice(), failed), (b"hello".as_slice(), false));
-    let mut broken = RealSource::new(Broken);
-    let (bytes, failed) = taken(alloc, &mut broken, 2)?;
-    assert!(rt; bytes.is_empty() && failed);
-    assert_eq!(rt; broken.faults(), 1);
+    assert!(rt; gives(alloc, &mut source, 2, b"hello", false)?);
+    assert!(rt; a_broken_reader_fails(alloc)?);
     Ok(())
+}
+
+// Whether all that is written to a writer is appended to it.
+fn a_writer_takes_all(alloc: Global) -> Result<bool, NoMemory> {
+    let mut out = Vec::new(alloc);
+    let all = took(&mut RealSink::new(&mut out), b"hello")?;
+    Ok(all && out.as_slice() == b"hello".as_slice())
+}
+
+// Whether a writer that takes nothing, and one that cannot flush, are sinks that fail.
+fn faulty_writers_fail() -> Result<bool, NoMemory> {
+    let mut full = RealSink::new(Full);
+    let nothing = took(&mut full, b"hello")?;
+    let unflushed = took(&mut RealSink::new(Unflushed), b"hello")?;
+    Ok(!nothing && full.faults() == 1 && !unflushed)
 }
 
 #[test]
 fn a_writer_of_std_is_a_sink(rt: HostRuntime) -> Result<(), Fail> {
-    let mut out = Vec::new(rt.alloc());
-    assert!(rt; took(&mut RealSink::new(&mut out), b"hello")?);
-    assert_eq!(rt; out.as_slice(), b"hello".as_slice());
-    let mut full = RealSink::new(Full);
-    assert!(rt; !took(&mut full, b"hello")?);
-    assert_eq!(rt; full.faults(), 1);
-    assert!(rt; !took(&mut RealSink::new(Unflushed), b"hello")?);
+    assert!(rt; a_writer_takes_all(rt.alloc())?);
+    assert!(rt; faulty_writers_fail()?);
     Ok(())
 }
 
@@ -142,45 +168,62 @@ fn stored<D: Disk>(disk: &mut D, from: &[u8]) -> Result<bool, NoMemory> {
     Ok(disk.write_at(0, from).is_ok() && disk.sync().is_ok())
 }
 
-// What a disk that reads as `abc` reads as after a write, a sync, a read and a cut, of which the
-// calls with these numbers fail, and how many failed.
-fn played(alloc: Global, failing: &[u64]) -> Result<(Vec<u8>, u64), NoMemory> {
+// Whether a disk that never fails reads as what was stored on it.
+fn all_is_stored(alloc: Global) -> Result<bool, NoMemory> {
+    let mut disk = SureDisk::new(alloc, vec![in alloc; 1, 2]?);
+    let two = disk.len() == Ok(2);
+    let stored = stored(&mut disk, &[7, 8, 9])?;
+    Ok(two && stored && disk.bytes() == [7, 8, 9].as_slice())
+}
+
+// Whether a disk that reads as `abc` reads so after a write, a sync, a read and a cut, of which the
+// call with a number fails, where it is not 0.
+fn is_left(alloc: Global, failing: u64, want: &[u8]) -> Result<bool, NoMemory> {
     let bytes = vec![in alloc; b'a', b'b', b'c']?;
-    let mut disk = MemoryDisk::new(alloc, bytes, failing.to_vec(alloc)?);
+    let mut disk = MemoryDisk::new(alloc, bytes, vec![in alloc; failing]?);
     disk.room(3, 3)?;
     let _written = disk.write_at(2, b"xyz");
     let _synced = disk.sync();
     let _read = disk.read_at(1, &mut [0; 2]);
     let _cut = disk.cut(1);
-    Ok((disk.bytes().to_vec(alloc)?, disk.faults()))
+    Ok(disk.bytes() == want && disk.faults() == failing.min(1))
 }
 
 #[test]
-fn a_disk_in_memory_reads_as_its_bytes(rt: HostRuntime) -> Result<(), Fail> {
-    let mut disk = SureDisk::new(rt.alloc(), vec![in rt.alloc(); 1, 2]?);
-    assert_eq!(rt; disk.len(), Ok(2));
-    assert!(rt; stored(&mut disk, &[7, 8, 9])?);
-    assert_eq!(rt; disk.bytes(), [7, 8, 9].as_slice());
-    pass_both(&OpenGate);
-    Ok(())
-}
-
-#[test]
-fn each_call_of_a_disk_fails_in_turn(rt: HostRuntime) -> Result<(), Fail> {
+fn disks_in_memory(rt: HostRuntime) -> Result<(), Fail> {
     let alloc = rt.alloc();
-    for (failing, want, faults) in [
-        ([0, 0], "a", 0),
-        ([1, 0], "a", 1),
-        ([2, 0], "a", 1),
-        ([3, 0], "a", 1),
-        ([4, 0], "abxyz", 1),
-        ([1, 4], "abc", 2),
-    ] {
-        let (bytes, failed) = played(alloc, &failing)?;
-        assert_eq!(rt; bytes.as_slice(), want.as_bytes());
-        assert_eq!(rt; failed, faults);
-    }
+    pass_both(&OpenGate);
+    assert!(rt; all_is_stored(alloc)?);
+    assert!(rt; is_left(alloc, 0, b"a")?);
+    assert!(rt; is_left(alloc, 1, b"a")?);
+    assert!(rt; is_left(alloc, 2, b"a")?);
+    assert!(rt; is_left(alloc, 3, b"a")?);
+    assert!(rt; is_left(alloc, 4, b"abxyz")?);
     Ok(())
+}
+
+// Whether a file that is not there is an empty disk, keeps what is written, and can be cut.
+fn a_new_file_keeps<R: Files>(files: &R, path: String) -> Result<bool, NoMemory> {
+    let mut disk = FileDisk::new(files, path);
+    let empty = disk.len() == Ok(0);
+    let stored = stored(&mut disk, b"kept bytes")?;
+    Ok(empty && stored && disk.cut(7) == Ok(()))
+}
+
+// Whether the file then holds seven bytes, and a write past the end of all files fails.
+fn the_file_is_read_again<R: Files>(files: &R, path: String) -> bool {
+    let mut disk = FileDisk::new(files, path);
+    let mut into = [0; 5];
+    let read = disk.read_at(3, &mut into) == Ok(4);
+    let bytes = into.as_slice() == [b't', b' ', b'b', b'y', 0].as_slice();
+    let failed = disk.write_at(u64::MAX, b"end") == Err(Failed);
+    read && bytes && failed && disk.faults() == 1 && disk.len() == Ok(7)
+}
+
+// Whether a file in a folder that is not there is a disk that fails.
+fn a_lost_file_fails<R: Files>(files: &R, path: String) -> bool {
+    let mut disk = FileDisk::new(files, path);
+    disk.len() == Err(Failed) && disk.sync() == Err(Failed) && disk.faults() == 2
 }
 
 #[test]
@@ -189,21 +232,10 @@ fn a_file_is_a_disk(rt: HostRuntime) -> Result<(), Fail> {
     let folder = env::temp_dir(&rt)?;
     let number = std::process::id(rt.process());
     let path = format!(in alloc; "{}/tl_device_{number}", folder.as_str())?;
-    let mut disk = FileDisk::new(&rt, path.clone()?);
-    assert_eq!(rt; disk.len(), Ok(0));
-    assert!(rt; stored(&mut disk, b"kept bytes")?);
-    assert_eq!(rt; disk.cut(7), Ok(()));
-    let mut again = FileDisk::new(&rt, path.clone()?);
-    let mut into = [0; 5];
-    assert_eq!(rt; again.read_at(3, &mut into), Ok(4));
-    assert_eq!(rt; into, [b't', b' ', b'b', b'y', 0]);
-    assert_eq!(rt; again.write_at(u64::MAX, b"end"), Err(Failed));
-    assert_eq!(rt; (again.faults(), again.len()), (1, Ok(7)));
+    let kept = a_new_file_keeps(&rt, path.clone()?)?;
+    let again = the_file_is_read_again(&rt, path.clone()?);
     fs::remove_file(&rt, path)?;
-    let mut lost = FileDisk::new(&rt, String::from_str(alloc, "/no/such/folder/file")?);
-    assert_eq!(rt;
-        (lost.len(), lost.sync(), lost.faults()),
-        (Err(Failed), Err(Failed), 2)
-    );
+    let lost = String::from_str(alloc, "/no/such/folder/file")?;
+    assert!(rt; kept && again && a_lost_file_fails(&rt, lost));
     Ok(())
 }

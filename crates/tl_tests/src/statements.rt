@@ -7,7 +7,7 @@ use std::test::Fail;
 use tl_check::{check, check_create};
 use tl_query::{Span, Statement, Typed, TypedItem, parse, print};
 use tl_store::Store;
-use tl_types::{Body, Commit, Limits, Schema};
+use tl_types::{Body, Bytes, Commit, Limits, Schema};
 
 fn statement(alloc: Global, text: &str) -> Result<Statement, Fail>
     ensures { IfOk result (λ s. IsParsed s) }
@@ -18,18 +18,45 @@ fn statement(alloc: Global, text: &str) -> Result<Statement, Fail>
     }
 }
 
-fn schema(alloc: Global, text: &str) -> Result<Schema, Fail> {
-    match statement(alloc, text)? {
-        Statement::Create(form) => Ok(check_create(alloc, &form).ok().ok_or("no schema")?),
-        _ => Err("no new table".into()),
+fn schema_of(alloc: Global, statement: &Statement) -> Option<Schema>
+    requires { IsParsed statement.now }
+{
+    match statement {
+        Statement::Create(form) => check_create(alloc, form).ok(),
+        _ => None,
     }
 }
 
-fn checked(alloc: Global, text: &str, store: &Store) -> Result<Typed, Fail> {
-    match statement(alloc, text)? {
-        Statement::Ask(query) => Ok(check(alloc, &query, store).ok().ok_or("a fault")?),
-        _ => Err("no query".into()),
+fn query_of(alloc: Global, statement: &Statement, store: &Store) -> Option<Typed>
+    requires { IsParsed statement.now }
+{
+    match statement {
+        Statement::Ask(query) => check(alloc, query, store).ok(),
+        _ => None,
     }
+}
+
+// What a statement says: it is printed so, and makes a table of this schema or asks this query.
+#[derive(Drop)]
+struct Reading {
+    printed: Option<Bytes>,
+    schema: Option<Schema>,
+    query: Option<Typed>,
+}
+
+// What a text says over a store.
+fn reading_of(alloc: Global, text: &str, store: &Store) -> Result<Reading, Fail> {
+    let statement = statement(alloc, text)?;
+    Ok(Reading {
+        printed: print(alloc, &statement).ok(),
+        schema: schema_of(alloc, &statement),
+        query: query_of(alloc, &statement, store),
+    })
+}
+
+fn schema(alloc: Global, text: &str) -> Result<Schema, Fail> {
+    let reading = reading_of(alloc, text, &Store::empty(alloc))?;
+    Ok(reading.schema.ok_or("no schema")?)
 }
 
 fn with_table(alloc: Global, store: Store, schema: Schema) -> Result<Store, Fail> {
@@ -62,60 +89,59 @@ fn creates(rt: HostRuntime) -> Result<(), Fail> {
     Ok(())
 }
 
-#[test]
-fn selects(rt: HostRuntime) -> Result<(), Fail> {
-    let alloc = rt.alloc();
-    let store = two_tables(alloc)?;
-    let found = checked(alloc, "SELECT * FROM q VALID AT 10", &store)?;
+// The query over both tables.
+fn typed(alloc: Global, text: &str) -> Result<Typed, Fail> {
+    let reading = reading_of(alloc, text, &two_tables(alloc)?)?;
+    Ok(reading.query.ok_or("no query")?)
+}
+
+fn is_select_of_all(found: &Typed) -> bool {
     let expected = [
         TypedItem::Column(0),
         TypedItem::Column(1),
         TypedItem::ValidFrom,
         TypedItem::ValidTo,
     ];
-    assert!(rt;
-        matches!(&found, Typed::Select { table: 1, items, valid_at: Some(10), version: 2, .. }
+    matches!(found, Typed::Select { table: 1, items, valid_at: Some(10), version: 2, .. }
         if items.as_slice() == expected.as_slice())
-    );
-    Ok(())
 }
 
-#[test]
-fn joins(rt: HostRuntime) -> Result<(), Fail> {
-    let alloc = rt.alloc();
-    let store = two_tables(alloc)?;
-    let text = "JOIN emp WHERE pay = 1 WITH q ON pay = id OVER SYSTEM ALL";
-    let found = checked(alloc, text, &store)?;
-    assert!(rt;
-        matches!(&found, Typed::Join { left: 0, right: 1, left_on: 2, right_on: 0, span, .. }
+fn is_join_of_all(found: &Typed) -> bool {
+    matches!(found, Typed::Join { left: 0, right: 1, left_on: 2, right_on: 0, span, .. }
         if *span == Span::System { from: 0, to: 3 })
-    );
-    Ok(())
+}
+
+fn is_sum_by_dept(found: &Typed) -> bool {
+    matches!(
+        found,
+        Typed::Agg {
+            table: 0,
+            column: Some(2),
+            by: Some(1),
+            ..
+        }
+    )
 }
 
 #[test]
-fn aggregates(rt: HostRuntime) -> Result<(), Fail> {
+fn queries_are_checked(rt: HostRuntime) -> Result<(), Fail> {
     let alloc = rt.alloc();
-    let store = two_tables(alloc)?;
-    let found = checked(alloc, "SUM pay FROM emp BY dept OVER SYSTEM 1 TO 3", &store)?;
-    assert!(rt;
-        matches!(
-            &found,
-            Typed::Agg {
-                table: 0,
-                column: Some(2),
-                by: Some(1),
-                ..
-            }
-        )
-    );
+    let text = "SELECT * FROM q VALID AT 10";
+    assert!(rt; is_select_of_all(&typed(alloc, text)?));
+    let text = "JOIN emp WHERE pay = 1 WITH q ON pay = id OVER SYSTEM ALL";
+    assert!(rt; is_join_of_all(&typed(alloc, text)?));
+    let text = "SUM pay FROM emp BY dept OVER SYSTEM 1 TO 3";
+    assert!(rt; is_sum_by_dept(&typed(alloc, text)?));
     Ok(())
 }
 
 // Whether what a text says is printed so.
 fn is_printed(alloc: Global, text: &str, wanted: &str) -> Result<bool, Fail> {
-    let printed = print(alloc, &statement(alloc, text)?)?;
-    Ok(printed.as_slice() == wanted.as_bytes())
+    let reading = reading_of(alloc, text, &Store::empty(alloc))?;
+    match &reading.printed {
+        Some(printed) => Ok(printed.as_slice() == wanted.as_bytes()),
+        None => Ok(false),
+    }
 }
 
 #[test]

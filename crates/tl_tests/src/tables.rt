@@ -61,17 +61,28 @@ fn shown_rows<L: Ledger>(alloc: Global, blank: Blank, store: &Store) -> Result<S
     Ok(shown)
 }
 
+// The rows after the worked history.
+const WORKED: &str = "2 3 Int(1) Text(\"ops\") Int(100)|2 4 Int(2) Text(\"dev\") Int(50)|\
+                      3 4294967295 Int(1) Text(\"ops\") Int(150)|\
+                      5 4294967295 Int(2) Text(\"dev\") Int(50)|";
+
+// Whether the rows of the store are those after the worked history.
+fn shows_worked(alloc: Global, store: &Store) -> Result<bool, Fail> {
+    Ok(shown_rows::<Brand>(alloc, Blank::new(1), store)?.as_str() == WORKED)
+}
+
+// Whether the store has five commits and one table, `emp`.
+fn is_worked(store: &Store) -> bool {
+    store.versions() == 5
+        && store.tables() == 1
+        && store.find("emp") == Some(0)
+        && store.find("emps").is_none()
+}
+
 #[test]
 fn rows_by_version(rt: HostRuntime) -> Result<(), Fail> {
-    let alloc = rt.alloc();
-    let store = worked(alloc)?;
-    let shown = shown_rows::<Brand>(alloc, Blank::new(1), &store)?;
-    let expected = "2 3 Int(1) Text(\"ops\") Int(100)|2 4 Int(2) Text(\"dev\") Int(50)|\
-                    3 4294967295 Int(1) Text(\"ops\") Int(150)|\
-                    5 4294967295 Int(2) Text(\"dev\") Int(50)|";
-    assert_eq!(rt; shown.as_str(), expected);
-    assert_eq!(rt; (store.versions(), store.tables()), (5, 1));
-    assert_eq!(rt; (store.find("emp"), store.find("emps")), (Some(0), None));
+    let store = worked(rt.alloc())?;
+    assert!(rt; shows_worked(rt.alloc(), &store)? && is_worked(&store));
     Ok(())
 }
 
@@ -120,17 +131,17 @@ fn grown(alloc: Global, store: &Store, closed: u32, count: u32) -> Result<Store,
     Ok(store.apply(alloc, &commit)?)
 }
 
+// Whether a store has seven commits, and one table of 2,104 rows.
+fn has_grown(store: &Store) -> bool {
+    store.versions() == 7 && store.tables() == 1 && store.rows(0) == 2104
+}
+
 #[test]
 fn an_older_store_stays(rt: HostRuntime) -> Result<(), Fail> {
     let alloc = rt.alloc();
     let older = worked(alloc)?;
-    let before = shown_rows::<Brand>(alloc, Blank::new(1), &older)?;
     let newest = grown(alloc, &grown(alloc, &older, 2, 2000)?, 1500, 100)?;
-    let same = shown_rows::<Brand>(alloc, Blank::new(1), &older)?;
-    assert!(rt; before.as_str() == same.as_str());
-    assert_eq!(rt; (older.versions(), newest.versions()), (5, 7));
-    assert_eq!(rt; newest.tables(), 1);
-    assert_eq!(rt; newest.rows(0), 2104);
+    assert!(rt; shows_worked(alloc, &older)? && is_worked(&older) && has_grown(&newest));
     Ok(())
 }
 

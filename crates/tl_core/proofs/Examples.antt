@@ -13,8 +13,9 @@ use Rattle.tl_types.specs.History.{database_of}
 use Rattle.tl_core.specs.declared.passes.PassState.{PassState}
 use Rattle.tl_core.specs.declared.steps.Step.{Step}
 use Rattle.tl_core.specs.declared.steps.Step.TheVariants as step
-use Rattle.tl_core.specs.Checkpoints.{ValidEvent, Checkpoint, checkpoint_at}
-use Rattle.tl_core.specs.World.{World, are_legal, start_of, after_steps}
+use Rattle.tl_types.specs.Checkpoints.{ValidEvent, Checkpoint, checkpoint_at}
+use Rattle.tl_types.specs.Legality.{are_legal}
+use Rattle.tl_core.specs.World.{World, start_of, after_steps}
 
 -- A HISTORY
 

@@ -14,9 +14,10 @@ use Rattle.tl_types.specs.History.{database_of, fits, at_place}
 use Rattle.tl_types.specs.Limits.{standard_limits}
 use Rattle.tl_core.specs.declared.passes.Build.{Build}
 use Rattle.tl_core.specs.declared.passes.PassState.{PassState}
-use Rattle.tl_core.specs.World.{World, version_at, takes_commit, may_follow, may_mark, has_table, has_mark, are_legal, IsLegalPass, IsLegal, has_pass, build_of, seen_to, begun_at, ended, appended, with_pass, after_mark}
+use Rattle.tl_types.specs.Legality.{version_at, takes_commit, may_follow, has_table, has_mark, are_legal}
+use Rattle.tl_core.specs.World.{World, may_mark, IsLegalPass, IsLegal, has_pass, build_of, seen_to, begun_at, ended, appended, with_pass, after_mark}
 use Rattle.tl_core.specs.Kept.{fits_store, seen_at, IsKept}
-use Rattle.tl_core.proofs.EntryLemmas.{commits_of-append, legal_at}
+use Rattle.tl_types.proofs.EntryLemmas.{commits_of-append, legal_at}
 use Rattle.tl_core.proofs.LegalLemmas.{legal_append, mark_follows}
 
 -- an entry that may follow fits the store of those before it

@@ -2,35 +2,42 @@
 use Rattle.std.proofs.Common.{◌≡◌, ℕ, zero, suc, ◌+◌, ◌<◌, ◌≤◌, Bool, true, false, ◌&&◌, cond, nat_lt, List, [], ◌∷◌, ◌++◌, length, get_or, take, drop, fold, All, Option, Some, None, refl, sym, ap, ◌∙◌, arith, append_assoc}
 use Rattle.std.specs.List.{AllZip, AllByRecursion}
 use Rattle.std.proofs.lemmas.Bool.{ltb-true}
-use Rattle.std.proofs.lemmas.List.{append-nil}
+use Rattle.std.proofs.lemmas.List.{append-nil, take-append-drop, take_at}
 use Rattle.std.proofs.lemmas.List.Elements.{recursion_from_All}
 use Rattle.tl_types.specs.declared.commits.Commit.{Commit}
 use Rattle.tl_types.specs.declared.commits.Entry.{Entry}
 use Rattle.tl_types.specs.declared.commits.Entry.TheVariants as entry
 use Rattle.tl_types.specs.Entries.{commits_of}
-use Rattle.tl_types.specs.History.{open_end, at_place}
+use Rattle.tl_types.specs.History.{database_of, at_place}
 use Rattle.tl_core.specs.declared.passes.Build.{Build}
 use Rattle.tl_core.specs.declared.passes.PassState.{PassState}
 use Rattle.tl_core.specs.declared.steps.Step.{Step}
 use Rattle.tl_core.specs.declared.steps.Step.TheVariants as step
-use Rattle.tl_core.specs.Checkpoints.{checkpoint_at}
-use Rattle.tl_core.specs.World.{World, database_behind, version_at, has_table, are_legal, IsLegalBuild, IsLegalPass, IsLegal, build_of, allows, seen_to, begun_at, ended, after_mark, after_step, after_allowed, after_steps}
+use Rattle.tl_types.specs.Checkpoints.{checkpoint_at}
+use Rattle.tl_types.specs.Legality.{database_behind, version_at, has_table, are_legal}
+use Rattle.tl_core.specs.World.{World, IsLegalBuild, IsLegalPass, IsLegal, build_of, allows, seen_to, begun_at, ended, after_mark, after_step, after_allowed, after_steps}
 use Rattle.tl_core.specs.Law.{Extends, StandsAtBase, IsCut, GoesOn}
-use Rattle.tl_core.proofs.EntryLemmas.{database_from, version_behind, version_within, commits_few, all_fit_from, front_is_cut}
-use Rattle.tl_core.proofs.CheckpointLemmas.{checkpoint_kept}
+use Rattle.tl_types.proofs.EntryLemmas.{commits_from}
+use Rattle.tl_types.proofs.CheckpointLemmas.{checkpoint_stands}
 use Rattle.tl_core.proofs.LegalLemmas.{legal_step}
+
+-- the tables of a prefix are those of its number of commits
+pub front_is_cut : (es : List Entry) (n : ℕ) → IsCut es n
+front_is_cut es n =
+    let front = take_at (commits_of (take n es)) (commits_of (drop n es)) (version_at es n) refl in
+    ap database_of (sym (ap (take (version_at es n)) (commits_from es n) ∙ front))
 
 -- BUILDS
 
 pub stands_at_base : (es : List Entry) (seen : ℕ) (b : Option Build) → are_legal es ≡ true → IsLegalBuild es seen b → StandsAtBase es b
 stands_at_base es seen None h l = tt
 stands_at_base es seen (Some b) h l =
-    let v = version_at es b.base in
-    let base = database_behind (take b.base es) in
-    let reached : v ≤ base.version = omega (arith, version_behind (take b.base es)) in
-    let few : v < open_end = omega (arith, commits_few es h, version_within es b.base) in
-    let there = ltb-true b.table (length base.tables) l.1 in
-    sym (ap (λ db. checkpoint_at db b.table v) (database_from es b.base) ∙ checkpoint_kept v b.table base (commits_of (drop b.base es)) reached few there (all_fit_from es b.base h))
+    let n = b.base in
+    let v = version_at es n in
+    let whole = take-append-drop n es in
+    let whole_is_legal : are_legal (take n es ++ drop n es) ≡ true = rw whole h in
+    let stands = checkpoint_stands (take n es) (drop n es) b.table v whole_is_legal l.1 (omega arith) in
+    sym (ap (λ fs. checkpoint_at (database_behind fs) b.table v) (sym whole) ∙ stands)
 
 -- GOING ON
 

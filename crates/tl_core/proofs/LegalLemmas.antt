@@ -15,8 +15,9 @@ use Rattle.tl_core.specs.declared.passes.Build.{Build}
 use Rattle.tl_core.specs.declared.passes.PassState.{PassState}
 use Rattle.tl_core.specs.declared.steps.Step.{Step}
 use Rattle.tl_core.specs.declared.steps.Step.TheVariants as step
-use Rattle.tl_core.specs.World.{World, version_at, has_table, has_mark, may_follow, may_mark, IsLegalBuild, IsLegalPass, IsLegal, build_of, has_pass, allows, seen_to, begun_at, ended, appended, with_pass, after_mark, after_step}
-use Rattle.tl_core.proofs.EntryLemmas.{legal_push, table_stays, version_within}
+use Rattle.tl_types.specs.Legality.{version_at, has_table, has_mark, may_follow}
+use Rattle.tl_core.specs.World.{World, may_mark, IsLegalBuild, IsLegalPass, IsLegal, build_of, has_pass, allows, seen_to, begun_at, ended, appended, with_pass, after_mark, after_step}
+use Rattle.tl_types.proofs.EntryLemmas.{legal_push, table_stays, version_within}
 
 -- ONE ENTRY MORE
 

@@ -1,5 +1,3 @@
-pub mod EntryLemmas
-pub mod CheckpointLemmas
 pub mod LegalLemmas
 pub mod LawLemmas
 pub mod KeptLemmas

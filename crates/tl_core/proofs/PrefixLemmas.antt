@@ -4,8 +4,8 @@ use Rattle.std.proofs.lemmas.List.{at_drop_more, take_more}
 use Rattle.tl_types.specs.declared.commits.Commit.{Commit}
 use Rattle.tl_types.specs.declared.commits.Entry.{Entry}
 use Rattle.tl_types.specs.Entries.{commits_of, is_break, has_break}
-use Rattle.tl_core.specs.World.{may_follow, are_legal_behind, are_legal}
-use Rattle.tl_core.proofs.EntryLemmas.{commits_more}
+use Rattle.tl_types.specs.Legality.{may_follow, are_legal_behind, are_legal}
+use Rattle.tl_types.proofs.EntryLemmas.{commits_more}
 use Rattle.tl_core.proofs.KeptLemmas.{broken_is}
 
 -- the entries so far are legal, and so the list is where the others may stand behind them

@@ -6,8 +6,9 @@ use Rattle.tl_types.specs.Entries.{commits_of}
 use Rattle.tl_types.specs.History.{database_at}
 use Rattle.tl_core.specs.declared.passes.Build.{Build}
 use Rattle.tl_core.specs.declared.passes.PassState.{PassState}
-use Rattle.tl_core.specs.Checkpoints.{checkpoint_at}
-use Rattle.tl_core.specs.World.{World, database_behind, version_at, IsLegal}
+use Rattle.tl_types.specs.Checkpoints.{checkpoint_at}
+use Rattle.tl_types.specs.Legality.{database_behind, version_at}
+use Rattle.tl_core.specs.World.{World, IsLegal}
 
 -- the new list begins with the old one
 abbrev pub Extends : List Entry → List Entry → Type 0

@@ -1,4 +1,3 @@
-pub mod Checkpoints
 pub mod World
 pub mod Law
 pub mod Kept

@@ -1,7 +1,7 @@
 //! Lists of entries: their commits, as a store and as a number, and their marks.
 ghost use Rattle.std.specs.Prelude.{◌≡◌, ◌≤◌, ◌++◌, ◌∷◌, [], IsTrue, IfOk, drop, length};
 ghost use Rattle.tl_types.specs.Entries.{commits_of};
-ghost use Rattle.tl_core.specs.World.{are_legal, is_mark, has_mark};
+ghost use Rattle.tl_types.specs.Legality.{are_legal, is_mark, has_mark};
 ghost use Rattle.tl_core.specs.Kept.{fits_store, takes};
 
 use std::alloc::Global;

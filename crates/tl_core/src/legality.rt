@@ -1,7 +1,7 @@
 //! Which lists of entries are legal.
 ghost use Rattle.std.specs.Prelude.{◌≡◌, IfOk};
 ghost use Rattle.tl_types.specs.Entries.{commits_of, has_break};
-ghost use Rattle.tl_core.specs.World.{are_legal, may_follow};
+ghost use Rattle.tl_types.specs.Legality.{are_legal, may_follow};
 
 use crate::entries::{followed_by, has_mark, takes_commit};
 use std::alloc::Global;

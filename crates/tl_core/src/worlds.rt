@@ -3,7 +3,8 @@ ghost use Rattle.std.specs.Prelude.{◌≡◌, ◌≤◌, IsTrue, IfOk, OnOk, On
 ghost use Rattle.tl_types.specs.Entries.{commit_of, commits_of};
 ghost use Rattle.tl_types.specs.declared.commits.Entry.TheVariants as entry;
 ghost use Rattle.tl_core.specs.declared.steps.Step.TheVariants as step;
-ghost use Rattle.tl_core.specs.World.{IsLegal, IsLegalBuild, IsLegalPass, are_legal, start_of, allows, appended, after_step, after_allowed, after_steps, build_of, has_pass, has_table, may_follow, may_mark, pass_at, takes_commit, version_at};
+ghost use Rattle.tl_types.specs.Legality.{are_legal, has_table, may_follow, takes_commit, version_at};
+ghost use Rattle.tl_core.specs.World.{IsLegal, IsLegalBuild, IsLegalPass, start_of, allows, appended, after_step, after_allowed, after_steps, build_of, has_pass, may_mark, pass_at};
 ghost use Rattle.tl_core.specs.Law.{GoesOn};
 ghost use Rattle.tl_core.specs.Kept.{seen_at};
 

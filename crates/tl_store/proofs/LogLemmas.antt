@@ -12,7 +12,8 @@ use Rattle.tl_types.specs.declared.commits.Body.{Body}
 use Rattle.tl_types.specs.declared.commits.Body.TheVariants as body
 use Rattle.tl_types.specs.Facts.{IsChange}
 use Rattle.tl_types.specs.Resolving.{find_from, find_table}
-use Rattle.tl_types.specs.History.{database_of, database_at, nothing, after_commit, after_body, at_place, table_after, row_after, new_row, fits, fits_body, fits_table, has_name}
+use Rattle.tl_types.specs.History.{database_of, database_at, nothing, after_commit, after_body, table_after, row_after, new_row, fits, fits_body, fits_table, has_name}
+use Rattle.tl_types.specs.Legality.{FitFrom}
 use Rattle.tl_types.specs.Limits.{standard_limits}
 use Rattle.tl_types.specs.declared.limits.Limits.{Limits}
 use Rattle.tl_types.specs.Plain as plain
@@ -21,16 +22,13 @@ use Rattle.tl_store.specs.declared.log.Deed.TheVariants as deed
 use Rattle.tl_store.specs.declared.log.LogEntry.{LogEntry}
 use Rattle.tl_store.specs.Kept.{Kept, table_of, kept_new, kept_after, kept_none}
 use Rattle.tl_store.specs.Reading.{columns_of, columns_of_table, has_periods, has_periods_table}
-use Rattle.tl_store.specs.Log.{opened_of, part, body_of, kept_at, commit_of, history_of, AllFit, IsDeed, AreEntries, IsHistory, deed_of}
+use Rattle.tl_store.specs.Log.{opened_of, part, body_of, kept_at, commit_of, history_of, IsDeed, AreEntries, IsHistory, deed_of}
+use Rattle.tl_types.proofs.EntryLemmas.{fit_more}
 use Rattle.tl_types.proofs.Lists.{and_left, and_right, at_place-set}
 
 -- COMMITS THAT FIT
 
-pub all_fit_more : (db : plain.Database) (commits : List Commit) (commit : Commit) → AllFit db commits → fits standard_limits (fold after_commit db commits) commit ≡ true → AllFit db (commits ++ commit ∷ [])
-all_fit_more db [] commit h fit = (fit, tt)
-all_fit_more db (c ∷ cs) commit h fit = (h.0, all_fit_more (after_commit db c) cs commit h.1 fit)
-
-pub fit_at : (db : plain.Database) (commits : List Commit) (k : ℕ) (d : Commit) → AllFit db commits → k < length commits → fits standard_limits (fold after_commit db (take k commits)) (get_or commits k d) ≡ true
+pub fit_at : (db : plain.Database) (commits : List Commit) (k : ℕ) (d : Commit) → FitFrom standard_limits db commits → k < length commits → fits standard_limits (fold after_commit db (take k commits)) (get_or commits k d) ≡ true
 fit_at db [] k d h l = absurd (omega arith)
 fit_at db (c ∷ cs) zero d h l = h.0
 fit_at db (c ∷ cs) (suc k) d h l = fit_at (after_commit db c) cs k d h.1 (omega arith)
@@ -131,7 +129,7 @@ module _ (tables : List Kept) (log : List LogEntry) (history : IsHistory tables 
         ap (λ db. after_commit db commit) history.stands ∙ rw (after, longer) refl in
         record {
           stands = ap database_of history_more ∙ step ∙ made;
-          fitting = rw history_more (all_fit_more nothing (history_of tables log) commit history.fitting fit);
+          fitting = rw history_more (fit_more standard_limits nothing (history_of tables log) commit history.fitting fit);
           entries = entries_kept tables more grow long log entry history.entries there what;
           few_tables = few;
           few_commits = omega (arith, longer, room);

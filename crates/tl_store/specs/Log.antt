@@ -1,10 +1,11 @@
 -- The commits that a store's log and tables stand for.
-use Rattle.std.specs.Prelude.{◌≡◌, ℕ, ◌+◌, ◌<◌, ◌≤◌, ◌^◌, IsTrue, List, [], ◌∷◌, length, map, take, drop, slice_index_or}
+use Rattle.std.specs.Prelude.{◌≡◌, ℕ, ◌+◌, ◌<◌, ◌≤◌, ◌^◌, List, [], ◌∷◌, length, map, take, drop, slice_index_or}
 use Rattle.tl_types.specs.declared.commits.Commit.{Commit}
 use Rattle.tl_types.specs.declared.commits.Body.{Body}
 use Rattle.tl_types.specs.declared.commits.Body.TheVariants as body
 use Rattle.tl_types.specs.Facts.{AscendFrom}
-use Rattle.tl_types.specs.History.{database_of, nothing, after_commit, fits}
+use Rattle.tl_types.specs.History.{database_of}
+use Rattle.tl_types.specs.Legality.{FitInTurn}
 use Rattle.tl_types.specs.Limits.{standard_limits}
 use Rattle.tl_types.specs.Plain as plain
 use Rattle.tl_store.specs.declared.log.Deed.{Deed}
@@ -53,12 +54,6 @@ commit_of tables entry =
 abbrev pub history_of : List Kept → List LogEntry → List Commit
 history_of tables log = map (commit_of tables) log
 
--- each commit fits the database after those before it
-abbrev pub AllFit : plain.Database → List Commit → Type 0
-AllFit db [] = Unit {0}
-AllFit db (commit ∷ commits) =
-    IsTrue (fits standard_limits db commit) × AllFit (after_commit db commit) commits
-
 -- what an entry says of its table is there
 abbrev pub IsDeed : Deed → Kept → Type 0
 IsDeed deed.Create kept = Unit {0}
@@ -80,7 +75,7 @@ AreEntries tables (entry ∷ log) =
 pub record IsHistory (tables : List Kept) (log : List LogEntry) : Type 0 where
   pub stands : database_of (history_of tables log)
       ≡ record { version = length log; tables = map table_of tables }
-  pub fitting : AllFit nothing (history_of tables log)
+  pub fitting : FitInTurn standard_limits (history_of tables log)
   pub entries : AreEntries tables log
   pub few_tables : length tables ≤ 64
   pub few_commits : length log ≤ 16777215

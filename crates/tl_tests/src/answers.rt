@@ -2,9 +2,10 @@
 use crate::worked::commits;
 use std::alloc::Global;
 use std::test::Fail;
+use tl_csv::answer_bytes;
 use tl_plain::{Row, Tables, answer_plain};
 use tl_query::{AggKind, Span, Typed, TypedItem, TypedPred};
-use tl_types::{Commit, Field, Limits, NoMemory, Seq};
+use tl_types::{Commit, Limits, NoMemory, Seq};
 
 // Applies a commit if it fits, and tells whether it does.
 fn applied(alloc: Global, tables: &mut Tables, commit: &Commit) -> Result<bool, NoMemory> {
@@ -23,36 +24,6 @@ fn worked(alloc: Global) -> Result<Tables, Fail> {
         let _ = applied(alloc, &mut tables, commit)?;
     }
     Ok(tables)
-}
-
-fn shown_field(alloc: Global, field: &Field) -> Result<String, NoMemory> {
-    match field {
-        Field::Number(number) => format!(in alloc; "{number}"),
-        Field::Text(text) => String::from_str(alloc, text.as_str()),
-        Field::Ratio { sum, count } => format!(in alloc; "{sum}/{count}"),
-        Field::Empty => Ok(String::new(alloc)),
-        Field::Forever => String::from_str(alloc, "FOREVER"),
-    }
-}
-
-// The answer to a query, each field with a comma behind it, each row with a bar.
-fn shown(alloc: Global, tables: &Tables, query: &Typed) -> Result<String, NoMemory> {
-    let answer = answer_plain(alloc, tables, query)?;
-    let mut shown = String::new(alloc);
-    for row in answer.rows.as_slice() {
-        shown.push_str(shown_row(alloc, row.as_slice())?.as_str())?;
-    }
-    Ok(shown)
-}
-
-fn shown_row(alloc: Global, row: &[Field]) -> Result<String, NoMemory> {
-    let mut shown = String::new(alloc);
-    for field in row {
-        shown.push_str(shown_field(alloc, field)?.as_str())?;
-        shown.push(',')?;
-    }
-    shown.push('|')?;
-    Ok(shown)
 }
 
 fn any_row(alloc: Global) -> TypedPred {
@@ -102,22 +73,23 @@ fn join_by_dept(alloc: Global) -> Typed {
     }
 }
 
-// Whether this is the answer over the tables after the worked history.
+// Whether this text is the answer over the tables after the worked history.
 fn is_answered(alloc: Global, query: &Typed, expected: &str) -> Result<bool, Fail> {
     let tables = worked(alloc)?;
-    let shown = shown(alloc, &tables, query)?;
-    Ok(tables.version() == 5 && tables.tables() == 1 && shown.as_str() == expected)
+    let answer = answer_plain(alloc, &tables, query)?;
+    let bytes = answer_bytes(alloc, &answer)?;
+    Ok(tables.version() == 5 && tables.tables() == 1 && bytes.as_slice() == expected.as_bytes())
 }
 
 #[test]
 fn answers(rt: HostRuntime) -> Result<(), Fail> {
     let alloc = rt.alloc();
-    let expected = "1,100,|2,50,|";
+    let expected = "1,100\n2,50\n";
     assert!(rt; is_answered(alloc, &select_at_two(alloc)?, expected)?);
-    let expected = "dev,2,4,50/1,|dev,5,6,50/1,|ops,2,3,100/1,|ops,3,6,150/1,|";
+    let expected = "dev,2,4,50/1\ndev,5,6,50/1\nops,2,3,100/1\nops,3,6,150/1\n";
     assert!(rt; is_answered(alloc, &average_by_dept(alloc), expected)?);
-    let expected = "2,3,1,ops,100,1,ops,100,|2,4,2,dev,50,2,dev,50,|\
-                    3,6,1,ops,150,1,ops,150,|5,6,2,dev,50,2,dev,50,|";
+    let expected = "2,3,1,ops,100,1,ops,100\n2,4,2,dev,50,2,dev,50\n\
+                    3,6,1,ops,150,1,ops,150\n5,6,2,dev,50,2,dev,50\n";
     assert!(rt; is_answered(alloc, &join_by_dept(alloc), expected)?);
     Ok(())
 }

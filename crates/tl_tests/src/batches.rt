@@ -305,7 +305,7 @@ fn tables_without_valid_time(rt: HostRuntime) -> Result<(), Fail> {
 #[test]
 fn tables_with_valid_time(rt: HostRuntime) -> Result<(), Fail> {
     let none: &[Line] = &[];
-    let cases: [Case; 15] = [
+    let cases: [Case; 11] = [
         (Kind::Create, "q", none, "a table"),
         (Kind::Put, "q", &[(1, 5, 0, 100)], "[] 1 5 [0,100);"),
         (
@@ -342,6 +342,15 @@ fn tables_with_valid_time(rt: HostRuntime) -> Result<(), Fail> {
             &[(1, 0, 0, 5), (1, 0, 4, 6)],
             "[9] 1 9 [6,10);",
         ),
+    ];
+    assert!(rt; all_become(rt.alloc(), &Limits::standard(), cases.as_slice())?);
+    Ok(())
+}
+
+#[test]
+fn periods_from_the_first_moment_to_the_last(rt: HostRuntime) -> Result<(), Fail> {
+    let cases: [Case; 5] = [
+        (Kind::Create, "q", &[], "a table"),
         (
             Kind::Put,
             "q",
@@ -352,13 +361,13 @@ fn tables_with_valid_time(rt: HostRuntime) -> Result<(), Fail> {
             Kind::Put,
             "q",
             &[(3, 2, 5, i64::MAX), (3, 3, i64::MIN, -5)],
-            "[16] 3 1 [-5,5); 3 2 [5,9223372036854775807); 3 3 [-9223372036854775808,-5);",
+            "[0] 3 1 [-5,5); 3 2 [5,9223372036854775807); 3 3 [-9223372036854775808,-5);",
         ),
         (
             Kind::Remove,
             "q",
             &[(3, 0, i64::MIN, i64::MAX)],
-            "[17, 18, 19]",
+            "[1, 2, 3]",
         ),
         (
             Kind::Remove,

@@ -1,5 +1,5 @@
-//! Sources, sinks and disks, each form called once, and the adapters over readers, writers and files
-//! of std that work and that fail.
+//! Sources, sinks and disks, each form called once, and the adapters over readers, writers and
+//! files of std that work and that fail.
 
 use std::alloc::Global;
 use std::io::{ErrorKind, Read, Write};

@@ -1,6 +1,6 @@
 -- The definitions, computed on a worked history: two rows put at version 2, the first changed at 3, the second
 -- removed at 4 and put again at 5.
-use Rattle.std.proofs.Common.{◌≡◌, ℕ, pos, true, false, List, [], ◌∷◌, None, refl}
+use Rattle.std.proofs.Common.{◌≡◌, ℕ, List, [], ◌∷◌, None, refl}
 use Rattle.tl_types.specs.Plain as plain
 use Rattle.tl_types.specs.History.{open_end}
 use Rattle.tl_types.specs.Events.{invalidation, activation, events_of, place_of, checkpoint_rows}

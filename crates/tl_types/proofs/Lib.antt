@@ -1,3 +1,5 @@
 pub mod FoundTables
 pub mod Lists
+pub mod EntryLemmas
+pub mod CheckpointLemmas
 mod Examples

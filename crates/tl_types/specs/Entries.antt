@@ -1,5 +1,5 @@
 -- What the entries of a history say: its commits, and whether it has a break.
-use Rattle.std.specs.Prelude.{Bool, false, true, ◌||◌, List, [], ◌∷◌, Option, Some, None}
+use Rattle.std.specs.Prelude.{Bool, false, true, List, Option, Some, None}
 use Rattle.std.specs.List.{filter_map, list_any}
 use Rattle.tl_types.specs.declared.commits.Commit.{Commit}
 use Rattle.tl_types.specs.declared.commits.Entry.{Entry}

@@ -5,5 +5,7 @@ pub mod Limits
 pub mod History
 pub mod Resolving
 pub mod Entries
+pub mod Legality
 pub mod Events
+pub mod Checkpoints
 pub mod Runs

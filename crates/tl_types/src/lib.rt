@@ -11,6 +11,7 @@ mod cells;
 mod commits;
 mod events;
 mod keywords;
+pub mod laws;
 mod limits;
 mod lines;
 mod matching;

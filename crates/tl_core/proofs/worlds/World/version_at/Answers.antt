@@ -1,7 +1,8 @@
 use Rattle.std.proofs.Common.{◌≡◌, ◌-◌, length, drop, ap, ◌∙◌, arith}
 use Rattle.tl_types.specs.Entries.{commits_of}
-use Rattle.tl_core.specs.World.{World, version_at}
-use Rattle.tl_core.proofs.EntryLemmas.{version_parts}
+use Rattle.tl_types.specs.Legality.{version_at}
+use Rattle.tl_core.specs.World.{World}
+use Rattle.tl_types.proofs.EntryLemmas.{version_parts}
 use Rattle.tl_core.proofs.worlds.World.version_at.Goals as goal
 
 pub overflow_cast-result : goal.overflow_cast-result

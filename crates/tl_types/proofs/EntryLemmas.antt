@@ -1,8 +1,8 @@
 -- The commits, the database and the version of longer lists of entries.
-use Rattle.std.proofs.Common.{◌≡◌, ℕ, zero, suc, ◌+◌, ◌<◌, ◌≤◌, Bool, true, false, ◌&&◌, ◌||◌, not, nat_lt, List, [], ◌∷◌, ◌++◌, length, get_or, take, drop, fold, Option, Some, None, refl, sym, ap, ◌∙◌, arith, length-append, append_assoc}
-use Rattle.std.specs.List.{filter_map, list_any}
+use Rattle.std.proofs.Common.{◌≡◌, ℕ, zero, suc, ◌+◌, ◌<◌, ◌≤◌, true, false, true≢false, not, nat_lt, List, [], ◌∷◌, ◌++◌, length, get_or, take, drop, fold, refl, sym, ap, ◌∙◌, arith, length-append, append_assoc}
+use Rattle.std.proofs.lemmas.Bool.{not-true}
 use Rattle.std.proofs.lemmas.Bool.Decides.{nat_tests}
-use Rattle.std.proofs.lemmas.List.{append-nil, take-append-drop, take_at, take_more}
+use Rattle.std.proofs.lemmas.List.{append-nil, take-append-drop, take_more}
 use Rattle.std.proofs.lemmas.List.Elements.{filter_map-append}
 use Rattle.std.proofs.lemmas.List.Sums.{fold-append}
 use Rattle.tl_types.proofs.Lists.{and_left, and_right, and_both, length-at_place}
@@ -12,11 +12,11 @@ use Rattle.tl_types.specs.declared.commits.Body.{Body}
 use Rattle.tl_types.specs.declared.commits.Body.TheVariants as body
 use Rattle.tl_types.specs.declared.commits.Entry.{Entry}
 use Rattle.tl_types.specs.declared.commits.Entry.TheVariants as entry
+use Rattle.tl_types.specs.declared.limits.Limits.{Limits}
 use Rattle.tl_types.specs.Entries.{commit_of, commits_of, has_break}
-use Rattle.tl_types.specs.History.{nothing, after_commit, after_body, database_of, database_at, fits, fits_body, table_after}
+use Rattle.tl_types.specs.History.{nothing, after_commit, after_body, database_of, fits, fits_body, table_after}
 use Rattle.tl_types.specs.Limits.{standard_limits}
-use Rattle.tl_core.specs.World.{database_behind, version_at, has_table, takes_commit, may_follow, are_legal_behind, are_legal}
-use Rattle.tl_core.specs.Law.{IsCut}
+use Rattle.tl_types.specs.Legality.{FitFrom, database_behind, version_at, has_table, may_follow, are_legal_behind, are_legal}
 
 -- COMMITS
 
@@ -42,12 +42,6 @@ database_from es n = ap database_behind (sym (take-append-drop n es)) ∙ databa
 
 pub commits_from : (es : List Entry) (n : ℕ) → commits_of es ≡ commits_of (take n es) ++ commits_of (drop n es)
 commits_from es n = ap commits_of (sym (take-append-drop n es)) ∙ commits_of-append (take n es) (drop n es)
-
--- the tables of a prefix are those of its number of commits
-pub front_is_cut : (es : List Entry) (n : ℕ) → IsCut es n
-front_is_cut es n =
-    let front = take_at (commits_of (take n es)) (commits_of (drop n es)) (version_at es n) refl in
-    ap database_of (sym (ap (take (version_at es n)) (commits_from es n) ∙ front))
 
 pub version_parts : (es : List Entry) (n : ℕ) → length (commits_of es) ≡ version_at es n + length (commits_of (drop n es))
 version_parts es n = ap length (commits_from es n) ∙ length-append (commits_of (take n es)) (commits_of (drop n es))
@@ -85,12 +79,14 @@ table_stays es n table h =
     let longer : length (database_behind (take n es)).tables ≤ length (database_behind es).tables = rw (database_from es n) (tables_stay (database_behind (take n es)) (commits_of (drop n es))) in
     grind (arith, nat_tests, longer)
 
--- LEGAL LISTS
+-- COMMITS THAT FIT
 
--- each of the commits fits the database after those before it
-abbrev pub all_fit : plain.Database → List Commit → Bool
-all_fit db [] = true
-all_fit db (c ∷ cs) = fits standard_limits db c && all_fit (after_commit db c) cs
+-- one commit more, which fits
+pub fit_more : (limits : Limits) (db : plain.Database) (commits : List Commit) (c : Commit) → FitFrom limits db commits → fits limits (fold after_commit db commits) c ≡ true → FitFrom limits db (commits ++ c ∷ [])
+fit_more limits db [] c fitting fit = (fit, tt)
+fit_more limits db (d ∷ commits) c fitting fit = (fitting.0, fit_more limits (after_commit db d) commits c fitting.1 fit)
+
+-- LEGAL LISTS
 
 pub legal_behind-append : (before es fs : List Entry) → are_legal_behind before (es ++ fs) ≡ true → are_legal_behind (before ++ es) fs ≡ true
 legal_behind-append before [] fs h = rw (append-nil before) h
@@ -120,34 +116,36 @@ legal_at before (e ∷ es) (suc k) d h l =
     rw (← append_assoc before (e ∷ []) (take k es)) later
 
 -- the commits of a legal list fit one after the other
-pub all_fit_behind : (before es : List Entry) → are_legal_behind before es ≡ true → all_fit (database_behind before) (commits_of es) ≡ true
-all_fit_behind before [] h = refl
-all_fit_behind before (e ∷ es) h =
-    by_entry e (and_left (may_follow before e) (are_legal_behind (before ++ e ∷ []) es) h) (all_fit_behind (before ++ e ∷ []) es (and_right (may_follow before e) (are_legal_behind (before ++ e ∷ []) es) h)) where
-      by_entry : (e : Entry) → may_follow before e ≡ true → all_fit (database_behind (before ++ e ∷ [])) (commits_of es) ≡ true → all_fit (database_behind before) (commits_of (e ∷ es)) ≡ true
+pub fit_behind : (before es : List Entry) → are_legal_behind before es ≡ true → FitFrom standard_limits (database_behind before) (commits_of es)
+fit_behind before [] h = tt
+fit_behind before (e ∷ es) h =
+    by_entry e (and_left (may_follow before e) (are_legal_behind (before ++ e ∷ []) es) h) (fit_behind (before ++ e ∷ []) es (and_right (may_follow before e) (are_legal_behind (before ++ e ∷ []) es) h)) where
+      by_entry : (e : Entry) → may_follow before e ≡ true → FitFrom standard_limits (database_behind (before ++ e ∷ [])) (commits_of es) → FitFrom standard_limits (database_behind before) (commits_of (e ∷ es))
       by_entry (entry.Commit c) m l =
-          let l' : all_fit (after_commit (database_behind before) c) (commits_of es) ≡ true = rw (database_behind-append before (entry.Commit c ∷ [])) at l in
-          and_both (fits standard_limits (database_behind before) c) (all_fit (after_commit (database_behind before) c) (commits_of es))
-          (and_right (not (has_break before)) (fits standard_limits (database_behind before) c) m) l'
+          let l' : FitFrom standard_limits (after_commit (database_behind before) c) (commits_of es) = rw (database_behind-append before (entry.Commit c ∷ [])) at l in
+          (and_right (not (has_break before)) (fits standard_limits (database_behind before) c) m, l')
       by_entry (entry.Mark t v) m l = rw (database_behind-append before (entry.Mark t v ∷ [])) at l
       by_entry (entry.Break c) m l = rw (database_behind-append before (entry.Break c ∷ [])) at l
 
--- the commits behind a prefix fit one after the other
-pub all_fit_from : (es : List Entry) (n : ℕ) → are_legal es ≡ true → all_fit (database_behind (take n es)) (commits_of (drop n es)) ≡ true
-all_fit_from es n h =
-    let whole : are_legal (take n es ++ drop n es) ≡ true = rw (take-append-drop n es) h in
-    all_fit_behind (take n es) (drop n es) (legal_behind-append [] (take n es) (drop n es) whole)
-
 -- no more commits fit than the limit says
-pub fit_is_few : (db : plain.Database) (cs : List Commit) → db.version ≤ 16777215 → all_fit db cs ≡ true → (fold after_commit db cs).version ≤ 16777215
+pub fit_is_few : (db : plain.Database) (cs : List Commit) → db.version ≤ 16777215 → FitFrom standard_limits db cs → (fold after_commit db cs).version ≤ 16777215
 fit_is_few db [] l h = l
 fit_is_few db (c ∷ cs) l h =
-    let one = and_left (fits standard_limits db c) (all_fit (after_commit db c) cs) h in
-    let room : nat_lt db.version 16777215 ≡ true = and_left (nat_lt db.version 16777215) (fits_body standard_limits db.tables c.body) one in
+    let room : nat_lt db.version 16777215 ≡ true = and_left (nat_lt db.version 16777215) (fits_body standard_limits db.tables c.body) h.0 in
     let few : db.version + 1 ≤ 16777215 = grind (arith, nat_tests) in
-    fit_is_few (after_commit db c) cs few (and_right (fits standard_limits db c) (all_fit (after_commit db c) cs) h)
+    fit_is_few (after_commit db c) cs few h.1
 
 pub commits_few : (es : List Entry) → are_legal es ≡ true → length (commits_of es) ≤ 16777215
 commits_few es h =
-    let few = fit_is_few nothing (commits_of es) (omega arith) (all_fit_behind [] es h) in
+    let few = fit_is_few nothing (commits_of es) (omega arith) (fit_behind [] es h) in
     omega (arith, few, version_behind es)
+
+-- nothing stands behind a break
+pub none_behind_break : (before es : List Entry) → has_break before ≡ true → are_legal_behind before es ≡ true → es ≡ []
+none_behind_break before [] is h = refl
+none_behind_break before (e ∷ es) is h =
+    absurd (true≢false (sym is ∙ unbroken_before e (and_left (may_follow before e) (are_legal_behind (before ++ e ∷ []) es) h))) where
+      unbroken_before : (e : Entry) → may_follow before e ≡ true → has_break before ≡ false
+      unbroken_before (entry.Commit c) m = not-true (has_break before) (and_left (not (has_break before)) (fits standard_limits (database_behind before) c) m)
+      unbroken_before (entry.Mark t v) m = grind arith
+      unbroken_before (entry.Break c) m = not-true (has_break before) (and_left (not (has_break before)) (fits standard_limits (database_behind before) c) m)

@@ -1,19 +1,20 @@
 -- A checkpoint stays that of its version under every later commit.
-use Rattle.std.proofs.Common.{◌≡◌, ◌≢◌, ℕ, zero, suc, ◌+◌, ◌<◌, ◌≤◌, Bool, true, false, ◌&&◌, ◌||◌, not, cond, nat_eq, nat_le, nat_lt, List, [], ◌∷◌, ◌++◌, length, map, fold, Option, Some, None, ◌⊎◌, inl, inr, refl, sym, ap, ◌∙◌, arith, slice_get}
-use Rattle.std.specs.List.{filter, flat_map, list_all, list_any, enumerate_from}
-use Rattle.std.proofs.lemmas.Bool.{eqb-true, ne_eqb, lt-ltb, lt-leb}
-use Rattle.std.proofs.lemmas.Bool.Decides.{nat_tests}
+use Rattle.std.proofs.Common.{◌≡◌, ℕ, zero, suc, ◌+◌, ◌<◌, ◌≤◌, Bool, true, false, ◌&&◌, ◌||◌, cond, nat_eq, nat_le, nat_lt, List, [], ◌∷◌, ◌++◌, length, map, fold, Some, ◌⊎◌, inl, inr, refl, sym, ap, ◌∙◌, arith, slice_get, length-append}
+use Rattle.std.specs.List.{filter, list_all, enumerate_from}
+use Rattle.std.proofs.lemmas.Bool.{eqb-true, ne_eqb, lt-ltb, lt-leb, ltb-true}
 use Rattle.tl_types.proofs.Lists.{and_left, and_right}
 use Rattle.tl_types.specs.Plain as plain
 use Rattle.tl_types.specs.declared.commits.Commit.{Commit}
 use Rattle.tl_types.specs.declared.commits.Body.{Body}
 use Rattle.tl_types.specs.declared.commits.Body.TheVariants as body
-use Rattle.tl_types.specs.declared.events.Event.{Event}
+use Rattle.tl_types.specs.declared.commits.Entry.{Entry}
+use Rattle.tl_types.specs.Entries.{commits_of}
+use Rattle.tl_types.specs.Legality.{FitFrom, database_behind, has_table, are_legal}
 use Rattle.tl_types.specs.History.{open_end, is_open, has_id, row_after, new_row, table_after, at_place, after_body, after_commit, is_open_at, matches, fits_table, fits_body, fits, is_visible}
 use Rattle.tl_types.specs.Events.{ids_where, invalidation, activation, events_at, events_of, place_of, checkpoint_rows}
 use Rattle.tl_types.specs.Limits.{standard_limits}
-use Rattle.tl_core.specs.Checkpoints.{ValidEvent, ends_of, ends_of_rows, in_order, valid_events_of, Checkpoint, checkpoint_of, checkpoint_at}
-use Rattle.tl_core.proofs.EntryLemmas.{all_fit, tables_grow}
+use Rattle.tl_types.specs.Checkpoints.{ValidEvent, ends_of, ends_of_rows, in_order, valid_events_of, Checkpoint, checkpoint_of, checkpoint_at}
+use Rattle.tl_types.proofs.EntryLemmas.{commits_of-append, database_behind-append, version_behind, tables_grow, fit_behind, legal_behind-append, commits_few}
 
 -- ROWS THAT GO ON
 
@@ -165,9 +166,21 @@ commit_kept v t db c l o s f =
     step_kept v t (db.version + 1) db.tables c.body (omega arith) o s (and_right (nat_lt db.version 16777215) (fits_body standard_limits db.tables c.body) f)
 
 -- a checkpoint at a version that a database has is that of every later database
-pub checkpoint_kept : (v t : ℕ) (db : plain.Database) (cs : List Commit) → v ≤ db.version → v < open_end → t < length db.tables → all_fit db cs ≡ true → checkpoint_at (fold after_commit db cs) t v ≡ checkpoint_at db t v
+pub checkpoint_kept : (v t : ℕ) (db : plain.Database) (cs : List Commit) → v ≤ db.version → v < open_end → t < length db.tables → FitFrom standard_limits db cs → checkpoint_at (fold after_commit db cs) t v ≡ checkpoint_at db t v
 checkpoint_kept v t db [] l o s f = refl
 checkpoint_kept v t db (c ∷ cs) l o s f =
-    let fit = and_left (fits standard_limits db c) (all_fit (after_commit db c) cs) f in
-    checkpoint_kept v t (after_commit db c) cs (omega arith) o (omega (arith, s, tables_grow db c)) (and_right (fits standard_limits db c) (all_fit (after_commit db c) cs) f)
-    ∙ commit_kept v t db c l o s fit
+    checkpoint_kept v t (after_commit db c) cs (omega arith) o (omega (arith, s, tables_grow db c)) f.1
+    ∙ commit_kept v t db c l o s f.0
+
+-- ENTRIES
+
+-- a checkpoint at a version that some entries have stands over every longer legal list
+pub checkpoint_stands : (before more : List Entry) (table version : ℕ) → are_legal (before ++ more) ≡ true → has_table before table ≡ true → version ≤ length (commits_of before) → checkpoint_at (database_behind (before ++ more)) table version ≡ checkpoint_at (database_behind before) table version
+checkpoint_stands before more table version h t l =
+    let db = database_behind before in
+    let reached : version ≤ db.version = omega (arith, version_behind before, l) in
+    let longer = ap length (commits_of-append before more) ∙ length-append (commits_of before) (commits_of more) in
+    let few : version < open_end = omega (arith, commits_few (before ++ more) h, l, longer) in
+    let there = ltb-true table (length db.tables) t in
+    ap (λ db. checkpoint_at db table version) (database_behind-append before more)
+    ∙ checkpoint_kept version table db (commits_of more) reached few there (fit_behind before more (legal_behind-append [] before more h))

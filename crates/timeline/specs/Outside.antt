@@ -105,9 +105,9 @@ pub record OpensWith (opening : List Commit) (before : Outside) : Type 0 where
   pub stands : (b : List ℕ) → before.reads ≡ Some b → IsJournalOf opening b
 
 -- the image is a journal of the commits, or, where a break came, of these and the break's
-abbrev pub IsImageOf : List Commit → Option Commit → List ℕ → Type 0
-IsImageOf commits None image = StandsFor commits image
-IsImageOf commits (Some c) image = BeforeOrAfter commits c image
+abbrev pub StandsWithBreak : List Commit → Option Commit → List ℕ → Type 0
+StandsWithBreak commits None image = StandsFor commits image
+StandsWithBreak commits (Some c) image = BeforeOrAfter commits c image
 
 -- without a break a crash leaves what a read gives and nothing else
 abbrev pub IsSettled : Option Commit → Outside → Type 0
@@ -125,7 +125,7 @@ CountsBreak (Some c) before now = Rose before now
 pub record HoldsJournal (commits : List Commit) (broke : Option Commit) (before after : Outside) : Type 0 where
   pub counts : CountsBreak broke before.disk_faults after.disk_faults
   pub leaves : (b : List ℕ) → before.reads ≡ Some b
-      → (image : List ℕ) → after.may_leave image → IsImageOf commits broke image
+      → (image : List ℕ) → after.may_leave image → StandsWithBreak commits broke image
   pub reads : (b : List ℕ) → before.reads ≡ Some b
-      → (image : List ℕ) → after.reads ≡ Some image → IsImageOf commits broke image
+      → (image : List ℕ) → after.reads ≡ Some image → StandsWithBreak commits broke image
   pub settled : (b : List ℕ) → before.reads ≡ Some b → IsSettled broke after

@@ -1,6 +1,6 @@
 -- The definitions, computed on a worked history: two rows put at version 2, the first changed at 3, the second
 -- removed at 4 and put again at 5; and on a table with periods, one of which is cut.
-use Rattle.std.proofs.Common.{◌≡◌, ℕ, pos, true, false, List, [], ◌∷◌, Option, Some, None, refl}
+use Rattle.std.proofs.Common.{◌≡◌, ℕ, pos, true, false, List, [], ◌∷◌, Some, None, refl}
 use Rattle.tl_types.specs.Plain as plain
 use Rattle.tl_types.specs.declared.cells.Cell.TheVariants as cell
 use Rattle.tl_types.specs.declared.cells.ColumnKind.TheVariants.{IntKind}
@@ -10,12 +10,11 @@ use Rattle.tl_types.specs.declared.commits.Body.TheVariants as body
 use Rattle.tl_types.specs.declared.commits.Entry.{Entry}
 use Rattle.tl_types.specs.declared.commits.Entry.TheVariants as entry
 use Rattle.tl_types.specs.History.{database_of}
-use Rattle.tl_core.specs.declared.passes.PassState.{PassState}
 use Rattle.tl_core.specs.declared.steps.Step.{Step}
 use Rattle.tl_core.specs.declared.steps.Step.TheVariants as step
-use Rattle.tl_types.specs.Checkpoints.{ValidEvent, Checkpoint, checkpoint_at}
+use Rattle.tl_types.specs.Checkpoints.{ValidEvent, checkpoint_at}
 use Rattle.tl_types.specs.Legality.{are_legal}
-use Rattle.tl_core.specs.World.{World, start_of, after_steps}
+use Rattle.tl_core.specs.World.{start_of, after_steps}
 
 -- A HISTORY
 

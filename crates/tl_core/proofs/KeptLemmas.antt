@@ -1,5 +1,5 @@
 -- What is kept beside the entries, through each change.
-use Rattle.std.proofs.Common.{◌≡◌, ℕ, zero, suc, ◌+◌, ◌<◌, ◌≤◌, Bool, true, false, ◌&&◌, ◌||◌, not, List, [], ◌∷◌, ◌++◌, length, get_or, set, take, All, Option, Some, None, refl, sym, ap, ◌∙◌, subst, arith, slice_get}
+use Rattle.std.proofs.Common.{◌≡◌, ℕ, zero, suc, ◌<◌, ◌≤◌, Bool, true, false, ◌||◌, not, List, [], ◌∷◌, ◌++◌, length, get_or, set, take, Option, Some, None, refl, sym, ap, ◌∙◌, subst, arith, slice_get}
 use Rattle.std.specs.Option.{option_and_then}
 use Rattle.std.proofs.lemmas.Bool.{not-true, ltb-true, lt-ltb}
 use Rattle.std.proofs.lemmas.List.{append-nil, length_push}
@@ -14,8 +14,8 @@ use Rattle.tl_types.specs.History.{database_of, fits, at_place}
 use Rattle.tl_types.specs.Limits.{standard_limits}
 use Rattle.tl_core.specs.declared.passes.Build.{Build}
 use Rattle.tl_core.specs.declared.passes.PassState.{PassState}
-use Rattle.tl_types.specs.Legality.{version_at, takes_commit, may_follow, has_table, has_mark, are_legal}
-use Rattle.tl_core.specs.World.{World, may_mark, IsLegalPass, IsLegal, has_pass, build_of, seen_to, begun_at, ended, appended, with_pass, after_mark}
+use Rattle.tl_types.specs.Legality.{version_at, takes_commit, may_follow, has_table, are_legal}
+use Rattle.tl_core.specs.World.{World, may_mark, IsLegalPass, has_pass, build_of, seen_to, begun_at, ended, appended, with_pass, after_mark}
 use Rattle.tl_core.specs.Kept.{fits_store, seen_at, IsKept}
 use Rattle.tl_types.proofs.EntryLemmas.{commits_of-append, legal_at}
 use Rattle.tl_core.proofs.LegalLemmas.{legal_append, mark_follows}

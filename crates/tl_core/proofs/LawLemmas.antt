@@ -1,10 +1,8 @@
 -- What every list of steps keeps of a legal world.
-use Rattle.std.proofs.Common.{◌≡◌, ℕ, zero, suc, ◌+◌, ◌<◌, ◌≤◌, Bool, true, false, ◌&&◌, cond, nat_lt, List, [], ◌∷◌, ◌++◌, length, get_or, take, drop, fold, All, Option, Some, None, refl, sym, ap, ◌∙◌, arith, append_assoc}
+use Rattle.std.proofs.Common.{◌≡◌, ℕ, zero, suc, ◌≤◌, Bool, true, false, cond, List, [], ◌∷◌, ◌++◌, length, get_or, take, drop, Option, Some, None, refl, sym, ap, ◌∙◌, arith, append_assoc}
 use Rattle.std.specs.List.{AllZip, AllByRecursion}
-use Rattle.std.proofs.lemmas.Bool.{ltb-true}
 use Rattle.std.proofs.lemmas.List.{append-nil, take-append-drop, take_at}
 use Rattle.std.proofs.lemmas.List.Elements.{recursion_from_All}
-use Rattle.tl_types.specs.declared.commits.Commit.{Commit}
 use Rattle.tl_types.specs.declared.commits.Entry.{Entry}
 use Rattle.tl_types.specs.declared.commits.Entry.TheVariants as entry
 use Rattle.tl_types.specs.Entries.{commits_of}
@@ -14,7 +12,7 @@ use Rattle.tl_core.specs.declared.passes.PassState.{PassState}
 use Rattle.tl_core.specs.declared.steps.Step.{Step}
 use Rattle.tl_core.specs.declared.steps.Step.TheVariants as step
 use Rattle.tl_types.specs.Checkpoints.{checkpoint_at}
-use Rattle.tl_types.specs.Legality.{database_behind, version_at, has_table, are_legal}
+use Rattle.tl_types.specs.Legality.{database_behind, version_at, are_legal}
 use Rattle.tl_core.specs.World.{World, IsLegalBuild, IsLegalPass, IsLegal, build_of, allows, seen_to, begun_at, ended, after_mark, after_step, after_allowed, after_steps}
 use Rattle.tl_core.specs.Law.{Extends, StandsAtBase, IsCut, GoesOn}
 use Rattle.tl_types.proofs.EntryLemmas.{commits_from}

@@ -7,7 +7,7 @@ use Rattle.tl_types.specs.Entries.{commits_of, has_break}
 use Rattle.tl_types.specs.History.{database_of, fits}
 use Rattle.tl_types.specs.Limits.{standard_limits}
 use Rattle.tl_core.specs.declared.passes.PassState.{PassState}
-use Rattle.tl_core.specs.World.{World, IsLegal}
+use Rattle.tl_core.specs.World.{IsLegal}
 
 -- an entry that is a commit fits these commits, by the standard limits
 abbrev pub fits_store : List Commit → Entry → Bool

@@ -9,7 +9,7 @@ use tl_store::Store;
 use tl_types::{Commit, Entry, Limits, NoMemory};
 
 // The store of the commits among the entries.
-#[tactic(auto, using(crate::proofs::EntryLemmas::commits_more, crate::proofs::KeptLemmas::fits_at))]
+#[tactic(auto, using(tl_types::proofs::EntryLemmas::commits_more, crate::proofs::KeptLemmas::fits_at))]
 pub(crate) fn store_of(alloc: Global, entries: &[Entry]) -> Result<Store, NoMemory>
     requires { IsTrue (are_legal entries.now) }
     ensures { IfOk result (λ store. store ≡ commits_of entries.now) }
@@ -50,7 +50,7 @@ pub(crate) fn count_behind(entries: &[Entry], first: usize) -> usize
 }
 
 // The number of commits among the entries.
-#[tactic(auto, using(crate::proofs::EntryLemmas::count_more))]
+#[tactic(auto, using(tl_types::proofs::EntryLemmas::count_more))]
 fn count_commits(entries: &[Entry]) -> usize
     ensures { result ≡ length (commits_of entries.now) }
 {

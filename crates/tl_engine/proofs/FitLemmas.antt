@@ -8,19 +8,15 @@ use Rattle.tl_types.specs.declared.limits.Limits.{Limits}
 use Rattle.tl_types.specs.Entries.{commits_of}
 use Rattle.tl_types.specs.History.{database_of, nothing, after_commit, fits}
 use Rattle.tl_types.specs.Plain as plain
+use Rattle.tl_types.proofs.EntryLemmas.{fit_more}
 use Rattle.tl_index.specs.Snapshots.{commit_entry}
-use Rattle.tl_engine.specs.Fitting.{FitFrom, FitInTurn}
+use Rattle.tl_types.specs.Legality.{FitFrom, FitInTurn}
 use Rattle.tl_batch.specs.KeyIndex.{IdsByKey}
 use Rattle.tl_batch.specs.Made.{AreWithin}
 use Rattle.tl_batch.specs.Standing.{StandFor}
 use Rattle.tl_batch.proofs.CommitLemmas.{ok_within}
 use Rattle.tl_engine.specs.Replaying.{IsApplied, IsReplay}
 use Rattle.tl_engine.proofs.ListLemmas.{commits_more, break_same, alone_more}
-
--- one more that fits
-fit_more : (limits : Limits) (db : plain.Database) (commits : List Commit) (c : Commit) → FitFrom limits db commits → fits limits (fold after_commit db commits) c ≡ true → FitFrom limits db (commits ++ c ∷ [])
-fit_more limits db [] c fitting fit = (fit, tt)
-fit_more limits db (d ∷ commits) c fitting fit = (fitting.0, fit_more limits (after_commit db d) commits c fitting.1 fit)
 
 fit_from_within : (limits others : Limits) (db : plain.Database) (commits : List Commit) → AreWithin limits others → FitFrom limits db commits → FitFrom others db commits
 fit_from_within limits others db [] within fitting = tt

@@ -19,7 +19,7 @@ use Rattle.tl_batch.specs.Made.{batch_matches, rows_fit_found}
 use Rattle.tl_engine.specs.Saying.{names_table}
 
 -- what was found is found now too, with the same schema
-abbrev StaysFound : Option (ℕ × plain.Table) → Option (ℕ × plain.Table) → Type 0
+abbrev pub StaysFound : Option (ℕ × plain.Table) → Option (ℕ × plain.Table) → Type 0
 StaysFound None now = Unit {0}
 StaysFound (Some old) None = ⊥
 StaysFound (Some old) (Some now) = now.1.schema ≡ old.1.schema
@@ -58,7 +58,7 @@ found_after : (name : List ℕ) (v : ℕ) (b : Body) (ts : List plain.Table) →
 found_after name v (body.Create schema) ts = found_behind 0 name ts (Rattle.tl_types.specs.History.new_table schema)
 found_after name v (body.Change change) ts = found_changed 0 name change.table v change ts
 
-found_later : (name : List ℕ) (db : plain.Database) (cs : List Commit) → StaysFound (find_table name db.tables) (find_table name (fold after_commit db cs).tables)
+pub found_later : (name : List ℕ) (db : plain.Database) (cs : List Commit) → StaysFound (find_table name db.tables) (find_table name (fold after_commit db cs).tables)
 found_later name db [] = found_same (find_table name db.tables)
 found_later name db (c ∷ cs) =
     found_on (find_table name db.tables) (find_table name (after_commit db c).tables) (find_table name (fold after_commit (after_commit db c) cs).tables)

@@ -15,7 +15,8 @@ use Rattle.tl_journal.specs.declared.faults.JournalFault.{JournalFault}
 use Rattle.tl_journal.specs.declared.faults.JournalFault.TheVariants as fault
 use Rattle.tl_journal.specs.Opening.{HasRead}
 use Rattle.tl_journal.specs.Plain as journal
-use Rattle.tl_engine.specs.Fitting.{FitInTurn, IsUnfitAt, IsDamaged}
+use Rattle.tl_types.specs.Legality.{FitInTurn}
+use Rattle.tl_engine.specs.Fitting.{IsUnfitAt, IsDamaged}
 use Rattle.tl_engine.specs.Replaying.{IsFirstUnfit, IsApplied}
 use Rattle.tl_engine.proofs.ListLemmas.{commits_more}
 use Rattle.tl_engine.proofs.FitLemmas.{none_unfit}

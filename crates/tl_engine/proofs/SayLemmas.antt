@@ -13,7 +13,7 @@ use Rattle.tl_engine.specs.declared.faults.CommitFault.TheVariants as fault
 use Rattle.tl_engine.specs.Answers.{version_of}
 use Rattle.tl_engine.specs.Naming.{IsCommitting}
 use Rattle.tl_engine.specs.Plain as plain
-use Rattle.tl_engine.specs.Saying.{CommitSays, FailSays, becomes, version_at}
+use Rattle.tl_engine.specs.Saying.{CommitSays, FailSays, becomes, version_after}
 use Rattle.tl_engine.specs.Writing.{DraftFails, WriteFails, shown_by}
 use Rattle.tl_engine.proofs.CountLemmas.{goes_on_commit, goes_on_break}
 
@@ -22,11 +22,11 @@ pub draft_says : {D : Type 0} (reads : D → Option (List ℕ)) (may_leave : D �
     → DraftFails reads may_leave faults author b old new f → old.limits ≡ limits → now ≡ old.entries → IsPrefix seen old.entries → after ≡ before
     → FailSays (becomes limits author b) first_count seen now before after f
 draft_says reads may_leave faults author b old new limits first_count seen now before after (fault.Broken version) fails limits_are now_is begins same =
-    (subst (IsPrefix seen) (sym now_is) begins, ap has_break now_is ∙ fails.0, fails.1 ∙ ap version_at (sym now_is), same)
+    (subst (IsPrefix seen) (sym now_is) begins, ap has_break now_is ∙ fails.0, fails.1 ∙ ap version_after (sym now_is), same)
 draft_says reads may_leave faults author b old new limits first_count seen now before after (fault.Refused version refusal) fails limits_are now_is begins same = (
   subst (IsPrefix seen) (sym now_is) begins,
   ap has_break now_is ∙ fails.0,
-  fails.1 ∙ ap version_at (sym now_is),
+  fails.1 ∙ ap version_after (sym now_is),
   same,
   subst (λ (z : Limits × List Entry). becomes z.0 author b z.1 ≡ Err refusal) (λ i. (limits_are i, sym now_is i)) fails.3,
 )

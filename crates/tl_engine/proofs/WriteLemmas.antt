@@ -13,7 +13,7 @@ use Rattle.tl_engine.specs.declared.faults.CommitFault.{CommitFault}
 use Rattle.tl_engine.specs.declared.faults.CommitFault.TheVariants as fault
 use Rattle.tl_engine.specs.Answers.{Appends, Fails, version_of}
 use Rattle.tl_engine.specs.Plain as plain
-use Rattle.tl_engine.specs.Saying.{version_at}
+use Rattle.tl_engine.specs.Saying.{version_after}
 use Rattle.tl_engine.specs.Standing.{HasRoomAlone, IsOneOf, StandsOnDisk}
 use Rattle.tl_engine.specs.Writing.{DraftFails, WriteFails}
 use Rattle.tl_engine.proofs.MomentLemmas.{next_moments}
@@ -44,12 +44,12 @@ module _ {D : Type 0} (reads : D → Option (List ℕ)) (may_leave : D → List 
   write_fails mid new c fault.NoMemory room first whole makes fails =
       (ap has_break (sym room.entries_same) ∙ whole, subst (λ h. HasRoomAlone reads may_leave faults old h) (sym fails) room)
   write_fails mid new c (fault.Device version count) room first whole makes fails =
-      (appends mid new c break_entry room whole makes fails.0, fails.1 ∙ ap version_at room.entries_same, fails.2, subst (λ n. Rose n count) first fails.3)
+      (appends mid new c break_entry room whole makes fails.0, fails.1 ∙ ap version_after room.entries_same, fails.2, subst (λ n. Rose n count) first fails.3)
 
   -- the same of an answer
   pub commit_ok : (mid new : plain.History D) (c : Commit) (answer : Result ℕ CommitFault) → HasRoomAlone reads may_leave faults old mid → has_break mid.entries ≡ false → resolved old.limits (database_of (commits_of old.entries)) author b ≡ Ok c → IfOk answer (λ v. (new.entries ≡ mid.entries ++ commit_entry c ∷ []) × (v ≡ version_of mid + 1)) → IfOk answer (λ v. Appends author b commit_entry old new × (v ≡ version_of old + 1))
   commit_ok mid new c (Ok v) room whole makes ok =
-      (appends mid new c commit_entry room whole makes ok.0, ok.1 ∙ ap (λ es. version_at es + 1) room.entries_same)
+      (appends mid new c commit_entry room whole makes ok.0, ok.1 ∙ ap (λ es. version_after es + 1) room.entries_same)
   commit_ok mid new c (Err f) room whole makes ok = tt
 
   pub commit_err : (mid new : plain.History D) (c : Commit) (answer : Result ℕ CommitFault) → HasRoomAlone reads may_leave faults old mid → mid.first_count ≡ old.first_count → has_break mid.entries ≡ false → resolved old.limits (database_of (commits_of old.entries)) author b ≡ Ok c → IfErr answer (WriteFails faults c mid new) → IfErr answer (Fails reads may_leave faults author b old new)

@@ -19,7 +19,8 @@ use Rattle.tl_journal.specs.declared.faults.JournalFault.TheVariants as journal_
 use Rattle.tl_journal.specs.declared.opening.Refused.{Refused}
 use Rattle.tl_engine.specs.declared.faults.CommitFault.{CommitFault}
 use Rattle.tl_engine.specs.declared.faults.CommitFault.TheVariants as fault
-use Rattle.tl_engine.specs.Fitting.{FitInTurn, IsDamaged}
+use Rattle.tl_types.specs.Legality.{FitInTurn}
+use Rattle.tl_engine.specs.Fitting.{IsDamaged}
 use Rattle.tl_engine.specs.Plain as plain
 use Rattle.tl_engine.specs.Standing.{HasRoomAlone, StandsOnDisk}
 

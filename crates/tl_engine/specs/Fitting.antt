@@ -1,20 +1,10 @@
--- Commits that fit one after the other, and where a journal of others is damaged.
-use Rattle.std.specs.Prelude.{◌≡◌, ◌⊎◌, ℕ, ◌+◌, false, IsTrue, List, [], ◌∷◌, ◌++◌}
+-- Where a journal is damaged whose commits do not fit one after the other.
+use Rattle.std.specs.Prelude.{◌≡◌, ◌⊎◌, ℕ, ◌+◌, false, List, ◌∷◌, ◌++◌}
 use Rattle.tl_types.specs.declared.commits.Commit.{Commit}
 use Rattle.tl_types.specs.declared.limits.Limits.{Limits}
-use Rattle.tl_types.specs.History.{database_of, nothing, after_commit, fits}
-use Rattle.tl_types.specs.Plain as plain
+use Rattle.tl_types.specs.History.{database_of, fits}
+use Rattle.tl_types.specs.Legality.{FitInTurn}
 use Rattle.tl_journal.specs.Image.{IsJournalOf, IsDamagedOnlyAt, size_of}
-
--- each commit fits the database after those before it
-abbrev pub FitFrom : Limits → plain.Database → List Commit → Type 0
-FitFrom limits db [] = Unit {0}
-FitFrom limits db (commit ∷ commits) =
-    IsTrue (fits limits db commit) × FitFrom limits (after_commit db commit) commits
-
--- the commits fit one after the other, from no commit on
-abbrev pub FitInTurn : Limits → List Commit → Type 0
-FitInTurn limits commits = FitFrom limits nothing commits
 
 -- the image is a journal's, and the commit behind the gate at this offset is the first one that
 -- does not fit those before it

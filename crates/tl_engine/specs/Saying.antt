@@ -28,8 +28,8 @@ becomes limits author batch entries =
     resolved limits (database_of (commits_of entries)) author batch
 
 -- how many of the entries are commits
-abbrev pub version_at : List Entry → ℕ
-version_at entries = length (commits_of entries)
+abbrev pub version_after : List Entry → ℕ
+version_after entries = length (commits_of entries)
 
 -- what was seen begins a base without a break; over the base the batch becomes a commit; the base
 -- and the entry made of that commit are seen now
@@ -45,21 +45,21 @@ pub record Adds (meaning : List Entry → Result Commit BatchFault) (of_commit :
 abbrev pub FailSays : (List Entry → Result Commit BatchFault) → ℕ → List Entry → List Entry
     → ℕ → ℕ → CommitFault → Type 0
 FailSays meaning first_count old new before after (fault.Broken version) =
-    IsPrefix old new × (has_break new ≡ true) × (version ≡ version_at new) × (after ≡ before)
+    IsPrefix old new × (has_break new ≡ true) × (version ≡ version_after new) × (after ≡ before)
 FailSays meaning first_count old new before after (fault.Refused version refusal) =
-    IsPrefix old new × (has_break new ≡ false) × (version ≡ version_at new) × (after ≡ before)
+    IsPrefix old new × (has_break new ≡ false) × (version ≡ version_after new) × (after ≡ before)
     × (meaning new ≡ Err refusal)
 FailSays meaning first_count old new before after fault.NoMemory =
     IsPrefix old new × (after ≡ before)
 FailSays meaning first_count old new before after (fault.Device version count) =
-    (adds : Adds meaning break_entry old new) × (version ≡ version_at adds.base)
+    (adds : Adds meaning break_entry old new) × (version ≡ version_after adds.base)
     × Rose first_count count × (after ≡ before + 1)
 
 -- what the answer to a commit says of these
 abbrev pub CommitSays : (List Entry → Result Commit BatchFault) → ℕ → List Entry → List Entry
     → ℕ → ℕ → Result ℕ CommitFault → Type 0
 CommitSays meaning first_count old new before after (Ok version) =
-    (adds : Adds meaning commit_entry old new) × (version ≡ version_at adds.base + 1)
+    (adds : Adds meaning commit_entry old new) × (version ≡ version_after adds.base + 1)
     × (after ≡ before + 1)
 CommitSays meaning first_count old new before after (Err f) =
     FailSays meaning first_count old new before after f

@@ -4,7 +4,7 @@ ghost use mathlib.Core.List.{IsPrefix};
 ghost use Rattle.tl_types.specs.Entries.{commits_of, has_break};
 ghost use Rattle.tl_types.specs.History.{database_of};
 ghost use Rattle.tl_batch.specs.Made.{batch_matches};
-ghost use Rattle.tl_index.specs.Snapshots.{IsLegal};
+ghost use Rattle.tl_types.specs.Legality.{are_legal};
 ghost use Rattle.tl_journal.specs.Stands.{IsJournal};
 ghost use Rattle.tl_engine.specs.Counting.{news};
 ghost use Rattle.tl_engine.specs.Saying.{CommitSays, becomes, names_table};
@@ -101,7 +101,7 @@ impl<D: Disk, J: Named> Engine<D, J> {
         ensures seen { IsPrefix pass.seen result.snapshot }
         ensures opening { IsPrefix J.opening result.snapshot }
         ensures counted { news J.opening + share.amount ≡ news result.snapshot }
-        ensures legal { IsLegal result.snapshot }
+        ensures legal { IsTrue (are_legal result.snapshot) }
         ensures whole { J.told ≡ true → has_break result.snapshot ≡ false →
             (gate : ℕ) × IsJournal D.reads D.may_leave result.disk
             (commits_of result.snapshot) gate }

@@ -5,17 +5,18 @@ ghost use Rattle.tl_types.specs.History.{database_of};
 ghost use Rattle.tl_types.specs.Limits.{standard_limits};
 ghost use Rattle.tl_types.specs.Resolving.{resolved};
 ghost use Rattle.tl_batch.specs.Made.{AreWithin, batch_matches};
-ghost use Rattle.tl_index.specs.Snapshots.{commit_entry, IsLegal};
+ghost use Rattle.tl_index.specs.Snapshots.{commit_entry};
+ghost use Rattle.tl_types.specs.Legality.{are_legal};
 ghost use Rattle.tl_journal.specs.Answers.{CountsFaults, IsDeviceOrMemory};
 ghost use Rattle.tl_journal.specs.Image.{StandsFor};
 ghost use Rattle.tl_device.specs.Disk.{IsStored};
-ghost use Rattle.tl_journal.specs.Opening.{HasRead, IsAtEnd};
+ghost use Rattle.tl_journal.specs.Opening.{HasRead, IsAtClosedGate};
 ghost use Rattle.tl_journal.specs.Moments.{EachMoment};
 ghost use Rattle.tl_journal.specs.Stands.{IsJournal, SameOrTrimmed};
 ghost use Rattle.tl_journal.specs.declared.faults.JournalFault.TheVariants as journal_fault;
 ghost use Rattle.tl_engine.specs.Answers.{disk_opened, IsOpened, Opens, Appends, Fails, version_of};
 ghost use Rattle.tl_engine.specs.Writing.{IsDraft, DraftFails, WriteFails};
-ghost use Rattle.tl_engine.specs.Fitting.{FitInTurn};
+ghost use Rattle.tl_types.specs.Legality.{FitInTurn};
 ghost use Rattle.tl_engine.specs.Standing.{IsCount, IsImageOf, HasRoomAlone, IsOneOf, StandsOnDisk};
 
 use crate::committing::{Draft, append, draft_of, resolve};
@@ -251,7 +252,7 @@ impl<D: Disk> History<D> {
     /// Whether the history ends with a break.
     pub fn has_break(&self) -> bool
         ensures value { result ≡ has_break self.now.entries }
-        ensures legal { IsLegal self.now.entries }
+        ensures legal { IsTrue (are_legal self.now.entries) }
     {
         self.snapshot.has_break()
     }
@@ -287,7 +288,7 @@ impl<D: Disk> History<D> {
 fn finish<D: Disk>(begun: Begun<D>, limits: Limits) -> Result<History<D>, Refused<D>>
     requires within { AreWithin limits standard_limits }
     requires read { HasRead (commits_of begun.replay) begun.opening }
-    requires end { IsAtEnd begun.opening }
+    requires end { IsAtClosedGate begun.opening }
     requires fitting { FitInTurn limits (commits_of begun.replay) }
     ensures opened { IfOk result IsOpened }
     ensures entries { IfOk result (λ h. h.entries ≡ begun.replay) }

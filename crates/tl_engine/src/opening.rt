@@ -6,9 +6,10 @@ ghost use Rattle.tl_batch.specs.Made.{AreWithin};
 ghost use Rattle.tl_journal.specs.Answers.{CountsFaults, IsTooShort};
 ghost use Rattle.tl_journal.specs.Image.{IsJournalOf};
 ghost use Rattle.tl_journal.specs.Moments.{EachMoment, IsUntouched, LosesNothing};
-ghost use Rattle.tl_journal.specs.Opening.{HasRead, IsAtEnd};
+ghost use Rattle.tl_journal.specs.Opening.{HasRead, IsAtClosedGate};
 ghost use Rattle.tl_journal.specs.declared.faults.JournalFault.TheVariants as journal_fault;
-ghost use Rattle.tl_engine.specs.Fitting.{FitInTurn, IsDamaged};
+ghost use Rattle.tl_types.specs.Legality.{FitInTurn};
+ghost use Rattle.tl_engine.specs.Fitting.{IsDamaged};
 ghost use Rattle.tl_engine.specs.Opening.{disk_begun, HasImage};
 
 use crate::replaying::{Replay, replay_all};
@@ -35,7 +36,7 @@ pub(crate) fn begin<D: Disk>(
 ) -> Result<Begun<D>, Refused<D>>
     requires { AreWithin limits.now standard_limits }
     ensures read { IfOk result (λ o. HasRead (commits_of o.replay) o.opening) }
-    ensures end { IfOk result (λ o. IsAtEnd o.opening) }
+    ensures end { IfOk result (λ o. IsAtClosedGate o.opening) }
     ensures fitting { IfOk result (λ o. FitInTurn limits.now (commits_of o.replay)) }
     ensures whole { IfOk result (λ o. IsJournalOf (commits_of o.replay) o.opening.image) }
     ensures image { (b : List ℕ) → D.reads disk ≡ Some b →

@@ -8,9 +8,10 @@ ghost use Rattle.tl_batch.specs.Made.{AreWithin};
 ghost use Rattle.tl_index.specs.Snapshots.{commit_entry};
 ghost use Rattle.tl_journal.specs.Answers.{IsDamagedOrMemoryThere};
 ghost use Rattle.tl_journal.specs.Image.{IsJournalOf, IsDamagedOnlyAt};
-ghost use Rattle.tl_journal.specs.Opening.{HasRead, IsAtEnd};
+ghost use Rattle.tl_journal.specs.Opening.{HasRead, IsAtClosedGate};
 ghost use Rattle.tl_journal.specs.declared.faults.JournalFault.TheVariants as journal_fault;
-ghost use Rattle.tl_engine.specs.Fitting.{FitInTurn, IsDamaged};
+ghost use Rattle.tl_types.specs.Legality.{FitInTurn};
+ghost use Rattle.tl_engine.specs.Fitting.{IsDamaged};
 ghost use Rattle.tl_engine.specs.Replaying.{IsApplied, IsFirstUnfit};
 
 use std::alloc::Global;
@@ -99,7 +100,7 @@ fn replay_fitting<D: Disk>(
     ensures image { opening.new.image ≡ opening.old.image }
     ensures fitting { FitInTurn limits.now (commits_of replay.new) }
     ensures read { result ≡ Ok None → HasRead (commits_of replay.new) opening.new }
-    ensures end { result ≡ Ok None → IsAtEnd opening.new }
+    ensures end { result ≡ Ok None → IsAtClosedGate opening.new }
     ensures whole { result ≡ Ok None →
         IsJournalOf (commits_of replay.new) opening.old.image }
     ensures unfit { IfOk result (λ o. IfSome o
@@ -150,7 +151,7 @@ pub(crate) fn replay_all<D: Disk>(
     ensures disk { opening.new.disk ≡ opening.old.disk }
     ensures image { opening.new.image ≡ opening.old.image }
     ensures read { IfOk result (λ r. HasRead (commits_of r) opening.new) }
-    ensures end { OnOk result (IsAtEnd opening.new) }
+    ensures end { OnOk result (IsAtClosedGate opening.new) }
     ensures whole { IfOk result (λ r. IsJournalOf (commits_of r) opening.old.image) }
     ensures fitting { IfOk result (λ r. FitInTurn limits.now (commits_of r)) }
     ensures damaged { (at : ℕ) → result ≡ Err (journal_fault.Damaged at) →

@@ -1,15 +1,18 @@
 -- The entries that a snapshot keeps.
-use Rattle.std.proofs.Common.{◌≡◌, ◌+◌, List, [], ◌∷◌, ◌++◌, length, Option, Some, None, refl, sym, ap, ◌∙◌, subst, arith, append_assoc, IsTrue, IfSome}
+use Rattle.std.proofs.Common.{◌≡◌, ◌+◌, true, not, List, [], ◌∷◌, ◌++◌, length, Option, Some, None, refl, sym, ap, ◌∙◌, subst, arith, append_assoc, IsTrue, IfSome}
 use Rattle.std.specs.Prelude.{is_some}
 use Rattle.std.specs.List.{fold}
+use Rattle.std.proofs.lemmas.List.{append-nil}
+use Rattle.std.proofs.lemmas.List.Sums.{fold-append}
+use Rattle.tl_types.proofs.Lists.{and_both}
 use Rattle.tl_types.specs.declared.commits.Commit.{Commit}
 use Rattle.tl_types.specs.declared.commits.Entry.{Entry}
 use Rattle.tl_types.specs.Entries.{commits_of, has_break}
 use Rattle.tl_types.specs.History.{database_of, nothing, after_commit, fits}
 use Rattle.tl_types.specs.Limits.{standard_limits}
 use Rattle.tl_types.specs.Plain as plain
-use Rattle.tl_store.specs.Log.{AllFit}
-use Rattle.tl_index.specs.Snapshots.{commit_entry, break_entry, entries_of, BreaksLast, IsLegal, IsKept}
+use Rattle.tl_types.specs.Legality.{FitFrom, FitInTurn, database_behind, takes_commit, are_legal_behind, are_legal}
+use Rattle.tl_index.specs.Snapshots.{commit_entry, break_entry, entries_of, IsKept}
 
 -- the commits among the entries are those that are kept
 commits_kept : (commits : List Commit) (broken : Option Commit) → commits_of (entries_of commits broken) ≡ commits
@@ -51,35 +54,38 @@ version_from db (c ∷ commits) =
     let e = version_from (after_commit db c) commits in
     omega (arith, e)
 
--- commits that fit, and one more
-fit_more : (db : plain.Database) (commits : List Commit) (c : Commit) → AllFit db commits → IsTrue (fits standard_limits (fold after_commit db commits) c) → AllFit db (commits ++ c ∷ [])
-fit_more db [] c fitting fit = (fit, tt)
-fit_more db (d ∷ commits) c fitting fit = (fitting.0, fit_more (after_commit db d) commits c fitting.1 fit)
-
 pub kept_broken : (entries : List Entry) (commits store : List Commit) (broken : Option Commit) (c : Commit) → IsKept commits broken → entries_of commits broken ≡ entries → store ≡ commits → IsTrue (fits standard_limits (database_of (commits_of entries)) c) → IsKept store (Some c)
 kept_broken entries commits store broken c kept same is fit =
     record {
-      fitting = subst (λ cs. AllFit nothing cs) (sym is) kept.fitting;
+      fitting = subst (FitInTurn standard_limits) (sym is) kept.fitting;
       few = (let f = kept.few in let e = ap length is in omega (arith, e, f));
       break_fits = fits_kept entries commits store broken c same is fit;
     }
 
--- what is kept is legal
-last_kept : (before commits : List Commit) (broken : Option Commit) → IfSome broken (λ c. IsTrue (fits standard_limits (database_of (before ++ commits)) c)) → BreaksLast before (entries_of commits broken)
-last_kept before [] None fit = tt
-last_kept before [] (Some c) fit =
-    (subst (λ cs. IsTrue (fits standard_limits (database_of cs) c)) (append-nil before) fit, refl) where
-      append-nil : (xs : List Commit) → xs ++ [] ≡ xs
-      append-nil [] = refl
-      append-nil (x ∷ xs) = ap (λ l. x ∷ l) (append-nil xs)
-last_kept before (d ∷ commits) broken fit =
-    last_kept (before ++ d ∷ []) commits broken
-    (subst (λ cs. IfSome broken (λ c. IsTrue (fits standard_limits (database_of cs) c))) (sym (append_assoc before (d ∷ []) commits)) fit)
+-- LEGALITY
 
-pub legal_kept : (entries : List Entry) (commits : List Commit) (broken : Option Commit) → IsKept commits broken → entries_of commits broken ≡ entries → IsLegal entries
+-- a commit that fits these may stand behind their entries
+takes : (before : List Commit) (c : Commit) → IsTrue (fits standard_limits (database_of before) c) → takes_commit (entries_of before None) c ≡ true
+takes before c fit =
+    and_both (not (has_break (entries_of before None))) (fits standard_limits (database_behind (entries_of before None)) c)
+    (ap not (break_kept before None))
+    (subst (λ cs. fits standard_limits (database_of cs) c ≡ true) (sym (commits_kept before None)) fit)
+
+-- commits that fit in turn behind these, and a break that fits them all, may stand behind their entries
+kept_behind : (before commits : List Commit) (broken : Option Commit) → FitFrom standard_limits (database_of before) commits → IfSome broken (λ c. IsTrue (fits standard_limits (database_of (before ++ commits)) c)) → are_legal_behind (entries_of before None) (entries_of commits broken) ≡ true
+kept_behind before [] None fitting fit = refl
+kept_behind before [] (Some c) fitting fit =
+    let own = subst (λ cs. IsTrue (fits standard_limits (database_of cs) c)) (append-nil before) fit in
+    and_both (takes_commit (entries_of before None) c) true (takes before c own) refl
+kept_behind before (d ∷ commits) broken fitting fit =
+    let rest = subst (λ db. FitFrom standard_limits db commits) (sym (fold-append after_commit nothing before (d ∷ []))) fitting.1 in
+    let own = subst (λ cs. IfSome broken (λ c. IsTrue (fits standard_limits (database_of cs) c))) (sym (append_assoc before (d ∷ []) commits)) fit in
+    let later = kept_behind (before ++ d ∷ []) commits broken rest own in
+    and_both (takes_commit (entries_of before None) d) (are_legal_behind (entries_of before None ++ commit_entry d ∷ []) (entries_of commits broken))
+    (takes before d fitting.0)
+    (subst (λ es. are_legal_behind es (entries_of commits broken) ≡ true) (commit_last before d) later)
+
+-- what is kept is legal
+pub legal_kept : (entries : List Entry) (commits : List Commit) (broken : Option Commit) → IsKept commits broken → entries_of commits broken ≡ entries → IsTrue (are_legal entries)
 legal_kept entries commits broken kept same =
-    subst IsLegal same
-    (record {
-      fitting = subst (λ cs. AllFit nothing cs) (sym (commits_kept commits broken)) kept.fitting;
-      breaks_last = last_kept [] commits broken kept.break_fits;
-    })
+    subst (λ es. are_legal es ≡ true) same (kept_behind [] commits broken kept.fitting kept.break_fits)

@@ -3,7 +3,8 @@ ghost use Rattle.std.specs.Prelude.{◌≡◌, ◌++◌, ◌∷◌, [], false, I
 ghost use Rattle.tl_types.specs.Entries.{commits_of, has_break};
 ghost use Rattle.tl_types.specs.History.{database_of, fits};
 ghost use Rattle.tl_types.specs.Limits.{standard_limits};
-ghost use Rattle.tl_index.specs.Snapshots.{commit_entry, break_entry, IsLegal};
+ghost use Rattle.tl_types.specs.Legality.{are_legal};
+ghost use Rattle.tl_index.specs.Snapshots.{commit_entry, break_entry};
 
 use std::alloc::Global;
 use std::marker::Model;
@@ -81,7 +82,7 @@ impl Snapshot {
     /// Whether a break is among the entries. It is then the last of them.
     pub fn has_break(&self) -> bool
         ensures value { result ≡ has_break self.now }
-        ensures legal { IsLegal self.now }
+        ensures legal { IsTrue (are_legal self.now) }
     {
         self.broken.is_some()
     }

@@ -26,8 +26,8 @@ abbrev pub HasRead : {D : Type 0} → List Commit → plain.FoundCommits D → T
 HasRead found opening = HasReadTo found opening.at opening.image
 
 -- the closed gate comes next
-abbrev pub IsAtEnd : {D : Type 0} → plain.FoundCommits D → Type 0
-IsAtEnd opening = (tail : List ℕ) × (drop opening.at opening.image ≡ 0 ∷ tail)
+abbrev pub IsAtClosedGate : {D : Type 0} → plain.FoundCommits D → Type 0
+IsAtClosedGate opening = (tail : List ℕ) × (drop opening.at opening.image ≡ 0 ∷ tail)
 
 -- what every opening keeps: a gate comes next, the bytes are the disk's where it tells them, and
 -- the disk's room is taken for a cut and a sync
@@ -37,9 +37,9 @@ pub record IsOpening {D : Type 0} (reads : D → Option (List ℕ)) (ready : D �
   pub room : ready opening.disk 0 2
 
 -- the commits of what was found
-abbrev pub commits_of : List Found → List Commit
-commits_of [] = []
-commits_of (f ∷ found) = f.commit ∷ commits_of found
+abbrev pub commits_found : List Found → List Commit
+commits_found [] = []
+commits_found (f ∷ found) = f.commit ∷ commits_found found
 
 -- each commit found has the offset of its gate, the first of which is the given one
 abbrev pub HaveGatesFrom : ℕ → List Found → Type 0

@@ -5,7 +5,7 @@ ghost use Rattle.tl_record.specs.Spelling.{spelling};
 ghost use Rattle.tl_device.specs.Disk.{IsStored};
 ghost use Rattle.tl_journal.specs.Image.{StandsFor, IsJournalOf, IsDamagedOnlyAt};
 ghost use Rattle.tl_journal.specs.Moments.{EachMoment};
-ghost use Rattle.tl_journal.specs.Opening.{HasRead, IsAtEnd, IsOpening};
+ghost use Rattle.tl_journal.specs.Opening.{HasRead, IsAtClosedGate, IsOpening};
 ghost use Rattle.tl_journal.specs.Stands.{StandsAs, SameOrTrimmed};
 ghost use Rattle.tl_journal.specs.Answers.{disk_opened, CountsFaults, IsDeviceOrMemory, IsDamagedOrMemory};
 ghost use Rattle.tl_journal.specs.declared.faults.JournalFault.TheVariants as fault;
@@ -82,7 +82,7 @@ impl<D: Disk> FoundCommits<D> {
         ensures within { IfOk result (λ o. IfSome o (λ f. self.new.at < length self.new.image)) }
         ensures found { (found : List CommitValue) → HasRead found self.old →
             IfOk result (λ o. IfSome o (λ f. HasRead (found ++ f.commit ∷ []) self.new)) }
-        ensures end { result ≡ Ok None → (self.new ≡ self.old) × IsAtEnd self.new }
+        ensures end { result ≡ Ok None → (self.new ≡ self.old) × IsAtClosedGate self.new }
         ensures all { (found : List CommitValue) → HasRead found self.old → result ≡ Ok None →
             IsJournalOf found self.old.image }
         ensures damaged { (found : List CommitValue) (at : ℕ) → HasRead found self.old →
@@ -106,7 +106,7 @@ impl<D: Disk> FoundCommits<D> {
     ///
     /// `Device`: the disk failed in this call; it still stands for the same commits.
     pub fn finish(self) -> Result<Journal<D>, Refused<D>>
-        requires { IsAtEnd self }
+        requires { IsAtClosedGate self }
         ensures stands { (found : List CommitValue) → HasRead found self →
             IsStored D.reads D.may_leave self.disk self.image →
             IfOk result (λ j. StandsAs D.reads D.may_leave j found) }

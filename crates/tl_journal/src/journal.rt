@@ -5,7 +5,7 @@ ghost use Rattle.tl_device.specs.Known.{Rose};
 ghost use Rattle.tl_device.specs.Disk.{IsStored};
 ghost use Rattle.tl_journal.specs.Image.{StandsFor, BeforeOrAfter, IsBodyOf, IsJournalOf, IsDamagedOnlyAt};
 ghost use Rattle.tl_journal.specs.Moments.{EachMoment, EachMomentBySync, IsUntouched, LosesNothing, IsShort, OldOr};
-ghost use Rattle.tl_journal.specs.Opening.{HasRead, IsOpening, commits_of, HaveGatesFrom};
+ghost use Rattle.tl_journal.specs.Opening.{HasRead, IsOpening, commits_found, HaveGatesFrom};
 ghost use Rattle.tl_journal.specs.Stands.{StandsAs, IsReady, SameOrTrimmed, empty_journal};
 ghost use Rattle.tl_journal.specs.Answers.{disk_begun, disk_attached, CountsFaults, IsTooShort, IsTooLong};
 ghost use Rattle.tl_journal.specs.declared.faults.JournalFault.TheVariants as fault;
@@ -130,9 +130,9 @@ impl<D: Disk> Journal<D> {
     /// commits.
     pub fn attach(alloc: Global, disk: D) -> Result<Attached<D>, Refused<D>>
         ensures stands { (b : List ℕ) → D.reads disk ≡ Some b →
-            IfOk result (λ a. StandsAs D.reads D.may_leave a.journal (commits_of a.found)) }
+            IfOk result (λ a. StandsAs D.reads D.may_leave a.journal (commits_found a.found)) }
         ensures all { (b : List ℕ) → D.reads disk ≡ Some b →
-            IfOk result (λ a. IsJournalOf (commits_of a.found) b) }
+            IfOk result (λ a. IsJournalOf (commits_found a.found) b) }
         ensures gates { IfOk result (λ a. HaveGatesFrom 16 a.found) }
         ensures whole { IfOk result (λ a. (a.journal.broken ≡ None) × (a.journal.spare ≡ 0)) }
         ensures any_moment { (b : List ℕ) (cs : List CommitValue) → D.reads disk ≡ Some b →

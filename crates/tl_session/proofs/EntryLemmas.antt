@@ -11,7 +11,9 @@ use Rattle.tl_types.specs.declared.commits.Entry.TheVariants as entry
 use Rattle.tl_types.specs.Entries.{commit_of, commits_of, is_break, has_break}
 use Rattle.tl_session.specs.Turns.{break_of}
 use Rattle.tl_engine.specs.Counting.{news}
-use Rattle.tl_session.specs.Promises.{AreMarks, EndsAtBreak}
+use Rattle.tl_types.specs.Legality.{may_follow, are_legal_behind, are_legal}
+use Rattle.tl_types.proofs.Lists.{and_right}
+use Rattle.tl_types.proofs.EntryLemmas.{none_behind_break}
 use Rattle.tl_session.proofs.ListLemmas.{item_at}
 
 -- a list begins with itself
@@ -42,6 +44,41 @@ same_front a b v p le = sym (take-append-le v (commits_of a) (commits_of p.0) le
 
 pub whole_front : (a b : List Entry) → IsPrefix a b → take (length (commits_of a)) (commits_of b) ≡ commits_of a
 whole_front a b p = ap (take (length (commits_of a))) (sym (ap commits_of p.1) ∙ commits_split a p.0) ∙ take-append_seam (commits_of a) (commits_of p.0)
+
+-- BREAKS
+
+-- all entries are marks
+abbrev pub AreMarks : List Entry → Type 0
+AreMarks [] = Unit {0}
+AreMarks (entry.Commit c ∷ rest) = ⊥
+AreMarks (entry.Mark n v ∷ rest) = AreMarks rest
+AreMarks (entry.Break c ∷ rest) = ⊥
+
+-- neither a commit nor a break comes after the first break
+abbrev pub EndsAtBreak : List Entry → Type 0
+EndsAtBreak [] = Unit {0}
+EndsAtBreak (entry.Commit c ∷ rest) = EndsAtBreak rest
+EndsAtBreak (entry.Mark n v ∷ rest) = EndsAtBreak rest
+EndsAtBreak (entry.Break c ∷ rest) = AreMarks rest
+
+-- a break is there once it stands last
+pub break_behind : (before : List Entry) (c : Commit) → has_break (before ++ entry.Break c ∷ []) ≡ true
+break_behind before c = list_any-append is_break before (entry.Break c ∷ []) ∙ last (has_break before) where
+  last : (b : Bool) → (b || (true || false)) ≡ true
+  last true = refl
+  last false = refl
+
+ends_behind : (before es : List Entry) → are_legal_behind before es ≡ true → EndsAtBreak es
+ends_behind before [] h = tt
+ends_behind before (entry.Commit c ∷ es) h = ends_behind (before ++ entry.Commit c ∷ []) es (and_right (may_follow before (entry.Commit c)) (are_legal_behind (before ++ entry.Commit c ∷ []) es) h)
+ends_behind before (entry.Mark n v ∷ es) h = ends_behind (before ++ entry.Mark n v ∷ []) es (and_right (may_follow before (entry.Mark n v)) (are_legal_behind (before ++ entry.Mark n v ∷ []) es) h)
+ends_behind before (entry.Break c ∷ es) h =
+    let rest = and_right (may_follow before (entry.Break c)) (are_legal_behind (before ++ entry.Break c ∷ []) es) h in
+    subst AreMarks (sym (none_behind_break (before ++ entry.Break c ∷ []) es (break_behind before c) rest)) tt
+
+-- legal entries end at their break
+pub ends_at_break : (es : List Entry) → are_legal es ≡ true → EndsAtBreak es
+ends_at_break es h = ends_behind [] es h
 
 marks_rest : (a b : List Entry) → AreMarks (a ++ b) → AreMarks b
 marks_rest [] b m = m

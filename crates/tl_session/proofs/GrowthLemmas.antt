@@ -22,10 +22,11 @@ use Rattle.tl_query.specs.declared.ast.Statement.TheVariants as statement
 use Rattle.tl_query.specs.declared.typed_queries.Typed.{Typed}
 use Rattle.tl_query.specs.declared.check_faults.CheckFault.{CheckFault}
 use Rattle.tl_query.specs.CheckingQueries.{checked}
-use Rattle.tl_session.specs.declared.readings.Reading.{Reading}
-use Rattle.tl_session.specs.declared.readings.Reading.TheVariants as reading
+use Rattle.tl_session.specs.declared.readings.JobReading.{JobReading}
+use Rattle.tl_session.specs.declared.readings.JobReading.TheVariants as reading
 use Rattle.tl_session.specs.Jobs.{Job}
 use Rattle.tl_session.specs.Reading.{Reads, IsReading, block_of, block_reading, load_into, load_reading, query_reading, statement_reading}
+use Rattle.tl_engine.proofs.MatchLemmas.{StaysFound, found_later}
 use Rattle.tl_session.proofs.EntryLemmas.{commits_split}
 
 -- the schema of the table that a name finds
@@ -33,40 +34,18 @@ abbrev schema_in : Option (ℕ × plain.Table) → Option plain.Schema
 schema_in None = None
 schema_in (Some found) = Some found.1.schema
 
--- a name finds a table of the schema
-abbrev Finds : List ℕ → plain.Schema → List plain.Table → Type 0
-Finds name schema tables = schema_in (find_table name tables) ≡ Some schema
-
--- the same from any number on
-found_behind : (n : ℕ) (name : List ℕ) (schema : plain.Schema) (ts more : List plain.Table) → schema_in (find_from n name ts) ≡ Some schema → schema_in (find_from n name (ts ++ more)) ≡ Some schema
-found_behind n name schema [] more h = absurd (cc)
-found_behind n name schema (t ∷ ts) more h = by_test (has_name name t) h (found_behind (n + 1) name schema ts more) where
-  by_test : (b : Bool) → schema_in (cond b (Some (n, t)) (find_from (n + 1) name ts)) ≡ Some schema → (schema_in (find_from (n + 1) name ts) ≡ Some schema → schema_in (find_from (n + 1) name (ts ++ more)) ≡ Some schema) → schema_in (cond b (Some (n, t)) (find_from (n + 1) name (ts ++ more))) ≡ Some schema
-  by_test true e again = e
-  by_test false e again = again e
-
-found_changed : (n : ℕ) (name : List ℕ) (schema : plain.Schema) (i version : ℕ) (change : plain.Change) (ts : List plain.Table) → schema_in (find_from n name ts) ≡ Some schema → schema_in (find_from n name (at_place i (table_after version change) ts)) ≡ Some schema
-found_changed n name schema i version change [] h = absurd (cc)
-found_changed n name schema zero version change (t ∷ ts) h = by_test (has_name name t) h where
-  by_test : (b : Bool) → schema_in (cond b (Some (n, t)) (find_from (n + 1) name ts)) ≡ Some schema → schema_in (cond b (Some (n, table_after version change t)) (find_from (n + 1) name ts)) ≡ Some schema
-  by_test true e = e
-  by_test false e = e
-found_changed n name schema (suc i) version change (t ∷ ts) h = by_test (has_name name t) h (found_changed (n + 1) name schema i version change ts) where
-  by_test : (b : Bool) → schema_in (cond b (Some (n, t)) (find_from (n + 1) name ts)) ≡ Some schema → (schema_in (find_from (n + 1) name ts) ≡ Some schema → schema_in (find_from (n + 1) name (at_place i (table_after version change) ts)) ≡ Some schema) → schema_in (cond b (Some (n, t)) (find_from (n + 1) name (at_place i (table_after version change) ts))) ≡ Some schema
-  by_test true e again = e
-  by_test false e again = again e
-
-found_after : (name : List ℕ) (schema : plain.Schema) (version : ℕ) (b : Body) (ts : List plain.Table) → Finds name schema ts → Finds name schema (after_body version b ts)
-found_after name schema version (body.Create made) ts h = found_behind 0 name schema ts (new_table made ∷ []) h
-found_after name schema version (body.Change change) ts h = found_changed 0 name schema change.table version change ts h
-
-found_on : (name : List ℕ) (schema : plain.Schema) (more : List Commit) (db : plain.Database) → Finds name schema db.tables → Finds name schema (fold after_commit db more).tables
-found_on name schema [] db h = h
-found_on name schema (c ∷ more) db h = found_on name schema more (after_commit db c) (found_after name schema (db.version + 1) c.body db.tables h)
+-- what is found still has its schema
+schema_stays : (old now : Option (ℕ × plain.Table)) (schema : plain.Schema) → StaysFound old now → schema_in old ≡ Some schema → schema_in now ≡ Some schema
+schema_stays None now schema stays h = absurd (cc)
+schema_stays (Some x) None schema stays h = absurd stays
+schema_stays (Some x) (Some y) schema stays h = ap Some stays ∙ h
 
 -- a table that a name finds is found after more commits, with its schema
-found_more : (name : List ℕ) (schema : plain.Schema) (commits more : List Commit) → Finds name schema (database_of commits).tables → Finds name schema (database_of (commits ++ more)).tables
-found_more name schema commits more h = subst (λ (db : plain.Database). Finds name schema db.tables) (sym (fold-append after_commit nothing commits more)) (found_on name schema more (database_of commits) h)
+found_more : (name : List ℕ) (schema : plain.Schema) (commits more : List Commit) → schema_in (find_table name (database_of commits).tables) ≡ Some schema → schema_in (find_table name (database_of (commits ++ more)).tables) ≡ Some schema
+found_more name schema commits more h =
+    let found = find_table name (database_of commits).tables in
+    let stays = subst (λ (db : plain.Database). StaysFound found (find_table name db.tables)) (sym (fold-append after_commit nothing commits more)) (found_later name (database_of commits) more) in
+    schema_stays found (find_table name (database_of (commits ++ more)).tables) schema stays h
 
 -- READINGS
 
@@ -74,7 +53,7 @@ found_more name schema commits more h = subst (λ (db : plain.Database). Finds n
 load_found : (found : Option (ℕ × plain.Table)) (schema : plain.Schema) (kind : BatchKind) (block : List ℕ) → schema_in found ≡ Some schema → load_into found kind block ≡ block_reading (batch_of standard_limits schema kind block)
 load_found None schema kind block h = absurd (cc)
 load_found (Some t) schema kind block h = ap (λ o. by_schema o) h where
-  by_schema : Option plain.Schema → Reading
+  by_schema : Option plain.Schema → JobReading
   by_schema None = block_reading (batch_of standard_limits t.1.schema kind block)
   by_schema (Some s) = block_reading (batch_of standard_limits s kind block)
 

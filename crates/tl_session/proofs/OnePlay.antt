@@ -3,8 +3,8 @@ use Rattle.std.proofs.Common.{◌≡◌, inl, inr, ℕ, ◌+◌, List, [], ◌�
 use Rattle.tl_types.specs.declared.batches.Batch.{Batch}
 use Rattle.tl_types.specs.declared.batches.BatchFault.{BatchFault}
 use Rattle.tl_types.specs.declared.commits.Commit.{Commit}
-use Rattle.tl_session.specs.declared.readings.Reading.{Reading}
-use Rattle.tl_session.specs.declared.readings.Reading.TheVariants as reading
+use Rattle.tl_session.specs.declared.readings.JobReading.{JobReading}
+use Rattle.tl_session.specs.declared.readings.JobReading.TheVariants as reading
 use Rattle.tl_session.specs.declared.replies.Refusal.TheVariants as refusal
 use Rattle.tl_session.specs.declared.replies.ReplyBody.{ReplyBody}
 use Rattle.tl_session.specs.declared.replies.ReplyBody.TheVariants as body
@@ -29,13 +29,13 @@ batch_outcome cs (Ok c) = record { version = length cs + 1; answer = body.Done; 
 batch_outcome cs (Err e) = record { version = length cs; answer = body.Refused (refusal.BatchFault e); after = cs }
 
 -- what a job of the session s is answered with over these commits, by what it reads as
-abbrev outcome : List Commit → ℕ → Reading → Outcome
+abbrev outcome : List Commit → ℕ → JobReading → Outcome
 outcome cs s (reading.Loads b) = batch_outcome cs (made cs s b)
 outcome cs s (reading.Query a) = record { version = length cs; answer = body.Rows a; after = cs }
 outcome cs s (reading.Fault f) = record { version = length cs; answer = body.Refused f; after = cs }
 
 -- a job that is answered so reads as something with this outcome
-outcome_is : (job : Job) (v : ℕ) (b : ReplyBody) (cs after : List Commit) → Acts meant job v b cs after → (r : Reading) × Reads cs job r × (outcome cs job.session r ≡ record { version = v; answer = b; after = after })
+outcome_is : (job : Job) (v : ℕ) (b : ReplyBody) (cs after : List Commit) → Acts meant job v b cs after → (r : JobReading) × Reads cs job r × (outcome cs job.session r ≡ record { version = v; answer = b; after = after })
 outcome_is job v (body.Rows a) cs after (e, reads, d) = (reading.Query a, reads, cc)
 outcome_is job v (body.Refused f) cs after (e, inl reads, d) = (reading.Fault f, reads, cc)
 outcome_is job v (body.Refused f) cs after (e, inr (b, x, reads, is, same), d) = (reading.Loads b, reads, ap (batch_outcome cs) is ∙ cc)
@@ -56,7 +56,7 @@ batch_acts : (job : Job) (cs : List Commit) (b : Batch) (r : Result Commit Batch
 batch_acts job cs b (Ok c) reads is = (c, refl, (b, reads, is), refl)
 batch_acts job cs b (Err e) reads is = (refl, inr (b, e, reads, is, refl), refl)
 
-outcome_acts : (job : Job) (cs : List Commit) (r : Reading) → Reads cs job r → Acts meant job (outcome cs job.session r).version (outcome cs job.session r).answer cs (outcome cs job.session r).after
+outcome_acts : (job : Job) (cs : List Commit) (r : JobReading) → Reads cs job r → Acts meant job (outcome cs job.session r).version (outcome cs job.session r).answer cs (outcome cs job.session r).after
 outcome_acts job cs (reading.Loads b) reads = batch_acts job cs b (made cs job.session b) reads refl
 outcome_acts job cs (reading.Query a) reads = (refl, reads, refl)
 outcome_acts job cs (reading.Fault f) reads = (refl, inl reads, refl)

@@ -6,7 +6,7 @@ use Rattle.std.proofs.lemmas.List.{take_all}
 use Rattle.tl_types.specs.declared.commits.Entry.{Entry}
 use Rattle.tl_types.specs.declared.commits.Commit.{Commit}
 use Rattle.tl_types.specs.Entries.{commits_of}
-use Rattle.tl_session.specs.declared.readings.Reading.TheVariants.{Query}
+use Rattle.tl_session.specs.declared.readings.JobReading.TheVariants.{Query}
 use Rattle.tl_session.specs.declared.replies.ReplyBody.{ReplyBody}
 use Rattle.tl_session.specs.declared.replies.ReplyBody.TheVariants as body
 use Rattle.tl_session.specs.Turns.{break_of, Turn, Meaning, HasFault, Makes, of_session, all_turns}

@@ -1,17 +1,17 @@
 -- Phases one after the other, and what an engine that is closed makes of them.
-use Rattle.std.proofs.Common.{◌≡◌, ℕ, ◌+◌, false, List, [], ◌∷◌, ◌++◌, map, None, refl, sym, ap, ◌∙◌, subst, arith}
+use Rattle.std.proofs.Common.{◌≡◌, ℕ, ◌+◌, true, false, List, [], ◌∷◌, ◌++◌, map, None, refl, sym, ap, ◌∙◌, subst, arith}
 use mathlib.Core.List.{IsPrefix}
 use Rattle.tl_types.specs.declared.commits.Commit.{Commit}
 use Rattle.tl_types.specs.declared.commits.Entry.{Entry}
 use Rattle.tl_types.specs.declared.commits.Entry.TheVariants as entry
 use Rattle.tl_types.specs.Entries.{commits_of, has_break}
-use Rattle.tl_index.specs.Snapshots.{BreaksLast, IsLegal}
+use Rattle.tl_types.specs.Legality.{are_legal}
 use Rattle.tl_engine.specs.Counting.{news}
 use Rattle.tl_session.specs.Jobs.{Job}
 use Rattle.tl_session.specs.Plain as plain
 use Rattle.tl_session.specs.Phases.{TakesTurns, HaveRun}
 use Rattle.tl_session.specs.Turns.{Turn, Meaning, meant, of_session, all_turns, break_of}
-use Rattle.tl_session.specs.Promises.{Chain, Chains, Promised, EndsAtBreak, AreMarks, tally, whole_tally, weight}
+use Rattle.tl_session.specs.Promises.{Chain, Chains, Promised, tally, whole_tally, weight}
 use Rattle.tl_session.specs.Play.{AreLone, AreOfOne, AreLonePhases}
 use Rattle.tl_session.specs.Transcript.{Each}
 use Rattle.tl_session.specs.Written.{jobs_of, all_jobs, IsPlayOf, transcript_bytes}
@@ -45,16 +45,9 @@ chains_to : (m : Meaning) (a : List Entry) (phases : List (List Turn)) (b c : Li
 chains_to m a [] b c k p = begins_on a b c k p
 chains_to m a (q ∷ phases) b c k p = (k.0, k.1, k.2, chains_to m k.0 phases b c k.3 p)
 
--- nothing follows a break, and so no commit and no break
-ends_at_break : (before : List Commit) (entries : List Entry) → BreaksLast before entries → EndsAtBreak entries
-ends_at_break before [] b = tt
-ends_at_break before (entry.Commit c ∷ entries) b = ends_at_break (before ++ c ∷ []) entries b
-ends_at_break before (entry.Mark t v ∷ entries) b = ends_at_break before entries b
-ends_at_break before (entry.Break c ∷ entries) b = subst AreMarks (sym b.1) tt
-
-pub are_promised : (opening seen last : List Entry) (phases : List (List Turn)) (amount : ℕ) → HaveRun opening phases seen amount → IsPrefix seen last → news opening + amount ≡ news last → IsLegal last → has_break opening ≡ false → Promised meant opening last phases
+pub are_promised : (opening seen last : List Entry) (phases : List (List Turn)) (amount : ℕ) → HaveRun opening phases seen amount → IsPrefix seen last → news opening + amount ≡ news last → are_legal last ≡ true → has_break opening ≡ false → Promised meant opening last phases
 are_promised opening seen last phases amount run p count legal whole = record {
-  legal = ends_at_break [] last legal.breaks_last;
+  legal = legal;
   whole = whole;
   chains = chains_to meant opening phases seen last run.chains p;
   count = (let e = run.count in omega (arith, e, count));

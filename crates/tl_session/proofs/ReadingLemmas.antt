@@ -22,24 +22,24 @@ use Rattle.tl_query.specs.declared.faults.TextFault.{TextFault}
 use Rattle.tl_query.specs.Texts.{Spells, IsFault, HasOneMeaning}
 use Rattle.tl_query.proofs.Deciding.{one_meaning}
 use Rattle.tl_session.specs.declared.replies.Refusal.TheVariants as refusal
-use Rattle.tl_session.specs.declared.readings.Reading.{Reading}
-use Rattle.tl_session.specs.declared.readings.Reading.TheVariants as reading
+use Rattle.tl_session.specs.declared.readings.JobReading.{JobReading}
+use Rattle.tl_session.specs.declared.readings.JobReading.TheVariants as reading
 use Rattle.tl_session.specs.Jobs.{Job}
 use Rattle.tl_session.specs.Reading.{Reads, IsReading, HasOneReading, block_of, block_reading, load_into, load_reading, statement_reading}
 
 -- ONE READING
 
-one_text : (commits : List Commit) (text block : List ℕ) (a b : Reading) → HasOneMeaning text → IsReading commits text block a → IsReading commits text block b → a ≡ b
+one_text : (commits : List Commit) (text block : List ℕ) (a b : JobReading) → HasOneMeaning text → IsReading commits text block a → IsReading commits text block b → a ≡ b
 one_text commits text block a b h (inl (f, is, e)) (inl (g, was, d)) = e ∙ (ap (λ x. reading.Fault (refusal.TextFault x)) (h.fault f g is was) ∙ sym d)
 one_text commits text block a b h (inl (f, is, e)) (inr (t, spells, d)) = absurd (h.never_both t f spells is)
 one_text commits text block a b h (inr (s, spells, e)) (inl (g, was, d)) = absurd (h.never_both s g spells was)
 one_text commits text block a b h (inr (s, spells, e)) (inr (t, spelt, d)) = e ∙ (ap (λ x. statement_reading commits x block) (h.statement s t spells spelt) ∙ sym d)
 
-some_text : (commits : List Commit) (text block : List ℕ) → ((s : Statement) × Spells text s) ⊎ ((e : TextFault) × IsFault text e) → (r : Reading) × IsReading commits text block r
+some_text : (commits : List Commit) (text block : List ℕ) → ((s : Statement) × Spells text s) ⊎ ((e : TextFault) × IsFault text e) → (r : JobReading) × IsReading commits text block r
 some_text commits text block (inl (s, spells)) = (statement_reading commits s block, inr (s, spells, refl))
 some_text commits text block (inr (f, is)) = (reading.Fault (refusal.TextFault f), inl (f, is, refl))
 
-pub one_reading : (commits : List Commit) (job : Job) (a b : Reading) → Reads commits job a → Reads commits job b → a ≡ b
+pub one_reading : (commits : List Commit) (job : Job) (a b : JobReading) → Reads commits job a → Reads commits job b → a ≡ b
 one_reading commits job a b = one_text commits job.text (block_of job.block) a b (one_meaning job.text)
 
 pub has_one_reading : (commits : List Commit) (job : Job) → HasOneReading commits job

@@ -16,8 +16,8 @@ use Rattle.tl_index.specs.Snapshots.{commit_entry, break_entry}
 use Rattle.tl_engine.specs.declared.faults.CommitFault.{CommitFault}
 use Rattle.tl_engine.specs.declared.faults.CommitFault.TheVariants as fault
 use Rattle.tl_engine.specs.Saying.{Adds, CommitSays, becomes}
-use Rattle.tl_session.specs.declared.readings.Reading.{Reading}
-use Rattle.tl_session.specs.declared.readings.Reading.TheVariants as reading
+use Rattle.tl_session.specs.declared.readings.JobReading.{JobReading}
+use Rattle.tl_session.specs.declared.readings.JobReading.TheVariants as reading
 use Rattle.tl_session.specs.declared.replies.Refusal.{Refusal}
 use Rattle.tl_session.specs.declared.replies.Refusal.TheVariants as refusal
 use Rattle.tl_session.specs.declared.replies.ReplyBody.{ReplyBody}
@@ -108,7 +108,7 @@ tells_settled job v w batch answer x y z own more look settled = record {
   amount = (let a = settled.amount in let b = more.amount in omega (arith, a, b));
 }
 
-not_well : (job : Job) (v : ℕ) (read : Reading) (y : plain.Access) → IsLook job v read y → ((b : Batch) → read ≡ reading.Loads b → ⊥) → ReadsWell meant (take v (commits_of y.seen)) job → ⊥
+not_well : (job : Job) (v : ℕ) (read : JobReading) (y : plain.Access) → IsLook job v read y → ((b : Batch) → read ≡ reading.Loads b → ⊥) → ReadsWell meant (take v (commits_of y.seen)) job → ⊥
 not_well job v read y look other well = other well.0 (one_reading (commits_of y.seen) job read (reading.Loads well.0) look.reads (subst (λ l. Reads l job (reading.Loads well.0)) (all_taken y.seen v look.version_is) well.1))
 
 -- a query

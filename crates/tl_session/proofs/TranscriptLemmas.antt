@@ -15,11 +15,11 @@ use Rattle.tl_session.specs.declared.replies.ReplyBody.TheVariants as body
 use Rattle.tl_session.specs.Jobs.{Job}
 use Rattle.tl_session.specs.Turns.{Turn, Meaning, Makes, break_of, of_session}
 use Rattle.tl_engine.specs.Counting.{news}
-use Rattle.tl_session.specs.Promises.{Appended, BodySays, Says, Chain, Chains, Promised, tally, whole_tally, AreMarks, EndsAtBreak}
+use Rattle.tl_session.specs.Promises.{Appended, BodySays, Says, Chain, Chains, Promised, tally, whole_tally}
 use Rattle.tl_session.specs.Transcript.{Each, EachOfAll, OwnLine, RowsRight, RefusedRight, DoneRight, DeviceRight, BrokenRight, Between, NeverFalls, DoneRises, Above, highest, done_at, done_with, device, body_device, body_breaks, breaks, StaysBroken, AllStayBroken, OneDone, OneDevice, Transcript}
 use Rattle.tl_session.proofs.AuthorLemmas.{signed}
 use Rattle.tl_engine.proofs.CountLemmas.{begins_on}
-use Rattle.tl_session.proofs.EntryLemmas.{begins_itself, news_split, fewer_commits, fewer_news, break_on, unbroken, news_are, break_there_on, news_count, one_for}
+use Rattle.tl_session.proofs.EntryLemmas.{AreMarks, EndsAtBreak, ends_at_break, begins_itself, news_split, fewer_commits, fewer_news, break_on, unbroken, news_are, break_there_on, news_count, one_for}
 use Rattle.tl_session.proofs.ReplyLemmas.{says_before, says_between, goes_on, rows_right, refused_right, done_right, device_right, broken_right, lies_between, done_above, tells, stays}
 use Rattle.tl_session.proofs.SessionLemmas.{each_of_sessions, of_its_session}
 use Rattle.tl_session.proofs.CountingLemmas.{key_of, hit_of, hit, miss, StepOf, Steps, Walk, each_once}
@@ -189,7 +189,7 @@ chains_walk m last l old (phase ∷ phases) r =
     (news r.0, fewer_news old r.0 r.1, (λ s. chain_steps m last l s old (of_session s phase) r.0 (of_its_session s phase) (chains_before m r.0 phases last r.3) (r.2 s)), chains_walk m last l r.0 phases r.3)
 
 once : (m : Meaning) (opening last : List Entry) (phases : List (List Turn)) → Promised m opening last phases → (k : ℕ) → news opening < k → k ≤ news last → whole_tally (hit k) phases ≡ 1
-once m opening last phases p = each_once (owner last) (news opening) phases (news last) (chains_walk m last p.legal opening phases p.chains) p.count
+once m opening last phases p = each_once (owner last) (news opening) phases (news last) (chains_walk m last (ends_at_break last p.legal) opening phases p.chains) p.count
 
 -- two numbers that agree for each reply agree for all
 abbrev Same : (Turn → ℕ) → (Turn → ℕ) → Turn → Type 0
@@ -220,8 +220,8 @@ device_hit m all broke job line w body.BrokenJournal le right = refl
 
 one_done : (m : Meaning) (opening last : List Entry) (phases : List (List Turn)) → Promised m opening last phases → OneDone (length (commits_of opening)) (length (commits_of last)) phases
 one_done m opening last phases p v lo hi =
-    let agree = each_right m opening last (Same (done_at v) (hit v)) (λ t old new o q says. done_hit m (commits_of last) (break_of last) v hi t.job t.reply.line t.reply.version t.reply.body (device_right m t old new last p.legal q says)) phases p in
-    same_whole (done_at v) (hit v) phases agree ∙ once m opening last phases p v (omega (arith, news_are opening p.whole, lo)) (omega (arith, news_count last p.legal, hi))
+    let agree = each_right m opening last (Same (done_at v) (hit v)) (λ t old new o q says. done_hit m (commits_of last) (break_of last) v hi t.job t.reply.line t.reply.version t.reply.body (device_right m t old new last (ends_at_break last p.legal) q says)) phases p in
+    same_whole (done_at v) (hit v) phases agree ∙ once m opening last phases p v (omega (arith, news_are opening p.whole, lo)) (omega (arith, news_count last (ends_at_break last p.legal), hi))
 
 untold : (b : Bool) → (b ≡ true → ⊥) → b ≡ false
 untold true f = absurd (f refl)
@@ -235,9 +235,9 @@ one_device m opening last phases p None none =
 one_device m opening last phases p (Some c) there =
     let size = length (commits_of last) + 1 in
     let agree = each_right m opening last (Same device (hit size))
-    (λ t old new o q says. device_hit m (commits_of last) (break_of last) t.job t.reply.line t.reply.version t.reply.body (lies_between m t opening old new last o q says).1 (device_right m t old new last p.legal q says))
+    (λ t old new o q says. device_hit m (commits_of last) (break_of last) t.job t.reply.line t.reply.version t.reply.body (lies_between m t opening old new last o q says).1 (device_right m t old new last (ends_at_break last p.legal) q says))
     phases p in
-    let one : news last ≡ length (commits_of last) + 1 = news_count last p.legal ∙ ap (λ x. length (commits_of last) + one_for x) there in
+    let one : news last ≡ length (commits_of last) + 1 = news_count last (ends_at_break last p.legal) ∙ ap (λ x. length (commits_of last) + one_for x) there in
     let fewer = fewer_commits opening last (chains_before m opening phases last p.chains) in
     same_whole device (hit size) phases agree ∙ once m opening last phases p size (omega (arith, news_are opening p.whole, fewer)) (omega (arith, one))
 
@@ -247,8 +247,8 @@ is_transcript m opening last phases p = record {
   rows = each_right m opening last (RowsRight m (commits_of last)) (λ t old new o q says. rows_right m t old new last q says) phases p;
   refused = each_right m opening last (RefusedRight m (commits_of last)) (λ t old new o q says. refused_right m t old new last q says) phases p;
   done = each_right m opening last (DoneRight m (commits_of last) (length (commits_of opening))) (λ t old new o q says. done_right m t opening old new last o q says) phases p;
-  device_fault = each_right m opening last (DeviceRight m (commits_of last) (break_of last)) (λ t old new o q says. device_right m t old new last p.legal q says) phases p;
-  broken = each_right m opening last (BrokenRight m (commits_of last) (break_of last)) (λ t old new o q says. broken_right m t old new last p.legal q says) phases p;
+  device_fault = each_right m opening last (DeviceRight m (commits_of last) (break_of last)) (λ t old new o q says. device_right m t old new last (ends_at_break last p.legal) q says) phases p;
+  broken = each_right m opening last (BrokenRight m (commits_of last) (break_of last)) (λ t old new o q says. broken_right m t old new last (ends_at_break last p.legal) q says) phases p;
   between = each_right m opening last (Between (length (commits_of opening)) (length (commits_of last))) (λ t old new o q says. lies_between m t opening old new last o q says) phases p;
   never_fall = chains_order m NeverFalls (never_falls m) (length (commits_of opening)) opening phases last (omega arith) p.chains;
   done_rises = chains_order m DoneRises (done_rises m) (length (commits_of opening)) opening phases last (omega arith) p.chains;

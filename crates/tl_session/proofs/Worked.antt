@@ -10,8 +10,8 @@ use Rattle.tl_types.specs.declared.batches.Batch.TheVariants as batch
 use Rattle.tl_types.specs.declared.cells.Cell.TheVariants as cell
 use Rattle.tl_types.specs.declared.cells.ColumnKind.TheVariants as kind
 use Rattle.tl_types.specs.Plain as plain
-use Rattle.tl_session.specs.declared.readings.Reading.{Reading}
-use Rattle.tl_session.specs.declared.readings.Reading.TheVariants.{Loads, Query}
+use Rattle.tl_session.specs.declared.readings.JobReading.{JobReading}
+use Rattle.tl_session.specs.declared.readings.JobReading.TheVariants.{Loads, Query}
 use Rattle.tl_session.specs.declared.replies.ReplyBody.{ReplyBody}
 use Rattle.tl_session.specs.declared.replies.ReplyBody.TheVariants as body
 use Rattle.tl_session.specs.Turns.{Turn, Meaning, of_session}
@@ -29,7 +29,7 @@ abbrev row : ℕ → plain.Opened
 row n = record { cells = cell.Int (pos n) ∷ []; period = None }
 
 -- the job on line 1 makes the table, the one on line 4 asks for its rows, and others put a row
-abbrev read_of : List Commit → ℕ → Reading
+abbrev read_of : List Commit → ℕ → JobReading
 read_of commits n =
     if n == 1 then Loads (batch.Create emp)
     else (if n == 4 then Query (record { rows = [] }) else Loads (batch.Put (codes "emp") (row n ∷ [])))

@@ -1,13 +1,14 @@
 -- What each session says by its replies: each reply over the entries that the session had seen
 -- before it and has seen after it.
-use Rattle.std.specs.Prelude.{◌≡◌, ℕ, ◌+◌, ◌≤◌, true, false, List, [], ◌∷◌, ◌++◌, length, take}
+use Rattle.std.specs.Prelude.{◌≡◌, ℕ, ◌+◌, ◌≤◌, true, false, IsTrue, List, [], ◌∷◌, ◌++◌, length, take}
 use mathlib.Core.List.{IsPrefix}
 use Rattle.tl_types.specs.declared.commits.Commit.{Commit}
 use Rattle.tl_types.specs.declared.commits.Entry.{Entry}
 use Rattle.tl_types.specs.declared.commits.Entry.TheVariants as entry
 use Rattle.tl_types.specs.Entries.{commits_of, has_break}
+use Rattle.tl_types.specs.Legality.{are_legal}
 use Rattle.tl_engine.specs.Counting.{news}
-use Rattle.tl_session.specs.declared.readings.Reading.TheVariants.{Query}
+use Rattle.tl_session.specs.declared.readings.JobReading.TheVariants.{Query}
 use Rattle.tl_session.specs.declared.replies.ReplyBody.{ReplyBody}
 use Rattle.tl_session.specs.declared.replies.ReplyBody.TheVariants as body
 use Rattle.tl_session.specs.Jobs.{Job}
@@ -83,26 +84,12 @@ body_weight body.BrokenJournal = 0
 abbrev pub weight : Turn → ℕ
 weight t = body_weight t.reply.body
 
--- all entries are marks
-abbrev pub AreMarks : List Entry → Type 0
-AreMarks [] = Unit {0}
-AreMarks (entry.Commit c ∷ rest) = ⊥
-AreMarks (entry.Mark n v ∷ rest) = AreMarks rest
-AreMarks (entry.Break c ∷ rest) = ⊥
-
--- neither a commit nor a break comes after the first break
-abbrev pub EndsAtBreak : List Entry → Type 0
-EndsAtBreak [] = Unit {0}
-EndsAtBreak (entry.Commit c ∷ rest) = EndsAtBreak rest
-EndsAtBreak (entry.Mark n v ∷ rest) = EndsAtBreak rest
-EndsAtBreak (entry.Break c ∷ rest) = AreMarks rest
-
 -- what the sessions of all phases say between the opening's entries and the last ones: each reply
 -- is right over what its session had seen, and as many replies tell of a commit or a break of their
 -- own as there are commits and breaks more
 pub record Promised (m : Meaning) (opening last : List Entry)
     (phases : List (List Turn)) : Type 0 where
-  pub legal : EndsAtBreak last
+  pub legal : IsTrue (are_legal last)
   pub whole : has_break opening ≡ false
   pub chains : Chains m opening phases last
   pub count : news opening + whole_tally weight phases ≡ news last

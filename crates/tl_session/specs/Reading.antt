@@ -29,33 +29,33 @@ use Rattle.tl_query.specs.CheckingQueries.{checked}
 use Rattle.tl_query.specs.Texts.{Spells, IsFault}
 use Rattle.tl_session.specs.declared.replies.Refusal.{Refusal}
 use Rattle.tl_session.specs.declared.replies.Refusal.TheVariants as refusal
-use Rattle.tl_session.specs.declared.readings.Reading.{Reading}
-use Rattle.tl_session.specs.declared.readings.Reading.TheVariants as reading
+use Rattle.tl_session.specs.declared.readings.JobReading.{JobReading}
+use Rattle.tl_session.specs.declared.readings.JobReading.TheVariants as reading
 use Rattle.tl_session.specs.Jobs.{Job}
 
 -- a new table, or the fault of its form
-abbrev pub create_reading : Result plain.Schema CheckFault → Reading
+abbrev pub create_reading : Result plain.Schema CheckFault → JobReading
 create_reading (Err f) = reading.Fault (refusal.CheckFault f)
 create_reading (Ok schema) = reading.Loads (batch.Create schema)
 
 -- the batch of a block, or its fault
-abbrev pub block_reading : Result Batch CsvFault → Reading
+abbrev pub block_reading : Result Batch CsvFault → JobReading
 block_reading (Err f) = reading.Fault (refusal.CsvFault f)
 block_reading (Ok batch) = reading.Loads batch
 
 -- a block for the table that was found, read as rows or as removals under its schema; without a
 -- table its fault
-abbrev pub load_into : Option (ℕ × plain.Table) → BatchKind → List ℕ → Reading
+abbrev pub load_into : Option (ℕ × plain.Table) → BatchKind → List ℕ → JobReading
 load_into None kind block = reading.Fault (refusal.BatchFault batch_fault.UnknownTable)
 load_into (Some t) kind block = block_reading (batch_of standard_limits t.1.schema kind block)
 
 -- a block for the table that has this name over the commits
-abbrev pub load_reading : List Commit → List ℕ → BatchKind → List ℕ → Reading
+abbrev pub load_reading : List Commit → List ℕ → BatchKind → List ℕ → JobReading
 load_reading commits name kind block =
     load_into (find_table name (database_of commits).tables) kind block
 
 -- the answer to a query over the tables that the commits make, or the fault of its check
-abbrev pub query_reading : List Commit → Result Typed CheckFault → Reading
+abbrev pub query_reading : List Commit → Result Typed CheckFault → JobReading
 query_reading commits (Err f) = reading.Fault (refusal.CheckFault f)
 query_reading commits (Ok typed) =
     reading.Query (record { rows = answer_of (database_of commits) typed })
@@ -66,7 +66,7 @@ block_of None = []
 block_of (Some block) = block
 
 -- what a statement is over the commits, with these bytes as its block
-abbrev pub statement_reading : List Commit → Statement → List ℕ → Reading
+abbrev pub statement_reading : List Commit → Statement → List ℕ → JobReading
 statement_reading commits (statement.Create form) block = create_reading (checked_create form)
 statement_reading commits (statement.Put name) block =
     load_reading commits name.text PutKind block
@@ -76,13 +76,13 @@ statement_reading commits (statement.Ask query) block =
     query_reading commits (checked (length commits) (database_of commits) query)
 
 -- a text with a block is the fault of the text, or what the statement is that the text spells
-abbrev pub IsReading : List Commit → List ℕ → List ℕ → Reading → Type 0
+abbrev pub IsReading : List Commit → List ℕ → List ℕ → JobReading → Type 0
 IsReading commits text block read =
     ((f : TextFault) × IsFault text f × (read ≡ reading.Fault (refusal.TextFault f)))
     ⊎ ((s : Statement) × Spells text s × (read ≡ statement_reading commits s block))
 
 -- the job is this over the commits
-abbrev pub Reads : List Commit → Job → Reading → Type 0
+abbrev pub Reads : List Commit → Job → JobReading → Type 0
 Reads commits job read = IsReading commits job.text (block_of job.block) read
 
 -- the refusal is not that memory ran out
@@ -93,24 +93,24 @@ IsTold (refusal.CsvFault f) = f ≢ csv_fault.NoMemory
 IsTold (refusal.BatchFault f) = f ≢ batch_fault.NoMemory
 
 -- the same of a reading that is a fault
-abbrev pub IsFaultTold : Reading → Type 0
+abbrev pub IsFaultTold : JobReading → Type 0
 IsFaultTold (reading.Loads batch) = Unit {0}
 IsFaultTold (reading.Query answer) = Unit {0}
 IsFaultTold (reading.Fault why) = IsTold why
 
 -- a reading that is a batch: its rows match the schema of its table, where there is one
-abbrev pub DoesMatch : plain.Database → Reading → Type 0
+abbrev pub DoesMatch : plain.Database → JobReading → Type 0
 DoesMatch db (reading.Loads batch) = IsTrue (batch_matches db batch)
 DoesMatch db (reading.Query answer) = Unit {0}
 DoesMatch db (reading.Fault why) = Unit {0}
 
 -- a reading that is a batch of rows: it names a table that is there
-abbrev pub IsKnown : plain.Database → Reading → Type 0
+abbrev pub IsKnown : plain.Database → JobReading → Type 0
 IsKnown db (reading.Loads batch) = IsTrue (names_table db batch)
 IsKnown db (reading.Query answer) = Unit {0}
 IsKnown db (reading.Fault why) = Unit {0}
 
 -- over the commits a job is one thing, and no other
 pub record HasOneReading (commits : List Commit) (job : Job) : Type 0 where
-  pub read : (r : Reading) × Reads commits job r
-  pub one : (r s : Reading) → Reads commits job r → Reads commits job s → r ≡ s
+  pub read : (r : JobReading) × Reads commits job r
+  pub one : (r s : JobReading) → Reads commits job r → Reads commits job s → r ≡ s

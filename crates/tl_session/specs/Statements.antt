@@ -5,8 +5,8 @@ use Rattle.tl_types.specs.declared.batches.Batch.{Batch}
 use Rattle.tl_types.specs.Entries.{commits_of, has_break}
 use Rattle.tl_engine.specs.declared.faults.CommitFault.{CommitFault}
 use Rattle.tl_engine.specs.declared.faults.CommitFault.TheVariants as fault
-use Rattle.tl_session.specs.declared.readings.Reading.{Reading}
-use Rattle.tl_session.specs.declared.readings.Reading.TheVariants.{Loads}
+use Rattle.tl_session.specs.declared.readings.JobReading.{JobReading}
+use Rattle.tl_session.specs.declared.readings.JobReading.TheVariants.{Loads}
 use Rattle.tl_session.specs.declared.replies.Refusal.TheVariants as refusal
 use Rattle.tl_session.specs.declared.replies.Reply.{Reply}
 use Rattle.tl_session.specs.declared.replies.ReplyBody.{ReplyBody}
@@ -31,7 +31,7 @@ pub record SeesMore (old new : plain.Access) : Type 0 where
   pub amount : new.amount ≡ old.amount
 
 -- the reading is the job's over the commits that have been seen, and the version is their number
-pub record IsLook (job : Job) (version : ℕ) (reading : Reading) (now : plain.Access) : Type 0 where
+pub record IsLook (job : Job) (version : ℕ) (reading : JobReading) (now : plain.Access) : Type 0 where
   pub version_is : version ≡ length (commits_of now.seen)
   pub reads : Reads (commits_of now.seen) job reading
 

@@ -3,7 +3,7 @@
 use Rattle.std.specs.Prelude.{◌≡◌, ℕ, ◌+◌, ◌<◌, ◌≤◌, Bool, true, false, ◌||◌, ◌==◌, if◌then◌else◌, List, [], ◌∷◌, length, take, max, Option, Some, None, slice_get}
 use Rattle.tl_types.specs.declared.commits.Commit.{Commit}
 use Rattle.tl_types.specs.declared.answers.Answer.{Answer}
-use Rattle.tl_session.specs.declared.readings.Reading.TheVariants.{Query}
+use Rattle.tl_session.specs.declared.readings.JobReading.TheVariants.{Query}
 use Rattle.tl_session.specs.declared.replies.Refusal.{Refusal}
 use Rattle.tl_session.specs.declared.replies.ReplyBody.{ReplyBody}
 use Rattle.tl_session.specs.declared.replies.ReplyBody.TheVariants as body

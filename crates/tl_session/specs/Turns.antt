@@ -12,8 +12,8 @@ use Rattle.tl_types.specs.Resolving.{resolved}
 use Rattle.tl_session.specs.declared.replies.Refusal.{Refusal}
 use Rattle.tl_session.specs.declared.replies.Refusal.TheVariants as refusal
 use Rattle.tl_session.specs.declared.replies.Reply.{Reply}
-use Rattle.tl_session.specs.declared.readings.Reading.{Reading}
-use Rattle.tl_session.specs.declared.readings.Reading.TheVariants.{Loads, Fault}
+use Rattle.tl_session.specs.declared.readings.JobReading.{JobReading}
+use Rattle.tl_session.specs.declared.readings.JobReading.TheVariants.{Loads, Fault}
 use Rattle.tl_session.specs.Jobs.{Job}
 use Rattle.tl_session.specs.Reading.{Reads}
 
@@ -24,7 +24,7 @@ pub record Turn : Type 0 where
 
 -- a meaning of jobs: as what a job reads over a list of commits
 pub record Meaning : Type 1 where
-  pub reads : List Commit → Job → Reading → Type 0
+  pub reads : List Commit → Job → JobReading → Type 0
 
 -- the meaning of the jobs of a script
 abbrev pub meant : Meaning

@@ -1,11 +1,11 @@
 //! The laws of what sessions are answered with. Each function's contract is its law; calling it
 //! does nothing.
-ghost use Rattle.std.specs.Prelude.{◌≡◌, ◌+◌, ◌++◌, ◌∷◌, [], ℕ, List, None, false, map};
+ghost use Rattle.std.specs.Prelude.{◌≡◌, ◌+◌, ◌++◌, ◌∷◌, [], ℕ, IsTrue, List, None, false, map};
 ghost use mathlib.Core.List.{IsPrefix};
 ghost use Rattle.tl_types.specs.declared.commits.Commit.{Commit};
 ghost use Rattle.tl_types.specs.declared.commits.Entry.{Entry};
 ghost use Rattle.tl_types.specs.Entries.{commits_of, has_break};
-ghost use Rattle.tl_index.specs.Snapshots.{IsLegal};
+ghost use Rattle.tl_types.specs.Legality.{are_legal};
 ghost use Rattle.tl_engine.specs.Counting.{news};
 ghost use Rattle.tl_session.specs.Jobs.{Job};
 ghost use Rattle.tl_session.specs.Phases.{HaveRun, TakesTurns};
@@ -75,6 +75,6 @@ pub fn phases_go_on()
 pub fn phases_are_promised()
     ensures { (opening seen last : List Entry) (phases : List (List Turn)) (amount : ℕ)
         → HaveRun opening phases seen amount → IsPrefix seen last
-        → news opening + amount ≡ news last → IsLegal last → has_break opening ≡ false
+        → news opening + amount ≡ news last → IsTrue (are_legal last) → has_break opening ≡ false
         → Promised meant opening last phases }
 {}

@@ -14,7 +14,7 @@ mod statements;
 
 pub use jobs::Job;
 pub use phases::{AccessParts, SharedAccess, run_phase};
-pub use readings::{Reading, read_job};
+pub use readings::{JobReading, read_job};
 pub use replies::{Refusal, Reply, ReplyBody, put_reply};
 pub use runs::run_all;
 pub use sessions::Session;

@@ -11,7 +11,7 @@ ghost use Rattle.tl_query.specs.declared.check_faults.CheckFault.TheVariants as 
 ghost use Rattle.tl_query.specs.declared.faults.TextFault.TheVariants as text_fault;
 ghost use Rattle.tl_csv.specs.declared.faults.CsvFault.TheVariants as csv_fault;
 ghost use Rattle.tl_session.specs.Reading.{IsReading, IsFaultTold, DoesMatch, IsKnown, create_reading, load_reading, query_reading, statement_reading};
-ghost use Rattle.tl_session.specs.declared.readings.Reading.TheVariants as reading;
+ghost use Rattle.tl_session.specs.declared.readings.JobReading.TheVariants as reading;
 ghost use Rattle.tl_session.specs.declared.replies.Refusal.TheVariants as refusal;
 
 use crate::replies::Refusal;
@@ -27,7 +27,7 @@ use tl_types::{Answer, Batch, BatchFault, Limits, NoMemory};
 
 /// What a job is over a list of commits. What a batch becomes is settled after it.
 #[derive(Debug, Drop, PartialEq, Eq)]
-pub enum Reading {
+pub enum JobReading {
     /// It is a batch that reads well.
     Loads(Batch),
     /// It is a query, with its answer.
@@ -48,14 +48,14 @@ fn check_refusal(fault: CheckFault) -> Result<Refusal, NoMemory>
 }
 
 // What a new table is.
-fn create(alloc: Global, form: &CreateForm) -> Result<Reading, NoMemory>
+fn create(alloc: Global, form: &CreateForm) -> Result<JobReading, NoMemory>
     requires { IsNewTable form.now }
     ensures reads { IfOk result (λ read. read ≡ create_reading (checked_create form.now)) }
     ensures told { IfOk result IsFaultTold }
 {
     match check_create(alloc, form) {
-        Ok(schema) => Ok(Reading::Loads(Batch::Create(schema))),
-        Err(fault) => Ok(Reading::Fault(check_refusal(fault)?)),
+        Ok(schema) => Ok(JobReading::Loads(Batch::Create(schema))),
+        Err(fault) => Ok(JobReading::Fault(check_refusal(fault)?)),
     }
 }
 
@@ -77,7 +77,7 @@ fn load(
     name: &Name,
     kind: BatchKind,
     block: &[u8],
-) -> Result<Reading, NoMemory>
+) -> Result<JobReading, NoMemory>
     ensures reads { IfOk result
         (λ read. read ≡ load_reading store.now name.now.text kind block.now) }
     ensures told { IfOk result IsFaultTold }
@@ -86,13 +86,13 @@ fn load(
 {
     let Some(number) = store.find(name.text.as_str()) else {
         let unknown = Refusal::BatchFault(BatchFault::UnknownTable);
-        return Ok(Reading::Fault(unknown));
+        return Ok(JobReading::Fault(unknown));
     };
     let schema = store.schema(number);
     let limits = Limits::standard();
     match read_batch(alloc, block, schema, kind, &limits) {
-        Ok(batch) => Ok(Reading::Loads(batch)),
-        Err(fault) => Ok(Reading::Fault(csv_refusal(fault)?)),
+        Ok(batch) => Ok(JobReading::Loads(batch)),
+        Err(fault) => Ok(JobReading::Fault(csv_refusal(fault)?)),
     }
 }
 
@@ -105,7 +105,7 @@ fn ask<G: Gate>(
     snapshot: &Snapshot,
     query: &Query,
     gate: &G,
-) -> Result<Reading, NoMemory>
+) -> Result<JobReading, NoMemory>
     requires { IsQuery query.now }
     ensures reads { IfOk result (λ read. read ≡ query_reading (commits_of snapshot.now)
         (checked (length (commits_of snapshot.now)) (database_of (commits_of snapshot.now))
@@ -114,9 +114,9 @@ fn ask<G: Gate>(
 {
     let typed = match check(alloc, query, snapshot.store()) {
         Ok(typed) => typed,
-        Err(fault) => return Ok(Reading::Fault(check_refusal(fault)?)),
+        Err(fault) => return Ok(JobReading::Fault(check_refusal(fault)?)),
     };
-    Ok(Reading::Query(answer(alloc, snapshot, &typed, WORKERS, gate)?))
+    Ok(JobReading::Query(answer(alloc, snapshot, &typed, WORKERS, gate)?))
 }
 
 // What a statement is.
@@ -126,7 +126,7 @@ fn read_statement<G: Gate>(
     statement: &Statement,
     block: &[u8],
     gate: &G,
-) -> Result<Reading, NoMemory>
+) -> Result<JobReading, NoMemory>
     requires { IsParsed statement.now }
     ensures reads { IfOk result (λ read. read ≡ statement_reading
         (commits_of snapshot.now) statement.now block.now) }
@@ -165,7 +165,7 @@ pub fn read_job<G: Gate>(
     text: &str,
     block: &[u8],
     gate: &G,
-) -> Result<Reading, NoMemory>
+) -> Result<JobReading, NoMemory>
     ensures reads { IfOk result
         (λ read. IsReading (commits_of snapshot.now) text.now block.now read) }
     ensures told { IfOk result IsFaultTold }
@@ -174,6 +174,6 @@ pub fn read_job<G: Gate>(
 {
     match parse(alloc, text) {
         Ok(statement) => read_statement(alloc, snapshot, &statement, block, gate),
-        Err(fault) => Ok(Reading::Fault(text_refusal(fault)?)),
+        Err(fault) => Ok(JobReading::Fault(text_refusal(fault)?)),
     }
 }

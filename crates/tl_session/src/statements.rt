@@ -10,7 +10,7 @@ ghost use Rattle.tl_session.specs.Reading.{block_of, DoesMatch, IsKnown};
 ghost use Rattle.tl_session.specs.Statements.{Answers, IsLook, SeesMore, Settles, Stops, Tells, outcome_of};
 
 use crate::jobs::Job;
-use crate::readings::{Reading, read_job};
+use crate::readings::{JobReading, read_job};
 use crate::replies::{Refusal, Reply, ReplyBody};
 use crate::sessions::{Access, Session};
 use std::alloc::AllocError;
@@ -23,7 +23,7 @@ use tl_types::{Batch, NoMemory};
 #[derive(Drop)]
 struct Look {
     version: u32,
-    reading: Reading,
+    reading: JobReading,
 }
 
 // What a job is answered with, at a version.
@@ -119,15 +119,15 @@ fn answer<D: Disk, J: Named, G: Gate, R: AllocGlobal + Wait>(
 {
     let Look { version, reading } = look_at(rt, engine, access, job, gate)?;
     match reading {
-        Reading::Loads(batch) => {
+        JobReading::Loads(batch) => {
             let settled = settle(rt, engine, access, batch)?;
             Ok(settled)
         }
-        Reading::Query(answer) => Ok(Settled {
+        JobReading::Query(answer) => Ok(Settled {
             version,
             body: ReplyBody::Rows(answer),
         }),
-        Reading::Fault(refusal) => Ok(Settled {
+        JobReading::Fault(refusal) => Ok(Settled {
             version,
             body: ReplyBody::Refused(refusal),
         }),

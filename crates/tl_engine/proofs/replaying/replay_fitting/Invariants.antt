@@ -2,7 +2,7 @@
 use Rattle.std.proofs.Common.{◌≡◌, ◌-◌, length}
 use Rattle.tl_types.specs.Entries.{commits_of}
 use Rattle.tl_journal.specs.Opening.{HasRead}
-use Rattle.tl_engine.specs.Fitting.{FitInTurn}
+use Rattle.tl_types.specs.Legality.{FitInTurn}
 use Rattle.tl_engine.proofs.replaying.replay_fitting.Given as goal
 
 abbrev pub invariant-commits : goal.invariant-commits

@@ -1,5 +1,5 @@
 use Rattle.std.proofs.Common.{subst}
-use Rattle.tl_session.specs.declared.readings.Reading.{Reading}
+use Rattle.tl_session.specs.declared.readings.JobReading.{JobReading}
 use Rattle.tl_session.specs.Jobs.{job_of}
 use Rattle.tl_session.specs.Statements.{IsLook}
 use Rattle.tl_session.proofs.StatementLemmas.{tells_settled, tells_rows, tells_fault}
@@ -9,16 +9,16 @@ pub returns-in_ok-settled-in-Loads-clause-ok : goal.returns-in_ok-settled-in-Loa
 returns-in_ok-settled-in-Loads-clause-ok g c =
     let job = job_of c.args.job.now in
     let version = c.in_ok-version.field-0.version in
-    tells_settled job _ version c.in-Loads.batch _ c.args.access.now c.look_at.new.access c.settle.new.access c.requires.own c.in_ok-version.ensures.sees (subst (λ (r : Reading). IsLook job version r c.look_at.new.access) c.in-Loads.is c.in_ok-version.ensures.look) c.in_ok-settled-in-Loads.ensures.ok
+    tells_settled job _ version c.in-Loads.batch _ c.args.access.now c.look_at.new.access c.settle.new.access c.requires.own c.in_ok-version.ensures.sees (subst (λ (r : JobReading). IsLook job version r c.look_at.new.access) c.in-Loads.is c.in_ok-version.ensures.look) c.in_ok-settled-in-Loads.ensures.ok
 
 pub returns-in-Query-clause-ok : goal.returns-in-Query-clause-ok
 returns-in-Query-clause-ok g c =
     let job = job_of c.args.job.now in
     let version = c.in_ok-version.field-0.version in
-    tells_rows job version c.in-Query.answer c.args.access.now c.look_at.new.access c.in_ok-version.ensures.sees (subst (λ (r : Reading). IsLook job version r c.look_at.new.access) c.in-Query.is c.in_ok-version.ensures.look)
+    tells_rows job version c.in-Query.answer c.args.access.now c.look_at.new.access c.in_ok-version.ensures.sees (subst (λ (r : JobReading). IsLook job version r c.look_at.new.access) c.in-Query.is c.in_ok-version.ensures.look)
 
 pub returns-in-Fault-clause-ok : goal.returns-in-Fault-clause-ok
 returns-in-Fault-clause-ok g c =
     let job = job_of c.args.job.now in
     let version = c.in_ok-version.field-0.version in
-    tells_fault job version c.in-Fault.refusal c.args.access.now c.look_at.new.access c.in_ok-version.ensures.sees (subst (λ (r : Reading). IsLook job version r c.look_at.new.access) c.in-Fault.is c.in_ok-version.ensures.look)
+    tells_fault job version c.in-Fault.refusal c.args.access.now c.look_at.new.access c.in_ok-version.ensures.sees (subst (λ (r : JobReading). IsLook job version r c.look_at.new.access) c.in-Fault.is c.in_ok-version.ensures.look)

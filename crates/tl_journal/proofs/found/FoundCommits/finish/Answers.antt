@@ -2,26 +2,26 @@ use Rattle.std.proofs.Common.{rules, ◌≡◌, ◌+◌, length, subst, sym, ref
 use Rattle.tl_device.specs.Disk.{MayCut}
 use Rattle.tl_journal.specs.Plain as plain
 use Rattle.tl_journal.specs.Image.{StandsFor}
-use Rattle.tl_journal.specs.Opening.{IsAtEnd}
+use Rattle.tl_journal.specs.Opening.{IsAtClosedGate}
 use Rattle.tl_journal.proofs.Phases.{weaker}
 use Rattle.tl_journal.proofs.Headed.{cut_stands, journal_cut, same_or_trimmed}
 use Rattle.tl_journal.proofs.found.FoundCommits.finish.Goals as goal
 
 pub returns-in_default-clause-any_moment : goal.returns-in_default-clause-any_moment
 returns-in_default-clause-any_moment g c =
-    let P : plain.FoundCommits g.row.D.Denot → Type 0 = λ o. IsAtEnd o in
+    let P : plain.FoundCommits g.row.D.Denot → Type 0 = λ o. IsAtClosedGate o in
     let r = subst P (sym c.self.view_is) c.requires in
     rw (← c.self.view_is) (λ found was stored. weaker _ _ _ _ (MayCut (c.self.inside.at + 1) c.self.inside.image.items) (StandsFor found) (λ d m. cut_stands found c.self.inside.at c.self.inside.image.items r.0 d was r.1 m) (c.trim.ensures.any_moment c.self.inside.image.items stored))
 
 pub returns-in_default-clause-now : goal.returns-in_default-clause-now
 returns-in_default-clause-now g c =
-    let P : plain.FoundCommits g.row.D.Denot → Type 0 = λ o. IsAtEnd o in
+    let P : plain.FoundCommits g.row.D.Denot → Type 0 = λ o. IsAtClosedGate o in
     let r = subst P (sym c.self.view_is) c.requires in
     rw (← c.self.view_is) (λ found was stored d left. cut_stands found c.self.inside.at c.self.inside.image.items r.0 d was r.1 (c.trim.ensures.now c.self.inside.image.items stored d left))
 
 pub returns-in_default-clause-reads : goal.returns-in_default-clause-reads
 returns-in_default-clause-reads g c =
-    let P : plain.FoundCommits g.row.D.Denot → Type 0 = λ o. IsAtEnd o in
+    let P : plain.FoundCommits g.row.D.Denot → Type 0 = λ o. IsAtClosedGate o in
     let r = subst P (sym c.self.view_is) c.requires in
     rw (← c.self.view_is) (λ found b was reads.
     let is : c.self.inside.image.items ≡ b = search rules in
@@ -30,19 +30,19 @@ returns-in_default-clause-reads g c =
 
 pub returns-clause-any_moment : goal.returns-clause-any_moment
 returns-clause-any_moment g c =
-    let P : plain.FoundCommits g.row.D.Denot → Type 0 = λ o. IsAtEnd o in
+    let P : plain.FoundCommits g.row.D.Denot → Type 0 = λ o. IsAtClosedGate o in
     let r = subst P (sym c.self.view_is) c.requires in
     rw (c.at_gate.ensures, ← c.self.view_is) (λ found was stored. weaker _ _ _ _ (MayCut (c.self.inside.at + 1) c.self.inside.image.items) (StandsFor found) (λ d m. cut_stands found c.self.inside.at c.self.inside.image.items r.0 d was r.1 m) (c.trim.ensures.any_moment c.self.inside.image.items stored))
 
 pub returns-clause-now : goal.returns-clause-now
 returns-clause-now g c =
-    let P : plain.FoundCommits g.row.D.Denot → Type 0 = λ o. IsAtEnd o in
+    let P : plain.FoundCommits g.row.D.Denot → Type 0 = λ o. IsAtClosedGate o in
     let r = subst P (sym c.self.view_is) c.requires in
     rw (c.at_gate.ensures, ← c.self.view_is) (λ found was stored d left. cut_stands found c.self.inside.at c.self.inside.image.items r.0 d was r.1 (c.trim.ensures.now c.self.inside.image.items stored d left))
 
 pub returns-clause-reads : goal.returns-clause-reads
 returns-clause-reads g c =
-    let P : plain.FoundCommits g.row.D.Denot → Type 0 = λ o. IsAtEnd o in
+    let P : plain.FoundCommits g.row.D.Denot → Type 0 = λ o. IsAtClosedGate o in
     let r = subst P (sym c.self.view_is) c.requires in
     rw (c.at_gate.ensures, ← c.self.view_is) (λ found b was reads.
     let is : c.self.inside.image.items ≡ b = search rules in
@@ -51,7 +51,7 @@ returns-clause-reads g c =
 
 pub returns-clause-stands : goal.returns-clause-stands
 returns-clause-stands g c =
-    let P : plain.FoundCommits g.row.D.Denot → Type 0 = λ o. IsAtEnd o in
+    let P : plain.FoundCommits g.row.D.Denot → Type 0 = λ o. IsAtClosedGate o in
     let r = subst P (sym c.self.view_is) c.requires in
     let len : length c.self.inside.image.items ≡ c.len.result = search rules in
     rw (c.at_gate.ensures, ← c.self.view_is) (λ found was stored. record {

@@ -1,7 +1,7 @@
 use Rattle.std.proofs.Common.{◌≡◌, ◌∙◌, ℕ, List, Some, refl, subst}
 use Rattle.tl_device.specs.Disk.{IsStored}
 use Rattle.tl_journal.specs.Image.{IsJournalOf}
-use Rattle.tl_journal.specs.Opening.{commits_of}
+use Rattle.tl_journal.specs.Opening.{commits_found}
 use Rattle.tl_journal.proofs.Opened.{stored_there, opened_moments, opened_now}
 use Rattle.tl_journal.proofs.journal.Journal.attach.Goals as goal
 
@@ -13,7 +13,7 @@ pub returns-in-Ok-finish-clause-any_moment : goal.returns-in-Ok-finish-clause-an
 returns-in-Ok-finish-clause-any_moment g c b names r s =
     let o = c.in-Ok.opening in
     let opened = c.all_found.new.opening in
-    let cs = commits_of c.in-Ok-all_found.found in
+    let cs = commits_found c.in-Ok-all_found.found in
     let stored : (b : List ℕ) → g.D.Disk.reads c.args.disk ≡ Some b → IsStored g.D.Disk.reads g.D.Disk.may_leave o.disk b =
     λ b r. subst (λ l. IsStored g.D.Disk.reads g.D.Disk.may_leave o.disk l) (c.in-Ok.ensures.image b r) (c.in-Ok.ensures.stored b r) in
     let same = c.in-Ok-all_found.ensures.disk in
@@ -24,7 +24,7 @@ returns-in-Ok-finish-clause-any_moment g c b names r s =
 
 pub returns-in-Ok-finish-clause-no_journal : goal.returns-in-Ok-finish-clause-no_journal
 returns-in-Ok-finish-clause-no_journal g c b r none =
-    let cs = commits_of c.in-Ok-all_found.found in
+    let cs = commits_found c.in-Ok-all_found.found in
     let all = subst (λ l. IsJournalOf cs l) (c.in-Ok.ensures.image b r) c.in-Ok-all_found.ensures.all in
     absurd (none cs all.stands)
 
@@ -32,7 +32,7 @@ pub returns-in-Ok-finish-clause-now : goal.returns-in-Ok-finish-clause-now
 returns-in-Ok-finish-clause-now g c b names r s =
     let o = c.in-Ok.opening in
     let opened = c.all_found.new.opening in
-    let cs = commits_of c.in-Ok-all_found.found in
+    let cs = commits_found c.in-Ok-all_found.found in
     let stored : (b : List ℕ) → g.D.Disk.reads c.args.disk ≡ Some b → IsStored g.D.Disk.reads g.D.Disk.may_leave o.disk b =
     λ b r. subst (λ l. IsStored g.D.Disk.reads g.D.Disk.may_leave o.disk l) (c.in-Ok.ensures.image b r) (c.in-Ok.ensures.stored b r) in
     let same = c.in-Ok-all_found.ensures.disk in
@@ -45,7 +45,7 @@ pub returns-in-Ok-finish-clause-reads : goal.returns-in-Ok-finish-clause-reads
 returns-in-Ok-finish-clause-reads g c b r =
     let opened = c.all_found.new.opening in
     let o = c.in-Ok.opening in
-    let cs = commits_of c.in-Ok-all_found.found in
+    let cs = commits_found c.in-Ok-all_found.found in
     let same = c.in-Ok-all_found.ensures.disk in
     let stored = subst (λ l. IsStored g.D.Disk.reads g.D.Disk.may_leave o.disk l) (c.in-Ok.ensures.image b r) (c.in-Ok.ensures.stored b r) in
     let there = stored_there g.D.Disk.reads g.D.Disk.may_leave o.disk opened.disk b b stored same refl in
@@ -55,7 +55,7 @@ pub returns-in-Err-finish-clause-any_moment : goal.returns-in-Err-finish-clause-
 returns-in-Err-finish-clause-any_moment g c b names r s =
     let o = c.in-Ok.opening in
     let opened = c.all_found.new.opening in
-    let cs = commits_of c.in-Ok-all_found.found in
+    let cs = commits_found c.in-Ok-all_found.found in
     let stored : (b : List ℕ) → g.D.Disk.reads c.args.disk ≡ Some b → IsStored g.D.Disk.reads g.D.Disk.may_leave o.disk b =
     λ b r. subst (λ l. IsStored g.D.Disk.reads g.D.Disk.may_leave o.disk l) (c.in-Ok.ensures.image b r) (c.in-Ok.ensures.stored b r) in
     let same = c.in-Ok-all_found.ensures.disk in
@@ -66,7 +66,7 @@ returns-in-Err-finish-clause-any_moment g c b names r s =
 
 pub returns-in-Err-finish-clause-no_journal : goal.returns-in-Err-finish-clause-no_journal
 returns-in-Err-finish-clause-no_journal g c b r none =
-    let cs = commits_of c.in-Ok-all_found.found in
+    let cs = commits_found c.in-Ok-all_found.found in
     let all = subst (λ l. IsJournalOf cs l) (c.in-Ok.ensures.image b r) c.in-Ok-all_found.ensures.all in
     absurd (none cs all.stands)
 
@@ -74,7 +74,7 @@ pub returns-in-Err-finish-clause-now : goal.returns-in-Err-finish-clause-now
 returns-in-Err-finish-clause-now g c b names r s =
     let o = c.in-Ok.opening in
     let opened = c.all_found.new.opening in
-    let cs = commits_of c.in-Ok-all_found.found in
+    let cs = commits_found c.in-Ok-all_found.found in
     let stored : (b : List ℕ) → g.D.Disk.reads c.args.disk ≡ Some b → IsStored g.D.Disk.reads g.D.Disk.may_leave o.disk b =
     λ b r. subst (λ l. IsStored g.D.Disk.reads g.D.Disk.may_leave o.disk l) (c.in-Ok.ensures.image b r) (c.in-Ok.ensures.stored b r) in
     let same = c.in-Ok-all_found.ensures.disk in
@@ -87,7 +87,7 @@ pub returns-in-Err-finish-clause-reads : goal.returns-in-Err-finish-clause-reads
 returns-in-Err-finish-clause-reads g c b r =
     let opened = c.all_found.new.opening in
     let o = c.in-Ok.opening in
-    let cs = commits_of c.in-Ok-all_found.found in
+    let cs = commits_found c.in-Ok-all_found.found in
     let same = c.in-Ok-all_found.ensures.disk in
     let stored = subst (λ l. IsStored g.D.Disk.reads g.D.Disk.may_leave o.disk l) (c.in-Ok.ensures.image b r) (c.in-Ok.ensures.stored b r) in
     let there = stored_there g.D.Disk.reads g.D.Disk.may_leave o.disk opened.disk b b stored same refl in
@@ -95,12 +95,12 @@ returns-in-Err-finish-clause-reads g c b r =
 
 pub returns-in-Ok-finish-clause-no_journal_now : goal.returns-in-Ok-finish-clause-no_journal_now
 returns-in-Ok-finish-clause-no_journal_now g c b r none =
-    let cs = commits_of c.in-Ok-all_found.found in
+    let cs = commits_found c.in-Ok-all_found.found in
     let all = subst (λ l. IsJournalOf cs l) (c.in-Ok.ensures.image b r) c.in-Ok-all_found.ensures.all in
     absurd (none cs all.stands)
 
 pub returns-in-Err-finish-clause-no_journal_now : goal.returns-in-Err-finish-clause-no_journal_now
 returns-in-Err-finish-clause-no_journal_now g c b r none =
-    let cs = commits_of c.in-Ok-all_found.found in
+    let cs = commits_found c.in-Ok-all_found.found in
     let all = subst (λ l. IsJournalOf cs l) (c.in-Ok.ensures.image b r) c.in-Ok-all_found.ensures.all in
     absurd (none cs all.stands)

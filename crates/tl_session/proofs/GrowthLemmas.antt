@@ -1,19 +1,17 @@
 -- What a batch is over some commits, it is over more: tables stay in their places, under their
 -- names.
-use Rattle.std.proofs.Common.{◌≡◌, inl, inr, ℕ, zero, suc, ◌+◌, Bool, true, false, cond, List, [], ◌∷◌, ◌++◌, Option, Some, None, Result, Ok, Err, refl, sym, ap, ◌∙◌, subst}
+use Rattle.std.proofs.Common.{◌≡◌, inl, inr, ℕ, List, ◌++◌, Option, Some, None, Result, Ok, Err, refl, sym, ap, ◌∙◌, subst}
 use Rattle.std.proofs.lemmas.List.Sums.{fold-append}
 use mathlib.Core.List.{IsPrefix}
 use Rattle.std.specs.List.{fold}
 use Rattle.tl_types.specs.declared.batches.Batch.{Batch}
 use Rattle.tl_types.specs.declared.commits.Commit.{Commit}
 use Rattle.tl_types.specs.declared.commits.Entry.{Entry}
-use Rattle.tl_types.specs.declared.commits.Body.{Body}
-use Rattle.tl_types.specs.declared.commits.Body.TheVariants as body
 use Rattle.tl_types.specs.Limits.{standard_limits}
 use Rattle.tl_types.specs.Plain as plain
 use Rattle.tl_types.specs.Entries.{commits_of}
-use Rattle.tl_types.specs.History.{database_of, after_commit, after_body, at_place, table_after, new_table, nothing, has_name}
-use Rattle.tl_types.specs.Resolving.{find_table, find_from}
+use Rattle.tl_types.specs.History.{database_of, after_commit, nothing}
+use Rattle.tl_types.specs.Resolving.{find_table}
 use Rattle.tl_csv.specs.declared.needs.BatchKind.{BatchKind}
 use Rattle.tl_csv.specs.declared.needs.BatchKind.TheVariants.{PutKind, RemoveKind}
 use Rattle.tl_csv.specs.Block.{batch_of}

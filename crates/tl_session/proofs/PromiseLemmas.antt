@@ -1,9 +1,7 @@
 -- Phases one after the other, and what an engine that is closed makes of them.
 use Rattle.std.proofs.Common.{◌≡◌, ℕ, ◌+◌, true, false, List, [], ◌∷◌, ◌++◌, map, None, refl, sym, ap, ◌∙◌, subst, arith}
 use mathlib.Core.List.{IsPrefix}
-use Rattle.tl_types.specs.declared.commits.Commit.{Commit}
 use Rattle.tl_types.specs.declared.commits.Entry.{Entry}
-use Rattle.tl_types.specs.declared.commits.Entry.TheVariants as entry
 use Rattle.tl_types.specs.Entries.{commits_of, has_break}
 use Rattle.tl_types.specs.Legality.{are_legal}
 use Rattle.tl_engine.specs.Counting.{news}

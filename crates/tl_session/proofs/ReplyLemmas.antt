@@ -13,7 +13,7 @@ use Rattle.tl_session.specs.Promises.{Appended, BodySays, Says}
 use Rattle.tl_session.specs.Transcript.{RowsRight, RefusedRight, DoneRight, DeviceRight, BrokenRight, Between, body_breaks}
 use Rattle.tl_engine.proofs.CountLemmas.{begins_on}
 use Rattle.tl_engine.proofs.ListLemmas.{break_there as break_last}
-use Rattle.tl_session.proofs.EntryLemmas.{AreMarks, EndsAtBreak, ends_at_break, commits_split, fewer_commits, same_front, whole_front, all_there, unbroken, break_found, break_there_on, placed}
+use Rattle.tl_session.proofs.EntryLemmas.{EndsAtBreak, commits_split, fewer_commits, same_front, whole_front, all_there, unbroken, break_found, break_there_on, placed}
 
 appended : (old base new : List Entry) (e : Entry) → Appended old base new e → IsPrefix old new
 appended old base new e a = begins_on old base new a.0 (e ∷ [], sym a.1)

@@ -88,7 +88,7 @@ breaks (suc (suc s)) =
 
 promised : Promised simple [] broken (making ∷ [] ∷ breaking ∷ [])
 promised = record {
-  legal = tt;
+  legal = refl;
   whole = refl;
   chains = (whole, (whole, refl), makes, (whole, ([], refl), (λ s. ([], refl)), (broken, (entry.Break second ∷ [], refl), breaks, ([], refl))));
   count = refl;

@@ -1,6 +1,5 @@
 use Rattle.std.proofs.Common.{rules, ◌∙◌, ap, sym, arith, subst}
 use mathlib.Core.List.{IsPrefix}
-use Rattle.tl_session.specs.Plain as plain
 use Rattle.tl_session.specs.Phases.{AllSeenIn, parts_of, amounts_of}
 use Rattle.tl_engine.proofs.CountLemmas.{begins_on}
 use Rattle.tl_session.proofs.SharedLemmas.{one_left, parts_more, amounts_more, seen_more, all_taken_in}

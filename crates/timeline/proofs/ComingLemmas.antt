@@ -1,5 +1,5 @@
 -- Phases that come one after the other.
-use Rattle.std.proofs.Common.{◌≡◌, inl, inr, ℕ, ◌+◌, ◌≤◌, Bool, true, false, List, [], ◌∷◌, ◌++◌, length, Option, Some, None, IfSome, refl, sym, ap, ◌∙◌, subst, append_assoc, append-nil}
+use Rattle.std.proofs.Common.{◌≡◌, inl, inr, ℕ, ◌≤◌, Bool, true, false, List, [], ◌∷◌, ◌++◌, length, Option, Some, None, IfSome, refl, sym, ap, ◌∙◌, subst, append_assoc, append-nil}
 use Rattle.tl_device.specs.Known.{prepend_known}
 use Rattle.tl_device.proofs.Known.{prepend_none, read_more}
 use Rattle.tl_script.specs.declared.jobs.ScriptFault.{ScriptFault}

@@ -16,7 +16,8 @@ use Rattle.tl_journal.specs.Moments.{IsShort, OldOr}
 use Rattle.tl_journal.specs.Stands.{empty_journal}
 use Rattle.tl_journal.specs.declared.faults.JournalFault.{JournalFault}
 use Rattle.tl_journal.specs.declared.faults.JournalFault.TheVariants as journal
-use Rattle.tl_engine.specs.Fitting.{FitInTurn, IsDamaged}
+use Rattle.tl_types.specs.Legality.{FitInTurn}
+use Rattle.tl_engine.specs.Fitting.{IsDamaged}
 use Rattle.timeline.specs.declared.statuses.Status.{Status}
 use Rattle.timeline.specs.declared.statuses.Status.TheVariants as status
 use Rattle.timeline.specs.declared.stops.Stop.{Stop}

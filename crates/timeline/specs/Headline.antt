@@ -11,7 +11,7 @@ use Rattle.tl_script.specs.Taking.{IsAtEnd}
 use Rattle.tl_session.specs.Play.{AreLonePhases}
 use Rattle.tl_session.specs.Written.{IsTranscript, IsPlayOf, all_jobs}
 use Rattle.tl_journal.specs.Image.{StandsFor}
-use Rattle.tl_engine.specs.Fitting.{FitInTurn}
+use Rattle.tl_types.specs.Legality.{FitInTurn}
 use Rattle.timeline.specs.declared.statuses.Status.{Status}
 use Rattle.timeline.specs.declared.statuses.Status.TheVariants as status
 use Rattle.timeline.specs.declared.commands.Command.{Command}

@@ -9,7 +9,7 @@ use Rattle.tl_device.specs.Disk.{Only}
 use Rattle.tl_journal.specs.Image.{StandsFor, IsJournalOf, BeforeOrAfter}
 use Rattle.tl_journal.specs.Moments.{OldOr}
 use Rattle.tl_journal.specs.Stands.{SameOrTrimmed}
-use Rattle.tl_engine.specs.Fitting.{FitInTurn}
+use Rattle.tl_types.specs.Legality.{FitInTurn}
 
 -- what the source has left, what is written to the sink, and what a read of the disk gives, where
 -- each tells that; what a crash now may leave of the disk; and the counts of faults of the three

@@ -1,7 +1,8 @@
 use Rattle.std.proofs.Common.{◌∙◌, sym, subst, IfSome, inl, inr, refl, le_refl}
 use Rattle.tl_types.specs.declared.limits.Limits.{Limits}
 use Rattle.tl_types.specs.Entries.{commits_of}
-use Rattle.tl_engine.specs.Fitting.{FitInTurn, IsDamaged}
+use Rattle.tl_types.specs.Legality.{FitInTurn}
+use Rattle.tl_engine.specs.Fitting.{IsDamaged}
 use Rattle.timeline.specs.Outside.{outside, OpensWith}
 use Rattle.timeline.proofs.EndLemmas.{opened_ends}
 use Rattle.timeline.proofs.OpeningLemmas.{refused_by}

@@ -27,6 +27,7 @@ use Rattle.timeline.specs.Ending.{SampleEnds, sink_alone, status_for, wanted_by,
 use Rattle.timeline.specs.Headline.{PrintsPlay, PrintsTranscript, PrintsAll, PrintsBreak, PrintsToFault, PrintsClosed, RunTells, RunHeadline, HeadlineBy}
 use Rattle.timeline.specs.Outside.{Outside, streams_of, HoldsJournal}
 use Rattle.timeline.specs.Stopping.{RunsAll, Stops}
+use Rattle.timeline.proofs.PrefixLemmas.{refused_sink, refused_short, nothing_done, sink_cuts, memory_cuts}
 use Rattle.timeline.proofs.RunningLemmas.{written_more}
 use Rattle.timeline.proofs.TopLemmas.{told_script}
 
@@ -108,6 +109,8 @@ refused_tells reads script opening before after ended h =
       done = λ e. absurd (refused_not_done h.fault before.written after.written before.sink_faults after.sink_faults ended h.ends e);
       device = λ faults e. inl (record { unread = h.unread; written = refused_device h.fault before.written after.written before.sink_faults after.sink_faults ended faults h.ends e; keeps = h.keeps });
       faulty = λ f e. absurd (no_journal_script h.fault f (refused_other h.fault (status.ScriptFault f) before.written after.written before.sink_faults after.sink_faults ended h.ends e (λ x. cc) (λ n x. cc)));
+      sinking = λ faults e. let w = refused_sink before after ended faults h e in (w.0, inl w.1);
+      short = λ e. inl (refused_short before after ended h e);
       failing = λ faults e. absurd (no_journal_source h.fault faults (refused_other h.fault (status.SourceFault faults) before.written after.written before.sink_faults after.sink_faults ended h.ends e (λ x. cc) (λ n x. cc)));
     }
 
@@ -279,6 +282,8 @@ opened_tells reads script opening before after ended told h =
       device = λ faults e. inr (device_tells reads script opening before after ended told h faults e);
       faulty = fault_tells reads script opening before after ended told h;
       failing = source_tells reads script opening before after ended told h;
+      sinking = λ faults e. let w = sink_cuts reads script opening before after ended told h faults e in (w.0, inr w.1);
+      short = λ e. inr (memory_cuts reads script opening before after ended told h e);
     }
 
 run_tells : (reads : Bool → List ℕ → Reading) (before after : Outside) (ended : Status) → RunEnds reads before after ended → RunHeadline reads before after ended
@@ -319,14 +324,16 @@ sample_tells reading old new before after ended lone (inr (all, h)) e = by_why h
   by_why (stop.Sink n) stops closes = absurd (no_sink_done n (sym e ∙ closes.0))
   by_why stop.NoMemory stops closes = absurd (no_memory_done (sym e ∙ closes.0))
 
--- a run that is out of memory tells nothing
-silent_tells : (reads : Bool → List ℕ → Reading) (script : List ℕ) (opening : List Commit) (before after : Outside) (ended : Status) → ended ≡ status.NoMemory → RunTells reads script opening before after ended
-silent_tells reads script opening before after ended is =
+-- a run that is out of memory before it begins does nothing
+silent_tells : (reads : Bool → List ℕ → Reading) (script : List ℕ) (opening : List Commit) (before : Outside) (ended : Status) → ended ≡ status.NoMemory → RunTells reads script opening before before ended
+silent_tells reads script opening before ended is =
     record {
       done = λ e. absurd (no_memory_done (sym e ∙ is));
       device = λ faults e. absurd (no_memory_device faults (sym e ∙ is));
       faulty = λ f e. absurd (let x : status.ScriptFault f ≡ status.NoMemory = sym e ∙ is in cc);
       failing = λ faults e. absurd (let x : status.SourceFault faults ≡ status.NoMemory = sym e ∙ is in cc);
+      sinking = λ faults e. absurd (let x : status.SinkFault faults ≡ status.NoMemory = sym e ∙ is in cc);
+      short = λ e. inl (nothing_done before);
     }
 
 -- what a command came to
@@ -338,9 +345,9 @@ command_tells (Some (command.Load table)) before after ended h = run_tells (bloc
 command_tells (Some (command.Sample lines start)) before after ended h = λ e. sample_tells (sample_reading lines start) before.written after.written before.sink_faults after.sink_faults ended (sample_lone lines start) h.1 e
 
 -- out of memory
-pub memory_tells : (c : Option Command) (before after : Outside) (ended : Status) → ended ≡ status.NoMemory → HeadlineBy c before after ended
-memory_tells None before after ended e = tt
-memory_tells (Some command.Init) before after ended e = tt
-memory_tells (Some command.Run) before after ended e = λ script image opening told reads stands. silent_tells script_reads script opening before after ended e
-memory_tells (Some (command.Load table)) before after ended e = λ script image opening told reads stands. silent_tells (block_reads (put_text table)) script opening before after ended e
-memory_tells (Some (command.Sample lines start)) before after ended e = λ done. absurd (no_memory_done (sym done ∙ e))
+pub memory_tells : (c : Option Command) (before : Outside) (ended : Status) → ended ≡ status.NoMemory → HeadlineBy c before before ended
+memory_tells None before ended e = tt
+memory_tells (Some command.Init) before ended e = tt
+memory_tells (Some command.Run) before ended e = λ script image opening told reads stands. silent_tells script_reads script opening before ended e
+memory_tells (Some (command.Load table)) before ended e = λ script image opening told reads stands. silent_tells (block_reads (put_text table)) script opening before ended e
+memory_tells (Some (command.Sample lines start)) before ended e = λ done. absurd (no_memory_done (sym done ∙ e))

@@ -8,6 +8,7 @@ pub mod HeadlineLemmas
 pub mod HoldsLemmas
 pub mod NamesLemmas
 pub mod OpeningLemmas
+pub mod PrefixLemmas
 pub mod RunningLemmas
 pub mod SampleLemmas
 pub mod ScriptComing

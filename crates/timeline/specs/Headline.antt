@@ -1,5 +1,5 @@
 -- What is proved of a run as a whole: when it is done, and what it prints and keeps then.
-use Rattle.std.specs.Prelude.{◌≡◌, ◌⊎◌, ℕ, ◌≤◌, Bool, true, false, List, [], ◌++◌, length, Some, None}
+use Rattle.std.specs.Prelude.{◌≡◌, ◌⊎◌, ℕ, ◌≤◌, Bool, true, false, List, [], ◌∷◌, ◌++◌, length, take, map, Some, None}
 use Rattle.std.specs.declared.option.Option.{Option}
 use mathlib.Core.List.{IsPrefix}
 use Rattle.tl_types.specs.declared.commits.Commit.{Commit}
@@ -8,8 +8,11 @@ use Rattle.tl_device.specs.Known.{append_known, prepend_known, Rose}
 use Rattle.tl_script.specs.declared.jobs.ScriptFault.{ScriptFault}
 use Rattle.tl_script.specs.Script.{Reading}
 use Rattle.tl_script.specs.Taking.{IsAtEnd}
+use Rattle.tl_session.specs.Jobs.{Job}
 use Rattle.tl_session.specs.Play.{AreLonePhases}
-use Rattle.tl_session.specs.Written.{IsTranscript, IsPlayOf, all_jobs}
+use Rattle.tl_session.specs.Transcript.{Transcript}
+use Rattle.tl_session.specs.Turns.{Turn, meant}
+use Rattle.tl_session.specs.Written.{IsTranscript, IsPlayOf, all_jobs, jobs_of, transcript_bytes}
 use Rattle.tl_journal.specs.Image.{StandsFor}
 use Rattle.tl_types.specs.Legality.{FitInTurn}
 use Rattle.timeline.specs.declared.statuses.Status.{Status}
@@ -22,6 +25,7 @@ use Rattle.timeline.specs.Coming.{script_reads, block_reads}
 use Rattle.timeline.specs.Jobs.{phases_asked}
 use Rattle.timeline.specs.Sample.{sample_reading}
 use Rattle.timeline.specs.Outside.{Outside, IsUnread, KeepsJournal, HoldsJournal}
+use Rattle.timeline.specs.Stopping.{AreFronts}
 
 -- COMPLETENESS
 
@@ -125,6 +129,66 @@ pub record PrintsClosed (closed : List ℕ → Reading) (opening : List Commit) 
   pub broke : Option Commit
   pub prints : PrintsTranscript (closed taken) opening all broke closing before after
 
+-- the journal was not opened: at most some first bytes of a closing line were written, nothing was
+-- read, and the disk keeps its journal
+pub record StopsUnopened (before after : Outside) : Type 0 where
+  pub unread : IsUnread before after
+  pub closing : Status
+  pub some : ℕ
+  pub written : after.written ≡ append_known before.written (take some (closing_line closing))
+  pub keeps : KeepsJournal before after
+
+-- what is read of the script, or, where the source failed, of the bytes that were taken of it
+abbrev pub IsReadOf : (Bool → List ℕ → Reading) → List ℕ → Outside → Outside → Reading → Type 0
+IsReadOf reads script before after reading =
+    (reading ≡ reads true script)
+    ⊎ ((taken : List ℕ) × (before.left ≡ prepend_known taken after.left)
+    × Rose before.source_faults after.source_faults × (reading ≡ reads false taken))
+
+-- The sink failed: the replies of some of the first phases were written, and then some first bytes
+-- of those of the next phase, if there is one, and of a closing line. All these replies are a
+-- transcript, from the opening's commits to all commits; the disk holds these.
+pub record PrintsPrefix (reading : Reading) (opening : List Commit) (before after : Outside) : Type 0 where
+  pub turns : List (List Turn)
+  pub last : List (List Turn)
+  pub one : length last ≤ 1
+  pub later : List (List Job)
+  pub answers : phases_asked reading.phases ≡ map jobs_of (turns ++ last) ++ later
+  pub all : List Commit
+  pub broke : Option Commit
+  pub begins : IsPrefix opening all
+  pub transcript : Transcript meant opening all broke (turns ++ last)
+  pub closing : Status
+  pub some : ℕ
+  pub written : after.written ≡ append_known before.written
+      (transcript_bytes reading.names turns
+      ++ take some (transcript_bytes reading.names last ++ closing_line closing))
+  pub holds : HoldsJournal all broke before after
+
+-- turns of the next of these phases, if there is one: each session was answered some of the first
+-- of its jobs
+abbrev pub HaveBegun : List (List Turn) → List (List Job) → Type 0
+HaveBegun [] later = later ≡ []
+HaveBegun (last ∷ []) later = AreFronts last later
+HaveBegun (last ∷ other ∷ turns) later = ⊥
+
+-- Memory ran out: the replies of some of the first phases were written. With those to jobs of the
+-- next phase, which are not written, they are a transcript, from the opening's commits to all
+-- commits; the disk holds these.
+pub record PrintsShort (reading : Reading) (opening : List Commit) (before after : Outside) : Type 0 where
+  pub turns : List (List Turn)
+  pub begun : List (List Turn)
+  pub later : List (List Job)
+  pub answers : phases_asked reading.phases ≡ map jobs_of turns ++ later
+  pub fronts : HaveBegun begun later
+  pub all : List Commit
+  pub broke : Option Commit
+  pub begins : IsPrefix opening all
+  pub transcript : Transcript meant opening all broke (turns ++ begun)
+  pub written : after.written
+      ≡ append_known before.written (transcript_bytes reading.names turns)
+  pub holds : HoldsJournal all broke before after
+
 -- the jobs of what is read, done one after the other from no commits on, were printed
 pub record PrintsPlay (reading : Reading) (old new : Option (List ℕ)) : Type 0 where
   pub bytes : List ℕ
@@ -142,12 +206,21 @@ pub record RunTells (reads : Bool → List ℕ → Reading) (script : List ℕ) 
       → PrintsToFault (reads true script) f opening before after
   pub failing : (faults : ℕ) → ended ≡ status.SourceFault faults
       → PrintsClosed (reads false) opening ended before after
+  pub sinking : (faults : ℕ) → ended ≡ status.SinkFault faults
+      → Rose before.sink_faults after.sink_faults × (StopsUnopened before after
+      ⊎ ((reading : Reading) × IsReadOf reads script before after reading
+      × PrintsPrefix reading opening before after))
+  pub short : ended ≡ status.NoMemory → StopsUnopened before after
+      ⊎ ((reading : Reading) × IsReadOf reads script before after reading
+      × PrintsShort reading opening before after)
 
 -- The headline: where the source tells a script and the disk a journal, then at status 0 the
 -- transcript of the script over the journal's commits was printed, and the disk holds just the
 -- commits that it ends with, also in a crash. At status 5 the journal was not opened; or the
 -- transcript has a break, and the disk holds the commits, or these and the break's. At status 6 it
--- is that of the phases before the fault, and at status 3 of those closed in what was taken.
+-- is that of the phases before the fault, and at status 3 of those closed in what was taken. At
+-- status 4 a prefix of one was written, and at status 1 the replies of some of the first phases; the
+-- disk holds the commits of what was not written too.
 abbrev pub RunHeadline : (Bool → List ℕ → Reading) → Outside → Outside → Status → Type 0
 RunHeadline reads before after ended =
     (script image : List ℕ) (opening : List Commit)

@@ -27,7 +27,7 @@ returns-in-Ok-clause-complete g c =
     subst (λ (o : Option Command). CompletesBy o before after c.do_command.result.status) c.in-Ok.ensures (command_completes c.in-Ok.command before after c.do_command.result.status c.do_command.ensures.ends)
 
 pub returns-in-Err-clause-headline : goal.returns-in-Err-clause-headline
-returns-in-Err-clause-headline g c = memory_tells (command_of (texts_of c.args.words.now)) _ _ _ refl
+returns-in-Err-clause-headline g c = memory_tells (command_of (texts_of c.args.words.now)) _ _ refl
 
 pub returns-in-Err-clause-complete : goal.returns-in-Err-clause-complete
 returns-in-Err-clause-complete g c = memory_completes (command_of (texts_of c.args.words.now)) _ _ _ refl

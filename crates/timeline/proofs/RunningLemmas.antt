@@ -29,7 +29,7 @@ use Rattle.timeline.specs.declared.stops.Stop.TheVariants as stop
 use Rattle.timeline.specs.Coming.{Coming, GivesPhase, GivesNoMore, IsFaulty, Answers, ReadsOn}
 use Rattle.timeline.specs.Jobs.{asked, phases_asked}
 use Rattle.timeline.specs.Outside.{Streams}
-use Rattle.timeline.specs.Running.{Advances, RunsWhole, RunsUnwritten, RunsShort, RunsPhase, IsFresh, Progress, GoesOn, replies_bytes}
+use Rattle.timeline.specs.Running.{Advances, RunsWhole, RunsUnwritten, RunsShort, RunsPhase, IsFresh, Progress, GoesOn, ComesOne, replies_bytes}
 use Rattle.timeline.specs.Writing.{WritesBytes}
 use Rattle.timeline.specs.Stopping.{RunsAll, StopsAtSource, StopsAtSink, AreFronts, StopsShort, stop_for}
 use Rattle.timeline.proofs.ComingLemmas.{rest_of, whole_told, all_told, none_come, one_more_come, at_the_end, all_read, fault_read, closed_read, so_far_read}
@@ -46,6 +46,11 @@ have_run_more opening turns last old new ran on =
 no_turn : (shared : plain.SharedAccess) → Advances [] shared shared
 no_turn shared =
     record { parts = refl; later = begins_itself shared.seen; chains = λ s. begins_itself shared.seen; amount = omega arith }
+
+-- a phase came
+pub one_came : (old new : Coming) (before after : Option (List ℕ)) (phase : Phase) (why : Option Stop) → Answers old before (Ok (Some phase)) new after → ComesOne old new after why
+one_came old new before after phase None a = (a.taken, phase.jobs.items, a.says)
+one_came old new before after phase (Some stop) a = tt
 
 -- BYTES
 

@@ -18,7 +18,7 @@ use Rattle.timeline.specs.declared.stops.Stop.{Stop}
 use Rattle.timeline.specs.declared.stops.Stop.TheVariants as stop
 use Rattle.timeline.specs.Jobs.{phases_asked}
 use Rattle.timeline.specs.Outside.{Streams}
-use Rattle.timeline.specs.Coming.{Coming, HaveCome}
+use Rattle.timeline.specs.Coming.{Coming, GivesPhase, HaveCome}
 use Rattle.timeline.specs.Stopping.{Stops}
 
 -- sessions took these turns: each began with what the shared pass had seen, that pass has seen what
@@ -97,6 +97,12 @@ GoesOn first opening begun now shared at None = Progress first opening begun now
 GoesOn first opening begun now shared at (Some why) =
     Stops (λ turns. HaveRun opening turns shared.seen shared.amount) first.reads why begun at
     × (shared.parts ≡ 65536)
+
+-- where the phases go on behind this one, one came
+abbrev pub ComesOne : Coming → Coming → Option (List ℕ) → Option Stop → Type 0
+ComesOne old new left None =
+    (taken : List ℕ) × (jobs : List ScriptJob) × GivesPhase old taken jobs new left
+ComesOne old new left (Some why) = Unit {0}
 
 -- the replies to jobs, each under the name of its session
 abbrev pub replies_bytes : List (List ℕ) → List Job → List Reply → List ℕ

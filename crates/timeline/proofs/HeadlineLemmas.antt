@@ -10,6 +10,7 @@ use Rattle.tl_session.specs.Turns.{Turn, all_turns}
 use Rattle.tl_session.specs.Transcript.{Each}
 use Rattle.tl_session.specs.Play.{AreLone, AreOfOne, AreLonePhases}
 use Rattle.tl_session.specs.Written.{all_jobs, jobs_of, transcript_bytes}
+use Rattle.tl_journal.specs.Answers.{CountsFaults}
 use Rattle.tl_journal.specs.declared.faults.JournalFault.{JournalFault}
 use Rattle.tl_journal.specs.declared.faults.JournalFault.TheVariants as journal
 use Rattle.timeline.specs.declared.statuses.Status.{Status}
@@ -27,7 +28,7 @@ use Rattle.timeline.specs.Ending.{SampleEnds, sink_alone, status_for, wanted_by,
 use Rattle.timeline.specs.Headline.{PrintsPlay, PrintsTranscript, PrintsAll, PrintsBreak, PrintsToFault, PrintsClosed, RunTells, RunHeadline, HeadlineBy}
 use Rattle.timeline.specs.Outside.{Outside, streams_of, HoldsJournal}
 use Rattle.timeline.specs.Stopping.{RunsAll, Stops}
-use Rattle.timeline.proofs.PrefixLemmas.{refused_sink, refused_short, nothing_done, sink_cuts, memory_cuts}
+use Rattle.timeline.proofs.CutLemmas.{refused_sink, refused_memory, nothing_done, sink_cuts, memory_cuts}
 use Rattle.timeline.proofs.RunningLemmas.{written_more}
 use Rattle.timeline.proofs.TopLemmas.{told_script}
 
@@ -89,6 +90,17 @@ refused_other (journal.NotInitialised len) seen old new before after ended h e m
 refused_other (journal.AlreadyInitialised len) seen old new before after ended h e memory sink = sym e ∙ (all_written (closing_line (status.AlreadyInitialised len)) (status.AlreadyInitialised len) seen old new before after ended h e memory sink).0
 refused_other (journal.Damaged at) seen old new before after ended h e memory sink = sym e ∙ (all_written (closing_line (status.Damaged at)) (status.Damaged at) seen old new before after ended h e memory sink).0
 
+-- the disk's count rose where a journal was not opened for it
+refused_rose : (fault : JournalFault) (old new : Option (List ℕ)) (before after : ℕ) (ended : Status) (first now faults : ℕ) → EndsFor fault old new before after ended → CountsFaults fault first now → ended ≡ status.DiskFault faults → Rose first now
+refused_rose (journal.Device n) old new before after ended first now faults h counts e = counts.1
+refused_rose journal.NoMemory old new before after ended first now faults h counts e = absurd (let f : status.DiskFault faults ≡ status.NoMemory = sym e ∙ h.0 in cc)
+refused_rose (journal.NotInitialised len) old new before after ended first now faults h counts e =
+    absurd (let f = refused_other (journal.NotInitialised len) (status.DiskFault faults) old new before after ended h e (no_memory_device faults) (no_sink_device faults) in cc)
+refused_rose (journal.AlreadyInitialised len) old new before after ended first now faults h counts e =
+    absurd (let f = refused_other (journal.AlreadyInitialised len) (status.DiskFault faults) old new before after ended h e (no_memory_device faults) (no_sink_device faults) in cc)
+refused_rose (journal.Damaged at) old new before after ended first now faults h counts e =
+    absurd (let f = refused_other (journal.Damaged at) (status.DiskFault faults) old new before after ended h e (no_memory_device faults) (no_sink_device faults) in cc)
+
 no_journal_script : (fault : JournalFault) (f : ScriptFault) → status.ScriptFault f ≡ status_for fault → ⊥
 no_journal_script journal.NoMemory f e = cc
 no_journal_script (journal.Device n) f e = cc
@@ -107,11 +119,11 @@ refused_tells : (reads : Bool → List ℕ → Reading) (script : List ℕ) (ope
 refused_tells reads script opening before after ended h =
     record {
       done = λ e. absurd (refused_not_done h.fault before.written after.written before.sink_faults after.sink_faults ended h.ends e);
-      device = λ faults e. inl (record { unread = h.unread; written = refused_device h.fault before.written after.written before.sink_faults after.sink_faults ended faults h.ends e; keeps = h.keeps });
-      faulty = λ f e. absurd (no_journal_script h.fault f (refused_other h.fault (status.ScriptFault f) before.written after.written before.sink_faults after.sink_faults ended h.ends e (λ x. cc) (λ n x. cc)));
-      sinking = λ faults e. let w = refused_sink before after ended faults h e in (w.0, inl w.1);
-      short = λ e. inl (refused_short before after ended h e);
-      failing = λ faults e. absurd (no_journal_source h.fault faults (refused_other h.fault (status.SourceFault faults) before.written after.written before.sink_faults after.sink_faults ended h.ends e (λ x. cc) (λ n x. cc)));
+      disk_fault = λ faults e. inl (record { rose = refused_rose h.fault before.written after.written before.sink_faults after.sink_faults ended before.disk_faults after.disk_faults faults h.ends h.counts e; unread = h.unread; written = refused_device h.fault before.written after.written before.sink_faults after.sink_faults ended faults h.ends e; keeps = h.keeps });
+      script_fault = λ f e. absurd (no_journal_script h.fault f (refused_other h.fault (status.ScriptFault f) before.written after.written before.sink_faults after.sink_faults ended h.ends e (λ x. cc) (λ n x. cc)));
+      sink_fault = λ faults e. refused_sink reads script opening before after ended faults h e;
+      no_memory = λ e. refused_memory reads script opening before after ended h e;
+      source_fault = λ faults e. absurd (no_journal_source h.fault faults (refused_other h.fault (status.SourceFault faults) before.written after.written before.sink_faults after.sink_faults ended h.ends e (λ x. cc) (λ n x. cc)));
     }
 
 -- A JOURNAL THAT IS OPENED
@@ -189,6 +201,11 @@ not_wanted_source : (b : Bool) (count n : ℕ) → status.SourceFault n ≡ want
 not_wanted_source true count n e = cc
 not_wanted_source false count n e = cc
 
+-- of a source that told its bytes, none are left
+nothing_left : (left : Option (List ℕ)) (taken script : List ℕ) → Some script ≡ prepend_known taken left → IsAtEnd left → left ≡ Some []
+nothing_left None taken script order none = absurd (cc)
+nothing_left (Some l) taken script order none = ap Some none
+
 -- the run of a script that the source told
 module _ (reads : Bool → List ℕ → Reading) (script : List ℕ) (opening : List Commit) (before after : Outside) (ended : Status) (told : before.left ≡ Some script) (h : OpenedEnds reads opening before after ended) where
   abbrev Own : List (List Turn) → Type 0
@@ -211,8 +228,8 @@ module _ (reads : Bool → List ℕ → Reading) (script : List ℕ) (opening : 
   all_fault : (fault : Option ScriptFault) (r : RunsAll Own (reads true) fault (streams_of before) h.ends.at) → (reads true script).fault ≡ fault
   all_fault fault r = subst (λ (s : List ℕ). (reads true s).fault ≡ fault) (same_script r.script r.told) r.fault_is
 
-  at_end : (r : RunsAll Own (reads true) None (streams_of before) h.ends.at) → IsAtEnd after.left
-  at_end r = subst (λ (o : Option (List ℕ)). IsAtEnd o) (sym h.ends.left_same) (r.whole refl)
+  at_end : (r : RunsAll Own (reads true) None (streams_of before) h.ends.at) → after.left ≡ Some []
+  at_end r = h.ends.left_same ∙ nothing_left h.ends.at.left r.script script (sym told ∙ (r.whole refl).1) (r.whole refl).0
 
   pub done_tells : ended ≡ status.Done → PrintsAll (reads true script) opening before after
   done_tells e = by_why h.ends.why h.ends.stops h.ends.closes where
@@ -268,6 +285,7 @@ module _ (reads : Bool → List ℕ → Reading) (script : List ℕ) (opening : 
           rose = subst (λ (m : ℕ). Rose before.source_faults m) (sym h.ends.source_same) stops.rose;
           taken = stops.taken;
           order = stops.order ∙ ap (prepend_known stops.taken) (sym h.ends.left_same);
+          faultless = stops.faultless;
           all = h.all;
           broke = h.broke;
           prints = subst (λ (s : Status). PrintsTranscript (reads false stops.taken) opening h.all h.broke s before after) (sym e) (prints (reads false stops.taken) opening h.all h.broke (status.SourceFault faults) before after h.ends.at.written stops.turns stops.answers stops.ran stops.written w.1 h.holds);
@@ -279,11 +297,11 @@ opened_tells : (reads : Bool → List ℕ → Reading) (script : List ℕ) (open
 opened_tells reads script opening before after ended told h =
     record {
       done = done_tells reads script opening before after ended told h;
-      device = λ faults e. inr (device_tells reads script opening before after ended told h faults e);
-      faulty = fault_tells reads script opening before after ended told h;
-      failing = source_tells reads script opening before after ended told h;
-      sinking = λ faults e. let w = sink_cuts reads script opening before after ended told h faults e in (w.0, inr w.1);
-      short = λ e. inr (memory_cuts reads script opening before after ended told h e);
+      disk_fault = λ faults e. inr (device_tells reads script opening before after ended told h faults e);
+      script_fault = fault_tells reads script opening before after ended told h;
+      source_fault = source_tells reads script opening before after ended told h;
+      sink_fault = sink_cuts reads script opening before after ended told h;
+      no_memory = memory_cuts reads script opening before after ended told h;
     }
 
 run_tells : (reads : Bool → List ℕ → Reading) (before after : Outside) (ended : Status) → RunEnds reads before after ended → RunHeadline reads before after ended
@@ -329,11 +347,11 @@ silent_tells : (reads : Bool → List ℕ → Reading) (script : List ℕ) (open
 silent_tells reads script opening before ended is =
     record {
       done = λ e. absurd (no_memory_done (sym e ∙ is));
-      device = λ faults e. absurd (no_memory_device faults (sym e ∙ is));
-      faulty = λ f e. absurd (let x : status.ScriptFault f ≡ status.NoMemory = sym e ∙ is in cc);
-      failing = λ faults e. absurd (let x : status.SourceFault faults ≡ status.NoMemory = sym e ∙ is in cc);
-      sinking = λ faults e. absurd (let x : status.SinkFault faults ≡ status.NoMemory = sym e ∙ is in cc);
-      short = λ e. inl (nothing_done before);
+      disk_fault = λ faults e. absurd (no_memory_device faults (sym e ∙ is));
+      script_fault = λ f e. absurd (let x : status.ScriptFault f ≡ status.NoMemory = sym e ∙ is in cc);
+      source_fault = λ faults e. absurd (let x : status.SourceFault faults ≡ status.NoMemory = sym e ∙ is in cc);
+      sink_fault = λ faults e. absurd (let x : status.SinkFault faults ≡ status.NoMemory = sym e ∙ is in cc);
+      no_memory = λ e. nothing_done reads script opening before;
     }
 
 -- what a command came to

@@ -1,5 +1,6 @@
 pub mod ClosingLemmas
 pub mod ComingLemmas
+pub mod CutLemmas
 pub mod CommandLemmas
 pub mod EndLemmas
 pub mod EntryLemmas
@@ -8,7 +9,6 @@ pub mod HeadlineLemmas
 pub mod HoldsLemmas
 pub mod NamesLemmas
 pub mod OpeningLemmas
-pub mod PrefixLemmas
 pub mod RunningLemmas
 pub mod SampleLemmas
 pub mod ScriptComing

@@ -29,7 +29,7 @@ use Rattle.timeline.specs.declared.stops.Stop.TheVariants as stop
 use Rattle.timeline.specs.Coming.{Coming, GivesPhase, GivesNoMore, IsFaulty, Answers, ReadsOn}
 use Rattle.timeline.specs.Jobs.{asked, phases_asked}
 use Rattle.timeline.specs.Outside.{Streams}
-use Rattle.timeline.specs.Running.{Advances, RunsWhole, RunsUnwritten, RunsShort, RunsPhase, IsFresh, Progress, GoesOn, ComesOne, replies_bytes}
+use Rattle.timeline.specs.Running.{Advances, RunsWhole, RunsUnwritten, RunsShort, RunsPhase, IsFresh, Progress, GoesOn, TakesPhase, replies_bytes}
 use Rattle.timeline.specs.Writing.{WritesBytes}
 use Rattle.timeline.specs.Stopping.{RunsAll, StopsAtSource, StopsAtSink, AreFronts, StopsShort, stop_for}
 use Rattle.timeline.proofs.ComingLemmas.{rest_of, whole_told, all_told, none_come, one_more_come, at_the_end, all_read, fault_read, closed_read, so_far_read}
@@ -47,10 +47,13 @@ no_turn : (shared : plain.SharedAccess) → Advances [] shared shared
 no_turn shared =
     record { parts = refl; later = begins_itself shared.seen; chains = λ s. begins_itself shared.seen; amount = omega arith }
 
--- a phase came
-pub one_came : (old new : Coming) (before after : Option (List ℕ)) (phase : Phase) (why : Option Stop) → Answers old before (Ok (Some phase)) new after → ComesOne old new after why
-one_came old new before after phase None a = (a.taken, phase.jobs.items, a.says)
-one_came old new before after phase (Some stop) a = tt
+-- a phase was taken
+pub took_phase : (old new : Coming) (before after : Option (List ℕ)) (phase : Phase) (why : Option Stop) → Answers old before (Ok (Some phase)) new after → TakesPhase old new before after why
+took_phase old new before after phase (Some stop) a = tt
+took_phase old new before after phase None a = (by_test old.at_end refl, (a.taken, phase.jobs.items, a.order, a.says)) where
+  by_test : (t : Bool) → old.at_end ≡ t → old.at_end ≡ false
+  by_test false e = e
+  by_test true e = absurd (let f = (a.idle e).1 in cc)
 
 -- BYTES
 
@@ -188,7 +191,7 @@ all_run first opening begun old shared at end taken p order idle gives source wr
       script = p.bytes ++ taken;
       told = all_told begun.left end.left (p.bytes ++ taken) (read_more begun.left at.left end.left p.bytes taken (p.bytes ++ taken) p.come.order order refl) none;
       fault_is = ap (λ (r : Reading). r.fault) read;
-      whole = λ e. none;
+      whole = λ e. (none, read_more begun.left at.left end.left p.bytes taken (p.bytes ++ taken) p.come.order order refl);
       turns = p.turns;
       answers = p.answers ∙ sym (asked_all p.phases (first.reads true (p.bytes ++ taken)) (no_phase old.names) read refl);
       ran = p.ran;
@@ -229,6 +232,7 @@ failed_run first opening begun old shared at end taken p order live none rose wr
       taken = p.bytes ++ taken;
       order = read_more begun.left at.left end.left p.bytes taken (p.bytes ++ taken) p.come.order order refl;
       rose = subst (λ (n : ℕ). Rose n end.source_faults) p.source_sure rose;
+      faultless = ap (λ (r : Reading). r.fault) read;
       turns = p.turns;
       answers = p.answers ∙ sym (asked_all p.phases (first.reads false (p.bytes ++ taken)) (no_phase old.names) read refl);
       ran = p.ran;

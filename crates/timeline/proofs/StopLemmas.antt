@@ -18,7 +18,7 @@ pub stops_as : (P Q : List (List Turn) → Type 0) (reads : Bool → List ℕ �
 stops_as P Q reads stop.Ended before after f h = all_as P Q (reads true) None before after f h
 stops_as P Q reads (stop.Fault e) before after f h = all_as P Q (reads true) (Some e) before after f h
 stops_as P Q reads (stop.Source n) before after f (h, count) =
-    (record { taken = h.taken; order = h.order; rose = h.rose; turns = h.turns; answers = h.answers; ran = f h.turns h.ran; written = h.written; sink_sure = h.sink_sure }, count)
+    (record { taken = h.taken; order = h.order; rose = h.rose; faultless = h.faultless; turns = h.turns; answers = h.answers; ran = f h.turns h.ran; written = h.written; sink_sure = h.sink_sure }, count)
 stops_as P Q reads (stop.Sink n) before after f (h, count) =
     (record { script = h.script; told = h.told; turns = h.turns; last = h.last; later = h.later; answers = h.answers; ran = f (h.turns ++ h.last ∷ []) h.ran; rose = h.rose; some = h.some; written = h.written; source_sure = h.source_sure }, count)
 stops_as P Q reads stop.NoMemory before after f h =

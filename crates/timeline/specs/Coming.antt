@@ -1,9 +1,10 @@
 -- Phases that come one after the other when they are asked for: those of a script, of which a
 -- source gives the bytes, or those that the program makes.
-use Rattle.std.specs.Prelude.{◌≡◌, ◌⊎◌, ℕ, ◌<◌, ◌≤◌, Bool, true, false, List, [], ◌∷◌, ◌++◌, length, Option, Some, None, Result, Ok, Err, All, codes}
+use Rattle.std.specs.Prelude.{◌≡◌, ◌⊎◌, ℕ, ◌<◌, ◌≤◌, Bool, true, false, nat_lt, List, [], ◌∷◌, ◌++◌, length, Option, Some, None, Result, Ok, Err, All, codes, if◌then◌else◌}
 use Rattle.tl_types.specs.Limits.{standard_limits}
 use Rattle.tl_device.specs.Known.{prepend_known}
 use Rattle.tl_script.specs.declared.jobs.ScriptFault.{ScriptFault}
+use Rattle.tl_script.specs.declared.jobs.ScriptFault.TheVariants as fault
 use Rattle.tl_script.specs.declared.phases.NextError.{NextError}
 use Rattle.tl_script.specs.declared.phases.NextError.TheVariants as next
 use Rattle.tl_script.specs.declared.phases.Phase.{Phase}
@@ -112,10 +113,13 @@ script_coming state =
 abbrev pub loader_names : List (List ℕ)
 loader_names = codes "load" ∷ []
 
--- how a whole source is read that is the block of this statement; its start closes no phase
+-- how a whole source is read that is the block of this statement; its start closes no phase, and
+-- shows where the block is too long
 abbrev pub block_reads : List ℕ → Bool → List ℕ → Reading
 block_reads text true bytes = load_of standard_limits.phase text bytes
-block_reads text false bytes = no_phase []
+block_reads text false bytes =
+    if nat_lt standard_limits.phase (length bytes) then no_phase_but [] (fault.PhaseTooLong 1)
+    else no_phase []
 
 -- what may still come of the one phase of such a block
 abbrev pub block_coming : List ℕ → Bool → Coming

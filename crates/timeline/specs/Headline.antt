@@ -1,5 +1,5 @@
 -- What is proved of a run as a whole: when it is done, and what it prints and keeps then.
-use Rattle.std.specs.Prelude.{◌≡◌, ◌⊎◌, ℕ, ◌≤◌, Bool, true, false, List, [], ◌∷◌, ◌++◌, length, take, map, Some, None}
+use Rattle.std.specs.Prelude.{◌≡◌, ◌⊎◌, ℕ, ◌≤◌, Bool, true, false, List, [], ◌∷◌, ◌++◌, length, take, map, Some, None, is_some}
 use Rattle.std.specs.declared.option.Option.{Option}
 use mathlib.Core.List.{IsPrefix}
 use Rattle.tl_types.specs.declared.commits.Commit.{Commit}
@@ -7,13 +7,14 @@ use Rattle.tl_types.specs.Limits.{standard_limits}
 use Rattle.tl_device.specs.Known.{append_known, prepend_known, Rose}
 use Rattle.tl_script.specs.declared.jobs.ScriptFault.{ScriptFault}
 use Rattle.tl_script.specs.Script.{Reading}
-use Rattle.tl_script.specs.Taking.{IsAtEnd}
 use Rattle.tl_session.specs.Jobs.{Job}
 use Rattle.tl_session.specs.Play.{AreLonePhases}
 use Rattle.tl_session.specs.Transcript.{Transcript}
 use Rattle.tl_session.specs.Turns.{Turn, meant}
-use Rattle.tl_session.specs.Written.{IsTranscript, IsPlayOf, all_jobs, jobs_of, transcript_bytes}
+use Rattle.tl_session.specs.Written.{IsTranscript, IsPlayOf, all_jobs, jobs_of, turns_bytes, transcript_bytes}
+use Rattle.tl_journal.specs.Answers.{CountsFaults}
 use Rattle.tl_journal.specs.Image.{StandsFor}
+use Rattle.tl_journal.specs.declared.faults.JournalFault.{JournalFault}
 use Rattle.tl_types.specs.Legality.{FitInTurn}
 use Rattle.timeline.specs.declared.statuses.Status.{Status}
 use Rattle.timeline.specs.declared.statuses.Status.TheVariants as status
@@ -23,6 +24,7 @@ use Rattle.timeline.specs.Status.{closing_line}
 use Rattle.timeline.specs.Commands.{command_of, put_text}
 use Rattle.timeline.specs.Coming.{script_reads, block_reads}
 use Rattle.timeline.specs.Jobs.{phases_asked}
+use Rattle.timeline.specs.Ending.{status_for, wanted_by, RefusedBy}
 use Rattle.timeline.specs.Sample.{sample_reading}
 use Rattle.timeline.specs.Outside.{Outside, IsUnread, KeepsJournal, HoldsJournal}
 use Rattle.timeline.specs.Stopping.{AreFronts}
@@ -91,9 +93,10 @@ pub record PrintsTranscript (reading : Reading) (opening all : List Commit) (bro
   pub play : broke ≡ None → AreLonePhases (phases_asked reading.phases)
       → IsPlayOf reading.names (all_jobs (phases_asked reading.phases)) opening all bytes
 
--- the journal was not opened: its closing line alone was written, nothing was read, and the disk
--- keeps its journal
+-- the disk failed while the journal was opened: the closing line alone was written, nothing was
+-- read, and the disk keeps its journal
 pub record FailsToOpen (closing : Status) (before after : Outside) : Type 0 where
+  pub rose : Rose before.disk_faults after.disk_faults
   pub unread : IsUnread before after
   pub written : after.written ≡ append_known before.written (closing_line closing)
   pub keeps : KeepsJournal before after
@@ -101,14 +104,14 @@ pub record FailsToOpen (closing : Status) (before after : Outside) : Type 0 wher
 -- the script was read to its end, and a transcript without a break was printed
 pub record PrintsAll (reading : Reading) (opening : List Commit) (before after : Outside) : Type 0 where
   pub faultless : reading.fault ≡ None
-  pub read : IsAtEnd after.left
+  pub read : after.left ≡ Some []
   pub all : List Commit
   pub prints : PrintsTranscript reading opening all None status.Done before after
 
 -- the script was read to its end, a break came, and a transcript with it was printed
 pub record PrintsBreak (reading : Reading) (opening : List Commit) (closing : Status) (before after : Outside) : Type 0 where
   pub faultless : reading.fault ≡ None
-  pub read : IsAtEnd after.left
+  pub read : after.left ≡ Some []
   pub all : List Commit
   pub broke : Commit
   pub prints : PrintsTranscript reading opening all (Some broke) closing before after
@@ -120,74 +123,116 @@ pub record PrintsToFault (reading : Reading) (f : ScriptFault) (opening : List C
   pub broke : Option Commit
   pub prints : PrintsTranscript reading opening all broke (status.ScriptFault f) before after
 
--- the source failed, and a transcript was printed of the phases that are closed in what was taken
+-- the source failed, and a transcript was printed of the phases that are closed in what was taken,
+-- in which no fault is read
 pub record PrintsClosed (closed : List ℕ → Reading) (opening : List Commit) (closing : Status) (before after : Outside) : Type 0 where
   pub rose : Rose before.source_faults after.source_faults
   pub taken : List ℕ
   pub order : before.left ≡ prepend_known taken after.left
+  pub faultless : (closed taken).fault ≡ None
   pub all : List Commit
   pub broke : Option Commit
   pub prints : PrintsTranscript (closed taken) opening all broke closing before after
 
--- the journal was not opened: at most some first bytes of a closing line were written, nothing was
--- read, and the disk keeps its journal
-pub record StopsUnopened (before after : Outside) : Type 0 where
+-- CUT SHORT
+
+-- the sink failed at the closing line of a journal that was not opened for this fault: some first
+-- bytes of the line were written, nothing was read, and the disk keeps its journal
+pub record CutsOpening (before after : Outside) : Type 0 where
+  pub fault : JournalFault
+  pub refused : RefusedBy fault before after
+  pub counts : CountsFaults fault before.disk_faults after.disk_faults
   pub unread : IsUnread before after
-  pub closing : Status
-  pub some : ℕ
-  pub written : after.written ≡ append_known before.written (take some (closing_line closing))
   pub keeps : KeepsJournal before after
+  pub some : ℕ
+  pub written : after.written
+      ≡ append_known before.written (take some (closing_line (status_for fault)))
 
--- what is read of the script, or, where the source failed, of the bytes that were taken of it
-abbrev pub IsReadOf : (Bool → List ℕ → Reading) → List ℕ → Outside → Outside → Reading → Type 0
-IsReadOf reads script before after reading =
-    (reading ≡ reads true script)
-    ⊎ ((taken : List ℕ) × (before.left ≡ prepend_known taken after.left)
-    × Rose before.source_faults after.source_faults × (reading ≡ reads false taken))
-
--- The sink failed: the replies of some of the first phases were written, and then some first bytes
--- of those of the next phase, if there is one, and of a closing line. All these replies are a
--- transcript, from the opening's commits to all commits; the disk holds these.
-pub record PrintsPrefix (reading : Reading) (opening : List Commit) (before after : Outside) : Type 0 where
+-- the sink failed at the replies of a phase: those of the phases before it were written, and some
+-- first bytes of its own. All of them are a transcript, from the opening's commits to all commits,
+-- with or without a break; the disk holds these commits.
+pub record CutsReplies (reading : Reading) (opening : List Commit) (before after : Outside) : Type 0 where
   pub turns : List (List Turn)
-  pub last : List (List Turn)
-  pub one : length last ≤ 1
+  pub last : List Turn
   pub later : List (List Job)
-  pub answers : phases_asked reading.phases ≡ map jobs_of (turns ++ last) ++ later
+  pub answers : phases_asked reading.phases ≡ map jobs_of turns ++ jobs_of last ∷ later
   pub all : List Commit
   pub broke : Option Commit
   pub begins : IsPrefix opening all
-  pub transcript : Transcript meant opening all broke (turns ++ last)
-  pub closing : Status
+  pub transcript : Transcript meant opening all broke (turns ++ last ∷ [])
   pub some : ℕ
   pub written : after.written ≡ append_known before.written
-      (transcript_bytes reading.names turns
-      ++ take some (transcript_bytes reading.names last ++ closing_line closing))
+      (transcript_bytes reading.names turns ++ take some (turns_bytes reading.names last))
   pub holds : HoldsJournal all broke before after
 
--- turns of the next of these phases, if there is one: each session was answered some of the first
--- of its jobs
-abbrev pub HaveBegun : List (List Turn) → List (List Job) → Type 0
-HaveBegun [] later = later ≡ []
-HaveBegun (last ∷ []) later = AreFronts last later
-HaveBegun (last ∷ other ∷ turns) later = ⊥
-
--- Memory ran out: the replies of some of the first phases were written. With those to jobs of the
--- next phase, which are not written, they are a transcript, from the opening's commits to all
--- commits; the disk holds these.
-pub record PrintsShort (reading : Reading) (opening : List Commit) (before after : Outside) : Type 0 where
-  pub turns : List (List Turn)
-  pub begun : List (List Turn)
-  pub later : List (List Job)
-  pub answers : phases_asked reading.phases ≡ map jobs_of turns ++ later
-  pub fronts : HaveBegun begun later
+-- a transcript of what is read was printed, and some first bytes of the closing line, which is that
+-- of the status for the break, or for none
+pub record CutsClosing (reading : Reading) (closing : Option Commit → Status) (opening : List Commit) (before after : Outside) : Type 0 where
+  pub bytes : List ℕ
   pub all : List Commit
   pub broke : Option Commit
   pub begins : IsPrefix opening all
-  pub transcript : Transcript meant opening all broke (turns ++ begun)
+  pub transcript : IsTranscript reading.names (phases_asked reading.phases) opening all broke bytes
+  pub some : ℕ
+  pub written : after.written
+      ≡ append_known before.written (bytes ++ take some (closing_line (closing broke)))
+  pub holds : HoldsJournal all broke before after
+
+-- the same once the source had failed, of the phases that are closed in what was taken
+pub record CutsClosed (closed : List ℕ → Reading) (closing : Option Commit → Status) (opening : List Commit) (before after : Outside) : Type 0 where
+  pub rose : Rose before.source_faults after.source_faults
+  pub taken : List ℕ
+  pub order : before.left ≡ prepend_known taken after.left
+  pub faultless : (closed taken).fault ≡ None
+  pub cuts : CutsClosing (closed taken) closing opening before after
+
+-- how a run is to end whose phases were all run, or all of them before a fault of the script
+abbrev pub wanted_for : Option ScriptFault → ℕ → Option Commit → Status
+wanted_for None faults broke = wanted_by (is_some broke) faults
+wanted_for (Some f) faults broke = status.ScriptFault f
+
+-- the sink failed: in opening, at the replies of a phase, or at the closing line
+abbrev pub CutsBySink : (Bool → List ℕ → Reading) → List ℕ → List Commit → Outside → Outside → Type 0
+CutsBySink reads script opening before after =
+    CutsOpening before after
+    ⊎ (CutsReplies (reads true script) opening before after
+    ⊎ (CutsClosing (reads true script) (wanted_for (reads true script).fault after.disk_faults)
+    opening before after
+    ⊎ CutsClosed (reads false) (λ broke. status.SourceFault after.source_faults)
+    opening before after))
+
+-- memory ran out before anything was written or read; the disk keeps its journal
+pub record StopsAtOnce (before after : Outside) : Type 0 where
+  pub unread : IsUnread before after
+  pub written : after.written ≡ before.written
+  pub keeps : KeepsJournal before after
+
+-- memory ran out in a phase: the replies of the phases before it were written. With those to the
+-- first jobs of each of its sessions, so many as were done, they are a transcript, from the
+-- opening's commits to all commits, with or without a break; the disk holds these commits.
+pub record StopsInPhase (reading : Reading) (opening : List Commit) (before after : Outside) : Type 0 where
+  pub turns : List (List Turn)
+  pub last : List Turn
+  pub later : List (List Job)
+  pub answers : phases_asked reading.phases ≡ map jobs_of turns ++ later
+  pub fronts : AreFronts last later
+  pub all : List Commit
+  pub broke : Option Commit
+  pub begins : IsPrefix opening all
+  pub transcript : Transcript meant opening all broke (turns ++ last ∷ [])
   pub written : after.written
       ≡ append_known before.written (transcript_bytes reading.names turns)
   pub holds : HoldsJournal all broke before after
+
+-- memory ran out: at once, in a phase, or for the closing line, of which nothing is then written
+abbrev pub CutsByMemory : (Bool → List ℕ → Reading) → List ℕ → List Commit → Outside → Outside → Type 0
+CutsByMemory reads script opening before after =
+    StopsAtOnce before after
+    ⊎ (StopsInPhase (reads true script) opening before after
+    ⊎ (CutsClosing (reads true script) (λ broke. status.NoMemory) opening before after
+    ⊎ CutsClosed (reads false) (λ broke. status.NoMemory) opening before after))
+
+-- THE RUN OF A SCRIPT
 
 -- the jobs of what is read, done one after the other from no commits on, were printed
 pub record PrintsPlay (reading : Reading) (old new : Option (List ℕ)) : Type 0 where
@@ -199,28 +244,24 @@ pub record PrintsPlay (reading : Reading) (old new : Option (List ℕ)) : Type 0
 -- what is proved of the run of a script over a journal of these commits
 pub record RunTells (reads : Bool → List ℕ → Reading) (script : List ℕ) (opening : List Commit) (before after : Outside) (ended : Status) : Type 0 where
   pub done : ended ≡ status.Done → PrintsAll (reads true script) opening before after
-  pub device : (faults : ℕ) → ended ≡ status.DiskFault faults
+  pub no_memory : ended ≡ status.NoMemory → CutsByMemory reads script opening before after
+  pub source_fault : (faults : ℕ) → ended ≡ status.SourceFault faults
+      → PrintsClosed (reads false) opening ended before after
+  pub sink_fault : (faults : ℕ) → ended ≡ status.SinkFault faults
+      → Rose before.sink_faults after.sink_faults × CutsBySink reads script opening before after
+  pub disk_fault : (faults : ℕ) → ended ≡ status.DiskFault faults
       → FailsToOpen ended before after
       ⊎ PrintsBreak (reads true script) opening ended before after
-  pub faulty : (f : ScriptFault) → ended ≡ status.ScriptFault f
+  pub script_fault : (f : ScriptFault) → ended ≡ status.ScriptFault f
       → PrintsToFault (reads true script) f opening before after
-  pub failing : (faults : ℕ) → ended ≡ status.SourceFault faults
-      → PrintsClosed (reads false) opening ended before after
-  pub sinking : (faults : ℕ) → ended ≡ status.SinkFault faults
-      → Rose before.sink_faults after.sink_faults × (StopsUnopened before after
-      ⊎ ((reading : Reading) × IsReadOf reads script before after reading
-      × PrintsPrefix reading opening before after))
-  pub short : ended ≡ status.NoMemory → StopsUnopened before after
-      ⊎ ((reading : Reading) × IsReadOf reads script before after reading
-      × PrintsShort reading opening before after)
 
 -- The headline: where the source tells a script and the disk a journal, then at status 0 the
 -- transcript of the script over the journal's commits was printed, and the disk holds just the
--- commits that it ends with, also in a crash. At status 5 the journal was not opened; or the
+-- commits that it ends with, also in a crash. At status 5 the disk failed in opening; or the
 -- transcript has a break, and the disk holds the commits, or these and the break's. At status 6 it
 -- is that of the phases before the fault, and at status 3 of those closed in what was taken. At
--- status 4 a prefix of one was written, and at status 1 the replies of some of the first phases; the
--- disk holds the commits of what was not written too.
+-- status 4 a prefix of one, with its closing line, was written, and at status 1 the replies of the
+-- phases before memory ran out; the disk holds the commits of what was run and not written, too.
 abbrev pub RunHeadline : (Bool → List ℕ → Reading) → Outside → Outside → Status → Type 0
 RunHeadline reads before after ended =
     (script image : List ℕ) (opening : List Commit)

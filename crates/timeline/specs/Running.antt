@@ -2,7 +2,7 @@
 use Rattle.std.specs.Prelude.{◌≡◌, ℕ, ◌+◌, ◌<◌, ◌≤◌, true, false, List, [], ◌∷◌, ◌++◌, length, take, map, get_or, Option, Some, None}
 use mathlib.Core.List.{IsPrefix}
 use Rattle.tl_types.specs.declared.commits.Entry.{Entry}
-use Rattle.tl_device.specs.Known.{append_known, Rose}
+use Rattle.tl_device.specs.Known.{append_known, prepend_known, Rose}
 use Rattle.tl_script.specs.Script.{Job as ScriptJob}
 use Rattle.tl_script.specs.Reader.{Grows}
 use Rattle.tl_session.specs.declared.replies.Reply.{Reply}
@@ -98,11 +98,13 @@ GoesOn first opening begun now shared at (Some why) =
     Stops (λ turns. HaveRun opening turns shared.seen shared.amount) first.reads why begun at
     × (shared.parts ≡ 65536)
 
--- where the phases go on behind this one, one came
-abbrev pub ComesOne : Coming → Coming → Option (List ℕ) → Option Stop → Type 0
-ComesOne old new left None =
-    (taken : List ℕ) × (jobs : List ScriptJob) × GivesPhase old taken jobs new left
-ComesOne old new left (Some why) = Unit {0}
+-- a step after which the phases go on took one phase, of bytes of a source that was not yet known to
+-- be at its end
+abbrev pub TakesPhase : Coming → Coming → Option (List ℕ) → Option (List ℕ) → Option Stop → Type 0
+TakesPhase old new before after None =
+    (old.at_end ≡ false) × ((taken : List ℕ) × (jobs : List ScriptJob)
+    × (before ≡ prepend_known taken after) × GivesPhase old taken jobs new after)
+TakesPhase old new before after (Some why) = Unit {0}
 
 -- the replies to jobs, each under the name of its session
 abbrev pub replies_bytes : List (List ℕ) → List Job → List Reply → List ℕ

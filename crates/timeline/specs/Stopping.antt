@@ -25,7 +25,7 @@ pub record RunsAll (Ran : List (List Turn) → Type 0) (reads : List ℕ → Rea
   pub script : List ℕ
   pub told : IfSome before.left (λ left. left ≡ script)
   pub fault_is : (reads script).fault ≡ fault
-  pub whole : fault ≡ None → IsAtEnd after.left
+  pub whole : fault ≡ None → IsAtEnd after.left × (before.left ≡ prepend_known script after.left)
   pub turns : List (List Turn)
   pub answers : map jobs_of turns ≡ phases_asked (reads script).phases
   pub ran : Ran turns
@@ -34,12 +34,13 @@ pub record RunsAll (Ran : List (List Turn) → Type 0) (reads : List ℕ → Rea
   pub source_sure : after.source_faults ≡ before.source_faults
   pub sink_sure : after.sink_faults ≡ before.sink_faults
 
--- the source failed: the phases were run that are closed in the bytes taken of it, and their
--- replies are written
+-- the source failed: the phases were run that are closed in the bytes taken of it, in which no fault
+-- is read, and their replies are written
 pub record StopsAtSource (Ran : List (List Turn) → Type 0) (closed : List ℕ → Reading) (before after : Streams) : Type 0 where
   pub taken : List ℕ
   pub order : before.left ≡ prepend_known taken after.left
   pub rose : Rose before.source_faults after.source_faults
+  pub faultless : (closed taken).fault ≡ None
   pub turns : List (List Turn)
   pub answers : map jobs_of turns ≡ phases_asked (closed taken).phases
   pub ran : Ran turns

@@ -8,7 +8,7 @@ ghost use Rattle.tl_session.specs.Phases.{HaveRun};
 ghost use Rattle.timeline.specs.Coming.{Coming};
 ghost use Rattle.timeline.specs.Jobs.{asked};
 ghost use Rattle.timeline.specs.Outside.{streams, Streams};
-ghost use Rattle.timeline.specs.Running.{replies_bytes, ComesOne, GoesOn, IsFresh, Progress, RunsPhase};
+ghost use Rattle.timeline.specs.Running.{replies_bytes, TakesPhase, GoesOn, IsFresh, Progress, RunsPhase};
 ghost use Rattle.timeline.specs.Stopping.{Stops};
 
 use crate::phases::Phases;
@@ -140,8 +140,8 @@ fn run_next<
         (streams S.left S.faults K.written K.faults source.old sink.old)
         → GoesOn first opening begun (P.coming running.new.phases) running.new.shared
         (streams S.left S.faults K.written K.faults source.new sink.new) result }
-    ensures one { ComesOne (P.coming running.old.phases) (P.coming running.new.phases)
-        (S.left source.new) result }
+    ensures takes { TakesPhase (P.coming running.old.phases) (P.coming running.new.phases)
+        (S.left source.old) (S.left source.new) result }
 {
     match running.phases.next(rt.alloc(), source) {
         Ok(Some(phase)) => run_one::<S, D, J, P, K, G, R>(rt, running, &phase, sink, gate),

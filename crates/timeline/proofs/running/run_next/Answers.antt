@@ -5,7 +5,7 @@ use Rattle.timeline.specs.Coming.{Answers}
 use Rattle.timeline.specs.declared.stops.Stop.{Stop}
 use Rattle.timeline.specs.Outside.{streams}
 use Rattle.timeline.specs.Running.{GoesOn}
-use Rattle.timeline.proofs.RunningLemmas.{phase_came, one_came, stop_came}
+use Rattle.timeline.proofs.RunningLemmas.{phase_came, took_phase, stop_came}
 use Rattle.timeline.proofs.running.run_next.Goals as goal
 
 pub returns-in-Ok-Some-clause-more : goal.returns-in-Ok-Some-clause-more
@@ -27,9 +27,9 @@ returns-in-Err-clause-more g c = λ first opening begun p.
     subst (λ (o : Stop). GoesOn first opening begun (coming c.next.new.self) c.args.running.now.shared end (Some o)) (sym c.stop_for.ensures)
     (stop_came first opening begun (coming c.args.running.now.phases) (coming c.next.new.self) (coming c.next.new.self) c.args.running.now.shared at end c.in-Err.error c.in-Err.ensures.answers c.in-Err.ensures.faults refl refl p)
 
-pub returns-in-Ok-Some-clause-one : goal.returns-in-Ok-Some-clause-one
-returns-in-Ok-Some-clause-one g c =
+pub returns-in-Ok-Some-clause-takes : goal.returns-in-Ok-Some-clause-takes
+returns-in-Ok-Some-clause-takes g c =
     let source = g.S.Source in
     let coming = g.P.Phases.coming in
     let answers = subst (λ (o : Option Phase). Answers (coming c.args.running.now.phases) (source.left c.args.source.now) (Ok o) (coming c.next.new.self) (source.left c.next.new.source)) c.in-Ok-Some.field-0-is c.in-Ok-Some.ensures.answers in
-    rw c.run_one.ensures.same (one_came (coming c.args.running.now.phases) (coming c.next.new.self) (source.left c.args.source.now) (source.left c.next.new.source) c.in-Ok-Some.phase c.run_one.result answers)
+    rw c.run_one.ensures.same (took_phase (coming c.args.running.now.phases) (coming c.next.new.self) (source.left c.args.source.now) (source.left c.next.new.source) c.in-Ok-Some.phase c.run_one.result answers)

@@ -8,7 +8,7 @@ use Rattle.tl_script.specs.Phases.{with_phase, no_phase, no_phase_but}
 use Rattle.tl_script.specs.Reader.{with_phases, Grows}
 use Rattle.tl_script.specs.Taking.{IsAtEnd}
 use Rattle.timeline.specs.Coming.{Coming, Comes, GivesPhase, GivesNoMore, IsFaulty, ReadsOn, HaveCome}
-use Rattle.timeline.specs.Running.{IsFresh}
+use Rattle.timeline.specs.Running.{HasNotBegun}
 
 -- what the source has left, where it tells it
 abbrev pub rest_of : Option (List ℕ) → List ℕ
@@ -33,7 +33,7 @@ pub phases_then : (phases : List (List Job)) (jobs : List Job) (more : Reading) 
 phases_then phases jobs more = ap (λ ps. record { names = more.names; phases = ps; fault = more.fault }) (sym (append_assoc phases (jobs ∷ []) more.phases))
 
 -- nothing has come yet
-pub none_come : (first : Coming) (left : Option (List ℕ)) → IsFresh first → HaveCome first left [] [] first left
+pub none_come : (first : Coming) (left : Option (List ℕ)) → HasNotBegun first → HaveCome first left [] [] first left
 none_come first left fresh =
     record {
       order = sym (prepend_none left);

@@ -1,14 +1,12 @@
 -- What a run printed of a transcript that the sink or memory cut short.
-use Rattle.std.proofs.Common.{◌≡◌, ℕ, Bool, true, false, List, [], ◌∷◌, ◌++◌, take, map, Some, None, is_some, IfSome, refl, ap, subst, sym, ◌∙◌, inl, inr, arith, append-nil, append_assoc}
+use Rattle.std.proofs.Common.{◌≡◌, ℕ, Bool, true, false, List, [], take, map, Some, None, is_some, IfSome, refl, ap, subst, sym, ◌∙◌, inl, inr}
 use Rattle.std.specs.declared.option.Option.{Option}
-use Rattle.std.proofs.lemmas.List.{map-append}
 use Rattle.tl_types.specs.declared.commits.Commit.{Commit}
 use Rattle.tl_device.specs.Known.{append_known, prepend_known, Rose}
 use Rattle.tl_script.specs.declared.jobs.ScriptFault.{ScriptFault}
 use Rattle.tl_script.specs.Script.{Reading}
-use Rattle.tl_session.specs.Turns.{Turn, meant}
-use Rattle.tl_session.specs.Transcript.{Transcript}
-use Rattle.tl_session.specs.Written.{jobs_of, turns_bytes, transcript_bytes}
+use Rattle.tl_session.specs.Turns.{Turn}
+use Rattle.tl_session.specs.Written.{jobs_of, transcript_bytes}
 use Rattle.tl_journal.specs.declared.faults.JournalFault.{JournalFault}
 use Rattle.tl_journal.specs.declared.faults.JournalFault.TheVariants as journal
 use Rattle.timeline.specs.declared.statuses.Status.{Status}
@@ -18,7 +16,7 @@ use Rattle.timeline.specs.declared.stops.Stop.TheVariants as stop
 use Rattle.timeline.specs.Status.{closing_line}
 use Rattle.timeline.specs.Jobs.{phases_asked}
 use Rattle.timeline.specs.Ending.{Closes, EndsFor, EndsRefused, Told, ClosesAfter, OpenedEnds, status_for, wanted_by}
-use Rattle.timeline.specs.Headline.{CutsOpening, CutsReplies, CutsClosing, CutsClosed, CutsBySink, StopsAtOnce, StopsInPhase, CutsByMemory, wanted_for}
+use Rattle.timeline.specs.Headline.{CutsReplies, CutsClosing, CutsClosed, CutsBySink, StopsInPhase, CutsByMemory, wanted_for}
 use Rattle.timeline.specs.Outside.{Outside, streams_of, HoldsJournal}
 use Rattle.timeline.specs.Stopping.{RunsAll, Stops}
 use Rattle.timeline.proofs.RunningLemmas.{written_more, written_none}

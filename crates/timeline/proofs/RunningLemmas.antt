@@ -20,7 +20,7 @@ use Rattle.tl_session.specs.Replies.{reply_bytes}
 use Rattle.tl_session.specs.Turns.{Turn, meant, of_session, all_turns}
 use Rattle.tl_session.specs.Promises.{Chain, tally, weight}
 use Rattle.tl_session.specs.Transcript.{Each, EachOfAll}
-use Rattle.tl_session.specs.Phases.{own_jobs, replies_of, TakesTurns, RunsPhase as RunsAtOnce, RunsFronts, HaveRun}
+use Rattle.tl_session.specs.Phases.{own_jobs, replies_of, TakesTurns, RunsPhase, RunsFronts, HaveRun}
 use Rattle.tl_session.specs.Written.{turn_bytes, turns_bytes, transcript_bytes, jobs_of}
 use Rattle.tl_session.proofs.EntryLemmas.{begins_itself}
 use Rattle.tl_session.proofs.PromiseLemmas.{run_more}
@@ -29,7 +29,7 @@ use Rattle.timeline.specs.declared.stops.Stop.TheVariants as stop
 use Rattle.timeline.specs.Coming.{Coming, GivesPhase, GivesNoMore, IsFaulty, Answers, ReadsOn}
 use Rattle.timeline.specs.Jobs.{asked, phases_asked}
 use Rattle.timeline.specs.Outside.{Streams}
-use Rattle.timeline.specs.Running.{Advances, RunsWhole, RunsUnwritten, RunsShort, RunsPhase, IsFresh, Progress, GoesOn, TakesPhase, replies_bytes}
+use Rattle.timeline.specs.Running.{Advances, RunsWhole, RunsUnwritten, RunsShort, RunsAndWrites, HasNotBegun, Progress, GoesOn, TakesPhase, replies_bytes}
 use Rattle.timeline.specs.Writing.{WritesBytes}
 use Rattle.timeline.specs.Stopping.{RunsAll, StopsAtSource, StopsAtSink, AreFronts, StopsShort, stop_for}
 use Rattle.timeline.proofs.ComingLemmas.{rest_of, whole_told, all_told, none_come, one_more_come, at_the_end, all_read, fault_read, closed_read, so_far_read}
@@ -328,7 +328,7 @@ not_over old taken answer idle other ended = other (idle ended).1
 -- a phase came, and was run
 pub phase_came : (first : Coming) (opening : List Entry) (begun : Streams) (old new : Coming) (before after : plain.SharedAccess) (at end : Streams) (phase : Phase) (why : Option Stop)
     → (answers : Answers old at.left (Ok (Some phase)) new end.left) → end.source_faults ≡ at.source_faults
-    → RunsPhase new.names (map asked phase.jobs.items) before after at.written end.written at.sink_faults end.sink_faults why
+    → RunsAndWrites new.names (map asked phase.jobs.items) before after at.written end.written at.sink_faults end.sink_faults why
     → Progress first opening begun old before at → GoesOn first opening begun new after end why
 phase_came first opening begun old new before after at end phase None h sure ran p =
     one_more_run first opening begun old new before after at end h.taken phase.jobs.items p h.order (not_over old h.taken (Ok (Some phase)) h.idle (λ e. cc)) h.says sure ran
@@ -357,7 +357,7 @@ stop_came first opening begun old new now shared at end (next.Fault f) h faults 
 
 -- THE START
 
-pub no_phase_yet : (first : Coming) (shared : plain.SharedAccess) (begun : Streams) → IsFresh first → shared.parts ≡ 65536 → shared.amount ≡ 0 → Progress first shared.seen begun first shared begun
+pub no_phase_yet : (first : Coming) (shared : plain.SharedAccess) (begun : Streams) → HasNotBegun first → shared.parts ≡ 65536 → shared.amount ≡ 0 → Progress first shared.seen begun first shared begun
 no_phase_yet first shared begun fresh parts amount =
     record {
       bytes = [];
@@ -426,7 +426,7 @@ all_fronts : (jobs : List Job) (ts : List Turn) → jobs_of ts ≡ jobs → (s :
 all_fronts jobs ts these s = ([], ap (own_jobs s) (sym these) ∙ (own_of s ts ∙ sym (append-nil (jobs_of (of_session s ts)))))
 
 -- memory ran out once all jobs were done
-pub all_unwritten : (jobs own : List Job) (replies : List Reply) (old mid new : plain.SharedAccess) (written : Option (List ℕ)) (faults : ℕ) → own ≡ jobs → mid.seen ≡ old.seen → mid.parts ≡ old.parts → mid.amount ≡ old.amount → RunsAtOnce own replies mid new → RunsShort jobs old new written written faults faults
+pub all_unwritten : (jobs own : List Job) (replies : List Reply) (old mid new : plain.SharedAccess) (written : Option (List ℕ)) (faults : ℕ) → own ≡ jobs → mid.seen ≡ old.seen → mid.parts ≡ old.parts → mid.amount ≡ old.amount → RunsPhase own replies mid new → RunsShort jobs old new written written faults faults
 all_unwritten jobs own replies old mid new written faults same seen parts amount h =
     record {
       turns = h.turns;
@@ -443,8 +443,8 @@ turns_text names (t ∷ ts) = ap (λ b. turn_bytes names t ++ b) (turns_text nam
 
 -- all jobs were done, and the replies are written or not
 pub phase_written : (names : List (List ℕ)) (jobs own : List Job) (replies told : List Reply) (text bytes : List ℕ) (old mid new : plain.SharedAccess) (before after : Option (List ℕ)) (first last : ℕ) (why : Option Stop)
-    → own ≡ jobs → mid.seen ≡ old.seen → mid.parts ≡ old.parts → mid.amount ≡ old.amount → RunsAtOnce own replies mid new → told ≡ replies → text ≡ replies_bytes names own told → bytes ≡ text → WritesBytes bytes before after first last why
-    → RunsPhase names jobs old new before after first last why
+    → own ≡ jobs → mid.seen ≡ old.seen → mid.parts ≡ old.parts → mid.amount ≡ old.amount → RunsPhase own replies mid new → told ≡ replies → text ≡ replies_bytes names own told → bytes ≡ text → WritesBytes bytes before after first last why
+    → RunsAndWrites names jobs old new before after first last why
 phase_written names jobs own replies told text bytes old mid new before after first last why same seen parts amount h given is lent written = by_why why (subst (λ (b : List ℕ). WritesBytes b before after first last why) whole written) where
   whole : bytes ≡ turns_bytes names h.turns
   whole = lent ∙ (is ∙ (ap (λ js. replies_bytes names js told) (sym h.these) ∙ (ap (replies_bytes names (jobs_of h.turns)) (given ∙ sym h.told) ∙ sym (turns_text names h.turns))))
@@ -452,7 +452,7 @@ phase_written names jobs own replies told text bytes old mid new before after fi
   on : Advances h.turns old new
   on = advances_from h.turns old mid new seen parts amount h.taken
 
-  by_why : (w : Option Stop) → WritesBytes (turns_bytes names h.turns) before after first last w → RunsPhase names jobs old new before after first last w
+  by_why : (w : Option Stop) → WritesBytes (turns_bytes names h.turns) before after first last w → RunsAndWrites names jobs old new before after first last w
   by_why None k = record { turns = h.turns; these = h.these ∙ same; advances = on; written = k.0; sure = k.1 }
   by_why (Some stop.Ended) k = absurd k
   by_why (Some (stop.Fault f)) k = absurd k

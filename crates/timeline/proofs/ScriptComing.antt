@@ -11,7 +11,7 @@ use Rattle.tl_script.specs.Reader.{ScriptState, new_state, spot_of, reading_ahea
 use Rattle.tl_script.specs.Reader as reader
 use Rattle.tl_script.specs.Taking.{IsAtEnd}
 use Rattle.timeline.specs.Coming.{Comes, GivesPhase, StopsFor, Says, Answers, script_coming, loader_names, block_coming}
-use Rattle.timeline.specs.Running.{IsFresh}
+use Rattle.timeline.specs.Running.{HasNotBegun}
 use Rattle.timeline.proofs.NamesLemmas.{names_kept, not_longer, grows_itself}
 
 -- nothing is ahead where nothing is pending
@@ -73,7 +73,7 @@ script_answers old new before answer after h =
     record { taken = h.taken; order = h.order; idle = h.idle; says = says old new h.taken answer after h.says }
 
 -- a new script is fresh, and what it reads is the whole script
-pub new_script_fresh : (limits : Limits) → most_sessions limits < 65536 → IsFresh (script_coming (new_state limits))
+pub new_script_fresh : (limits : Limits) → most_sessions limits < 65536 → HasNotBegun (script_coming (new_state limits))
 new_script_fresh limits few =
     record { live = refl; at_end = refl; few = omega arith; most = few; known = ahead_known (new_state limits) }
 

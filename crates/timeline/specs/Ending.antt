@@ -158,9 +158,9 @@ InitEnds before after ended = MakesJournal before after ended ⊎ MakingFails be
 
 -- THE PHASES
 
--- The replies of the turns of all phases are a transcript, from the opening's commits on, which all
--- commits begin with, with or without a break. Where nothing broke, and the turns of each phase are
--- of one session, they are those of the jobs done one after the other.
+-- The replies of the turns of all phases are a transcript from the opening's commits to all commits,
+-- with a break or none. Where nothing broke, and the turns of each phase are of one session, they
+-- are those of the jobs done one after the other.
 pub record Told (opening all : List Commit) (broke : Option Commit) (turns : List (List Turn)) : Type 0 where
   pub begins : IsPrefix opening all
   pub transcript : Transcript meant opening all broke turns
@@ -197,8 +197,8 @@ pub record PhasesEnd (Ran : List (List Turn) → Type 0) (reads : Bool → List 
   pub closes : ClosesAfter why broke faults at.written after.written at.sink_faults
       after.sink_faults ended
 
--- how a run over a journal ends that was opened with these commits: the disk holds all commits, and
--- the break where one came, of which the replies tell
+-- how a run over a journal ends that was opened with these commits: the disk holds all commits of
+-- which the replies tell, or, where a break came, these or these and the break's
 pub record OpenedEnds (reads : Bool → List ℕ → Reading) (opening : List Commit) (before after : Outside) (ended : Status) : Type 0 where
   pub opens : OpensWith opening before
   pub all : List Commit

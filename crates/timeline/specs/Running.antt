@@ -56,20 +56,20 @@ pub record RunsShort (jobs : List Job) (old new : plain.SharedAccess) (before af
   pub sure : last ≡ first
 
 -- what became of a phase of these jobs, by why the phases stop with it, if they do
-abbrev pub RunsPhase : List (List ℕ) → List Job → plain.SharedAccess → plain.SharedAccess → Option (List ℕ)
+abbrev pub RunsAndWrites : List (List ℕ) → List Job → plain.SharedAccess → plain.SharedAccess → Option (List ℕ)
     → Option (List ℕ) → ℕ → ℕ → Option Stop → Type 0
-RunsPhase names jobs old new before after first last None =
+RunsAndWrites names jobs old new before after first last None =
     RunsWhole names jobs old new before after first last
-RunsPhase names jobs old new before after first last (Some stop.Ended) = ⊥
-RunsPhase names jobs old new before after first last (Some (stop.Fault f)) = ⊥
-RunsPhase names jobs old new before after first last (Some (stop.Source faults)) = ⊥
-RunsPhase names jobs old new before after first last (Some (stop.Sink faults)) =
+RunsAndWrites names jobs old new before after first last (Some stop.Ended) = ⊥
+RunsAndWrites names jobs old new before after first last (Some (stop.Fault f)) = ⊥
+RunsAndWrites names jobs old new before after first last (Some (stop.Source faults)) = ⊥
+RunsAndWrites names jobs old new before after first last (Some (stop.Sink faults)) =
     RunsUnwritten names jobs old new before after first last × (faults ≡ last)
-RunsPhase names jobs old new before after first last (Some stop.NoMemory) =
+RunsAndWrites names jobs old new before after first last (Some stop.NoMemory) =
     RunsShort jobs old new before after first last
 
 -- phases that are still to come, of a source that is not at its end yet
-pub record IsFresh (first : Coming) : Type 0 where
+pub record HasNotBegun (first : Coming) : Type 0 where
   pub live : first.live ≡ true
   pub at_end : first.at_end ≡ false
   pub few : length first.names ≤ first.most

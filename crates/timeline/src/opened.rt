@@ -7,7 +7,7 @@ ghost use Rattle.tl_engine.specs.Naming.{IsNameOf};
 ghost use Rattle.tl_engine.specs.Standing.{StandsOnDisk};
 ghost use Rattle.timeline.specs.Finishing.{Finishes};
 ghost use Rattle.timeline.specs.Outside.{streams};
-ghost use Rattle.timeline.specs.Running.{IsFresh};
+ghost use Rattle.timeline.specs.Running.{HasNotBegun};
 
 use crate::phases::Phases;
 use crate::running::{Running, run_phases};
@@ -70,7 +70,7 @@ pub(crate) fn run_opened<
         → StandsOnDisk D.reads D.may_leave attached.opening.history }
     requires standard { J.limits ≡ standard_limits }
     requires whole { has_break J.opening ≡ false }
-    requires fresh { IsFresh (P.coming phases) }
+    requires fresh { HasNotBegun (P.coming phases) }
     ensures { Finishes D.reads D.may_leave D.faults attached.begun.value
         attached.opening.history.entries attached.opening.history.first_count
         (P.coming phases).reads

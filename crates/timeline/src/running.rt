@@ -8,7 +8,7 @@ ghost use Rattle.tl_session.specs.Phases.{HaveRun};
 ghost use Rattle.timeline.specs.Coming.{Coming};
 ghost use Rattle.timeline.specs.Jobs.{asked};
 ghost use Rattle.timeline.specs.Outside.{streams, Streams};
-ghost use Rattle.timeline.specs.Running.{replies_bytes, TakesPhase, GoesOn, IsFresh, Progress, RunsPhase};
+ghost use Rattle.timeline.specs.Running.{replies_bytes, TakesPhase, GoesOn, HasNotBegun, Progress, RunsAndWrites};
 ghost use Rattle.timeline.specs.Stopping.{Stops};
 
 use crate::phases::Phases;
@@ -100,7 +100,7 @@ fn run_one<
     requires parts { running.old.shared.parts ≡ 65536 }
     requires sessions { All (λ job. job.session < length (P.coming running.old.phases).names)
         phase.now.jobs.items }
-    ensures ran { RunsPhase (P.coming running.old.phases).names
+    ensures ran { RunsAndWrites (P.coming running.old.phases).names
         (map asked phase.now.jobs.items) running.old.shared running.new.shared
         (K.written sink.old) (K.written sink.new) (K.faults sink.old) (K.faults sink.new) result }
     ensures same { running.new.phases ≡ running.old.phases }
@@ -162,7 +162,7 @@ pub(crate) fn run_phases<
     R: AllocGlobal + Threads + Wait + Sync,
 >(rt: &R, running: &mut Running<D, J, P>, source: &mut S, sink: &mut K, gate: &G) -> Stop
     requires standard { J.limits ≡ standard_limits }
-    requires fresh { IsFresh (P.coming running.old.phases) }
+    requires fresh { HasNotBegun (P.coming running.old.phases) }
     requires parts { running.old.shared.parts ≡ 65536 }
     requires amount { running.old.shared.amount ≡ 0 }
     ensures stops { Stops (λ turns. HaveRun running.old.shared.seen turns running.new.shared.seen

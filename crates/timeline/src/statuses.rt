@@ -26,9 +26,9 @@ pub enum Status {
         /// The count.
         faults: u64,
     },
-    /// The disk failed: while the journal was made or opened, or when a commit was appended; the
-    /// later statements were run all the same. `faults` is its count of faults, which rose in this
-    /// call.
+    /// The disk failed: while the journal was made or opened, and nothing was run; or when a commit
+    /// was appended, behind which queries are still answered and batches refused. `faults` is its
+    /// count of faults, which rose in this call.
     DiskFault {
         /// The count.
         faults: u64,
@@ -45,7 +45,8 @@ pub enum Status {
         /// The number of bytes.
         len: u64,
     },
-    /// The disk's bytes are no journal. `at` is the offset where they are damaged.
+    /// The disk's bytes are no journal, or one with a commit that does not fit those before it. `at`
+    /// is the offset where they are damaged, or of the gate before that commit.
     Damaged {
         /// The byte offset.
         at: u64,

@@ -7,7 +7,7 @@ ghost use Rattle.timeline.specs.Commands.{command_of, put_text, reads_source, te
 ghost use Rattle.timeline.specs.Ending.{Ends, EndsBy, InitEnds, RunEnds, SampleEnds};
 ghost use Rattle.timeline.specs.Headline.{Completes, Headline};
 ghost use Rattle.timeline.specs.Outside.{outside, outside_from};
-ghost use Rattle.timeline.specs.Running.{IsFresh};
+ghost use Rattle.timeline.specs.Running.{HasNotBegun};
 ghost use Rattle.timeline.specs.Sample.{sample_reading};
 
 use crate::alone::empty_disk;
@@ -75,7 +75,7 @@ fn run<
     P: Phases<S>,
     G: Gate,
 >(rt: &R, phases: P, source: &mut S, sink: &mut K, disk: D, gate: &G) -> Ending<D>
-    requires { IsFresh (P.coming phases) }
+    requires { HasNotBegun (P.coming phases) }
     ensures { RunEnds (P.coming phases).reads
         (outside S.left S.faults K.written K.faults D.reads D.may_leave D.faults
         source.old sink.old disk)
@@ -240,21 +240,22 @@ fn do_command<R: AllocGlobal + Threads + Wait + Sync, S: Source, K: Sink, D: Dis
 /// - `SourceFault`: only where the source's count of faults rose in this call. The replies are
 ///   those of the phases whose `GO` lines were among the bytes taken.
 /// - `SinkFault`: only where the sink's count of faults rose in this call; what is written is a
-///   prefix of the bytes that the run was to write, with all replies of the phases before the one
-///   that was written. The disk holds the commits of its jobs too.
+///   prefix of the bytes that the run was to write, with all replies of the phases before the last
+///   one that was run. The disk holds the commits of its jobs too.
 /// - `DiskFault`: only where the disk's count of faults rose in this call. Where it came in opening
 ///   or in `init`, the closing line alone is written. Where it came in an append, that batch is
-///   answered `! device`, later batches `! broken`, queries are answered still, and the disk holds
-///   the commits before the batch, or these and its own.
+///   answered `! device`, and `! broken` each batch without a fault of its own that its session, or
+///   any in a later phase, brings after it. Queries are answered still, and the disk holds the
+///   commits before the batch, or these and its own.
 /// - `ScriptFault`: where the script has that fault. No statement of its phase is run; the replies
 ///   are those of the phases before it.
 /// - `NotInitialised`, `Damaged`: where the disk's bytes are no journal, or one whose commits do
 ///   not fit one after the other. `AlreadyInitialised`: where `init` finds more than 17 bytes. The
 ///   closing line alone is written, the source is unread, and the disk is as it was.
 ///
-/// With the words of a command, a disk whose bytes are a journal (for `init` at most 17 bytes), a
-/// script without a fault and no count that rises, the status is `Done` or `NoMemory`. The call may
-/// wait, and starts threads of its own, which end with it.
+/// With the words of a command, a disk whose bytes are a journal of commits that fit one after the
+/// other (for `init` at most 17 bytes), a script without a fault and no count that rises, the status
+/// is `Done` or `NoMemory`. The call may wait, and starts threads of its own, which end with it.
 pub fn timeline<
     R: AllocGlobal + Threads + Wait + Sync,
     S: Source,

@@ -4,12 +4,12 @@ use Rattle.tl_script.specs.Reader.{ScriptState, new_state}
 use Rattle.timeline.specs.Coming.{script_coming}
 use Rattle.timeline.specs.Ending.{RunEnds}
 use Rattle.timeline.specs.Outside.{outside}
-use Rattle.timeline.specs.Running.{IsFresh}
+use Rattle.timeline.specs.Running.{HasNotBegun}
 use Rattle.timeline.proofs.ScriptComing.{new_script_fresh}
 use Rattle.timeline.proofs.top.run_script.Goals as goal
 
 pub run-requires-after_bounds : goal.run-requires-after_bounds
-run-requires-after_bounds g c κs within = subst (λ (s : ScriptState). IsFresh (script_coming s)) (sym (c.new-script.ensures ∙ ap new_state c.standard.ensures)) (new_script_fresh standard_limits (omega arith))
+run-requires-after_bounds g c κs within = subst (λ (s : ScriptState). HasNotBegun (script_coming s)) (sym (c.new-script.ensures ∙ ap new_state c.standard.ensures)) (new_script_fresh standard_limits (omega arith))
 
 pub returns : goal.returns
 returns g c =

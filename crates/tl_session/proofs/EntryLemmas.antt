@@ -13,7 +13,7 @@ use Rattle.tl_session.specs.Turns.{break_of}
 use Rattle.tl_engine.specs.Counting.{news}
 use Rattle.tl_types.specs.Legality.{may_follow, are_legal_behind, are_legal}
 use Rattle.tl_types.proofs.Lists.{and_right}
-use Rattle.tl_types.proofs.EntryLemmas.{none_behind_break}
+use Rattle.tl_types.proofs.EntryLemmas.{legal_behind-append, none_behind_break}
 use Rattle.tl_session.proofs.ListLemmas.{item_at}
 
 -- a list begins with itself
@@ -47,19 +47,22 @@ whole_front a b p = ap (take (length (commits_of a))) (sym (ap commits_of p.1) �
 
 -- BREAKS
 
--- all entries are marks
-abbrev pub AreMarks : List Entry → Type 0
-AreMarks [] = Unit {0}
-AreMarks (entry.Commit c ∷ rest) = ⊥
-AreMarks (entry.Mark n v ∷ rest) = AreMarks rest
-AreMarks (entry.Break c ∷ rest) = ⊥
+-- nothing stands behind a break of legal entries
+after_break : (a b : List Entry) → has_break a ≡ true → are_legal (a ++ b) ≡ true → b ≡ []
+after_break a b is l = none_behind_break a b is (legal_behind-append [] a b l)
 
--- neither a commit nor a break comes after the first break
-abbrev pub EndsAtBreak : List Entry → Type 0
-EndsAtBreak [] = Unit {0}
-EndsAtBreak (entry.Commit c ∷ rest) = EndsAtBreak rest
-EndsAtBreak (entry.Mark n v ∷ rest) = EndsAtBreak rest
-EndsAtBreak (entry.Break c ∷ rest) = AreMarks rest
+-- all commits are there once a break is
+pub all_there : (a b : List Entry) → IsPrefix a b → has_break a ≡ true → are_legal b ≡ true → commits_of a ≡ commits_of b
+all_there a b p is l =
+    let none = after_break a p.0 is (subst (λ es. are_legal es ≡ true) (sym p.1) l) in
+    ap commits_of (sym (append-nil a) ∙ ap (λ z. a ++ z) (sym none) ∙ p.1)
+
+-- no break stands before an entry
+pub unbroken : (a : List Entry) (e : Entry) (b : List Entry) → are_legal (a ++ e ∷ b) ≡ true → has_break a ≡ false
+unbroken a e b l = by_test (has_break a) refl where
+  by_test : (t : Bool) → has_break a ≡ t → has_break a ≡ false
+  by_test true is = absurd (let none = after_break a (e ∷ b) is l in cc)
+  by_test false is = is
 
 -- a break is there once it stands last
 pub break_behind : (before : List Entry) (c : Commit) → has_break (before ++ entry.Break c ∷ []) ≡ true
@@ -67,56 +70,6 @@ break_behind before c = list_any-append is_break before (entry.Break c ∷ []) �
   last : (b : Bool) → (b || (true || false)) ≡ true
   last true = refl
   last false = refl
-
-ends_behind : (before es : List Entry) → are_legal_behind before es ≡ true → EndsAtBreak es
-ends_behind before [] h = tt
-ends_behind before (entry.Commit c ∷ es) h = ends_behind (before ++ entry.Commit c ∷ []) es (and_right (may_follow before (entry.Commit c)) (are_legal_behind (before ++ entry.Commit c ∷ []) es) h)
-ends_behind before (entry.Mark n v ∷ es) h = ends_behind (before ++ entry.Mark n v ∷ []) es (and_right (may_follow before (entry.Mark n v)) (are_legal_behind (before ++ entry.Mark n v ∷ []) es) h)
-ends_behind before (entry.Break c ∷ es) h =
-    let rest = and_right (may_follow before (entry.Break c)) (are_legal_behind (before ++ entry.Break c ∷ []) es) h in
-    subst AreMarks (sym (none_behind_break (before ++ entry.Break c ∷ []) es (break_behind before c) rest)) tt
-
--- legal entries end at their break
-pub ends_at_break : (es : List Entry) → are_legal es ≡ true → EndsAtBreak es
-ends_at_break es h = ends_behind [] es h
-
-marks_rest : (a b : List Entry) → AreMarks (a ++ b) → AreMarks b
-marks_rest [] b m = m
-marks_rest (entry.Commit c ∷ a) b m = absurd m
-marks_rest (entry.Mark n v ∷ a) b m = marks_rest a b m
-marks_rest (entry.Break c ∷ a) b m = absurd m
-
--- nothing but marks follows a break
-pub after_break : (a b : List Entry) → has_break a ≡ true → EndsAtBreak (a ++ b) → AreMarks b
-after_break [] b is l = absurd (true≢false (sym is))
-after_break (entry.Commit c ∷ a) b is l = after_break a b is l
-after_break (entry.Mark n v ∷ a) b is l = after_break a b is l
-after_break (entry.Break c ∷ a) b is l = marks_rest a b l
-
-pub no_commits : (b : List Entry) → AreMarks b → commits_of b ≡ []
-no_commits [] m = refl
-no_commits (entry.Commit c ∷ b) m = absurd m
-no_commits (entry.Mark n v ∷ b) m = no_commits b m
-no_commits (entry.Break c ∷ b) m = absurd m
-
-pub no_news : (b : List Entry) → AreMarks b → news b ≡ 0
-no_news [] m = refl
-no_news (entry.Commit c ∷ b) m = absurd m
-no_news (entry.Mark n v ∷ b) m = no_news b m
-no_news (entry.Break c ∷ b) m = absurd m
-
--- all commits are there once a break is
-pub all_there : (a b : List Entry) → IsPrefix a b → has_break a ≡ true → EndsAtBreak b → commits_of a ≡ commits_of b
-all_there a b p is l =
-    let none = no_commits p.0 (after_break a p.0 is (subst EndsAtBreak (sym p.1) l)) in
-    sym (append-nil (commits_of a)) ∙ ap (λ z. commits_of a ++ z) (sym none) ∙ sym (commits_split a p.0) ∙ ap commits_of p.1
-
--- no break stands before what is no mark
-pub unbroken : (a b : List Entry) → (AreMarks b → ⊥) → EndsAtBreak (a ++ b) → has_break a ≡ false
-unbroken a b marked l = by_test (has_break a) refl where
-  by_test : (t : Bool) → has_break a ≡ t → has_break a ≡ false
-  by_test true is = absurd (marked (after_break a b is l))
-  by_test false is = is
 
 pub news_are : (a : List Entry) → has_break a ≡ false → news a ≡ length (commits_of a)
 news_are [] none = refl
@@ -143,11 +96,17 @@ abbrev pub one_for : Option Commit → ℕ
 one_for None = 0
 one_for (Some c) = 1
 
-pub news_count : (a : List Entry) → EndsAtBreak a → news a ≡ length (commits_of a) + one_for (break_of a)
-news_count [] l = refl
-news_count (entry.Commit c ∷ a) l = omega (arith, news_count a l)
-news_count (entry.Mark n v ∷ a) l = news_count a l
-news_count (entry.Break c ∷ a) l = omega (arith, no_news a l, ap length (no_commits a l))
+news_behind : (before es : List Entry) → are_legal_behind before es ≡ true → news es ≡ length (commits_of es) + one_for (break_of es)
+news_behind before [] h = refl
+news_behind before (entry.Commit c ∷ es) h = omega (arith, news_behind (before ++ entry.Commit c ∷ []) es (and_right (may_follow before (entry.Commit c)) (are_legal_behind (before ++ entry.Commit c ∷ []) es) h))
+news_behind before (entry.Mark n v ∷ es) h = news_behind (before ++ entry.Mark n v ∷ []) es (and_right (may_follow before (entry.Mark n v)) (are_legal_behind (before ++ entry.Mark n v ∷ []) es) h)
+news_behind before (entry.Break c ∷ es) h =
+    let rest = and_right (may_follow before (entry.Break c)) (are_legal_behind (before ++ entry.Break c ∷ []) es) h in
+    let none = none_behind_break (before ++ entry.Break c ∷ []) es (break_behind before c) rest in
+    subst (λ (fs : List Entry). news (entry.Break c ∷ fs) ≡ length (commits_of (entry.Break c ∷ fs)) + 1) (sym none) refl
+
+pub news_count : (a : List Entry) → are_legal a ≡ true → news a ≡ length (commits_of a) + one_for (break_of a)
+news_count a h = news_behind [] a h
 
 -- the commit of an entry stands at the number of commits before it
 pub placed : (a : List Entry) (c : Commit) (rest all : List Entry) → a ++ entry.Commit c ∷ rest ≡ all → slice_get (commits_of all) (length (commits_of a)) ≡ Some c

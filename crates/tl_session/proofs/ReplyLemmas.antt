@@ -13,7 +13,8 @@ use Rattle.tl_session.specs.Promises.{Appended, BodySays, Says}
 use Rattle.tl_session.specs.Transcript.{RowsRight, RefusedRight, DoneRight, DeviceRight, BrokenRight, Between, body_breaks}
 use Rattle.tl_engine.proofs.CountLemmas.{begins_on}
 use Rattle.tl_engine.proofs.ListLemmas.{break_there as break_last}
-use Rattle.tl_session.proofs.EntryLemmas.{EndsAtBreak, commits_split, fewer_commits, same_front, whole_front, all_there, unbroken, break_found, break_there_on, placed}
+use Rattle.tl_types.specs.Legality.{are_legal}
+use Rattle.tl_session.proofs.EntryLemmas.{commits_split, fewer_commits, same_front, whole_front, all_there, unbroken, break_found, break_there_on, placed}
 
 appended : (old base new : List Entry) (e : Entry) → Appended old base new e → IsPrefix old new
 appended old base new e a = begins_on old base new a.0 (e ∷ [], sym a.1)
@@ -69,16 +70,16 @@ done_right m t opening old new last o p says is =
       subst (λ l. Makes m l t.job b.1) (sym (whole_front base last (entry.Commit b.1 ∷ p.0, goes))) b.4,
     )
 
-pub device_right : (m : Meaning) (t : Turn) (old new last : List Entry) → EndsAtBreak last → IsPrefix new last → Says m t old new → DeviceRight m (commits_of last) (break_of last) t
+pub device_right : (m : Meaning) (t : Turn) (old new last : List Entry) → are_legal last ≡ true → IsPrefix new last → Says m t old new → DeviceRight m (commits_of last) (break_of last) t
 device_right m t old new last l p says is =
     let b = subst (λ x. BodySays m t.job t.reply.version x old new) is says.0 in
     let base = b.0 in
     let goes = goes_on old base new last (entry.Break b.1) b.2 p in
-    let none = unbroken base (entry.Break b.1 ∷ p.0) (λ x. x) (subst EndsAtBreak (sym goes) l) in
+    let none = unbroken base (entry.Break b.1) p.0 (subst (λ es. are_legal es ≡ true) (sym goes) l) in
     let same : commits_of base ≡ commits_of last = sym (append-nil (commits_of base)) ∙ (sym (commits_split base (entry.Break b.1 ∷ [])) ∙ ap commits_of (sym b.2.1)) ∙ all_there new last p (ap has_break b.2.1 ∙ break_last base b.1) l in
     (b.3 ∙ ap length same, b.1, ap break_of (sym goes) ∙ break_found base b.1 p.0 none, subst (λ z. Makes m z t.job b.1) same b.4)
 
-pub broken_right : (m : Meaning) (t : Turn) (old new last : List Entry) → EndsAtBreak last → IsPrefix new last → Says m t old new → BrokenRight m (commits_of last) (break_of last) t
+pub broken_right : (m : Meaning) (t : Turn) (old new last : List Entry) → are_legal last ≡ true → IsPrefix new last → Says m t old new → BrokenRight m (commits_of last) (break_of last) t
 broken_right m t old new last l p says is =
     let b = subst (λ x. BodySays m t.job t.reply.version x old new) is says.0 in
     let same = all_there new last p b.1 l in

@@ -19,7 +19,8 @@ use Rattle.tl_session.specs.Promises.{Appended, BodySays, Says, Chain, Chains, P
 use Rattle.tl_session.specs.Transcript.{Each, EachOfAll, OwnLine, RowsRight, RefusedRight, DoneRight, DeviceRight, BrokenRight, Between, NeverFalls, DoneRises, Above, highest, done_at, done_with, device, body_device, body_breaks, breaks, StaysBroken, AllStayBroken, OneDone, OneDevice, Transcript}
 use Rattle.tl_session.proofs.AuthorLemmas.{signed}
 use Rattle.tl_engine.proofs.CountLemmas.{begins_on}
-use Rattle.tl_session.proofs.EntryLemmas.{AreMarks, EndsAtBreak, ends_at_break, begins_itself, news_split, fewer_commits, fewer_news, break_on, unbroken, news_are, break_there_on, news_count, one_for}
+use Rattle.tl_types.specs.Legality.{are_legal}
+use Rattle.tl_session.proofs.EntryLemmas.{begins_itself, news_split, fewer_commits, fewer_news, break_on, unbroken, news_are, break_there_on, news_count, one_for}
 use Rattle.tl_session.proofs.ReplyLemmas.{says_before, says_between, goes_on, rows_right, refused_right, done_right, device_right, broken_right, lies_between, done_above, tells, stays}
 use Rattle.tl_session.proofs.SessionLemmas.{each_of_sessions, of_its_session}
 use Rattle.tl_session.proofs.CountingLemmas.{key_of, hit_of, hit, miss, StepOf, Steps, Walk, each_once}
@@ -158,24 +159,24 @@ owned a e x rest all k one is at =
     ap (λ l. get_or l (k - 1) 0) list ∙ ap (λ n. get_or (authors a ++ x ∷ authors rest) n 0) place ∙ get_or-append_seam (authors a) x (authors rest) 0
 
 -- an entry that is new, of the commit that the job makes
-added_step : (m : Meaning) (last : List Entry) → EndsAtBreak last → (job : Job) (old new base : List Entry) (c : Commit) (e : Entry) → Appended old base new e → Makes m (commits_of base) job c → (p : IsPrefix new last) → news (e ∷ []) ≡ 1 → (AreMarks (e ∷ p.0) → ⊥) → authors (e ∷ p.0) ≡ c.author ∷ authors p.0 → (news old < news new) × (length (commits_of base) + 1 ≡ news new) × (owner last (news new) ≡ job.session)
-added_step m last l job old new base c e a makes p one marked by =
+added_step : (m : Meaning) (last : List Entry) → are_legal last ≡ true → (job : Job) (old new base : List Entry) (c : Commit) (e : Entry) → Appended old base new e → Makes m (commits_of base) job c → (p : IsPrefix new last) → news (e ∷ []) ≡ 1 → authors (e ∷ p.0) ≡ c.author ∷ authors p.0 → (news old < news new) × (length (commits_of base) + 1 ≡ news new) × (owner last (news new) ≡ job.session)
+added_step m last l job old new base c e a makes p one by =
     let goes = goes_on old base new last e a p in
-    let whole = unbroken base (e ∷ p.0) marked (subst EndsAtBreak (sym goes) l) in
+    let whole = unbroken base e p.0 (subst (λ es. are_legal es ≡ true) (sym goes) l) in
     let more : news new ≡ news base + 1 = ap news a.1 ∙ news_split base (e ∷ []) ∙ ap (λ n. news base + n) one in
     let low = fewer_news old base a.0 in
     (omega (arith, more, low), omega (arith, more, news_are base whole), owned base e c.author p.0 last (news new) by goes more ∙ signed standard_limits (database_of (commits_of base)) makes.0 job.session c makes.2)
 
-says_step : (m : Meaning) (last : List Entry) → EndsAtBreak last → (job : Job) (v : ℕ) (b : ReplyBody) (old new : List Entry) → IsPrefix new last → BodySays m job v b old new → StepOf (owner last) job.session (key_of b v) (news old) (news new)
+says_step : (m : Meaning) (last : List Entry) → are_legal last ≡ true → (job : Job) (v : ℕ) (b : ReplyBody) (old new : List Entry) → IsPrefix new last → BodySays m job v b old new → StepOf (owner last) job.session (key_of b v) (news old) (news new)
 says_step m last l job v (body.Rows r) old new p b = fewer_news old new b.0.0
 says_step m last l job v (body.Refused f) old new p b = fewer_news old new b.0.0
 says_step m last l job v body.Done old new p b =
-    let r = added_step m last l job old new b.0 b.1 (entry.Commit b.1) b.2 b.4 p refl (λ x. x) refl in (r.0, b.3 ∙ r.1, r.2)
+    let r = added_step m last l job old new b.0 b.1 (entry.Commit b.1) b.2 b.4 p refl refl in (r.0, b.3 ∙ r.1, r.2)
 says_step m last l job v body.DeviceFault old new p b =
-    let r = added_step m last l job old new b.0 b.1 (entry.Break b.1) b.2 b.4 p refl (λ x. x) refl in (r.0, ap (λ n. n + 1) b.3 ∙ r.1, r.2)
+    let r = added_step m last l job old new b.0 b.1 (entry.Break b.1) b.2 b.4 p refl refl in (r.0, ap (λ n. n + 1) b.3 ∙ r.1, r.2)
 says_step m last l job v body.BrokenJournal old new p b = fewer_news old new b.0
 
-chain_steps : (m : Meaning) (last : List Entry) → EndsAtBreak last → (s : ℕ) (old : List Entry) (ts : List Turn) (new : List Entry) → Each (λ t. t.job.session ≡ s) ts → IsPrefix new last → Chain m old ts new → Steps (owner last) s (news old) ts (news new)
+chain_steps : (m : Meaning) (last : List Entry) → are_legal last ≡ true → (s : ℕ) (old : List Entry) (ts : List Turn) (new : List Entry) → Each (λ t. t.job.session ≡ s) ts → IsPrefix new last → Chain m old ts new → Steps (owner last) s (news old) ts (news new)
 chain_steps m last l s old [] new o p k = fewer_news old new k
 chain_steps m last l s old (t ∷ ts) new o p k = (
   news k.0,
@@ -183,13 +184,13 @@ chain_steps m last l s old (t ∷ ts) new o p k = (
   chain_steps m last l s k.0 ts new o.1 p k.2,
 )
 
-chains_walk : (m : Meaning) (last : List Entry) → EndsAtBreak last → (old : List Entry) (phases : List (List Turn)) → Chains m old phases last → Walk (owner last) (news old) phases (news last)
+chains_walk : (m : Meaning) (last : List Entry) → are_legal last ≡ true → (old : List Entry) (phases : List (List Turn)) → Chains m old phases last → Walk (owner last) (news old) phases (news last)
 chains_walk m last l old [] r = fewer_news old last r
 chains_walk m last l old (phase ∷ phases) r =
     (news r.0, fewer_news old r.0 r.1, (λ s. chain_steps m last l s old (of_session s phase) r.0 (of_its_session s phase) (chains_before m r.0 phases last r.3) (r.2 s)), chains_walk m last l r.0 phases r.3)
 
 once : (m : Meaning) (opening last : List Entry) (phases : List (List Turn)) → Promised m opening last phases → (k : ℕ) → news opening < k → k ≤ news last → whole_tally (hit k) phases ≡ 1
-once m opening last phases p = each_once (owner last) (news opening) phases (news last) (chains_walk m last (ends_at_break last p.legal) opening phases p.chains) p.count
+once m opening last phases p = each_once (owner last) (news opening) phases (news last) (chains_walk m last p.legal opening phases p.chains) p.count
 
 -- two numbers that agree for each reply agree for all
 abbrev Same : (Turn → ℕ) → (Turn → ℕ) → Turn → Type 0
@@ -220,8 +221,8 @@ device_hit m all broke job line w body.BrokenJournal le right = refl
 
 one_done : (m : Meaning) (opening last : List Entry) (phases : List (List Turn)) → Promised m opening last phases → OneDone (length (commits_of opening)) (length (commits_of last)) phases
 one_done m opening last phases p v lo hi =
-    let agree = each_right m opening last (Same (done_at v) (hit v)) (λ t old new o q says. done_hit m (commits_of last) (break_of last) v hi t.job t.reply.line t.reply.version t.reply.body (device_right m t old new last (ends_at_break last p.legal) q says)) phases p in
-    same_whole (done_at v) (hit v) phases agree ∙ once m opening last phases p v (omega (arith, news_are opening p.whole, lo)) (omega (arith, news_count last (ends_at_break last p.legal), hi))
+    let agree = each_right m opening last (Same (done_at v) (hit v)) (λ t old new o q says. done_hit m (commits_of last) (break_of last) v hi t.job t.reply.line t.reply.version t.reply.body (device_right m t old new last p.legal q says)) phases p in
+    same_whole (done_at v) (hit v) phases agree ∙ once m opening last phases p v (omega (arith, news_are opening p.whole, lo)) (omega (arith, news_count last p.legal, hi))
 
 untold : (b : Bool) → (b ≡ true → ⊥) → b ≡ false
 untold true f = absurd (f refl)
@@ -235,9 +236,9 @@ one_device m opening last phases p None none =
 one_device m opening last phases p (Some c) there =
     let size = length (commits_of last) + 1 in
     let agree = each_right m opening last (Same device (hit size))
-    (λ t old new o q says. device_hit m (commits_of last) (break_of last) t.job t.reply.line t.reply.version t.reply.body (lies_between m t opening old new last o q says).1 (device_right m t old new last (ends_at_break last p.legal) q says))
+    (λ t old new o q says. device_hit m (commits_of last) (break_of last) t.job t.reply.line t.reply.version t.reply.body (lies_between m t opening old new last o q says).1 (device_right m t old new last p.legal q says))
     phases p in
-    let one : news last ≡ length (commits_of last) + 1 = news_count last (ends_at_break last p.legal) ∙ ap (λ x. length (commits_of last) + one_for x) there in
+    let one : news last ≡ length (commits_of last) + 1 = news_count last p.legal ∙ ap (λ x. length (commits_of last) + one_for x) there in
     let fewer = fewer_commits opening last (chains_before m opening phases last p.chains) in
     same_whole device (hit size) phases agree ∙ once m opening last phases p size (omega (arith, news_are opening p.whole, fewer)) (omega (arith, one))
 
@@ -247,8 +248,8 @@ is_transcript m opening last phases p = record {
   rows = each_right m opening last (RowsRight m (commits_of last)) (λ t old new o q says. rows_right m t old new last q says) phases p;
   refused = each_right m opening last (RefusedRight m (commits_of last)) (λ t old new o q says. refused_right m t old new last q says) phases p;
   done = each_right m opening last (DoneRight m (commits_of last) (length (commits_of opening))) (λ t old new o q says. done_right m t opening old new last o q says) phases p;
-  device_fault = each_right m opening last (DeviceRight m (commits_of last) (break_of last)) (λ t old new o q says. device_right m t old new last (ends_at_break last p.legal) q says) phases p;
-  broken = each_right m opening last (BrokenRight m (commits_of last) (break_of last)) (λ t old new o q says. broken_right m t old new last (ends_at_break last p.legal) q says) phases p;
+  device_fault = each_right m opening last (DeviceRight m (commits_of last) (break_of last)) (λ t old new o q says. device_right m t old new last p.legal q says) phases p;
+  broken = each_right m opening last (BrokenRight m (commits_of last) (break_of last)) (λ t old new o q says. broken_right m t old new last p.legal q says) phases p;
   between = each_right m opening last (Between (length (commits_of opening)) (length (commits_of last))) (λ t old new o q says. lies_between m t opening old new last o q says) phases p;
   never_fall = chains_order m NeverFalls (never_falls m) (length (commits_of opening)) opening phases last (omega arith) p.chains;
   done_rises = chains_order m DoneRises (done_rises m) (length (commits_of opening)) opening phases last (omega arith) p.chains;

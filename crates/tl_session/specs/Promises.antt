@@ -18,8 +18,7 @@ use Rattle.tl_session.specs.Turns.{Turn, Meaning, HasFault, Makes, ReadsWell, of
 abbrev pub Appended : List Entry → List Entry → List Entry → Entry → Type 0
 Appended old base new e = IsPrefix old base × (new ≡ base ++ e ∷ [])
 
--- what was seen begins what is seen now, and the version is from the number of commits of that to
--- the number of commits of this
+-- what was seen begins what is seen now, and the version lies between the numbers of their commits
 abbrev pub Looked : List Entry → List Entry → ℕ → Type 0
 Looked old new v =
     IsPrefix old new × (length (commits_of old) ≤ v) × (v ≤ length (commits_of new))
@@ -84,9 +83,9 @@ body_weight body.BrokenJournal = 0
 abbrev pub weight : Turn → ℕ
 weight t = body_weight t.reply.body
 
--- what the sessions of all phases say between the opening's entries and the last ones: each reply
--- is right over what its session had seen, and as many replies tell of a commit or a break of their
--- own as there are commits and breaks more
+-- what the sessions of all phases say between the opening's entries, which have no break, and the
+-- last ones, which are legal: each reply is right over what its session had seen, and as many
+-- replies tell of a commit or a break of their own as there are commits and breaks more
 pub record Promised (m : Meaning) (opening last : List Entry)
     (phases : List (List Turn)) : Type 0 where
   pub legal : IsTrue (are_legal last)

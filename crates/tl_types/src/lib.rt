@@ -1,7 +1,7 @@
 //! The types that every crate of the engine shares: texts, cells and periods, schemas and commits,
 //! batches and answers, and the limits they keep. Their definitions in specs/ say what a history of
-//! commits means: its tables, the rows visible at a version, the events of a table, and the commit
-//! that a batch becomes.
+//! commits means: its tables, the rows visible at a version, the events of a table and its
+//! checkpoints, the commit that a batch becomes, and which lists of entries are legal.
 #![tactic(auto)]
 
 mod answers;

@@ -1,5 +1,5 @@
 //! How the ids by key of a table follow a change of it.
-ghost use Rattle.std.specs.Prelude.{◌≡◌, ◌||◌, ◌&&◌, not, ◌+◌, ◌<◌, ◌≤◌, ◌^◌, ℕ, Some, true, false, OnOk, OnErr, IfOk, All, length, slice_get};
+ghost use Rattle.std.specs.Prelude.{◌≡◌, ◌||◌, ◌&&◌, not, ◌+◌, ◌<◌, ◌≤◌, ◌^◌, ℕ, true, false, OnOk, OnErr, IfOk, All, length, slice_get};
 ghost use Rattle.tl_types.specs.declared.cells.Cell.{Cell};
 ghost use Rattle.tl_types.specs.History.{database_of, rows_of, has_id};
 ghost use Rattle.tl_store.specs.Reading.{columns_of};

@@ -5,7 +5,6 @@ ghost use Rattle.tl_types.specs.declared.cells.Cell.{Cell};
 ghost use Rattle.tl_types.specs.Facts.{AscendFrom};
 ghost use Rattle.tl_types.specs.History.{has_id, same_cell};
 ghost use Rattle.tl_batch.specs.KeyIndex.{Changes, has_further, has_row, no_ids, is_id};
-ghost use Rattle.tl_batch.specs.Standing.{opens_with};
 
 use crate::further_ids::FurtherIds;
 use crate::ids::IdSet;

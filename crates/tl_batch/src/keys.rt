@@ -1,13 +1,11 @@
 //! The open rows of each key of a store.
-ghost use Rattle.std.specs.Prelude.{◌≡◌, ◌+◌, ◌<◌, ◌≤◌, ◌^◌, ◌++◌, ◌∷◌, [], ◌&&◌, ◌||◌, not, false, ℕ, All, IsTrue, IfOk, IfErr, OnOk, OnErr, ◌⊎◌, Ok, Err, length, slice_get};
-ghost use Rattle.tl_types.specs.declared.cells.Cell.{Cell};
+ghost use Rattle.std.specs.Prelude.{◌≡◌, ◌+◌, ◌<◌, ◌++◌, ◌∷◌, [], IsTrue, IfOk, IfErr, OnOk, OnErr, ◌⊎◌, Ok, Err};
 ghost use Rattle.tl_types.specs.declared.batches.BatchFault.TheVariants as fault;
 ghost use Rattle.tl_types.specs.declared.commits.Body.TheVariants as body;
 ghost use Rattle.tl_types.specs.History.{database_of, after_body, fits, fits_body};
 ghost use Rattle.tl_types.specs.Limits.{standard_limits};
 ghost use Rattle.tl_types.specs.Resolving.{resolved};
 ghost use Rattle.tl_batch.specs.Made.{AreWithin, batch_matches};
-ghost use Rattle.tl_batch.specs.KeyIndex.{no_ids};
 ghost use Rattle.tl_batch.specs.Standing.{StandFor};
 
 use crate::following::{change_index, closed_rows};

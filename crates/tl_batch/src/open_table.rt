@@ -1,5 +1,5 @@
 //! A table of a store, with the ids of its open rows by their keys.
-ghost use Rattle.std.specs.Prelude.{◌≡◌, ◌<◌, ◌≤◌, ◌^◌, ℕ, true, false, None, Some, IfOk, length, slice_get, option_map};
+ghost use Rattle.std.specs.Prelude.{◌≡◌, ◌<◌, ◌≤◌, ℕ, true, Some, IfOk, length, slice_get, option_map};
 ghost use Rattle.tl_types.specs.declared.cells.Cell.{Cell};
 ghost use Rattle.tl_types.specs.Facts.{AscendFrom};
 ghost use Rattle.tl_types.specs.History.{database_of, has_id};

@@ -1,10 +1,9 @@
 //! The rows that lines open in a table with valid time: what they leave of open rows, and what is
 //! left of the rows that they put.
-ghost use Rattle.std.specs.Prelude.{◌≡◌, ◌<◌, ◌≤◌, ◌++◌, ◌∷◌, List, true, reverse, Some, All, OnOk, IfOk, length, slice_get, option_map};
+ghost use Rattle.std.specs.Prelude.{◌≡◌, ◌<◌, ◌≤◌, ◌++◌, ◌∷◌, List, true, reverse, Some, All, OnOk, IfOk, length, slice_get};
 ghost use Rattle.std.specs.List.{flat_map};
 ghost use Rattle.tl_types.specs.Resolving.{BatchLine, put_lines};
 ghost use Rattle.tl_batch.specs.Covers.{HoldLines};
-ghost use Rattle.tl_batch.specs.Lines.{lines_of};
 ghost use Rattle.tl_batch.specs.Pieces.{over, pieces_at, row_pieces, put_pieces};
 
 use crate::open_table::OpenTable;

@@ -1,11 +1,10 @@
 //! The commit that a batch becomes, or its first fault.
-ghost use Rattle.std.specs.Prelude.{◌≡◌, ◌+◌, ◌<◌, ◌^◌, ℕ, [], None, Some, Ok, Err, ◌⊎◌, All, IsTrue, IfOk, IfErr, IfSome, false, true, nat_le, length, slice_get, option_map};
+ghost use Rattle.std.specs.Prelude.{◌≡◌, ◌+◌, ◌<◌, ◌^◌, Some, Ok, Err, ◌⊎◌, IsTrue, IfOk, IfErr, IfSome, false, true, nat_le, length, slice_get, option_map};
 ghost use Rattle.std.specs.List.{list_any, list_all};
-ghost use Rattle.tl_types.specs.declared.cells.Cell.{Cell};
 ghost use Rattle.tl_types.specs.declared.batches.Batch.TheVariants as batch;
 ghost use Rattle.tl_types.specs.declared.batches.BatchFault.TheVariants as fault;
 ghost use Rattle.tl_types.specs.Facts.{AscendFrom};
-ghost use Rattle.tl_types.specs.History.{database_of, fits, has_name, matches, rows_of};
+ghost use Rattle.tl_types.specs.History.{database_of, fits, has_name, matches};
 ghost use Rattle.tl_types.specs.Resolving.{find_table, resolved, removal_lines, put_lines};
 ghost use Rattle.tl_batch.specs.Made.{made_by, change_made, committed, rows_fit_found, IsMade, IsClosed};
 ghost use Rattle.tl_batch.specs.PutRows.{rows_put};

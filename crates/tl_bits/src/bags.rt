@@ -1,5 +1,5 @@
 //! Multisets of whole numbers.
-ghost use Rattle.std.specs.Prelude.{◌≡◌, ℕ, ◌+◌, ◌-◌, ◌<◌, ◌≤◌, ℤ, IfSome, IfNone, OnOk, OnErr, Some, None, if◌then◌else◌, nat_le, unwrap_or};
+ghost use Rattle.std.specs.Prelude.{◌≡◌, ℕ, ◌+◌, ◌-◌, ◌<◌, ℤ, IfSome, IfNone, OnOk, OnErr, Some, None, if◌then◌else◌, nat_le, unwrap_or};
 ghost use Rattle.std.specs.BTreeMap.{get, Updates, IsUnchanged};
 ghost use Rattle.std.specs.Ordering.{int_cmp, int_eq};
 ghost use Rattle.tl_bits.specs.Bags.{times, AddsOne, IsLeast, IsGreatest};

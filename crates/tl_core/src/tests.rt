@@ -1,5 +1,5 @@
 //! A walk over all steps: two passes, and the commits of a table of employees.
-ghost use Rattle.std.specs.Prelude.{◌≤◌, ◌<◌, ◌^◌, length};
+ghost use Rattle.std.specs.Prelude.{◌<◌};
 
 use crate::{Build, PassState, Step, World, is_legal};
 use std::alloc::Global;

@@ -3,7 +3,7 @@ ghost use Rattle.std.specs.Prelude.{◌≡◌, ◌++◌, ◌∷◌, [], map, IfO
 ghost use Rattle.std.specs.String.{string_bytes};
 ghost use Rattle.csv.specs.Records.{fields_of, partial_of};
 ghost use Rattle.csv.specs.Writing.{default_writer, row_text};
-ghost use Rattle.tl_csv.specs.Answers.{answer_row, answer_text, field_text};
+ghost use Rattle.tl_csv.specs.Answers.{answer_text, field_text};
 ghost use Rattle.tl_csv.specs.Writing.{bytes_written, IsWriting};
 
 use csv::{ByteRecord, Writer, WriterBuilder};

@@ -1,7 +1,6 @@
 //! The blocks of the sample: as many lines as are asked for, with numbers of a linear congruential
 //! generator.
 ghost use Rattle.std.specs.Prelude.{◌≡◌, ◌≤◌, ◌<◌, ◌+◌, ◌-◌, ◌++◌, ◌^◌, IfOk, OnOk, OnErr};
-ghost use Rattle.std.specs.String.{string_bytes};
 ghost use Rattle.tl_csv.specs.Sample.{block_end, block_of, nth_number, id_of, line_text};
 ghost use Rattle.tl_csv.specs.Sample.{lines_from};
 

@@ -1,6 +1,6 @@
 // A sink in memory with a list of the calls that are to fail.
-ghost use Rattle.std.specs.Prelude.{◌≡◌, ℕ, ◌-◌, ◌<◌, ◌≤◌, ◌++◌, [], length, take, max, Some, IfOk, OnOk, OnErr, is_err};
-ghost use Rattle.tl_device.specs.Known.{append_known, spend_room, HasRoom, Rose};
+ghost use Rattle.std.specs.Prelude.{◌≡◌, ◌-◌, ◌<◌, ◌≤◌, ◌++◌, [], length, max, Some, IfOk, OnOk, OnErr, is_err};
+ghost use Rattle.tl_device.specs.Known.{Rose};
 ghost use Rattle.tl_device.specs.Calls.{next_fails, after_call};
 
 use crate::calls::Calls;

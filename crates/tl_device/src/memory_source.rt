@@ -1,6 +1,6 @@
 // A source in memory with a list of the calls that are to fail.
-ghost use Rattle.std.specs.Prelude.{◌≡◌, ◌↔◌, ℕ, ◌-◌, ◌^◌, ◌<◌, ◌≤◌, ◌++◌, List, [], length, take, drop, min, Some, IfOk, OnOk, OnErr, IfSome, IsErr, is_err};
-ghost use Rattle.tl_device.specs.Known.{prepend_known, Rose};
+ghost use Rattle.std.specs.Prelude.{◌≡◌, ◌↔◌, ◌-◌, ◌^◌, ◌<◌, ◌++◌, [], length, take, drop, min, Some, IfOk, OnErr, is_err};
+ghost use Rattle.tl_device.specs.Known.{Rose};
 ghost use Rattle.tl_device.specs.Calls.{next_fails, after_call};
 
 use crate::calls::Calls;

@@ -1,5 +1,5 @@
 // A file of std that is opened when it is first wanted, and reads and writes at a place in it.
-ghost use Rattle.std.specs.Prelude.{◌≡◌, ◌+◌, ◌^◌, ◌<◌, ◌≤◌, length, take, drop, true, IfOk, OnOk, OnErr};
+ghost use Rattle.std.specs.Prelude.{◌≡◌, ◌+◌, ◌^◌, ◌<◌, ◌≤◌, length, take, drop, true, IfOk, OnOk};
 ghost use Rattle.std.specs.Fs.{new_options, with_read, with_write, with_create};
 ghost use Rattle.std.specs.Io.KnownBytes.{Consumes, IsAtEnd};
 

@@ -1,6 +1,5 @@
 // A sink in memory that never fails.
-ghost use Rattle.std.specs.Prelude.{◌≡◌, ℕ, ◌-◌, ◌<◌, ◌≤◌, ◌++◌, [], length, take, max, Some, Ok, IfOk, OnOk, OnErr};
-ghost use Rattle.tl_device.specs.Known.{append_known, spend_room, HasRoom, Rose};
+ghost use Rattle.std.specs.Prelude.{◌≡◌, ◌-◌, ◌<◌, ◌≤◌, ◌++◌, [], length, max, Some, Ok, OnOk, OnErr};
 
 use crate::failed::{Failed, NoMemory};
 use crate::sink::Sink;

@@ -1,6 +1,5 @@
 // A source in memory that never fails.
-ghost use Rattle.std.specs.Prelude.{◌≡◌, ◌↔◌, ℕ, ◌<◌, ◌≤◌, ◌++◌, List, [], length, take, drop, min, Some, Ok, IfOk, OnOk, OnErr, IfSome};
-ghost use Rattle.tl_device.specs.Known.{prepend_known, Rose};
+ghost use Rattle.std.specs.Prelude.{◌≡◌, ℕ, ◌<◌, ◌++◌, List, length, take, drop, min, Some, Ok, IfOk};
 
 use crate::failed::Failed;
 use crate::source::Source;

@@ -1,5 +1,5 @@
 // Bytes in memory that are appended to, and the room that was made for more.
-ghost use Rattle.std.specs.Prelude.{◌≡◌, ℕ, ◌+◌, ◌-◌, ◌≤◌, ◌++◌, [], length, max, OnOk, OnErr, vec_len, vec_capacity};
+ghost use Rattle.std.specs.Prelude.{◌≡◌, ◌+◌, ◌-◌, ◌≤◌, ◌++◌, [], length, max, OnOk, OnErr, vec_len, vec_capacity};
 
 use crate::failed::NoMemory;
 use std::alloc::Global;

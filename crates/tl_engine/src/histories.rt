@@ -13,7 +13,6 @@ ghost use Rattle.tl_device.specs.Disk.{IsStored};
 ghost use Rattle.tl_journal.specs.Opening.{HasRead, IsAtClosedGate};
 ghost use Rattle.tl_journal.specs.Moments.{EachMoment};
 ghost use Rattle.tl_journal.specs.Stands.{IsJournal, SameOrTrimmed};
-ghost use Rattle.tl_journal.specs.declared.faults.JournalFault.TheVariants as journal_fault;
 ghost use Rattle.tl_engine.specs.Answers.{disk_opened, IsOpened, Opens, Appends, Fails, version_of};
 ghost use Rattle.tl_engine.specs.Writing.{IsDraft, DraftFails, WriteFails};
 ghost use Rattle.tl_types.specs.Legality.{FitInTurn};

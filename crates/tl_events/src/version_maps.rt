@@ -1,5 +1,5 @@
 //! Maps from versions to places among the events.
-ghost use Rattle.std.specs.Prelude.{◌≡◌, ℕ, ◌+◌, ◌^◌, ◌<◌, ◌≤◌, List, [], ◌∷◌, ◌++◌, length, IfOk};
+ghost use Rattle.std.specs.Prelude.{◌≡◌, ℕ, ◌+◌, ◌<◌, ◌≤◌, List, [], ◌∷◌, ◌++◌, length, IfOk};
 ghost use Rattle.tl_types.specs.Plain as plain;
 ghost use Rattle.tl_types.specs.Events.{place_of};
 ghost use Rattle.tl_events.specs.declared.version_maps.VersionEnd.{VersionEnd};

@@ -1,5 +1,5 @@
 //! Making the journal of no commit.
-ghost use Rattle.std.specs.Prelude.{◌≡◌, ◌+◌, ◌≤◌, ◌<◌, ℕ, List, length, Some, IfSome, IfErr, OnOk, OnErr, Err};
+ghost use Rattle.std.specs.Prelude.{◌≡◌, ◌≤◌, ◌<◌, ℕ, List, length, Some, IfSome, IfErr, OnOk, OnErr, Err};
 ghost use Rattle.tl_device.specs.Known.{Rose};
 ghost use Rattle.tl_device.specs.Disk.{IsStored};
 ghost use Rattle.tl_journal.specs.Moments.{EachMoment, EachMomentBySync, IsUntouched, LosesNothing, IsShort, OldOr};

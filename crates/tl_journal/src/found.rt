@@ -1,5 +1,5 @@
 //! The commits of a journal, handed out one by one while it is opened.
-ghost use Rattle.std.specs.Prelude.{◌≡◌, ◌+◌, ◌≤◌, ◌<◌, ◌++◌, ◌∷◌, [], ℕ, List, length, Ok, Err, Some, None, IfSome, IfOk, IfErr, OnErr};
+ghost use Rattle.std.specs.Prelude.{◌≡◌, ◌+◌, ◌<◌, ◌++◌, ◌∷◌, [], ℕ, List, length, Ok, Err, Some, None, IfSome, IfOk, IfErr, OnErr};
 ghost use Rattle.tl_types.specs.declared.commits.Commit.{Commit as CommitValue};
 ghost use Rattle.tl_record.specs.Spelling.{spelling};
 ghost use Rattle.tl_device.specs.Disk.{IsStored};

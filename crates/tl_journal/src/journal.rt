@@ -5,7 +5,7 @@ ghost use Rattle.tl_device.specs.Known.{Rose};
 ghost use Rattle.tl_device.specs.Disk.{IsStored};
 ghost use Rattle.tl_journal.specs.Image.{StandsFor, BeforeOrAfter, IsBodyOf, IsJournalOf, IsDamagedOnlyAt};
 ghost use Rattle.tl_journal.specs.Moments.{EachMoment, EachMomentBySync, IsUntouched, LosesNothing, IsShort, OldOr};
-ghost use Rattle.tl_journal.specs.Opening.{HasRead, IsOpening, commits_found, HaveGatesFrom};
+ghost use Rattle.tl_journal.specs.Opening.{HasRead, commits_found, HaveGatesFrom};
 ghost use Rattle.tl_journal.specs.Stands.{StandsAs, IsReady, SameOrTrimmed, empty_journal};
 ghost use Rattle.tl_journal.specs.Answers.{disk_begun, disk_attached, CountsFaults, IsTooShort, IsTooLong};
 ghost use Rattle.tl_journal.specs.declared.faults.JournalFault.TheVariants as fault;

@@ -1,6 +1,5 @@
 //! Records among the bytes of a journal.
-ghost use Rattle.std.specs.Prelude.{◌≡◌, ◌≢◌, ◌+◌, ◌≤◌, ◌<◌, ◌++◌, ◌∷◌, ℕ, List, length, take, drop, IfSome, IfOk, IfErr, Ok, Err, None, true, false};
-ghost use Rattle.tl_types.specs.declared.commits.Commit.{Commit};
+ghost use Rattle.std.specs.Prelude.{◌≡◌, ◌≢◌, ◌+◌, ◌≤◌, ◌<◌, ◌∷◌, ℕ, List, length, take, drop, IfSome, IfOk, IfErr, Ok, Err, None, true, false};
 ghost use Rattle.tl_record.specs.Spelling.{spelling};
 ghost use Rattle.tl_record.specs.Decoding.{BeginsWith};
 ghost use Rattle.tl_journal.specs.Image.{header, NoRecord};

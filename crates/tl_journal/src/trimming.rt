@@ -1,5 +1,5 @@
 //! Cutting off what stands past the closed gate.
-ghost use Rattle.std.specs.Prelude.{◌≡◌, ◌+◌, ◌≤◌, ◌<◌, ◌^◌, ℕ, List, length, take, Some, IfSome, OnOk, OnErr, IfErr};
+ghost use Rattle.std.specs.Prelude.{◌≡◌, ◌≤◌, ◌<◌, ℕ, List, length, take, Some, IfSome, OnOk, OnErr};
 ghost use Rattle.tl_device.specs.Known.{Rose};
 ghost use Rattle.tl_device.specs.Disk.{IsStored, MayCut};
 ghost use Rattle.tl_journal.specs.Moments.{EachMoment};

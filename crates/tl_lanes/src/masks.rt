@@ -1,5 +1,5 @@
 //! Masks of values that pass a comparison.
-ghost use Rattle.std.specs.Prelude.{◌≡◌, ℕ, ◌+◌, ◌*◌, ◌/◌, ◌^◌, ◌<◌, ◌≤◌, ◌==◌, ℤ, not, Bool, length, take, drop, map, slice_index, slice_index_or, FitsSigned, pos};
+ghost use Rattle.std.specs.Prelude.{◌≡◌, ℕ, ◌+◌, ◌*◌, ◌/◌, ◌<◌, ◌≤◌, ◌==◌, not, Bool, length, map, slice_index, slice_index_or, FitsSigned, pos};
 ghost use Rattle.std.specs.Int.{w64};
 ghost use Rattle.std.specs.Simd.Lanes.{mask_l};
 ghost use Rattle.tl_lanes.specs.Masks.{words_for, word_of, mask_of, passes, agrees};

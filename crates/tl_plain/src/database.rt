@@ -1,8 +1,7 @@
 //! All tables.
-ghost use Rattle.std.specs.Prelude.{◌≡◌, ◌<◌, ◌≤◌, ◌^◌, IsTrue, IfSome, OnOk, OnErr, Some, length, option_map, slice_get};
-ghost use Rattle.std.specs.List.{list_any, position_from};
+ghost use Rattle.std.specs.Prelude.{◌≡◌, ◌<◌, ◌≤◌, ◌^◌, IsTrue, OnOk, OnErr, Some, length};
+ghost use Rattle.std.specs.List.{list_any};
 ghost use Rattle.tl_types.specs.History.{fits, fits_body, after_commit, after_body, nothing, has_name, rows_of};
-ghost use Rattle.tl_types.specs.Resolving.{find_table};
 ghost use Rattle.tl_types.specs.Limits.{standard_limits};
 ghost use Rattle.tl_types.specs.Plain as plain;
 

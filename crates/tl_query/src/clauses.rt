@@ -1,28 +1,8 @@
 //! Reading the clauses of a query, from left to right.
-ghost use Rattle.std.specs.Prelude.{◌≡◌, ◌<◌, ◌≤◌, length, Some, None, Ok, Err, IfOk, MatchOption};
+ghost use Rattle.std.specs.Prelude.{◌<◌, Some, None, Ok};
 ghost use Rattle.tl_types.specs.declared.keywords.Keyword.TheVariants as words;
 ghost use Rattle.tl_query.specs.declared.terminals.Terminal.TheVariants as terminals;
-ghost use Rattle.tl_query.specs.Reading.{
-  Gives,
-  after,
-  expect,
-  take_at,
-  peek_at,
-  several,
-  test_at,
-  conj_at,
-  where_at,
-  valid_point_at,
-  as_of_at,
-  versions_at,
-  system_at,
-  moments_at,
-  over_at,
-  column_name_at,
-  by_at,
-  side_at,
-  on_at,
-};
+ghost use Rattle.tl_query.specs.Reading.{Gives, after, expect, several, test_at, conj_at, where_at, valid_point_at, as_of_at, versions_at, system_at, moments_at, over_at, column_name_at, by_at, side_at, on_at};
 
 use crate::ast::{AggKind, Name, Over, Pred, Stamp, Test, ValidPoint};
 use crate::terminals::Terminal;

@@ -1,36 +1,6 @@
 //! Reading the tokens of a statement, from left to right.
-ghost use Rattle.std.specs.Prelude.{
-  ◌≡◌,
-  ◌-◌,
-  ◌<◌,
-  ◌≤◌,
-  length,
-  Some,
-  None,
-  Ok,
-  Err,
-  IfOk,
-  true,
-  false,
-};
-ghost use Rattle.tl_query.specs.Reading.{
-  Gives,
-  after,
-  expect,
-  take_at,
-  column_at,
-  columns_at,
-  valid_at,
-  create_at,
-  put_at,
-  remove_at,
-  items_at,
-  asked_at,
-  parse_select,
-  agg_at,
-  join_at,
-  statement_at,
-};
+ghost use Rattle.std.specs.Prelude.{◌≡◌, ◌-◌, ◌<◌, Some, None, Ok, true, false};
+ghost use Rattle.tl_query.specs.Reading.{Gives, after, expect, column_at, columns_at, valid_at, create_at, put_at, remove_at, items_at, asked_at, parse_select, agg_at, join_at, statement_at};
 
 use crate::ast::{AggForm, ColumnForm, CreateForm, Item, JoinForm, Query, SelectForm, Statement};
 use crate::clauses::{

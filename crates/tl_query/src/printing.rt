@@ -1,75 +1,12 @@
 //! Writing a statement as a text.
-ghost use Rattle.std.specs.Prelude.{
-  ◌≡◌,
-  ℕ,
-  false,
-  ◌≤◌,
-  ◌∷◌,
-  [],
-  ◌++◌,
-  ◌||◌,
-  length,
-  OnOk,
-  IfOk,
-  MatchOption,
-  IfSome,
-  Some,
-  None,
-};
+ghost use Rattle.std.specs.Prelude.{◌≡◌, false, ◌≤◌, ◌++◌, ◌||◌, length, OnOk, IfOk, Some};
 ghost use Rattle.std.specs.Fmt.{signed_decimal};
-ghost use Rattle.tl_types.specs.declared.cells.Cell.TheVariants as cells;
 ghost use Rattle.tl_types.specs.declared.keywords.Keyword.TheVariants as words;
 ghost use Rattle.tl_query.specs.declared.terminals.Terminal.TheVariants as terminals;
 ghost use Rattle.tl_query.specs.declared.ast.Statement.{Statement};
-ghost use Rattle.tl_query.specs.declared.ast.Query.TheVariants as queries;
-ghost use Rattle.tl_query.specs.declared.ast.Statement.TheVariants as statements;
-ghost use Rattle.tl_query.specs.Grammar.{
-  terminal,
-  identifier,
-  version,
-  moment,
-  bound,
-  constant,
-  kind_keyword,
-  cmp_terminal,
-  agg_keyword,
-  item_part,
-  item_parts,
-  column_parts,
-  valid_parts,
-  test_parts,
-  conj_parts,
-  any_parts,
-  where_parts,
-  valid_at_parts,
-  as_of_parts,
-  column_name_parts,
-  by_parts,
-  over_parts,
-  create_parts,
-  asked_parts,
-  select_parts,
-  agg_parts,
-  join_parts,
-  each_after,
-  separated,
-  statement_parts,
-};
+ghost use Rattle.tl_query.specs.Grammar.{terminal, version, bound, constant, kind_keyword, cmp_terminal, agg_keyword, item_parts, column_parts, valid_parts, test_parts, conj_parts, where_parts, valid_at_parts, as_of_parts, column_name_parts, by_parts, over_parts, create_parts, asked_parts, select_parts, agg_parts, join_parts, each_after, separated, statement_parts};
 ghost use Rattle.tl_query.specs.Parsed.{IsParsed};
-ghost use Rattle.tl_query.specs.Printing.{
-  Written,
-  double_quotes,
-  text_constant,
-  cell_text,
-  gap,
-  terminal_word,
-  plain_word,
-  bound_word,
-  put,
-  write,
-  nothing,
-  text_of,
-};
+ghost use Rattle.tl_query.specs.Printing.{Written, text_constant, cell_text, gap, terminal_word, plain_word, bound_word, put, write, nothing, text_of};
 ghost use Rattle.tl_query.specs.Texts.{SpellsAgain};
 
 use crate::ast::{

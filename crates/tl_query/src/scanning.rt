@@ -1,25 +1,5 @@
 //! Cutting a text into tokens.
-ghost use Rattle.std.specs.Prelude.{
-  ◌≡◌,
-  ℕ,
-  ◌+◌,
-  ◌-◌,
-  ◌^◌,
-  ◌<◌,
-  ◌≤◌,
-  length,
-  min,
-  IfOk,
-  IfSome,
-  Some,
-  None,
-  Ok,
-  Err,
-  true,
-  false,
-  pos,
-  neg_ℤ,
-};
+ghost use Rattle.std.specs.Prelude.{◌≡◌, ◌+◌, ◌-◌, ◌^◌, ◌<◌, ◌≤◌, length, min, IfOk, Some, None, Ok, Err, true, false, pos, neg_ℤ};
 ghost use Rattle.std.specs.List.{prefix_len};
 ghost use Rattle.std.specs.Str.{IsUtf8};
 ghost use Rattle.tl_types.specs.Names.{is_digit, continues_word};

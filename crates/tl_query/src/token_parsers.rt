@@ -1,16 +1,5 @@
 //! Reading the token that comes first.
-ghost use Rattle.std.specs.Prelude.{
-  ◌≡◌,
-  ◌<◌,
-  length,
-  Some,
-  None,
-  Ok,
-  Err,
-  IfOk,
-  IfSome,
-  MatchOption,
-};
+ghost use Rattle.std.specs.Prelude.{◌≡◌, ◌<◌, length, Some, None, Ok, Err, IfSome, MatchOption};
 ghost use Rattle.tl_query.specs.declared.terminals.Terminal.TheVariants as terminals;
 ghost use Rattle.tl_query.specs.Reading.{
   IsStopAt,

@@ -1,5 +1,5 @@
 //! Changes of a record: closed ids, and opened rows.
-ghost use Rattle.std.specs.Prelude.{◌≡◌, ◌<◌, ◌^◌, length, IfOk};
+ghost use Rattle.std.specs.Prelude.{◌<◌, ◌^◌, length, IfOk};
 ghost use Rattle.tl_record.specs.Reading.{
   Gives,
   several,

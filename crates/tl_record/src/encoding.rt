@@ -1,22 +1,8 @@
 //! Commits as bytes.
-ghost use Rattle.std.specs.Prelude.{◌≡◌, ◌≤◌, ◌<◌, ◌^◌, ◌++◌, ◌∷◌, [], IfOk, OnOk, IsTrue, length};
-ghost use Rattle.std.specs.List.{flat_map, list_all, AllByRecursion};
+ghost use Rattle.std.specs.Prelude.{◌≡◌, ◌<◌, ◌++◌, ◌∷◌, [], IfOk, OnOk, IsTrue, length};
+ghost use Rattle.std.specs.List.{flat_map, list_all};
 ghost use Rattle.tl_types.specs.Names.{is_name};
-ghost use Rattle.tl_types.specs.Facts.{is_schema, IsChange};
-ghost use Rattle.tl_record.specs.Spelling.{
-  number,
-  signed_number,
-  name_bytes,
-  column_bytes,
-  schema_bytes,
-  cell_bytes,
-  period_bytes,
-  row_bytes,
-  change_bytes,
-  body_bytes,
-  spelling,
-  IsCommit,
-};
+ghost use Rattle.tl_record.specs.Spelling.{number, signed_number, name_bytes, column_bytes, schema_bytes, cell_bytes, period_bytes, row_bytes, change_bytes, spelling, IsCommit};
 
 use crate::lengths;
 use std::alloc::Global;

@@ -1,7 +1,6 @@
 //! How long records are, and that what is in a commit has the sizes that a record has room for.
-ghost use Rattle.std.specs.Prelude.{◌≡◌, ◌≤◌, ◌<◌, ◌^◌, ◌*◌, length, IsTrue};
+ghost use Rattle.std.specs.Prelude.{◌≡◌, ◌≤◌, ◌<◌, ◌^◌, ◌*◌, length};
 ghost use Rattle.std.specs.List.{flat_map, AllByRecursion};
-ghost use Rattle.tl_types.specs.Facts.{IsChange};
 ghost use Rattle.tl_record.specs.Spelling.{
   number,
   kind_byte,

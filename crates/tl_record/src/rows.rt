@@ -1,5 +1,5 @@
 //! Opened rows of a record: their cells, and their periods.
-ghost use Rattle.std.specs.Prelude.{◌≡◌, ◌≤◌, length, IfOk};
+ghost use Rattle.std.specs.Prelude.{length, IfOk};
 ghost use Rattle.tl_record.specs.Reading.{
   Gives,
   IsBetween,

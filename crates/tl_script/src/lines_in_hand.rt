@@ -1,5 +1,5 @@
 //! The lines of the bytes in hand.
-ghost use Rattle.std.specs.Prelude.{◌≡◌, ◌≤◌, ◌∷◌, ◌++◌, ℕ, length, take, drop, position, true, false, MatchOption, IfOk};
+ghost use Rattle.std.specs.Prelude.{◌≡◌, ◌≤◌, length, take, true, false, MatchOption, IfOk};
 ghost use Rattle.tl_script.specs.Script.{stands_in};
 ghost use Rattle.tl_script.specs.InHand.{BeginsLine, IsNamed, ReadsHand, spot_in};
 

@@ -1,6 +1,5 @@
 //! A whole input as the block of one statement.
-ghost use Rattle.std.specs.Prelude.{◌≡◌, ◌≤◌, ◌∷◌, [], IfOk, IfErr, OnOk, Some};
-ghost use Rattle.tl_device.specs.Known.{prepend_known};
+ghost use Rattle.std.specs.Prelude.{◌≡◌, ◌∷◌, [], IfOk, IfErr, OnOk, Some};
 ghost use Rattle.tl_script.specs.Reader.{FailsBlock, Loads, NextFaults, TakesBlock};
 ghost use Rattle.tl_script.specs.Script.{job_with};
 

@@ -1,6 +1,6 @@
 //! The phase that is read, line by line.
-ghost use Rattle.std.specs.Prelude.{◌≡◌, ◌+◌, ◌≤◌, ◌<◌, ◌^◌, ℕ, [], length, take, None, Some, IfOk, OnOk, OnErr, IfErr, IsUtf8};
-ghost use Rattle.tl_script.specs.Phases.{Outside, most_sessions, statement, outside, inside, early_fault, after_line, behind, behind_go, phase_start, with_job};
+ghost use Rattle.std.specs.Prelude.{◌≡◌, ◌+◌, ◌≤◌, ◌<◌, ◌^◌, [], length, None, Some, OnOk, IsUtf8};
+ghost use Rattle.tl_script.specs.Phases.{most_sessions, statement, outside, inside, early_fault, after_line, behind, behind_go, phase_start};
 
 use crate::jobs::{ScriptError, ScriptFault};
 use crate::phases::{Job, Phase};

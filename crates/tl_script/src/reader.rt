@@ -1,5 +1,5 @@
 //! Reading a phase of the bytes in hand and of those that a source has left.
-ghost use Rattle.std.specs.Prelude.{◌≡◌, ◌<◌, ◌≤◌, ℕ, length, take, true, false, [], IfOk, IfErr, OnOk, OnErr, MatchOption, None, Some};
+ghost use Rattle.std.specs.Prelude.{◌≡◌, ◌<◌, ◌≤◌, length, take, true, false, [], IfOk, IfErr, OnOk, OnErr, MatchOption, None, Some};
 ghost use Rattle.tl_script.specs.Script.{stands_in};
 ghost use Rattle.tl_script.specs.Phases.{early_fault};
 ghost use Rattle.tl_script.specs.Reader.{Grows, NextFaults};

@@ -1,5 +1,5 @@
 //! A script that is read from a source, phase by phase.
-ghost use Rattle.std.specs.Prelude.{◌≡◌, ◌<◌, ◌^◌, ℕ, length, true, get_or, [], OnOk, OnErr, IfErr};
+ghost use Rattle.std.specs.Prelude.{◌≡◌, ◌<◌, ◌^◌, length, true, get_or, [], OnOk, IfErr};
 ghost use Rattle.tl_script.specs.Reader.{new_state, Answers, NextFaults};
 
 use crate::open_phase::OpenPhase;

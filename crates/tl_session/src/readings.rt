@@ -3,7 +3,6 @@ ghost use Rattle.std.specs.Prelude.{◌≡◌, ◌≢◌, ◌<◌, IfOk, OnOk, l
 ghost use Rattle.tl_types.specs.Entries.{commits_of};
 ghost use Rattle.tl_types.specs.History.{database_of};
 ghost use Rattle.tl_types.specs.declared.batches.Batch.TheVariants as batch;
-ghost use Rattle.tl_types.specs.declared.batches.BatchFault.TheVariants as batch_fault;
 ghost use Rattle.tl_query.specs.Checking.{checked_create};
 ghost use Rattle.tl_query.specs.CheckingQueries.{checked};
 ghost use Rattle.tl_query.specs.Parsed.{IsNewTable, IsParsed, IsQuery};
@@ -11,7 +10,6 @@ ghost use Rattle.tl_query.specs.declared.check_faults.CheckFault.TheVariants as 
 ghost use Rattle.tl_query.specs.declared.faults.TextFault.TheVariants as text_fault;
 ghost use Rattle.tl_csv.specs.declared.faults.CsvFault.TheVariants as csv_fault;
 ghost use Rattle.tl_session.specs.Reading.{IsReading, IsFaultTold, DoesMatch, IsKnown, create_reading, load_reading, query_reading, statement_reading};
-ghost use Rattle.tl_session.specs.declared.readings.JobReading.TheVariants as reading;
 ghost use Rattle.tl_session.specs.declared.replies.Refusal.TheVariants as refusal;
 
 use crate::replies::Refusal;

@@ -1,5 +1,5 @@
 //! Chunks: parts of a list, each of which may be a part of further lists.
-ghost use Rattle.std.specs.Prelude.{◌≡◌, ◌+◌, ◌-◌, ◌<◌, ◌≤◌, ◌^◌, ◌++◌, ◌∷◌, [], length, slice_set, IfOk, IfErr};
+ghost use Rattle.std.specs.Prelude.{◌≡◌, ◌+◌, ◌-◌, ◌<◌, ◌^◌, ◌++◌, [], length, slice_set, IfOk, IfErr};
 ghost use Rattle.tl_shared.specs.Chunks.{flatten, AreFull, IsChunked, piece_or_nil};
 
 use crate::shareable::{Shareable, share_all};

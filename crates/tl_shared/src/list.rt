@@ -1,5 +1,5 @@
 //! The list.
-ghost use Rattle.std.specs.Prelude.{◌≡◌, ℕ, ◌+◌, ◌*◌, ◌/◌, ◌%◌, ◌<◌, ◌≤◌, ◌++◌, [], length, take, drop, slice_index, slice_index_or, slice_set, All, IfOk};
+ghost use Rattle.std.specs.Prelude.{◌≡◌, ◌+◌, ◌*◌, ◌/◌, ◌%◌, ◌<◌, ◌≤◌, ◌++◌, [], length, take, drop, slice_index, slice_index_or, slice_set, All, IfOk};
 ghost use Rattle.tl_shared.specs.Chunks.{flatten, IsChunked, piece_or_nil, set_each, set_within};
 
 use crate::chunk::{Chunk, chunks_of};

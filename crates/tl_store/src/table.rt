@@ -1,5 +1,5 @@
 //! One table, kept by columns.
-ghost use Rattle.std.specs.Prelude.{◌≡◌, ℕ, ◌+◌, ◌<◌, ◌≤◌, ◌^◌, IsTrue, IfOk, Some, length, map, slice_get, All, option_map, replicate};
+ghost use Rattle.std.specs.Prelude.{◌≡◌, ◌+◌, ◌<◌, ◌≤◌, IsTrue, IfOk, Some, length, map, slice_get, All, option_map, replicate};
 ghost use Rattle.std.specs.List.{list_all};
 ghost use Rattle.tl_types.specs.History.{fits_table, has_name, is_open_at, cell_at};
 ghost use Rattle.tl_types.specs.Limits.{standard_limits};

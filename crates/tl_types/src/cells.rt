@@ -1,5 +1,5 @@
 //! Cells, and what a column holds.
-ghost use Rattle.std.specs.Prelude.{◌≡◌, IfOk};
+ghost use Rattle.std.specs.Prelude.{◌≡◌};
 
 use crate::texts::Text;
 use std::alloc::AllocError;

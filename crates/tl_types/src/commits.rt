@@ -1,5 +1,5 @@
 //! Commits, and the entries of a history.
-ghost use Rattle.std.specs.Prelude.{◌≡◌, IfOk};
+ghost use Rattle.std.specs.Prelude.{◌≡◌};
 ghost use Rattle.tl_types.specs.Plain as plain;
 ghost use Rattle.tl_types.specs.Facts.{IsChange};
 ghost use Rattle.tl_types.specs.Entries.{is_break, has_break};

@@ -1,5 +1,5 @@
 //! The keywords of the language, and which words are names.
-ghost use Rattle.std.specs.Prelude.{◌≡◌, ◌≤◌, length, is_some};
+ghost use Rattle.std.specs.Prelude.{◌≡◌};
 ghost use Rattle.std.specs.List.{list_all};
 ghost use Rattle.tl_types.specs.Names.{
   begins_word,

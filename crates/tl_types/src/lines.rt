@@ -1,5 +1,5 @@
 //! Texts of any length: the text of a statement.
-ghost use Rattle.std.specs.Prelude.{◌≡◌, ◌<◌, ◌^◌, length, IfOk, IsUtf8};
+ghost use Rattle.std.specs.Prelude.{◌≡◌, ◌<◌, length, IfOk, IsUtf8};
 
 use crate::NoMemory;
 use std::alloc::Global;

@@ -1,5 +1,5 @@
 //! Whether rows are what the schema of a table says.
-ghost use Rattle.std.specs.Prelude.{◌≡◌, length};
+ghost use Rattle.std.specs.Prelude.{◌≡◌};
 ghost use Rattle.std.specs.List.{list_all};
 ghost use Rattle.tl_types.specs.History.{is_of_kind, match_columns, matches};
 

@@ -1,5 +1,5 @@
 //! Columns, and the schema of a table.
-ghost use Rattle.std.specs.Prelude.{◌≡◌, ◌<◌, ◌≤◌, Some, None, length, IfOk, IsTrue, true};
+ghost use Rattle.std.specs.Prelude.{◌≡◌, ◌<◌, ◌≤◌, Some, None, length, IsTrue, true};
 ghost use Rattle.std.specs.List.{list_all, list_any};
 ghost use Rattle.tl_types.specs.Names.{is_name, same_bytes};
 ghost use Rattle.tl_types.specs.Facts.{are_distinct, names_of, schema_of, is_schema};

@@ -81,9 +81,10 @@ Completes words before after ended = CompletesBy (command_of words) before after
 
 -- THE HEADLINE
 
--- A transcript of what is read was printed, from the opening's commits to all commits, with or
--- without a break, and this closing line behind it; the disk holds these commits. Where nothing
--- broke and each phase has jobs of one session, it is the play: the jobs done one after the other.
+-- A transcript of what is read was printed, from the opening's commits to all commits, with a break
+-- or none, and this closing line behind it; the disk holds these commits, or also the break's. Where
+-- nothing broke and each phase has jobs of one session, it is the play: the jobs done one after the
+-- other.
 pub record PrintsTranscript (reading : Reading) (opening all : List Commit) (broke : Option Commit) (closing : Status) (before after : Outside) : Type 0 where
   pub bytes : List ℕ
   pub begins : IsPrefix opening all
@@ -149,8 +150,8 @@ pub record CutsOpening (before after : Outside) : Type 0 where
       ≡ append_known before.written (take some (closing_line (status_for fault)))
 
 -- the sink failed at the replies of a phase: those of the phases before it were written, and some
--- first bytes of its own. All of them are a transcript, from the opening's commits to all commits,
--- with or without a break; the disk holds these commits.
+-- first bytes of its own. With all of its own they are a transcript, from the opening's commits to
+-- all commits, with a break or none; the disk holds these commits, or also the break's.
 pub record CutsReplies (reading : Reading) (opening : List Commit) (before after : Outside) : Type 0 where
   pub turns : List (List Turn)
   pub last : List Turn
@@ -209,7 +210,8 @@ pub record StopsAtOnce (before after : Outside) : Type 0 where
 
 -- memory ran out in a phase: the replies of the phases before it were written. With those to the
 -- first jobs of each of its sessions, so many as were done, they are a transcript, from the
--- opening's commits to all commits, with or without a break; the disk holds these commits.
+-- opening's commits to all commits, with a break or none; the disk holds these commits, or also the
+-- break's.
 pub record StopsInPhase (reading : Reading) (opening : List Commit) (before after : Outside) : Type 0 where
   pub turns : List (List Turn)
   pub last : List Turn

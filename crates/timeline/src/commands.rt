@@ -8,7 +8,7 @@ use std::alloc::Global;
 use tl_types::{NoMemory, Text, is_name};
 
 /// What the words ask for.
-#[derive(Debug, Drop, PartialEq, Eq)]
+#[derive(Drop)]
 pub enum Command {
     /// `init`: an empty journal is made.
     Init,

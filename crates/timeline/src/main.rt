@@ -13,8 +13,6 @@ mod running;
 mod samples;
 mod statuses;
 mod stops;
-#[cfg(test)]
-mod tests;
 mod top;
 mod words;
 mod writing;

@@ -2,7 +2,7 @@
 use tl_device::{Failed, Source};
 
 /// Stands where no source is read: it gives nothing.
-#[derive(Debug, Drop)]
+#[derive(Drop)]
 pub(crate) struct NoSource;
 
 impl Source for NoSource {

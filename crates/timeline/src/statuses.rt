@@ -8,7 +8,7 @@ use tl_script::ScriptFault;
 use tl_types::NoMemory;
 
 /// How a run ends. Its number is the program's exit status.
-#[derive(Clone, Copy, Debug, PartialEq, Eq)]
+#[derive(Clone, Copy)]
 pub enum Status {
     /// The input was read to its end, and all replies are written.
     Done,

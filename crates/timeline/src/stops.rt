@@ -5,7 +5,7 @@ ghost use Rattle.timeline.specs.Stopping.{stop_for};
 use tl_script::{NextError, ScriptFault};
 
 /// Why no further phase is run.
-#[derive(Clone, Copy, Debug, PartialEq, Eq)]
+#[derive(Clone, Copy)]
 pub(crate) enum Stop {
     /// All phases were run.
     Ended,

@@ -30,7 +30,7 @@ use tl_script::Script;
 use tl_types::{Limits, NoMemory};
 
 /// How a run ended, and the disk that it was given.
-#[derive(Debug, Drop)]
+#[derive(Drop)]
 pub struct Ending<D> {
     /// How it ended.
     pub status: Status,

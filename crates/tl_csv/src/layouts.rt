@@ -7,7 +7,7 @@ use std::marker::Model;
 use tl_types::Seq;
 
 /// Where the ends of a period stand in each record, from 0.
-#[derive(Clone, Copy, Debug, PartialEq, Eq)]
+#[derive(Clone, Copy)]
 pub struct PeriodPlaces {
     /// The place of the first valid time.
     pub from: usize,

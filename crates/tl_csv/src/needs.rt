@@ -7,7 +7,7 @@ ghost use Rattle.tl_csv.specs.Header.{column_kind, columns_of, end_kind, kind_ne
 use tl_types::{Column, ColumnKind, Schema};
 
 /// What a block is read as.
-#[derive(Clone, Copy, Debug, PartialEq, Eq)]
+#[derive(Clone, Copy)]
 pub enum BatchKind {
     /// Rows that take the place of the open rows of their keys, in a table with valid time for
     /// their periods alone.
@@ -17,7 +17,7 @@ pub enum BatchKind {
 }
 
 /// What a field of a record is.
-#[derive(Clone, Copy, Debug, PartialEq, Eq)]
+#[derive(Clone, Copy)]
 pub enum FieldKind {
     /// A cell of a column.
     Cell(ColumnKind),

@@ -1,7 +1,7 @@
 // What a disk in memory did, and how it is undone.
 
 /// A call of a disk in memory that may change what a crash leaves.
-#[derive(Clone, Copy, Debug)]
+#[derive(Clone, Copy)]
 pub enum Call {
     /// A write: where, how many bytes, and how many of these were over bytes that stood there.
     Wrote(u64, usize, usize),

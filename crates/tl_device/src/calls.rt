@@ -7,7 +7,7 @@ ghost use Rattle.tl_device.specs.Calls.{next_fails, after_call};
 use std::marker::Model;
 
 // `failing` holds numbers of calls, counted from 1.
-#[derive(Debug, Drop)]
+#[derive(Drop)]
 pub struct Calls {
     failing: Vec<u64>,
     made: u64,

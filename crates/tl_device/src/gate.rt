@@ -1,7 +1,7 @@
 // Where statements and pieces of work pass before they start.
 
 /// What is about to start.
-#[derive(Clone, Copy, Debug, PartialEq, Eq)]
+#[derive(Clone, Copy)]
 pub enum Place {
     /// A statement of the session with this number.
     Statement(u32),
@@ -16,7 +16,7 @@ pub trait Gate: Sync {
 }
 
 /// A gate that lets all pass at once.
-#[derive(Clone, Copy, Debug)]
+#[derive(Clone, Copy)]
 pub struct OpenGate;
 
 impl Gate for OpenGate {

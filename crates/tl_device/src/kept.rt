@@ -10,7 +10,7 @@ use std::marker::Model;
 
 // `done` has the oldest call first. The room that is left lies within the capacities: of `bytes`
 // for what is written, of `log` for all bytes that may be taken away, of `done` for the calls.
-#[derive(Debug, Drop)]
+#[derive(Drop)]
 pub struct Kept {
     bytes: Vec<u8>,
     done: Vec<Call>,

@@ -15,7 +15,7 @@ use std::marker::Model;
 /// A disk in memory with a list of the numbers of the calls that are to fail. Contracts see what it
 /// keeps (the bytes, a record of the calls from which follows what a crash may leave, and the room
 /// that is left) and the calls.
-#[derive(Debug, Drop)]
+#[derive(Drop)]
 pub struct MemoryDisk {
     kept: Kept,
     calls: Calls,

@@ -12,7 +12,7 @@ use std::marker::Model;
 
 /// A sink in memory with a list of the numbers of the calls that are to fail. Contracts see the
 /// bytes written, the room that is left, and the calls.
-#[derive(Debug, Drop)]
+#[derive(Drop)]
 pub struct MemorySink {
     written: Written,
     calls: Calls,

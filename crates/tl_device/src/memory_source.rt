@@ -11,7 +11,7 @@ use std::marker::Model;
 
 /// A source in memory with a list of the numbers of the calls that are to fail. Contracts see the
 /// bytes left, the most that one read gives, and the calls.
-#[derive(Debug, Drop)]
+#[derive(Drop)]
 pub struct MemorySource {
     unread: Unread,
     most: usize,

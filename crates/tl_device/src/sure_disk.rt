@@ -11,7 +11,7 @@ use std::marker::Model;
 
 /// A disk in memory that never fails. Contracts see what it keeps: the bytes, a record of the calls
 /// from which follows what a crash may leave, and the room that is left.
-#[derive(Debug, Drop)]
+#[derive(Drop)]
 pub struct SureDisk {
     kept: Kept,
 }

@@ -8,7 +8,7 @@ use std::alloc::Global;
 use std::marker::Model;
 
 /// A sink in memory that never fails. Contracts see the bytes written and the room that is left.
-#[derive(Debug, Drop)]
+#[derive(Drop)]
 pub struct SureSink {
     written: Written,
 }

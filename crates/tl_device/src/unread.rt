@@ -4,7 +4,7 @@ ghost use Rattle.std.specs.Prelude.{◌≡◌, ℕ, ◌≤◌, ◌++◌, List, l
 use std::marker::Model;
 
 // The bytes from `place` on are left.
-#[derive(Debug, Drop)]
+#[derive(Drop)]
 pub struct Unread {
     bytes: Vec<u8>,
     place: usize,

@@ -6,7 +6,7 @@ use std::alloc::Global;
 use std::marker::Model;
 
 // The room that is left lies within the capacity of `bytes`.
-#[derive(Debug, Drop)]
+#[derive(Drop)]
 pub struct Written {
     bytes: Vec<u8>,
     spare: u64,

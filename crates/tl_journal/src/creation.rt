@@ -12,7 +12,7 @@ use crate::reading::{device_fault, length_of, settle};
 use tl_device::{Disk, Failed};
 
 /// What making a journal answers, with the disk that was handed in.
-#[derive(Debug, Drop)]
+#[derive(Drop)]
 pub struct InitRun<D> {
     /// Whether the journal was made.
     pub done: Result<(), JournalFault>,

@@ -22,7 +22,7 @@ use tl_device::Disk;
 use tl_types::Commit;
 
 /// A commit of the journal.
-#[derive(Debug, Drop)]
+#[derive(Drop)]
 pub struct Found {
     /// The commit.
     pub commit: Commit,

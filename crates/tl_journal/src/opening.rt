@@ -13,7 +13,7 @@ use std::alloc::Global;
 use tl_device::Disk;
 
 /// A disk that was not opened as a journal, and why.
-#[derive(Debug, Drop)]
+#[derive(Drop)]
 pub struct Refused<D> {
     /// Why.
     pub fault: JournalFault,

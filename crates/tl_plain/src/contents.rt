@@ -11,7 +11,7 @@ use tl_types::{Change, Limits, NoMemory, Schema, all_match};
 
 /// A table: its schema, the version before which its past is forgotten, and its rows, each at the
 /// place that is its id. It has fewer than 2^32 rows.
-#[derive(Debug, Drop)]
+#[derive(Drop)]
 pub(crate) struct Table {
     schema: Schema,
     floor: u32,

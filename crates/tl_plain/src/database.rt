@@ -12,7 +12,7 @@ use std::marker::Model;
 use tl_types::{Body, Commit, Limits, NoMemory};
 
 /// The number of commits so far, and the tables after them, of which there are at most 64.
-#[derive(Debug, Drop)]
+#[derive(Drop)]
 pub struct Tables {
     version: u32,
     tables: Vec<Table>,

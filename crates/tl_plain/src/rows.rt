@@ -10,7 +10,7 @@ use tl_types::{Cell, Change, NoMemory, OPEN, Opened, Period, Seq};
 
 /// A row of a table: its cells, its valid period where the table has them, and the versions at
 /// which it stands.
-#[derive(Debug, Drop, PartialEq, Eq)]
+#[derive(Drop)]
 pub struct Row {
     cells: Seq<Cell>,
     period: Option<Period>,

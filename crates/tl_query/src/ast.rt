@@ -3,7 +3,7 @@
 use tl_types::{Cell, Cmp, ColumnKind, Seq, Text};
 
 /// The name of a table or a column, and where it stands.
-#[derive(Debug, Drop, PartialEq, Eq)]
+#[derive(Drop)]
 pub struct Name {
     /// The name: 1 to 64 bytes.
     pub text: Text,
@@ -12,7 +12,7 @@ pub struct Name {
 }
 
 /// A number in a statement: a version or a bound, and where it stands.
-#[derive(Clone, Copy, Debug, PartialEq, Eq)]
+#[derive(Clone, Copy)]
 pub struct Stamp {
     /// The number: a version or a valid time.
     pub value: i64,
@@ -21,7 +21,7 @@ pub struct Stamp {
 }
 
 /// One statement.
-#[derive(Debug, Drop, PartialEq, Eq)]
+#[derive(Drop)]
 pub enum Statement {
     /// `CREATE TABLE`: makes a table.
     Create(CreateForm),
@@ -36,7 +36,7 @@ pub enum Statement {
 
 /// The making of a table: `CREATE TABLE name (columns) KEY key`, and `VALID` at its end where rows
 /// have a valid period.
-#[derive(Debug, Drop, PartialEq, Eq)]
+#[derive(Drop)]
 pub struct CreateForm {
     /// The table's name.
     pub name: Name,
@@ -49,7 +49,7 @@ pub struct CreateForm {
 }
 
 /// One column of a new table.
-#[derive(Debug, Drop, PartialEq, Eq)]
+#[derive(Drop)]
 pub struct ColumnForm {
     /// The column's name.
     pub name: Name,
@@ -58,7 +58,7 @@ pub struct ColumnForm {
 }
 
 /// A query.
-#[derive(Debug, Drop, PartialEq, Eq)]
+#[derive(Drop)]
 pub enum Query {
     /// Rows of one table.
     Select(SelectForm),
@@ -69,7 +69,7 @@ pub enum Query {
 }
 
 /// One item of a row that is asked for.
-#[derive(Debug, Drop, PartialEq, Eq)]
+#[derive(Drop)]
 pub enum Item {
     /// A column, by its name.
     Column(Name),
@@ -82,7 +82,7 @@ pub enum Item {
 /// A query for rows: `SELECT` with `*` or one or more items, separated by commas, then `FROM
 /// table`, `WHERE` where rows are tested, `VALID AT number` where a valid time is given, and `AS OF
 /// version` where a version is given.
-#[derive(Debug, Drop, PartialEq, Eq)]
+#[derive(Drop)]
 pub struct SelectForm {
     /// Whether `*` stands for the items; then `items` is empty.
     pub all: bool,
@@ -99,7 +99,7 @@ pub struct SelectForm {
 }
 
 /// A valid time after `VALID AT`.
-#[derive(Clone, Copy, Debug, PartialEq, Eq)]
+#[derive(Clone, Copy)]
 pub struct ValidPoint {
     /// The byte offset of `VALID`.
     pub pos: u32,
@@ -109,14 +109,14 @@ pub struct ValidPoint {
 
 /// A row passes where it passes all tests of one of these lists, or where there is no list: what
 /// follows `WHERE`.
-#[derive(Debug, Drop, PartialEq, Eq)]
+#[derive(Drop)]
 pub struct Pred {
     /// The lists, joined by `OR`, of tests joined by `AND`.
     pub any: Seq<Seq<Test>>,
 }
 
 /// A comparison of a column with a constant.
-#[derive(Debug, Drop, PartialEq, Eq)]
+#[derive(Drop)]
 pub struct Test {
     /// The column.
     pub column: Name,
@@ -131,7 +131,7 @@ pub struct Test {
 }
 
 /// The kinds of aggregates.
-#[derive(Clone, Copy, Debug, PartialEq, Eq)]
+#[derive(Clone, Copy)]
 pub enum AggKind {
     /// The number of rows.
     Count,
@@ -148,7 +148,7 @@ pub enum AggKind {
 /// A query for an aggregate over time: `COUNT`, or another aggregate and its column, then `FROM
 /// table`, `WHERE` where rows are tested, `BY column` where they are separated into groups, and the
 /// range.
-#[derive(Debug, Drop, PartialEq, Eq)]
+#[derive(Drop)]
 pub struct AggForm {
     /// The kind.
     pub kind: AggKind,
@@ -166,7 +166,7 @@ pub struct AggForm {
 
 /// A query for the pairs of rows of two tables that exist at one time: `JOIN table WITH table`,
 /// each with `WHERE` where its rows are tested, `ON column = column`, and the range.
-#[derive(Debug, Drop, PartialEq, Eq)]
+#[derive(Drop)]
 pub struct JoinForm {
     /// The left table.
     pub left: Name,
@@ -185,7 +185,7 @@ pub struct JoinForm {
 }
 
 /// A range of time, after `OVER`.
-#[derive(Clone, Copy, Debug, PartialEq, Eq)]
+#[derive(Clone, Copy)]
 pub enum Over {
     /// All versions: `SYSTEM ALL`.
     SystemAll,

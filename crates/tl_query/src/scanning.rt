@@ -35,7 +35,7 @@ use tl_types::{Keyword, Text, begins_word, continues_word, is_name};
 const MOST_TEXT_BYTES: usize = 65535;
 
 /// The token that some bytes begin with.
-#[derive(Debug, Drop)]
+#[derive(Drop)]
 pub(crate) struct Piece {
     /// The token.
     pub token: Token,
@@ -327,7 +327,7 @@ fn placed_token(at: u32, joined: bool, piece: Piece) -> Placed
 }
 
 /// The tokens of a text up to its first fault, and that fault.
-#[derive(Debug, Drop)]
+#[derive(Drop)]
 pub(crate) struct Scanned {
     /// The tokens in order.
     pub tokens: Vec<Placed>,

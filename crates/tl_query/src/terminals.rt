@@ -5,7 +5,7 @@ ghost use Rattle.tl_query.specs.Terminals.{same_terminal, spelling};
 use tl_types::Keyword;
 
 /// A keyword or a symbol. `spelling` says how it is written.
-#[derive(Clone, Copy, Debug, PartialEq, Eq)]
+#[derive(Clone, Copy, PartialEq, Eq)]
 pub(crate) enum Terminal {
     /// A keyword.
     Keyword(Keyword),

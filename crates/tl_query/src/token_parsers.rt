@@ -32,7 +32,7 @@ use std::alloc::{AllocError, AllocFailed};
 use tl_types::{Cell, Cmp, ColumnKind, Keyword};
 
 /// Where reading stops.
-#[derive(Clone, Copy, Debug)]
+#[derive(Clone, Copy)]
 pub(crate) enum Stop {
     /// At the token at this byte offset, which cannot stand there.
     Token(u32),

@@ -3,7 +3,7 @@ use crate::terminals::Terminal;
 use tl_types::Text;
 
 /// A token.
-#[derive(Debug, Drop, PartialEq, Eq)]
+#[derive(Drop)]
 pub(crate) enum Token {
     /// A keyword or a symbol.
     Fixed(Terminal),
@@ -21,7 +21,7 @@ pub(crate) enum Token {
 }
 
 /// A token and where it stands.
-#[derive(Debug, Drop, PartialEq, Eq)]
+#[derive(Drop)]
 pub(crate) struct Placed {
     /// The token.
     pub token: Token,

@@ -3,7 +3,7 @@ use crate::ast::AggKind;
 use tl_types::{Cell, Cmp, Seq};
 
 /// A comparison of a column with a constant of its kind.
-#[derive(Debug, Drop, PartialEq, Eq)]
+#[derive(Drop)]
 pub struct TypedTest {
     /// The column's place in its schema, from 0.
     pub column: u8,
@@ -14,14 +14,14 @@ pub struct TypedTest {
 }
 
 /// A row passes where it passes all tests of one of these lists, or where there is no list.
-#[derive(Debug, Drop, PartialEq, Eq)]
+#[derive(Drop)]
 pub struct TypedPred {
     /// The lists of tests.
     pub any: Seq<Seq<TypedTest>>,
 }
 
 /// One item of a row that is asked for.
-#[derive(Clone, Copy, Debug, PartialEq, Eq)]
+#[derive(Clone, Copy)]
 pub enum TypedItem {
     /// A column, by its place in its schema, from 0.
     Column(u8),
@@ -32,7 +32,7 @@ pub enum TypedItem {
 }
 
 /// A range of time.
-#[derive(Clone, Copy, Debug, PartialEq, Eq)]
+#[derive(Clone, Copy)]
 pub enum Span {
     /// The versions from the first up to before the second.
     System {
@@ -53,7 +53,7 @@ pub enum Span {
 }
 
 /// A checked query.
-#[derive(Debug, Drop, PartialEq, Eq)]
+#[derive(Drop)]
 pub enum Typed {
     /// Rows of one table.
     Select {
@@ -103,7 +103,7 @@ pub enum Typed {
 }
 
 /// What an aggregate over one table works out.
-#[derive(Clone, Copy, Debug, PartialEq, Eq)]
+#[derive(Clone, Copy)]
 pub struct AggPlan {
     /// The table's number.
     pub table: u16,
@@ -116,7 +116,7 @@ pub struct AggPlan {
 }
 
 /// What a join of two tables works out.
-#[derive(Clone, Copy, Debug, PartialEq, Eq)]
+#[derive(Clone, Copy)]
 pub struct JoinPlan {
     /// The left table's number.
     pub left: u16,

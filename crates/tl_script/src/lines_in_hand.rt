@@ -10,7 +10,7 @@ use std::alloc::Global;
 
 // How many bytes of those in hand were read, and whether a GO line, the last of them, ends the
 // phase.
-#[derive(Clone, Copy, Debug, PartialEq, Eq)]
+#[derive(Clone, Copy)]
 pub(crate) struct Found {
     pub used: usize,
     pub ends: bool,

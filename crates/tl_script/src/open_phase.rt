@@ -13,7 +13,7 @@ use std::mem;
 use tl_types::{Bytes, Limits, Line};
 
 // A statement whose block is read, and the block's bytes so far.
-#[derive(Debug, Drop)]
+#[derive(Drop)]
 pub(crate) struct OpenBlock {
     pub session: u32,
     pub line: u64,
@@ -24,7 +24,7 @@ pub(crate) struct OpenBlock {
 // The phase that is read: the names of the sessions, of which the first `known` stand in phases
 // before it, the number of the next line, how many GO lines there were before, the bytes of its
 // lines so far, its jobs, and the block that is not ended.
-#[derive(Debug, Drop)]
+#[derive(Drop)]
 pub(crate) struct OpenPhase {
     pub limits: Limits,
     pub names: SessionNames,

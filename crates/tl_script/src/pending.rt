@@ -12,7 +12,7 @@ use tl_device::{Failed, Source};
 const PIECE: usize = 65536;
 
 // The bytes from `place` on are not read yet. A contract sees them as their list.
-#[derive(Debug, Drop)]
+#[derive(Drop)]
 pub(crate) struct Pending {
     bytes: Vec<u8>,
     place: usize,

@@ -5,7 +5,7 @@ use std::marker::Model;
 use tl_types::{Bytes, Line};
 
 /// One statement of a script.
-#[derive(Debug, Drop)]
+#[derive(Drop)]
 pub struct Job {
     /// The number of its session, from 0: the place of its name among those of the script.
     pub session: u32,
@@ -31,7 +31,7 @@ impl Model for Job {
 }
 
 /// The jobs that are run before the replies to them are written, in the order of their lines.
-#[derive(Debug, Drop)]
+#[derive(Drop)]
 pub struct Phase {
     /// The jobs. There is none where a `GO` has no job before it.
     pub jobs: Vec<Job>,

@@ -14,7 +14,7 @@ use tl_types::Limits;
 /// A script that is read from a source, as far as it is read. Contracts see it as the names of its
 /// sessions so far, the number of its next line, how many `GO` lines were read, and the bytes that
 /// are taken of the source and not read.
-#[derive(Debug, Drop)]
+#[derive(Drop)]
 pub struct Script {
     phase: OpenPhase,
     pending: Pending,

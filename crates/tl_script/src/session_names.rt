@@ -9,7 +9,7 @@ use std::marker::Model;
 use tl_types::NoMemory;
 
 /// The names of sessions, in order of number. A contract sees them as a list of their bytes.
-#[derive(Debug, Drop)]
+#[derive(Drop)]
 pub(crate) struct SessionNames {
     names: IndexSet<String>,
 }

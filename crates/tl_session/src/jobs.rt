@@ -1,7 +1,7 @@
 //! What a session is asked to do.
 
 /// One statement of a session.
-#[derive(Clone, Copy, Debug, Drop, PartialEq, Eq)]
+#[derive(Clone, Copy, Drop)]
 pub struct Job<'a> {
     /// The number of its session, from 0: the author of its batch.
     pub session: u32,

@@ -24,7 +24,7 @@ use tl_store::Store;
 use tl_types::{Answer, Batch, BatchFault, Limits, NoMemory};
 
 /// What a job is over a list of commits. What a batch becomes is settled after it.
-#[derive(Debug, Drop, PartialEq, Eq)]
+#[derive(Drop)]
 pub enum JobReading {
     /// It is a batch that reads well.
     Loads(Batch),

@@ -22,7 +22,7 @@ pub enum Refusal {
 }
 
 /// What a statement is answered with.
-#[derive(Debug, Drop, PartialEq, Eq)]
+#[derive(Drop)]
 pub enum ReplyBody {
     /// The rows of a query.
     Rows(Answer),
@@ -37,7 +37,7 @@ pub enum ReplyBody {
 }
 
 /// A reply, the line of the statement that it answers, and the version that it names.
-#[derive(Debug, Drop, PartialEq, Eq)]
+#[derive(Drop)]
 pub struct Reply {
     /// The number of the statement's line, from 1.
     pub line: u64,

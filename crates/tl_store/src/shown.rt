@@ -7,7 +7,7 @@ use tl_types::{Cell, NoMemory, Text};
 
 /// The versions at which a row stands: from `from` on and before `to`, which is the greatest
 /// number of 32 bits while the row is current.
-#[derive(Clone, Copy, Debug, PartialEq, Eq)]
+#[derive(Clone, Copy)]
 pub struct SystemPeriod {
     /// The first version at which the row stands.
     pub from: u32,

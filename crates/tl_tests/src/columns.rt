@@ -16,12 +16,31 @@ fn is_longer(older: &IntColumn, newer: &IntColumn) -> bool {
         && newer.at(2) == 5
 }
 
+// The same, where the longer column is shared.
+fn is_shared_longer(alloc: Global, older: &IntColumn, newer: &IntColumn) -> bool {
+    match newer.share(alloc) {
+        Ok(shared) => is_longer(older, &shared),
+        Err(_) => false,
+    }
+}
+
+fn is_followed(alloc: Global, older: &IntColumn) -> bool {
+    match older.push_all(alloc, [5i64].as_slice()) {
+        Ok(newer) => is_shared_longer(alloc, older, &newer),
+        Err(_) => false,
+    }
+}
+
+fn two_are_followed(alloc: Global) -> bool {
+    match IntColumn::none(alloc).push_all(alloc, [3i64, -4].as_slice()) {
+        Ok(older) => is_followed(alloc, &older),
+        Err(_) => false,
+    }
+}
+
 #[test]
 fn numbers_of_a_longer_column(rt: HostRuntime) -> Result<(), Fail> {
-    let alloc = rt.alloc();
-    let older = IntColumn::none(alloc).push_all(alloc, [3i64, -4].as_slice())?;
-    let newer = older.push_all(alloc, [5i64].as_slice())?.share(alloc)?;
-    assert!(rt; is_longer(&older, &newer));
+    assert!(rt; two_are_followed(rt.alloc()));
     Ok(())
 }
 
@@ -38,31 +57,36 @@ fn texts(alloc: Global, first: &str, second: &str, third: &str) -> Result<Vec<Te
     Ok(texts)
 }
 
-// The column followed by these cells.
-fn followed(alloc: Global, column: &TextColumn, cells: &[Text]) -> Result<TextColumn, Fail> {
+// The column followed by these cells, where there is memory for them.
+fn followed(alloc: Global, column: &TextColumn, cells: &[Text]) -> Option<TextColumn> {
     if column.len() > 100 || cells.len() > 100 {
-        return Err("a long column".into());
+        return None;
     }
-    Ok(column.push_all(alloc, cells)?)
+    column.push_all(alloc, cells).ok()
 }
 
 // A column of three cells.
-fn three(alloc: Global) -> Result<TextColumn, Fail> {
-    let cells = texts(alloc, "sea", "air", "sea")?;
+fn three(alloc: Global) -> Option<TextColumn> {
+    let cells = texts(alloc, "sea", "air", "sea").ok()?;
     followed(alloc, &TextColumn::none(alloc), &cells)
 }
 
 // The column followed by three cells.
-fn three_more(alloc: Global, column: &TextColumn) -> Result<TextColumn, Fail> {
-    let cells = texts(alloc, "", "air", "land")?;
+fn three_more(alloc: Global, column: &TextColumn) -> Option<TextColumn> {
+    let cells = texts(alloc, "", "air", "land").ok()?;
+    followed(alloc, column, &cells)
+}
+
+// The column followed by three cells more.
+fn last_three(alloc: Global, column: &TextColumn) -> Option<TextColumn> {
+    let cells = texts(alloc, "sky", "rail", "sea").ok()?;
     followed(alloc, column, &cells)
 }
 
 // The column followed by six cells, in two steps.
-fn six_more(alloc: Global, column: &TextColumn) -> Result<TextColumn, Fail> {
-    let cells = texts(alloc, "sky", "rail", "sea")?;
+fn six_more(alloc: Global, column: &TextColumn) -> Option<TextColumn> {
     let longer = three_more(alloc, column)?;
-    followed(alloc, &longer, &cells)
+    last_three(alloc, &longer)
 }
 
 // Whether the cell of a row is a text, by a code.
@@ -92,10 +116,23 @@ fn are_coded(older: &TextColumn, newer: &TextColumn) -> bool {
         && newer.code_of("moon").is_none()
 }
 
+// Whether the codes of a column of three cells, and of the one after six more, are so.
+fn codes_stay(alloc: Global, older: &TextColumn) -> bool {
+    match six_more(alloc, older) {
+        Some(newer) => are_coded(older, &newer),
+        None => false,
+    }
+}
+
+fn three_are_coded(alloc: Global) -> bool {
+    match three(alloc) {
+        Some(older) => codes_stay(alloc, &older),
+        None => false,
+    }
+}
+
 #[test]
 fn codes_in_the_order_of_first_appearance(rt: HostRuntime) -> Result<(), Fail> {
-    let older = three(rt.alloc())?;
-    let newer = six_more(rt.alloc(), &older)?;
-    assert!(rt; are_coded(&older, &newer));
+    assert!(rt; three_are_coded(rt.alloc()));
     Ok(())
 }

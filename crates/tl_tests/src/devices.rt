@@ -73,141 +73,151 @@ fn taken<S: Source>(
 }
 
 // Whether the sink took all of `from`, for which room is made first.
-fn took<K: Sink>(sink: &mut K, from: &[u8]) -> Result<bool, NoMemory> {
-    sink.room(from.len() as u64)?;
-    Ok(write_all(sink, from).is_ok())
+fn took<K: Sink>(sink: &mut K, from: &[u8]) -> bool {
+    sink.room(from.len() as u64).is_ok() && write_all(sink, from).is_ok()
 }
 
 // Whether at most so many reads of a source give these bytes, with a fault or without.
-fn gives<S: Source>(
-    alloc: Global,
-    source: &mut S,
-    reads: usize,
-    want: &[u8],
-    fails: bool,
-) -> Result<bool, NoMemory> {
-    let (bytes, failed) = taken(alloc, source, reads)?;
-    Ok(bytes.as_slice() == want && failed == fails)
+fn gives<S: Source>(alloc: Global, source: &mut S, reads: usize, want: &[u8], fails: bool) -> bool {
+    match taken(alloc, source, reads) {
+        Ok((bytes, failed)) => bytes.as_slice() == want && failed == fails,
+        Err(_) => false,
+    }
 }
 
-// Whether forms that never fail give and take all.
-fn all_is_copied(alloc: Global) -> Result<bool, NoMemory> {
-    let mut source = SureSource::new(vec![in alloc; 7, 8]?);
-    let given = gives(alloc, &mut source, 2, &[7, 8], false)?;
+// Whether a source that never fails gives 7 and 8.
+fn all_is_read(alloc: Global, bytes: Vec<u8>) -> bool {
+    gives(alloc, &mut SureSource::new(bytes), 2, &[7, 8], false)
+}
+
+// Whether a sink that never fails takes all.
+fn all_is_written(alloc: Global) -> bool {
     let mut sink = SureSink::none(alloc);
-    let all = took(&mut sink, &[7, 8])?;
-    Ok(given && all && sink.bytes() == [7, 8].as_slice())
+    took(&mut sink, &[7, 8]) && sink.bytes() == [7, 8].as_slice()
 }
 
-// Whether the third read of single bytes fails, and the next goes on behind the second byte.
-fn one_read_fails(alloc: Global) -> Result<bool, NoMemory> {
-    let mut source = MemorySource::in_pieces(vec![in alloc; 1, 2, 3]?, vec![in alloc; 3]?, 1);
-    let first = gives(alloc, &mut source, 9, &[1, 2], true)?;
-    let second = gives(alloc, &mut source, 9, &[3], false)?;
-    Ok(first && second && source.faults() == 1)
+// Whether the third read of single bytes of 1, 2 and 3 fails, and the next goes on behind the
+// second byte.
+fn one_read_fails(alloc: Global, bytes: Vec<u8>, failing: Vec<u64>) -> bool {
+    let mut source = MemorySource::in_pieces(bytes, failing, 1);
+    let first = gives(alloc, &mut source, 9, &[1, 2], true);
+    let second = gives(alloc, &mut source, 9, &[3], false);
+    first && second && source.faults() == 1
 }
 
 // Whether the second write fails, and takes nothing.
-fn one_write_fails(alloc: Global) -> Result<bool, NoMemory> {
-    let mut sink = MemorySink::new(alloc, vec![in alloc; 2]?);
-    let first = took(&mut sink, b"ab")?;
-    let second = took(&mut sink, b"cd")?;
-    let third = took(&mut sink, b"ef")?;
-    Ok(first && !second && third && sink.bytes() == b"abef".as_slice())
+fn one_write_fails(alloc: Global, failing: Vec<u64>) -> bool {
+    let mut sink = MemorySink::new(alloc, failing);
+    let first = took(&mut sink, b"ab");
+    let second = took(&mut sink, b"cd");
+    let third = took(&mut sink, b"ef");
+    first && !second && third && sink.bytes() == b"abef".as_slice()
 }
 
 #[test]
 fn sources_and_sinks_in_memory(rt: HostRuntime) -> Result<(), Fail> {
-    assert!(rt; all_is_copied(rt.alloc())?);
-    assert!(rt; one_read_fails(rt.alloc())?);
-    assert!(rt; one_write_fails(rt.alloc())?);
+    let alloc = rt.alloc();
+    assert!(rt; all_is_read(alloc, vec![in alloc; 7, 8]?));
+    assert!(rt; all_is_written(alloc));
+    let bytes = vec![in alloc; 1, 2, 3]?;
+    assert!(rt; one_read_fails(alloc, bytes, vec![in alloc; 3]?));
+    assert!(rt; one_write_fails(alloc, vec![in alloc; 2]?));
     Ok(())
 }
 
 // Whether a reader that fails is a source that fails.
-fn a_broken_reader_fails(alloc: Global) -> Result<bool, NoMemory> {
+fn a_broken_reader_fails(alloc: Global) -> bool {
     let mut broken = RealSource::new(Broken);
-    let none = gives(alloc, &mut broken, 2, &[], true)?;
-    Ok(none && broken.faults() == 1)
+    gives(alloc, &mut broken, 2, &[], true) && broken.faults() == 1
+}
+
+// Whether a source over a reader gives what the reader has.
+fn a_reader_gives_all(alloc: Global) -> bool {
+    gives(
+        alloc,
+        &mut RealSource::new(b"hello".as_slice()),
+        2,
+        b"hello",
+        false,
+    )
 }
 
 #[test]
 fn a_reader_of_std_is_a_source(rt: HostRuntime) -> Result<(), Fail> {
-    let alloc = rt.alloc();
-    let mut source = RealSource::new(b"hello".as_slice());
-    assert!(rt; gives(alloc, &mut source, 2, b"hello", false)?);
-    assert!(rt; a_broken_reader_fails(alloc)?);
+    assert!(rt; a_reader_gives_all(rt.alloc()));
+    assert!(rt; a_broken_reader_fails(rt.alloc()));
     Ok(())
 }
 
 // Whether all that is written to a writer is appended to it.
-fn a_writer_takes_all(alloc: Global) -> Result<bool, NoMemory> {
+fn a_writer_takes_all(alloc: Global) -> bool {
     let mut out = Vec::new(alloc);
-    let all = took(&mut RealSink::new(&mut out), b"hello")?;
-    Ok(all && out.as_slice() == b"hello".as_slice())
+    took(&mut RealSink::new(&mut out), b"hello") && out.as_slice() == b"hello".as_slice()
 }
 
 // Whether a writer that takes nothing, and one that cannot flush, are sinks that fail.
-fn faulty_writers_fail() -> Result<bool, NoMemory> {
+fn faulty_writers_fail() -> bool {
     let mut full = RealSink::new(Full);
-    let nothing = took(&mut full, b"hello")?;
-    let unflushed = took(&mut RealSink::new(Unflushed), b"hello")?;
-    Ok(!nothing && full.faults() == 1 && !unflushed)
+    let nothing = took(&mut full, b"hello");
+    let unflushed = took(&mut RealSink::new(Unflushed), b"hello");
+    !nothing && full.faults() == 1 && !unflushed
 }
 
 #[test]
 fn a_writer_of_std_is_a_sink(rt: HostRuntime) -> Result<(), Fail> {
-    assert!(rt; a_writer_takes_all(rt.alloc())?);
-    assert!(rt; faulty_writers_fail()?);
+    assert!(rt; a_writer_takes_all(rt.alloc()));
+    assert!(rt; faulty_writers_fail());
     Ok(())
 }
 
 // Whether the disk took `from` at its front and made it outlive a crash; room is made first.
-fn stored<D: Disk>(disk: &mut D, from: &[u8]) -> Result<bool, NoMemory> {
-    disk.room(from.len() as u64, 2)?;
-    Ok(disk.write_at(0, from).is_ok() && disk.sync().is_ok())
+fn stored<D: Disk>(disk: &mut D, from: &[u8]) -> bool {
+    disk.room(from.len() as u64, 2).is_ok() && disk.write_at(0, from).is_ok() && disk.sync().is_ok()
 }
 
-// Whether a disk that never fails reads as what was stored on it.
-fn all_is_stored(alloc: Global) -> Result<bool, NoMemory> {
-    let mut disk = SureDisk::new(alloc, vec![in alloc; 1, 2]?);
+// Whether a disk of two bytes that never fails reads as what was stored on it.
+fn all_is_stored(alloc: Global, bytes: Vec<u8>) -> bool {
+    let mut disk = SureDisk::new(alloc, bytes);
     let two = disk.len() == Ok(2);
-    let stored = stored(&mut disk, &[7, 8, 9])?;
-    Ok(two && stored && disk.bytes() == [7, 8, 9].as_slice())
+    let stored = stored(&mut disk, &[7, 8, 9]);
+    two && stored && disk.bytes() == [7, 8, 9].as_slice()
 }
 
-// Whether a disk that reads as `abc` reads so after a write, a sync, a read and a cut, of which the
-// call with a number fails, where it is not 0.
-fn is_left(alloc: Global, failing: u64, want: &[u8]) -> Result<bool, NoMemory> {
+// A disk that reads as `abc`, of which the call with a number fails, where it is not 0.
+fn disk_of_abc(alloc: Global, failing: u64) -> Result<MemoryDisk, NoMemory> {
+    let failing = vec![in alloc; failing]?;
     let bytes = vec![in alloc; b'a', b'b', b'c']?;
-    let mut disk = MemoryDisk::new(alloc, bytes, vec![in alloc; failing]?);
-    disk.room(3, 3)?;
+    Ok(MemoryDisk::new(alloc, bytes, failing))
+}
+
+// Whether a disk reads so after a write, a sync, a read and a cut, of which so many failed.
+fn is_left(mut disk: MemoryDisk, want: &[u8], faults: u64) -> bool {
+    if disk.bytes().len() != 3 || disk.room(3, 3).is_err() {
+        return false;
+    }
     let _written = disk.write_at(2, b"xyz");
     let _synced = disk.sync();
     let _read = disk.read_at(1, &mut [0; 2]);
     let _cut = disk.cut(1);
-    Ok(disk.bytes() == want && disk.faults() == failing.min(1))
+    disk.bytes() == want && disk.faults() == faults
 }
 
 #[test]
 fn disks_in_memory(rt: HostRuntime) -> Result<(), Fail> {
     let alloc = rt.alloc();
     pass_both(&OpenGate);
-    assert!(rt; all_is_stored(alloc)?);
-    assert!(rt; is_left(alloc, 0, b"a")?);
-    assert!(rt; is_left(alloc, 1, b"a")?);
-    assert!(rt; is_left(alloc, 2, b"a")?);
-    assert!(rt; is_left(alloc, 3, b"a")?);
-    assert!(rt; is_left(alloc, 4, b"abxyz")?);
+    assert!(rt; all_is_stored(alloc, vec![in alloc; 1, 2]?));
+    assert!(rt; is_left(disk_of_abc(alloc, 0)?, b"a", 0));
+    assert!(rt; is_left(disk_of_abc(alloc, 1)?, b"a", 1));
+    assert!(rt; is_left(disk_of_abc(alloc, 4)?, b"abxyz", 1));
     Ok(())
 }
 
 // Whether a file that is not there is an empty disk, keeps what is written, and can be cut.
-fn a_new_file_keeps<R: Files>(files: &R, path: String) -> Result<bool, NoMemory> {
+fn a_new_file_keeps<R: Files>(files: &R, path: String) -> bool {
     let mut disk = FileDisk::new(files, path);
     let empty = disk.len() == Ok(0);
-    let stored = stored(&mut disk, b"kept bytes")?;
-    Ok(empty && stored && disk.cut(7) == Ok(()))
+    empty && stored(&mut disk, b"kept bytes") && disk.cut(7) == Ok(())
 }
 
 // Whether the file then holds seven bytes, and a write past the end of all files fails.
@@ -232,7 +242,7 @@ fn a_file_is_a_disk(rt: HostRuntime) -> Result<(), Fail> {
     let folder = env::temp_dir(&rt)?;
     let number = std::process::id(rt.process());
     let path = format!(in alloc; "{}/tl_device_{number}", folder.as_str())?;
-    let kept = a_new_file_keeps(&rt, path.clone()?)?;
+    let kept = a_new_file_keeps(&rt, path.clone()?);
     let again = the_file_is_read_again(&rt, path.clone()?);
     fs::remove_file(&rt, path)?;
     let lost = String::from_str(alloc, "/no/such/folder/file")?;

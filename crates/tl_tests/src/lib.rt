@@ -1,14 +1,10 @@
-//! Tests of the crates below the journal and the engine, over worked examples: each public call on
-//! its happy path, and what no clause says of it. A crate whose tests stand here is proved once,
-//! where one with tests of its own is proved a second time with them.
+//! Tests of the crates below the journal and the engine: what no clause says, and each public call
+//! that no script of `examples/` reaches, on its happy path. A crate whose tests stand here is
+//! proved once, where one with tests of its own is proved a second time with them.
 #![tactic(auto)]
 
 #[cfg(test)]
-mod answers;
-#[cfg(test)]
 mod batches;
-#[cfg(test)]
-mod blocks;
 #[cfg(test)]
 mod columns;
 #[cfg(test)]

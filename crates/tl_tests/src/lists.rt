@@ -38,22 +38,36 @@ fn counts_up(list: &SharedList<u64>, count: u64) -> bool {
 
 // Whether a list of `before` numbers stays as it was after `more` were pushed, and the longer list
 // has all of them.
-fn both_count_up(alloc: Global, before: u64, more: u64) -> Result<bool, NoMemory> {
-    let older = numbers(alloc, before)?;
-    let newer = followed(alloc, &older, more)?;
-    Ok(counts_up(&older, before) && counts_up(&newer, before.wrapping_add(more)))
+fn is_followed(alloc: Global, older: &SharedList<u64>, before: u64, more: u64) -> bool {
+    match followed(alloc, older, more) {
+        Ok(newer) => counts_up(older, before) && counts_up(&newer, before.wrapping_add(more)),
+        Err(_) => false,
+    }
 }
+
+fn both_count_up(alloc: Global, before: u64, more: u64) -> bool {
+    match numbers(alloc, before) {
+        Ok(older) => is_followed(alloc, &older, before, more),
+        Err(_) => false,
+    }
+}
+
+// Lengths before and numbers that are pushed.
+const PUSHES: [(u64, u64); 7] = [
+    (0, 1),
+    (1000, 25),
+    (1023, 1026),
+    (1024, 3000),
+    (65536, 1),
+    (66000, 70000),
+    (5, 0),
+];
 
 #[test]
 fn a_push_leaves_the_older_list(rt: HostRuntime) -> Result<(), Fail> {
-    let alloc = rt.alloc();
-    assert!(rt; both_count_up(alloc, 0, 1)?);
-    assert!(rt; both_count_up(alloc, 1000, 25)?);
-    assert!(rt; both_count_up(alloc, 1023, 1026)?);
-    assert!(rt; both_count_up(alloc, 1024, 3000)?);
-    assert!(rt; both_count_up(alloc, 65536, 1)?);
-    assert!(rt; both_count_up(alloc, 66000, 70000)?);
-    assert!(rt; both_count_up(alloc, 5, 0)?);
+    for (before, more) in &PUSHES {
+        assert!(rt; both_count_up(rt.alloc(), *before, *more));
+    }
     Ok(())
 }
 
@@ -62,47 +76,75 @@ fn has_at(list: &SharedList<u64>, at: u64, item: u64) -> bool {
     list.len() == 70000 && at < list.len() && *list.at(at) == item
 }
 
-// Whether a list of 70,000 numbers stays as it was after the one at a place was changed, the new
-// list has that one changed, and counts up again once it is changed back.
-fn one_changes(alloc: Global, at: u64) -> Result<bool, NoMemory> {
-    let older = numbers(alloc, 70000)?;
-    if at >= older.len() {
-        return Ok(false);
+// Whether the list counts up again once the number at a place is changed back.
+fn is_changed_back(alloc: Global, newer: &SharedList<u64>, at: u64) -> bool {
+    if at >= newer.len() {
+        return false;
     }
-    let newer = older.with(alloc, at, 7777)?;
-    let back = newer.with(alloc, at, at)?;
-    Ok(has_at(&newer, at, 7777) && counts_up(&older, 70000) && counts_up(&back, 70000))
+    match newer.with(alloc, at, at) {
+        Ok(back) => counts_up(&back, 70000),
+        Err(_) => false,
+    }
+}
+
+// Whether a list of 70,000 numbers stays as it was after the one at a place was changed, and the
+// new list has that one changed.
+fn one_changes(alloc: Global, older: &SharedList<u64>, at: u64) -> bool {
+    if at >= older.len() {
+        return false;
+    }
+    match older.with(alloc, at, 7777) {
+        Ok(newer) => {
+            let changed = has_at(&newer, at, 7777) && counts_up(older, 70000);
+            changed && is_changed_back(alloc, &newer, at)
+        }
+        Err(_) => false,
+    }
+}
+
+// The first and last places of chunks and blocks.
+const PLACES: [u64; 5] = [0, 1024, 65535, 65536, 69999];
+
+fn each_changes(alloc: Global, older: &SharedList<u64>) -> bool {
+    for at in &PLACES {
+        if !one_changes(alloc, older, *at) {
+            return false;
+        }
+    }
+    true
 }
 
 #[test]
 fn a_changed_item_leaves_the_older_list(rt: HostRuntime) -> Result<(), Fail> {
-    let alloc = rt.alloc();
-    assert!(rt; one_changes(alloc, 0)?);
-    assert!(rt; one_changes(alloc, 1024)?);
-    assert!(rt; one_changes(alloc, 65535)?);
-    assert!(rt; one_changes(alloc, 65536)?);
-    assert!(rt; one_changes(alloc, 69999)?);
+    let older = numbers(rt.alloc(), 70000)?;
+    assert!(rt; each_changes(rt.alloc(), &older));
     Ok(())
 }
 
-// Whether a list of 70,000 numbers stays as it was after several were changed at once, and the new
-// list, also shared, has these changed and not the one between them.
-fn several_change(alloc: Global) -> Result<bool, NoMemory> {
-    let older = numbers(alloc, 70000)?;
+// Whether a list, also shared, has several numbers changed and not the one between them.
+fn have_changed(alloc: Global, newer: &SharedList<u64>) -> bool {
+    match newer.share(alloc) {
+        Ok(list) => has_at(&list, 3, 7777) && has_at(&list, 69999, 7777) && has_at(&list, 4, 4),
+        Err(_) => false,
+    }
+}
+
+// Whether a list of 70,000 numbers stays as it was after several were changed at once.
+fn several_change(alloc: Global, older: &SharedList<u64>) -> bool {
     if older.len() != 70000 {
-        return Ok(false);
+        return false;
     }
     let places = [0u32, 5, 1023, 1024, 69999, 3];
-    let newer = older
-        .with_each(alloc, places.as_slice(), &7777)?
-        .share(alloc)?;
-    let changed = has_at(&newer, 3, 7777) && has_at(&newer, 69999, 7777);
-    Ok(changed && has_at(&newer, 4, 4) && counts_up(&older, 70000))
+    match older.with_each(alloc, places.as_slice(), &7777) {
+        Ok(newer) => have_changed(alloc, &newer) && counts_up(older, 70000),
+        Err(_) => false,
+    }
 }
 
 #[test]
 fn several_items_change_at_once(rt: HostRuntime) -> Result<(), Fail> {
-    assert!(rt; several_change(rt.alloc())?);
+    let older = numbers(rt.alloc(), 70000)?;
+    assert!(rt; several_change(rt.alloc(), &older));
     Ok(())
 }
 

@@ -1,13 +1,13 @@
 //! The store over the worked history.
 ghost use Rattle.std.specs.Prelude.{◌≡◌, ◌<◌, IfOk, length};
 
-use crate::worked::{change, commits, create, opened, put};
+use crate::worked::{change, commits, opened};
 use std::alloc::Global;
 use std::marker::Brand;
 use std::sync::ledger::{Blank, Ledger};
 use std::test::Fail;
 use tl_store::Store;
-use tl_types::{Commit, Limits, Opened, Period, Steps};
+use tl_types::{Commit, Limits, Opened, Steps};
 
 // The store after one more commit, if it fits.
 fn after(alloc: Global, store: Store, commit: &Commit) -> Result<Store, Fail> {
@@ -79,13 +79,6 @@ fn is_worked(store: &Store) -> bool {
         && store.find("emps").is_none()
 }
 
-#[test]
-fn rows_by_version(rt: HostRuntime) -> Result<(), Fail> {
-    let store = worked(rt.alloc())?;
-    assert!(rt; shows_worked(rt.alloc(), &store)? && is_worked(&store));
-    Ok(())
-}
-
 fn same_commits<L: Ledger>(alloc: Global, blank: Blank, store: &Store) -> Result<bool, Fail>
     requires name { blank.name ≡ L.name }
     requires parts { blank.parts ≡ L.parts }
@@ -142,29 +135,5 @@ fn an_older_store_stays(rt: HostRuntime) -> Result<(), Fail> {
     let older = worked(alloc)?;
     let newest = grown(alloc, &grown(alloc, &older, 2, 2000)?, 1500, 100)?;
     assert!(rt; shows_worked(alloc, &older)? && is_worked(&older) && has_grown(&newest));
-    Ok(())
-}
-
-fn last_period<L: Ledger>(blank: Blank, store: &Store) -> Option<Period>
-    requires name { blank.name ≡ L.name }
-    requires parts { blank.parts ≡ L.parts }
-    requires some { 0 < blank.parts }
-{
-    let mut steps: Steps<L> = Steps::new(blank);
-    if store.tables() == 0 || store.rows(0) == 0 || !store.schema(0).valid() {
-        return None;
-    }
-    let row = store.rows(0) - 1;
-    Some(store.valid_at(0, row, &mut steps))
-}
-
-#[test]
-fn valid_periods(rt: HostRuntime) -> Result<(), Fail> {
-    let alloc = rt.alloc();
-    let store = after(alloc, Store::empty(alloc), &create(alloc, "q", true)?)?;
-    let row = opened(alloc, 1, "ops", 9, Some(Period::new(-5, Period::FOREVER)))?;
-    let store = after(alloc, store, &put(alloc, None, row)?)?;
-    let period = last_period::<Brand>(Blank::new(1), &store).ok_or("no period")?;
-    assert_eq!(rt; (period.from(), period.to()), (-5, Period::FOREVER));
     Ok(())
 }

@@ -17,8 +17,8 @@ pub(crate) fn column(alloc: Global, name: &str, kind: ColumnKind) -> Result<Colu
     })
 }
 
-// A new table with the columns `id INT, dept TEXT, pay INT` and the key `id`.
-pub(crate) fn create(alloc: Global, name: &str, valid: bool) -> Result<Commit, Fail>
+// The schema of a table with the columns `id INT, dept TEXT, pay INT` and the key `id`.
+pub(crate) fn schema(alloc: Global, name: &str, valid: bool) -> Result<Schema, Fail>
     requires { length name.now ≤ 65535 }
 {
     let mut columns = Vec::new(alloc);
@@ -26,9 +26,16 @@ pub(crate) fn create(alloc: Global, name: &str, valid: bool) -> Result<Commit, F
     columns.push(column(alloc, "dept", ColumnKind::TextKind)?)?;
     columns.push(column(alloc, "pay", ColumnKind::IntKind)?)?;
     let schema = Schema::new(Text::new(alloc, name)?, Seq::from_vec(columns), 0, valid);
+    Ok(schema.ok_or("no schema")?)
+}
+
+// A new table of this schema.
+pub(crate) fn create(alloc: Global, name: &str, valid: bool) -> Result<Commit, Fail>
+    requires { length name.now ≤ 65535 }
+{
     Ok(Commit {
         author: 3,
-        body: Body::Create(schema.ok_or("no schema")?),
+        body: Body::Create(schema(alloc, name, valid)?),
     })
 }
 

@@ -1,0 +1,138 @@
+#!/usr/bin/env python3
+"""Runs the program where a script alone does not reach: an input, an output and a journal that fail in a phase or
+between two, and a phase of two sessions, which have to run at once. `faults.py PROGRAM`; ends with 1 where one run is
+not as it should be."""
+import os
+import re
+import resource
+import signal
+import socket
+import subprocess
+import sys
+import tempfile
+import time
+
+PROGRAM = os.path.abspath(sys.argv[1])
+
+# Three phases: a table, a batch of each of two sessions, and a query.
+TABLE = "a> CREATE TABLE emp (id INT) KEY id\nGO\n"
+BATCHES = "b> PUT emp\nid\n1\n\\.\nc> PUT emp\nid\n2\n\\.\nGO\n"
+ROWS = "a> SELECT * FROM emp\n"
+
+failed = 0
+
+
+def judge(name, is_right, found):
+    global failed
+    if not is_right:
+        failed = 1
+        print(f"{name}: not as it should be: {found}")
+
+
+def init(room):
+    subprocess.run([PROGRAM, "init"], cwd=room, stdin=subprocess.DEVNULL, check=True)
+
+
+def query(room):
+    """What a query over the journal in a folder then answers."""
+    return subprocess.run([PROGRAM, "run"], cwd=room, input=ROWS, capture_output=True, text=True).stdout
+
+
+def input_fails(taken, output, later):
+    """An input gives these bytes, and then a fault in place of its end."""
+    with tempfile.TemporaryDirectory() as room:
+        init(room)
+        ours, theirs = socket.socketpair()
+        ours.sendall(taken.encode())
+        # An end that is closed with bytes unread resets the other, once that has read what was sent to it.
+        theirs.sendall(b"unread")
+        ours.close()
+        run = subprocess.run([PROGRAM, "run"], cwd=room, stdin=theirs, capture_output=True, text=True)
+        theirs.close()
+        found = run.returncode, run.stdout, query(room)
+        judge(f"an input that fails after {len(taken)} bytes", found == (3, output, later), found)
+
+
+def output_fails(is_read, later):
+    """The reader of the output goes away, before the first reply or once it has read that."""
+    with tempfile.TemporaryDirectory() as room:
+        init(room)
+        reader, writer = os.pipe()
+        run = subprocess.Popen([PROGRAM, "run"], cwd=room, stdin=subprocess.PIPE, stdout=writer)
+        os.close(writer)
+        if is_read:
+            run.stdin.write(TABLE.encode())
+            run.stdin.flush()
+            judge("the reply of a phase, before the next is there", os.read(reader, 100) == b"a @1 ok\n", "")
+        os.close(reader)
+        try:
+            run.stdin.write(((BATCHES + ROWS) if is_read else (TABLE + BATCHES + ROWS)).encode())
+            run.stdin.close()
+        except BrokenPipeError:
+            pass
+        found = run.wait(), query(room)
+        judge("an output without a reader", found in [(4, it) for it in later], found)
+
+
+def journal_fails(room_for, outputs):
+    """The journal may not grow beyond so many bytes: it has 34 with the table, 61 with a batch and 88 with both. An
+    output is that of the run and of a query after it."""
+
+    def limit():
+        signal.signal(signal.SIGXFSZ, signal.SIG_IGN)
+        resource.setrlimit(resource.RLIMIT_FSIZE, (room_for, room_for))
+
+    with tempfile.TemporaryDirectory() as room:
+        init(room)
+        words = {"cwd": room, "input": TABLE + BATCHES + ROWS, "capture_output": True, "text": True}
+        run = subprocess.run([PROGRAM, "run"], preexec_fn=limit, **words)
+        found = run.returncode, run.stdout + query(room)
+        judge(f"a journal of at most {room_for} bytes", found in [(5, it) for it in outputs], found)
+
+
+def times(number):
+    """The processor time of each thread of a process, by its number, in ticks."""
+    found = {}
+    try:
+        for thread in os.listdir(f"/proc/{number}/task"):
+            with open(f"/proc/{number}/task/{thread}/stat") as stat:
+                words = stat.read().rpartition(")")[2].split()
+                found[thread] = int(words[11]) + int(words[12])
+    except OSError:
+        pass
+    return found
+
+
+def sessions_run_at_once():
+    """Two sessions of a phase ask a query that takes some seconds: both have to take processor time meanwhile."""
+    rows = "".join(f"{key},0,{2 * key},{2 * key + 1}\n" for key in range(8000))
+    join = "JOIN t WITH t ON x = x OVER VALID 0 TO FOREVER"
+    script = f"a> CREATE TABLE t (k INT, x INT) KEY k VALID\na> PUT t\nk,x,valid_from,valid_to\n{rows}\\.\nGO\n"
+    with tempfile.TemporaryDirectory() as room, open(f"{room}/replies", "w+") as replies:
+        init(room)
+        run = subprocess.Popen([PROGRAM, "run"], cwd=room, stdin=subprocess.PIPE, stdout=replies, text=True)
+        run.stdin.write(f"{script}b> {join}\nc> {join}\n")
+        run.stdin.close()
+        together, before = 0, times(run.pid)
+        while run.poll() is None:
+            time.sleep(0.05)
+            now = times(run.pid)
+            together += sum(now[it] > before.get(it, now[it]) for it in now) >= 2
+            before = now
+        replies.seek(0)
+        heads = re.findall(r"^[a-z] @.*$", replies.read(), re.M)
+        wanted = ["a @1 ok", "a @2 ok", "b @2 rows 8000", "c @2 rows 8000"]
+        found = run.returncode, heads, together
+        judge("two sessions at once", run.returncode == 0 and heads == wanted and together >= 5, found)
+
+
+input_fails("a> CREATE TABLE emp", "! source\n", "a @0 ! UnknownTable 14\n")
+input_fails(TABLE + "b> PUT emp\nid\n1\n", "a @1 ok\n! source\n", "a @1 rows 0\n")
+output_fails(False, ["a @1 rows 0\n"])
+output_fails(True, ["a @3 rows 2\n1\n2\n", "a @3 rows 2\n2\n1\n"])
+broken = "a @1 ok\nb @1 ! {}\nc @1 ! {}\na @1 rows 0\n! device\na @1 rows 0\n"
+journal_fails(50, [broken.format("device", "broken"), broken.format("broken", "device")])
+full = "a @1 ok\nb @2 {}\nc @2 {}\na @2 rows 1\n{}\n! device\na @2 rows 1\n{}\n"
+journal_fails(70, [full.format("ok", "! device", 1, 1), full.format("! device", "ok", 2, 2)])
+sessions_run_at_once()
+sys.exit(failed)

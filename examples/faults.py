@@ -126,6 +126,8 @@ def sessions_run_at_once():
         judge("two sessions at once", run.returncode == 0 and heads == wanted and together >= 5, found)
 
 
+# A run that does not end is not as it should be either.
+signal.alarm(300)
 input_fails("a> CREATE TABLE emp", "! source\n", "a @0 ! UnknownTable 14\n")
 input_fails(TABLE + "b> PUT emp\nid\n1\n", "a @1 ok\n! source\n", "a @1 rows 0\n")
 output_fails(False, ["a @1 rows 0\n"])

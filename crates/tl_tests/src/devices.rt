@@ -1,5 +1,5 @@
-//! Sources, sinks and disks, each form called once, and the adapters over readers, writers and
-//! files of std that work and that fail.
+//! Forms of sources and sinks that no other crate's tests use, and the adapters over readers,
+//! writers and files of std that work and that fail.
 
 use std::alloc::Global;
 use std::io::{ErrorKind, Read, Write};
@@ -7,8 +7,8 @@ use std::rt::Files;
 use std::test::Fail;
 use std::{env, fs, io};
 use tl_device::{
-    Disk, Failed, FileDisk, Gate, MemoryDisk, MemorySink, MemorySource, NoMemory, OpenGate, Place,
-    RealSink, RealSource, Sink, Source, SureDisk, SureSink, SureSource, write_all,
+    Disk, Failed, FileDisk, MemorySink, NoMemory, RealSink, RealSource, Sink, Source, SureSink,
+    SureSource, write_all,
 };
 
 // A reader that fails.
@@ -47,12 +47,6 @@ impl Write for Unflushed {
     fn flush(&mut self) -> io::Result<()> {
         Err(io::Error::from(ErrorKind::Other))
     }
-}
-
-// Passes a gate of any form.
-fn pass_both<G: Gate>(gate: &G) {
-    gate.pass(Place::Statement(1));
-    gate.pass(Place::Piece(2));
 }
 
 // What a source gives in at most so many reads of up to 16 bytes, and whether one failed.
@@ -96,15 +90,6 @@ fn all_is_written(alloc: Global) -> bool {
     took(&mut sink, &[7, 8]) && sink.bytes() == [7, 8].as_slice()
 }
 
-// Whether the third read of single bytes of 1, 2 and 3 fails, and the next goes on behind the
-// second byte.
-fn one_read_fails(alloc: Global, bytes: Vec<u8>, failing: Vec<u64>) -> bool {
-    let mut source = MemorySource::in_pieces(bytes, failing, 1);
-    let first = gives(alloc, &mut source, 9, &[1, 2], true);
-    let second = gives(alloc, &mut source, 9, &[3], false);
-    first && second && source.faults() == 1
-}
-
 // Whether the second write fails, and takes nothing.
 fn one_write_fails(alloc: Global, failing: Vec<u64>) -> bool {
     let mut sink = MemorySink::new(alloc, failing);
@@ -119,8 +104,6 @@ fn sources_and_sinks_in_memory(rt: HostRuntime) -> Result<(), Fail> {
     let alloc = rt.alloc();
     assert!(rt; all_is_read(alloc, vec![in alloc; 7, 8]?));
     assert!(rt; all_is_written(alloc));
-    let bytes = vec![in alloc; 1, 2, 3]?;
-    assert!(rt; one_read_fails(alloc, bytes, vec![in alloc; 3]?));
     assert!(rt; one_write_fails(alloc, vec![in alloc; 2]?));
     Ok(())
 }
@@ -173,44 +156,6 @@ fn a_writer_of_std_is_a_sink(rt: HostRuntime) -> Result<(), Fail> {
 // Whether the disk took `from` at its front and made it outlive a crash; room is made first.
 fn stored<D: Disk>(disk: &mut D, from: &[u8]) -> bool {
     disk.room(from.len() as u64, 2).is_ok() && disk.write_at(0, from).is_ok() && disk.sync().is_ok()
-}
-
-// Whether a disk of two bytes that never fails reads as what was stored on it.
-fn all_is_stored(alloc: Global, bytes: Vec<u8>) -> bool {
-    let mut disk = SureDisk::new(alloc, bytes);
-    let two = disk.len() == Ok(2);
-    let stored = stored(&mut disk, &[7, 8, 9]);
-    two && stored && disk.bytes() == [7, 8, 9].as_slice()
-}
-
-// A disk that reads as `abc`, of which the call with a number fails, where it is not 0.
-fn disk_of_abc(alloc: Global, failing: u64) -> Result<MemoryDisk, NoMemory> {
-    let failing = vec![in alloc; failing]?;
-    let bytes = vec![in alloc; b'a', b'b', b'c']?;
-    Ok(MemoryDisk::new(alloc, bytes, failing))
-}
-
-// Whether a disk reads so after a write, a sync, a read and a cut, of which so many failed.
-fn is_left(mut disk: MemoryDisk, want: &[u8], faults: u64) -> bool {
-    if disk.bytes().len() != 3 || disk.room(3, 3).is_err() {
-        return false;
-    }
-    let _written = disk.write_at(2, b"xyz");
-    let _synced = disk.sync();
-    let _read = disk.read_at(1, &mut [0; 2]);
-    let _cut = disk.cut(1);
-    disk.bytes() == want && disk.faults() == faults
-}
-
-#[test]
-fn disks_in_memory(rt: HostRuntime) -> Result<(), Fail> {
-    let alloc = rt.alloc();
-    pass_both(&OpenGate);
-    assert!(rt; all_is_stored(alloc, vec![in alloc; 1, 2]?));
-    assert!(rt; is_left(disk_of_abc(alloc, 0)?, b"a", 0));
-    assert!(rt; is_left(disk_of_abc(alloc, 1)?, b"a", 1));
-    assert!(rt; is_left(disk_of_abc(alloc, 4)?, b"abxyz", 1));
-    Ok(())
 }
 
 // Whether a file that is not there is an empty disk, keeps what is written, and can be cut.

@@ -104,7 +104,7 @@ def times(number):
 
 
 def sessions_run_at_once():
-    """Two sessions of a phase ask a query that takes some seconds: both have to take processor time meanwhile."""
+    """Two sessions of a phase ask a query of about a second: both have to take processor time meanwhile."""
     rows = "".join(f"{key},0,{2 * key},{2 * key + 1}\n" for key in range(8000))
     join = "JOIN t WITH t ON x = x OVER VALID 0 TO FOREVER"
     script = f"a> CREATE TABLE t (k INT, x INT) KEY k VALID\na> PUT t\nk,x,valid_from,valid_to\n{rows}\\.\nGO\n"

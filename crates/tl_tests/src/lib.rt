@@ -1,6 +1,6 @@
-//! Tests of the crates below the journal and the engine: what no clause says, and each public call
-//! that no script of `examples/` reaches, on its happy path. A crate whose tests stand here is
-//! proved once, where one with tests of its own is proved a second time with them.
+//! Tests of the crates below the journal and the engine: what no clause says, and calls that neither
+//! a script of `examples/` nor a test of another crate reaches, on their happy path. A crate whose
+//! tests stand here is proved once, where one with tests of its own is proved a second time.
 #![tactic(auto)]
 
 #[cfg(test)]
@@ -11,6 +11,8 @@ mod columns;
 mod devices;
 #[cfg(test)]
 mod lists;
+#[cfg(test)]
+mod plain;
 #[cfg(test)]
 mod statements;
 #[cfg(test)]

@@ -13,7 +13,8 @@ use Rattle.tl_types.specs.Legality.{FitFrom, database_behind, has_table, are_leg
 use Rattle.tl_types.specs.History.{open_end, is_open, has_id, row_after, new_row, table_after, at_place, after_body, after_commit, is_open_at, matches, fits_table, fits_body, fits, is_visible}
 use Rattle.tl_types.specs.Events.{ids_where, invalidation, activation, events_at, events_of, place_of, checkpoint_rows}
 use Rattle.tl_types.specs.Limits.{standard_limits}
-use Rattle.tl_types.specs.Checkpoints.{ValidEvent, ends_of, ends_of_rows, in_order, valid_events_of, Checkpoint, checkpoint_of, checkpoint_at}
+use Rattle.tl_types.specs.declared.events.ValidEvent.{ValidEvent}
+use Rattle.tl_types.specs.Checkpoints.{ends_of, ends_of_rows, in_order, valid_events_of, Checkpoint, checkpoint_of, checkpoint_at}
 use Rattle.tl_types.proofs.EntryLemmas.{commits_of-append, database_behind-append, version_behind, tables_grow, fit_behind, legal_behind-append, commits_few}
 
 -- ROWS THAT GO ON
@@ -95,7 +96,7 @@ stands_at v = record { same = same; later = later } where
 
 -- CHECKPOINTS
 
-events_kept : (v u : ℕ) (rows more : List plain.Row) → SameRows v rows more → u ≤ v → events_of more u ≡ events_of rows u
+pub events_kept : (v u : ℕ) (rows more : List plain.Row) → SameRows v rows more → u ≤ v → events_of more u ≡ events_of rows u
 events_kept v zero rows more h l = refl
 events_kept v (suc u) rows more h l =
     let before = events_kept v u rows more h (omega arith) in
@@ -126,12 +127,12 @@ end_later : (v w : ℕ) (r : plain.Row) (b : Bool) → v < w → v < open_end �
 end_later v w r true l o h = let e = eqb-true r.to open_end (h refl) in (refl, refl, inr (rw e o, l))
 end_later v w r false l o h = (refl, refl, inl refl)
 
-rows_go_on : (v w : ℕ) (closes : List ℕ) (opens : List plain.Opened) (n : ℕ) (rows : List plain.Row) → v < w → v < open_end → ((k j : ℕ) → n + k ≡ j → has_id closes j ≡ true → is_open_at rows k ≡ true) → SameRows v rows (map (row_after w closes) (enumerate_from n rows) ++ map (new_row w) opens)
+pub rows_go_on : (v w : ℕ) (closes : List ℕ) (opens : List plain.Opened) (n : ℕ) (rows : List plain.Row) → v < w → v < open_end → ((k j : ℕ) → n + k ≡ j → has_id closes j ≡ true → is_open_at rows k ≡ true) → SameRows v rows (map (row_after w closes) (enumerate_from n rows) ++ map (new_row w) opens)
 rows_go_on v w closes opens n [] l o h = begin_later v w opens l o
 rows_go_on v w closes opens n (r ∷ rows) l o h =
     (end_later v w r (has_id closes n) l o (h 0 n (omega arith)), rows_go_on v w closes opens (n + 1) rows l o (λ k j e. h (suc k) j (omega (arith, e))))
 
-closed_are_open : (rows : List plain.Row) (closes : List ℕ) (j : ℕ) → list_all (is_open_at rows) closes ≡ true → has_id closes j ≡ true → is_open_at rows j ≡ true
+pub closed_are_open : (rows : List plain.Row) (closes : List ℕ) (j : ℕ) → list_all (is_open_at rows) closes ≡ true → has_id closes j ≡ true → is_open_at rows j ≡ true
 closed_are_open rows [] j h i = absurd cc
 closed_are_open rows (x ∷ closes) j h i =
     by_test (nat_eq x j) (eqb-true x j) (λ i. closed_are_open rows closes j (and_right (is_open_at rows x) (list_all (is_open_at rows) closes) h) i) i where
@@ -145,14 +146,14 @@ changed_table v w number change table l o f =
     same_checkpoint number v table.schema table.floor table.rows (table_after w change table).rows
     (rows_go_on v w change.closes change.opens 0 table.rows l o (λ k j e i. let s : k ≡ j = omega (arith, e) in rw s (closed_are_open table.rows change.closes j closes i)))
 
-changed_at : (v w number : ℕ) (change : plain.Change) (tables : List plain.Table) (k t : ℕ) → v < w → v < open_end → fits_table standard_limits change (slice_get tables k) ≡ true → checkpoint_of number v (slice_get (at_place k (table_after w change) tables) t) ≡ checkpoint_of number v (slice_get tables t)
+pub changed_at : (v w number : ℕ) (change : plain.Change) (tables : List plain.Table) (k t : ℕ) → v < w → v < open_end → fits_table standard_limits change (slice_get tables k) ≡ true → checkpoint_of number v (slice_get (at_place k (table_after w change) tables) t) ≡ checkpoint_of number v (slice_get tables t)
 changed_at v w number change [] k t l o f = absurd cc
 changed_at v w number change (x ∷ tables) zero zero l o f = changed_table v w number change x l o f
 changed_at v w number change (x ∷ tables) zero (suc t) l o f = refl
 changed_at v w number change (x ∷ tables) (suc k) zero l o f = refl
 changed_at v w number change (x ∷ tables) (suc k) (suc t) l o f = changed_at v w number change tables k t l o f
 
-get_front : {X : Type 0} (xs ys : List X) (t : ℕ) → t < length xs → slice_get (xs ++ ys) t ≡ slice_get xs t
+pub get_front : {X : Type 0} (xs ys : List X) (t : ℕ) → t < length xs → slice_get (xs ++ ys) t ≡ slice_get xs t
 get_front [] ys t l = absurd (omega arith)
 get_front (x ∷ xs) ys zero l = refl
 get_front (x ∷ xs) ys (suc t) l = get_front xs ys t (omega arith)
@@ -161,7 +162,7 @@ step_kept : (v t w : ℕ) (tables : List plain.Table) (b : Body) → v < w → v
 step_kept v t w tables (body.Create schema) l o s f = ap (checkpoint_of t v) (get_front tables (record { schema = schema; floor = 0; rows = [] } ∷ []) t s)
 step_kept v t w tables (body.Change change) l o s f = changed_at v w t change tables change.table t l o f
 
-commit_kept : (v t : ℕ) (db : plain.Database) (c : Commit) → v ≤ db.version → v < open_end → t < length db.tables → fits standard_limits db c ≡ true → checkpoint_at (after_commit db c) t v ≡ checkpoint_at db t v
+pub commit_kept : (v t : ℕ) (db : plain.Database) (c : Commit) → v ≤ db.version → v < open_end → t < length db.tables → fits standard_limits db c ≡ true → checkpoint_at (after_commit db c) t v ≡ checkpoint_at db t v
 commit_kept v t db c l o s f =
     step_kept v t (db.version + 1) db.tables c.body (omega arith) o s (and_right (nat_lt db.version 16777215) (fits_body standard_limits db.tables c.body) f)
 

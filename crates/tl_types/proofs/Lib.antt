@@ -2,4 +2,11 @@ pub mod FoundTables
 pub mod Lists
 pub mod EntryLemmas
 pub mod CheckpointLemmas
+pub mod RunLemmas
+pub mod SeamLemmas
+pub mod WellFormedLemmas
+pub mod EventLemmas
+pub mod WalkLemmas
+pub mod ValidEventOrder
+pub mod MarkLemmas
 mod Examples

@@ -1,17 +1,12 @@
 -- The checkpoint of a table at a version: what a scan that begins there has to know of it.
-use Rattle.std.specs.Prelude.{ℕ, ℤ, Bool, true, false, ◌&&◌, ◌||◌, not, nat_le, nat_lt, int_lt, List, [], ◌∷◌, length, Option, Some, None, slice_get, if◌then◌else◌}
+use Rattle.std.specs.Prelude.{ℕ, Bool, true, false, ◌&&◌, ◌||◌, not, nat_le, nat_lt, int_lt, List, [], ◌∷◌, length, Option, Some, None, slice_get, if◌then◌else◌}
 use Rattle.std.specs.List.{filter, flat_map, fold}
 use Rattle.std.specs.Bool.{beq}
 use Rattle.std.specs.Ordering.{int_eq}
+use Rattle.tl_types.specs.declared.events.ValidEvent.{ValidEvent}
 use Rattle.tl_types.specs.Plain as plain
 use Rattle.tl_types.specs.History.{with_ids, is_visible}
 use Rattle.tl_types.specs.Events.{ids_where, place_of, checkpoint_rows}
-
--- an event of valid time: at the time the period of the row with this id begins, or it ends
-pub record ValidEvent : Type 0 where
-  pub time : ℤ
-  pub opens : Bool
-  pub row : ℕ
 
 -- a checkpoint: the number of its table, its version, the number of events up to it, how many rows
 -- had begun by then, the ids of those that stand there, and the events of their valid periods
@@ -55,13 +50,15 @@ ends_of id (Some period) =
 abbrev pub ends_of_rows : List (ℕ × plain.Row) → List ValidEvent
 ends_of_rows rows = flat_map (λ r. ends_of r.0 r.1.period) rows
 
--- both ends of the periods of the rows that stand at the version, in order; none where the table's
--- rows have no periods
+-- both ends of the periods of the rows that stand at the version, in order
+abbrev pub valid_events_in : List plain.Row → ℕ → List ValidEvent
+valid_events_in rows version =
+    in_order (ends_of_rows (filter (λ r. is_visible version r.1) (with_ids rows)))
+
+-- those of a table, none where its rows have no periods
 abbrev pub valid_events_of : plain.Table → ℕ → List ValidEvent
 valid_events_of table version =
-    if table.schema.valid
-    then in_order (ends_of_rows (filter (λ r. is_visible version r.1) (with_ids table.rows)))
-    else []
+    if table.schema.valid then valid_events_in table.rows version else []
 
 -- CHECKPOINTS
 

@@ -1,14 +1,18 @@
 -- The events of a list of rows, the place of a version among them, and the rows that a checkpoint
 -- keeps.
 use Rattle.std.specs.Prelude.{ℕ, zero, suc, Bool, true, false, ◌==◌, List, [], ◌++◌, length, map}
-use Rattle.std.specs.List.{filter}
+use Rattle.std.specs.List.{enumerate_from, filter}
 use Rattle.tl_types.specs.declared.events.Event.{Event}
 use Rattle.tl_types.specs.Plain as plain
-use Rattle.tl_types.specs.History.{with_ids, is_visible}
+use Rattle.tl_types.specs.History.{is_visible}
+
+-- the numbers of the items that pass a test, where the first item has the number n
+abbrev pub ids_from : {X : Type 0} → ℕ → (X → Bool) → List X → List ℕ
+ids_from n test items = map (λ r. r.0) (filter (λ r. test r.1) (enumerate_from n items))
 
 -- the ids of the rows that pass a test, ascending
 abbrev pub ids_where : (plain.Row → Bool) → List plain.Row → List ℕ
-ids_where test rows = map (λ r. r.0) (filter (λ r. test r.1) (with_ids rows))
+ids_where test rows = ids_from 0 test rows
 
 -- the row ends
 abbrev pub invalidation : ℕ → Event

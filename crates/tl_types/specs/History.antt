@@ -68,6 +68,11 @@ after_body version (body.Create schema) tables = tables ++ new_table schema ∷ 
 after_body version (body.Change change) tables =
     at_place change.table (table_after version change) tables
 
+-- the number of the table that a commit's body makes or changes
+abbrev pub table_number : List plain.Table → Body → ℕ
+table_number tables (body.Create schema) = length tables
+table_number tables (body.Change change) = change.table
+
 -- the database after one commit more, whose version is the next
 abbrev pub after_commit : plain.Database → Commit → plain.Database
 after_commit db commit =

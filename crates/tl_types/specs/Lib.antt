@@ -9,3 +9,6 @@ pub mod Legality
 pub mod Events
 pub mod Checkpoints
 pub mod Runs
+pub mod WellFormed
+pub mod Walks
+pub mod Marks

@@ -1,5 +1,6 @@
 -- The maximal runs of a function of time.
 use Rattle.std.specs.Prelude.{ℕ, zero, suc, ℤ, pos, negsuc, ◌+ℤ◌, ◌-ℤ◌, Bool, true, false, ◌&&◌, ◌==◌, List, [], ◌∷◌, None, if◌then◌else◌}
+use Rattle.std.specs.List.{fold}
 use Rattle.std.specs.Ordering.{int_eq}
 use Rattle.tl_types.specs.declared.answers.Field.{Field}
 use Rattle.tl_types.specs.declared.runs.Run.{Run}
@@ -23,6 +24,16 @@ add_stretch (run ∷ []) stretch =
     if same_field run.value stretch.value then record run { to = stretch.to } ∷ []
     else run ∷ stretch ∷ []
 add_stretch (run ∷ next ∷ runs) stretch = run ∷ add_stretch (next ∷ runs) stretch
+
+-- there are runs, and the last one has this value
+abbrev pub ends_with_value : List Run → Field → Bool
+ends_with_value [] value = false
+ends_with_value (run ∷ []) value = same_field run.value value
+ends_with_value (run ∷ next ∷ runs) value = ends_with_value (next ∷ runs) value
+
+-- the runs, and behind them those of a range that begins where they end
+abbrev pub seam : List Run → List Run → List Run
+seam left right = fold add_stretch left right
 
 -- a stretch of time with one value
 abbrev pub stretch_of : ℤ → ℤ → Field → Run

@@ -1,6 +1,8 @@
 //! Pieces of a version range, and what the operators give over them.
-ghost use Rattle.std.specs.Prelude.{◌<◌};
+ghost use Rattle.std.specs.Prelude.{◌≡◌, ◌<◌, OnOk};
+ghost use Rattle.tl_types.specs.Runs.{same_field, add_stretch, ends_with_value};
 
+use crate::NoMemory;
 use crate::answers::Field;
 use crate::cells::Cell;
 
@@ -38,4 +40,36 @@ pub struct Pair {
     pub left: u32,
     /// The id of the right row.
     pub right: u32,
+}
+
+// Whether two fields are the same.
+fn same_field(first: &Field, second: &Field) -> bool
+    ensures { result ≡ same_field first.now second.now }
+{
+    *first == *second
+}
+
+// Whether there are runs, and the last one has the value.
+fn ends_with_value(runs: &[Run], value: &Field) -> bool
+    ensures { result ≡ ends_with_value runs.now value.now }
+{
+    match runs {
+        [] => false,
+        [.., last] => same_field(&last.value, value),
+    }
+}
+
+/// Puts a stretch of time behind runs: the last run goes on up to the stretch's end where it has
+/// the same value, else the stretch becomes a run. The runs are of one group, and the stretch
+/// begins where they end. The error is `NoMemory`.
+pub fn add_stretch(runs: &mut Vec<Run>, stretch: Run) -> Result<(), NoMemory>
+    ensures { OnOk result (runs.new.items ≡ add_stretch runs.old.items stretch) }
+{
+    if ends_with_value(runs.as_slice(), &stretch.value) {
+        let last = runs.len() - 1;
+        runs[last].to = stretch.to;
+    } else {
+        runs.push(stretch)?;
+    }
+    Ok(())
 }

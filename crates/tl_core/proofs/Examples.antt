@@ -12,7 +12,8 @@ use Rattle.tl_types.specs.declared.commits.Entry.TheVariants as entry
 use Rattle.tl_types.specs.History.{database_of}
 use Rattle.tl_core.specs.declared.steps.Step.{Step}
 use Rattle.tl_core.specs.declared.steps.Step.TheVariants as step
-use Rattle.tl_types.specs.Checkpoints.{ValidEvent, checkpoint_at}
+use Rattle.tl_types.specs.declared.events.ValidEvent.{ValidEvent}
+use Rattle.tl_types.specs.Checkpoints.{checkpoint_at}
 use Rattle.tl_types.specs.Legality.{are_legal}
 use Rattle.tl_core.specs.World.{start_of, after_steps}
 

@@ -1,8 +1,8 @@
 //! Cells, and what a column holds.
 ghost use Rattle.std.specs.Prelude.{◌≡◌};
 
+use crate::NoMemory;
 use crate::texts::Text;
-use std::alloc::AllocError;
 
 /// One value of a row.
 #[derive(Debug, Drop, PartialEq, Eq, PartialOrd, Ord, Hash)]
@@ -16,7 +16,7 @@ pub enum Cell {
 impl Clone for Cell {
     ghost is_clone = { λ v w. w ≡ v };
 
-    fn clone(&self) -> Result<Self, AllocError> {
+    fn clone(&self) -> Result<Self, NoMemory> {
         match self {
             Cell::Int(number) => Ok(Cell::Int(*number)),
             Cell::Text(text) => Ok(Cell::Text(text.clone()?)),

@@ -4,10 +4,10 @@ ghost use Rattle.tl_types.specs.Plain as plain;
 ghost use Rattle.tl_types.specs.Facts.{IsChange};
 ghost use Rattle.tl_types.specs.Entries.{is_break, has_break};
 
+use crate::NoMemory;
 use crate::rows::Opened;
 use crate::schemas::Schema;
 use crate::sequences::Seq;
-use std::alloc::AllocError;
 use std::marker::Model;
 
 /// A change of one table: the ids of the rows that it closes, strictly ascending, and the rows that
@@ -76,7 +76,7 @@ impl Change {
 impl Clone for Change {
     ghost is_clone = { λ v w. w ≡ v };
 
-    fn clone(&self) -> Result<Self, AllocError> {
+    fn clone(&self) -> Result<Self, NoMemory> {
         Ok(Change {
             table: self.table,
             closes: self.closes.clone()?,
@@ -97,7 +97,7 @@ pub enum Body {
 impl Clone for Body {
     ghost is_clone = { λ v w. w ≡ v };
 
-    fn clone(&self) -> Result<Self, AllocError> {
+    fn clone(&self) -> Result<Self, NoMemory> {
         match self {
             Body::Create(schema) => Ok(Body::Create(schema.clone()?)),
             Body::Change(change) => Ok(Body::Change(change.clone()?)),
@@ -117,7 +117,7 @@ pub struct Commit {
 impl Clone for Commit {
     ghost is_clone = { λ v w. w ≡ v };
 
-    fn clone(&self) -> Result<Self, AllocError> {
+    fn clone(&self) -> Result<Self, NoMemory> {
         Ok(Commit {
             author: self.author,
             body: self.body.clone()?,
@@ -147,7 +147,7 @@ pub enum Entry {
 impl Clone for Entry {
     ghost is_clone = { λ v w. w ≡ v };
 
-    fn clone(&self) -> Result<Self, AllocError> {
+    fn clone(&self) -> Result<Self, NoMemory> {
         match self {
             Entry::Commit(commit) => Ok(Entry::Commit(commit.clone()?)),
             Entry::Mark { table, version } => Ok(Entry::Mark {

@@ -3,10 +3,10 @@ ghost use Rattle.std.specs.Prelude.{◌≡◌};
 ghost use Rattle.tl_types.specs.Plain as plain;
 ghost use Rattle.tl_types.specs.Facts.{IsOpened};
 
+use crate::NoMemory;
 use crate::cells::Cell;
 use crate::periods::Period;
 use crate::sequences::Seq;
-use std::alloc::AllocError;
 use std::marker::Model;
 
 /// The system end of a row that is current: an open end, the greatest version.
@@ -60,7 +60,7 @@ impl Opened {
 impl Clone for Opened {
     ghost is_clone = { λ v w. w ≡ v };
 
-    fn clone(&self) -> Result<Self, AllocError> {
+    fn clone(&self) -> Result<Self, NoMemory> {
         Ok(Opened {
             cells: self.cells.clone()?,
             period: self.period,

@@ -6,10 +6,9 @@ ghost use Rattle.tl_types.specs.Facts.{are_distinct, names_of, schema_of, is_sch
 ghost use Rattle.tl_types.specs.Plain as plain;
 
 use crate::cells::ColumnKind;
-use crate::keywords;
 use crate::sequences::Seq;
 use crate::texts::Text;
-use std::alloc::AllocError;
+use crate::{NoMemory, keywords};
 use std::marker::Model;
 
 /// A column's name, and what its cells are.
@@ -24,7 +23,7 @@ pub struct Column {
 impl Clone for Column {
     ghost is_clone = { λ v w. w ≡ v };
 
-    fn clone(&self) -> Result<Self, AllocError> {
+    fn clone(&self) -> Result<Self, NoMemory> {
         Ok(Column {
             name: self.name.clone()?,
             kind: self.kind,
@@ -136,7 +135,7 @@ impl Schema {
 impl Clone for Schema {
     ghost is_clone = { λ v w. w ≡ v };
 
-    fn clone(&self) -> Result<Self, AllocError> {
+    fn clone(&self) -> Result<Self, NoMemory> {
         Ok(Schema {
             name: self.name.clone()?,
             columns: self.columns.clone()?,

@@ -5,7 +5,7 @@ ghost use Rattle.std.specs.Cmp.Lexicographic.{pointwise, lists_per, lists_equiv}
 ghost use Rattle.std.specs.Cmp.{on_per, on_equiv};
 
 use crate::NoMemory;
-use std::alloc::{AllocError, Global};
+use std::alloc::Global;
 use std::marker::Model;
 
 /// A list of items, kept in a `Vec`. A contract sees it as the list.
@@ -84,7 +84,7 @@ impl<T> Seq<T> {
 impl<T: Clone> Clone for Seq<T> {
     ghost is_clone = { λ v w. AllZip T.is_clone v w };
 
-    fn clone(&self) -> Result<Self, AllocError> {
+    fn clone(&self) -> Result<Self, NoMemory> {
         Ok(Seq {
             items: self.items.clone()?,
         })

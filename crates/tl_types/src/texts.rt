@@ -8,7 +8,7 @@ ghost use Rattle.std.specs.Hash as fed;
 ghost use Rattle.std.proofs.Common.{rules};
 
 use crate::NoMemory;
-use std::alloc::{AllocError, Global};
+use std::alloc::Global;
 use std::cmp::Ordering;
 use std::fmt;
 use std::hash::{Hash, Hasher};
@@ -63,7 +63,7 @@ impl Text {
 impl Clone for Text {
     ghost is_clone = { λ v w. w ≡ v };
 
-    fn clone(&self) -> Result<Self, AllocError> {
+    fn clone(&self) -> Result<Self, NoMemory> {
         Ok(Text {
             text: self.text.clone()?,
         })

@@ -1,6 +1,6 @@
 -- Pieces of a list, each of `size` items but for the last, which has 1 to `size`.
 use Rattle.std.proofs.Common.{◌≡◌, ℕ, ◌+◌, ◌-◌, ◌*◌, ◌<◌, ◌≤◌, zero, suc, min, List, [], ◌∷◌, ◌++◌, length, get_or, set, take, drop, refl, sym, ap, ◌∙◌, arith, append_assoc, length-append}
-use Rattle.std.proofs.lemmas.List.{append-nil, take-append-drop, drop-drop, drop_at, take_at, take_all, drop_all, take_min, length-take, length-drop, get_or-take, get_or-drop, set-append_left, set-append_right}
+use Rattle.std.proofs.lemmas.List.{append-nil, take-append-drop, drop-drop, drop_at, take_at, take_all, drop_all, length-take, length-drop, get_or-take, get_or-drop, set-append_left, set-append_right}
 use Rattle.std.proofs.lemmas.Grind.{flat_map-append}
 use Rattle.std.proofs.Math.Seq.{take-append-add, take-add}
 use Rattle.tl_shared.specs.Chunks.{flatten, AreFull, IsChunked, piece_or_nil}

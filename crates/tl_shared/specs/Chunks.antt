@@ -1,5 +1,5 @@
 -- A list in chunks.
-use Rattle.std.specs.Prelude.{◌≡◌, ℕ, ◌%◌, ◌<◌, ◌≤◌, List, [], ◌∷◌, fold, length, slice_index_or, slice_set}
+use Rattle.std.specs.Prelude.{◌≡◌, ℕ, ◌%◌, ◌<◌, ◌≤◌, ◌^◌, List, [], ◌∷◌, fold, length, slice_index_or, slice_set}
 use Rattle.std.specs.List.{flat_map}
 
 -- the pieces, one after another
@@ -20,6 +20,13 @@ IsChunked size (piece ∷ next ∷ rest) = (length piece ≡ size) × IsChunked 
 -- piece `i`, the empty list where there is none
 abbrev pub piece_or_nil : {X : Type 0} → ℕ → List (List X) → List X
 piece_or_nil i pieces = slice_index_or pieces i []
+
+-- pieces of `size` items, of which there are `len` in all
+pub record IsList {X : Type 0} (size : ℕ) (pieces : List (List X)) (len : ℕ) : Type 0 where
+  pub some : 0 < size
+  pub few : size < 2 ^ 63
+  pub chunked : IsChunked size pieces
+  pub len_is : len ≡ length (flatten pieces)
 
 -- the list with the item at each of these places
 abbrev pub set_each : {X : Type 0} → X → List X → List ℕ → List X

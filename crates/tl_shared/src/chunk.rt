@@ -88,12 +88,8 @@ fn joined_chunk<T: Shareable>(
     ensures { IfOk result (λ chunk. chunk ≡ unfilled.now ++ more.now) }
 {
     let mut items = Vec::with_capacity(alloc, unfilled.len() + more.len())?;
-    for item in unfilled {
-        items.push(item.share(alloc)?)?;
-    }
-    for item in more {
-        items.push(item.share(alloc)?)?;
-    }
+    T::share_onto(alloc, unfilled, &mut items)?;
+    T::share_onto(alloc, more, &mut items)?;
     Chunk::new(alloc, items)
 }
 

@@ -1,5 +1,5 @@
 //! The list.
-ghost use Rattle.std.specs.Prelude.{◌≡◌, ◌+◌, ◌*◌, ◌/◌, ◌%◌, ◌<◌, ◌≤◌, ◌++◌, [], length, take, drop, slice_index, slice_index_or, slice_set, All, IfOk};
+ghost use Rattle.std.specs.Prelude.{◌≡◌, ◌+◌, ◌*◌, ◌/◌, ◌%◌, ◌<◌, ◌≤◌, ◌^◌, ◌++◌, [], length, take, drop, slice_index, slice_index_or, slice_set, All, IfOk};
 ghost use Rattle.tl_shared.specs.Chunks.{flatten, IsChunked, piece_or_nil, set_each, set_within};
 
 use crate::chunk::{Chunk, chunks_of};
@@ -9,33 +9,45 @@ use std::alloc::{AllocError, Global};
 use std::marker::Model;
 use tl_types::NoMemory;
 
-/// How many items a full chunk has.
+/// How many items a full chunk of a `SharedList` has.
 pub const CHUNK: usize = 1024;
 
-/// A list of items whose parts may have other owners. Contracts see it as the list of its items.
+/// How many items a full chunk of a `FineList` has.
+pub const FINE_CHUNK: usize = 64;
+
+/// A list of which large parts stay as they are: a change of an item copies up to 1,024 items.
+pub type SharedList<T> = ListInChunks<T, CHUNK>;
+
+/// A list whose items change all over: a change of an item copies up to 64 items.
+pub type FineList<T> = ListInChunks<T, FINE_CHUNK>;
+
+/// A list of items in chunks of `SIZE`, of which each but the last is full. Its parts may have
+/// other owners. Contracts see it as the list of its items.
 #[derive(Drop)]
-pub struct SharedList<T> {
+pub struct ListInChunks<T, const SIZE: usize> {
     chunks: ChunkList<T>,
     len: u64,
 }
 
-impl<T> Model for SharedList<T> {
-    ghost use Rattle.std.specs.Prelude.{◌≡◌, List, length};
-    ghost use Rattle.tl_shared.specs.Chunks.{flatten, IsChunked};
+impl<T, const SIZE: usize> Model for ListInChunks<T, SIZE> {
+    ghost use Rattle.std.specs.Prelude.{◌≡◌, ◌<◌, ◌^◌, List, length};
+    ghost use Rattle.tl_shared.specs.Chunks.{flatten, IsList};
 
     ghost Value = { List T };
 
     ghost view = { λ l. flatten l.chunks };
 
-    ghost invariant = { λ l. IsChunked 1024 l.chunks × (l.len ≡ length (flatten l.chunks)) };
+    ghost invariant = { λ l. IsList SIZE l.chunks l.len };
 }
 
-impl<T: Shareable> SharedList<T> {
+impl<T: Shareable, const SIZE: usize> ListInChunks<T, SIZE> {
     /// The list of no items. `alloc` is the memory that it will take, none as yet.
-    pub fn none(alloc: Global) -> SharedList<T>
+    pub fn none(alloc: Global) -> ListInChunks<T, SIZE>
+        requires some { 0 < SIZE }
+        requires few { SIZE < 2 ^ 63 }
         ensures { result ≡ [] }
     {
-        SharedList {
+        ListInChunks {
             chunks: ChunkList::none(alloc),
             len: 0,
         }
@@ -51,7 +63,7 @@ impl<T: Shareable> SharedList<T> {
     /// The list followed by `items`. It shares every full chunk with this one, and this one stays
     /// as it was. `NoMemory` comes only where memory is out, or where the items would be 2^64 or
     /// more.
-    pub fn push_all(&self, alloc: Global, items: &[T]) -> Result<SharedList<T>, NoMemory>
+    pub fn push_all(&self, alloc: Global, items: &[T]) -> Result<ListInChunks<T, SIZE>, NoMemory>
         ensures { IfOk result (λ list. list ≡ self.now ++ items.now) }
     {
         if items.is_empty() {
@@ -60,24 +72,25 @@ impl<T: Shareable> SharedList<T> {
         let Some(len) = self.len.checked_add(items.len() as u64) else {
             return Err(AllocError);
         };
-        let full = (self.len / CHUNK as u64) as usize;
-        let tail = chunks_of(alloc, CHUNK, self.chunks.chunk(full), items)?;
+        let full = (self.len / SIZE as u64) as usize;
+        let tail = chunks_of(alloc, SIZE, self.chunks.chunk(full), items)?;
         let chunks = self.chunks.with_tail(alloc, full, tail.as_slice())?;
-        Ok(SharedList { chunks, len })
+        Ok(ListInChunks { chunks, len })
     }
 
     /// The list with `item` in place of the item at `at`, counted from 0. It shares every other
     /// chunk with this one, and this one stays as it was. The error is `NoMemory`.
-    pub fn with(&self, alloc: Global, at: u64, item: T) -> Result<SharedList<T>, NoMemory>
+    pub fn with(&self, alloc: Global, at: u64, item: T) -> Result<ListInChunks<T, SIZE>, NoMemory>
         requires { at < length self.now }
         ensures { IfOk result (λ list. list ≡ slice_set self.now at item) }
     {
-        let i = (at / CHUNK as u64) as usize;
-        let mut items = share_all(alloc, self.chunks.chunk(i))?;
-        items[(at % CHUNK as u64) as usize] = item;
+        let chunks = &self.chunks;
+        let i = (at / SIZE as u64) as usize;
+        let mut items = share_all(alloc, chunks.chunk(i))?;
+        items[(at % SIZE as u64) as usize] = item;
         let chunk = Chunk::new(alloc, items)?;
-        let chunks = self.chunks.share(alloc)?.with(alloc, i, chunk)?;
-        Ok(SharedList {
+        let chunks = chunks.share(alloc)?.with(alloc, i, chunk)?;
+        Ok(ListInChunks {
             chunks,
             len: self.len,
         })
@@ -91,12 +104,12 @@ impl<T: Shareable> SharedList<T> {
         alloc: Global,
         places: &[u32],
         item: &T,
-    ) -> Result<SharedList<T>, NoMemory>
+    ) -> Result<ListInChunks<T, SIZE>, NoMemory>
         requires { All (λ place. place < length self.now) places.now }
         ensures { IfOk result (λ list. list ≡ set_each item.now self.now places.now) }
     {
-        let chunks = set_in_chunks(alloc, self.chunks.share(alloc)?, places, item)?;
-        Ok(SharedList {
+        let chunks = set_in_chunks::<T, SIZE>(alloc, self.chunks.share(alloc)?, places, item)?;
+        Ok(ListInChunks {
             chunks,
             len: self.len,
         })
@@ -107,22 +120,22 @@ impl<T: Shareable> SharedList<T> {
         requires { at < length self.now }
         ensures { result.now ≡ slice_index_or self.now at result.now }
     {
-        let chunk = self.chunks.chunk((at / CHUNK as u64) as usize);
-        &chunk[(at % CHUNK as u64) as usize]
+        let chunk = self.chunks.chunk((at / SIZE as u64) as usize);
+        &chunk[(at % SIZE as u64) as usize]
     }
 
-    /// Chunk `i`, counted from 0: the items from `1024 i` on, at most 1,024 of them.
+    /// Chunk `i`, counted from 0: the items from `SIZE i` on, at most `SIZE` of them.
     pub fn chunk(&self, i: u64) -> &[T]
-        requires { CHUNK * i < length self.now }
-        ensures { result.now ≡ take CHUNK (drop (CHUNK * i) self.now) }
+        requires { SIZE * i < length self.now }
+        ensures { result.now ≡ take SIZE (drop (SIZE * i) self.now) }
     {
         self.chunks.chunk(i as usize)
     }
 }
 
-impl<T: Shareable> Shareable for SharedList<T> {
-    fn share(&self, alloc: Global) -> Result<SharedList<T>, NoMemory> {
-        Ok(SharedList {
+impl<T: Shareable, const SIZE: usize> Shareable for ListInChunks<T, SIZE> {
+    fn share(&self, alloc: Global) -> Result<ListInChunks<T, SIZE>, NoMemory> {
+        Ok(ListInChunks {
             chunks: self.chunks.share(alloc)?,
             len: self.len,
         })
@@ -130,13 +143,14 @@ impl<T: Shareable> Shareable for SharedList<T> {
 }
 
 // How many of the places, from the first on, are in chunk `i`.
-fn places_in_chunk(places: &[u32], i: usize) -> usize
+fn places_in_chunk<const SIZE: usize>(places: &[u32], i: usize) -> usize
+    requires { 0 < SIZE }
     ensures within { result ≤ length places.now }
-    ensures inside { All (λ place. place / CHUNK ≡ i) (take result places.now) }
-    ensures some { 0 < length places.now → slice_index places.now 0 / CHUNK ≡ i → 0 < result }
+    ensures inside { All (λ place. place / SIZE ≡ i) (take result places.now) }
+    ensures some { 0 < length places.now → slice_index places.now 0 / SIZE ≡ i → 0 < result }
 {
     for (count, place) in places.iter().enumerate() {
-        if *place as usize / CHUNK != i {
+        if *place as usize / SIZE != i {
             return count;
         }
     }
@@ -144,59 +158,62 @@ fn places_in_chunk(places: &[u32], i: usize) -> usize
 }
 
 // Puts the item at the place within its chunk of each of these places of a list.
-fn set_within<T: Shareable>(
+fn set_within<T: Shareable, const SIZE: usize>(
     alloc: Global,
     items: &mut Vec<T>,
     places: &[u32],
     item: &T,
 ) -> Result<(), NoMemory>
-    requires { All (λ place. place % CHUNK < length items.old.items) places.now }
+    requires size { 0 < SIZE }
+    requires places { All (λ place. place % SIZE < length items.old.items) places.now }
     ensures { IfOk result
-        (λ _. items.new.items ≡ set_within CHUNK item.now items.old.items places.now) }
+        (λ _. items.new.items ≡ set_within SIZE item.now items.old.items places.now) }
 {
     for place in places {
-        items[*place as usize % CHUNK] = item.share(alloc)?;
+        items[*place as usize % SIZE] = item.share(alloc)?;
     }
     Ok(())
 }
 
 // The chunks with the item at each of these places of the list, which are in chunk `i`.
-fn set_in_chunk<T: Shareable>(
+fn set_in_chunk<T: Shareable, const SIZE: usize>(
     alloc: Global,
     chunks: ChunkList<T>,
     i: usize,
     places: &[u32],
     item: &T,
 ) -> Result<ChunkList<T>, NoMemory>
+    requires size { 0 < SIZE }
     requires chunk { i < length chunks }
-    requires places { All (λ place. place % CHUNK < length (piece_or_nil i chunks)) places.now }
+    requires places { All (λ place. place % SIZE < length (piece_or_nil i chunks)) places.now }
     ensures { IfOk result (λ changed. changed
-        ≡ slice_set chunks i (set_within CHUNK item.now (piece_or_nil i chunks) places.now)) }
+        ≡ slice_set chunks i (set_within SIZE item.now (piece_or_nil i chunks) places.now)) }
 {
     let mut items = share_all(alloc, chunks.chunk(i))?;
-    set_within(alloc, &mut items, places, item)?;
+    set_within::<T, SIZE>(alloc, &mut items, places, item)?;
     chunks.with(alloc, i, Chunk::new(alloc, items)?)
 }
 
 // The chunks with the item at each of these places of the list.
-fn set_in_chunks<T: Shareable>(
+fn set_in_chunks<T: Shareable, const SIZE: usize>(
     alloc: Global,
     chunks: ChunkList<T>,
     places: &[u32],
     item: &T,
 ) -> Result<ChunkList<T>, NoMemory>
-    requires chunked { IsChunked CHUNK chunks }
+    requires size { 0 < SIZE }
+    requires chunked { IsChunked SIZE chunks }
     requires places { All (λ place. place < length (flatten chunks)) places.now }
     ensures list { IfOk result
         (λ changed. flatten changed ≡ set_each item.now (flatten chunks) places.now) }
-    ensures chunked { IfOk result (λ changed. IsChunked CHUNK changed) }
+    ensures chunked { IfOk result (λ changed. IsChunked SIZE changed) }
 {
     let mut chunks = chunks;
     let mut rest = places;
     while let [first, ..] = rest {
-        let i = *first as usize / CHUNK;
-        let (group, after) = rest.split_at(places_in_chunk(rest, i));
-        chunks = set_in_chunk(alloc, chunks, i, group, item)?;
+        let i = *first as usize / SIZE;
+        let (group, after) = rest.split_at(places_in_chunk::<SIZE>(rest, i));
+        chunks = set_in_chunk::<T, SIZE>(alloc, chunks, i, group, item)?;
         rest = after;
     }
     Ok(chunks)

@@ -8,16 +8,16 @@ index_mut-requires g c =
     omega (
       arith,
       c.loop-place.items.ok.0,
-      c.requires c.loop-place.place-index 0 c.loop-place-test.true,
+      c.requires.places c.loop-place.place-index 0 c.loop-place-test.true,
       ap length c.loop-place.invariant,
-      length-set_within 1024 c.args.item.now c.args.items.now.items (take c.loop-place.place-index c.args.places.now),
+      length-set_within g.row.SIZE c.args.item.now c.args.items.now.items (take c.loop-place.place-index c.args.places.now),
     )
 
 pub loop-place-preserved : goal.loop-place-preserved
 loop-place-preserved g c =
     let places = c.args.places.now in
     let i = c.loop-place.place-index in
-    let at = get_or places i 0 % 1024 in
+    let at = get_or places i 0 % g.row.SIZE in
     ap (λ t. set t at c.in_ok-items.field-0) c.loop-place.invariant
-    ∙ ap (λ v. set (set_within 1024 c.args.item.now c.args.items.now.items (take i places)) at v) c.in_ok-items.ensures
-    ∙ sym (within_more 1024 c.args.item.now c.args.items.now.items places i 0 c.loop-place-test.true)
+    ∙ ap (λ v. set (set_within g.row.SIZE c.args.item.now c.args.items.now.items (take i places)) at v) c.in_ok-items.ensures
+    ∙ sym (within_more g.row.SIZE c.args.item.now c.args.items.now.items places i 0 c.loop-place-test.true)

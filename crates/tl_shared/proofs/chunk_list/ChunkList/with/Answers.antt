@@ -1,5 +1,5 @@
-use Rattle.std.proofs.Common.{◌≡◌, ◌+◌, ◌*◌, ◌/◌, ◌%◌, ◌<◌, length, get_or, set, ap, ◌∙◌, sym, subst, arith}
-use Rattle.tl_shared.specs.Chunks.{flatten, IsChunked, piece_or_nil}
+use Rattle.std.proofs.Common.{◌≡◌, ◌+◌, ◌*◌, ◌/◌, ◌%◌, ◌<◌, length, set, ap, ◌∙◌, arith}
+use Rattle.tl_shared.specs.Chunks.{flatten, piece_or_nil}
 use Rattle.tl_shared.proofs.Pieces.{piece_within, place_within, with_list, chunked_set, same_piece}
 use Rattle.std.proofs.lemmas.List.{length-set}
 use Rattle.tl_shared.proofs.chunk_list.ChunkList.with.Goals as goal

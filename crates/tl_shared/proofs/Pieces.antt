@@ -1,6 +1,6 @@
 -- Pieces of a list, each of `size` items but for the last, which has 1 to `size`.
 use Rattle.std.proofs.Common.{◌≡◌, ℕ, ◌+◌, ◌-◌, ◌*◌, ◌<◌, ◌≤◌, zero, suc, min, List, [], ◌∷◌, ◌++◌, length, get_or, set, take, drop, refl, sym, ap, ◌∙◌, arith, append_assoc, length-append}
-use Rattle.std.proofs.lemmas.List.{append-nil, take-append-drop, drop-drop, drop_at, take_at, take_all, drop_all, length-take, length-drop, get_or-take, get_or-drop, set-append_left, set-append_right}
+use Rattle.std.proofs.lemmas.List.{append-nil, take-append-drop, drop-drop, drop-take, drop_at, take_at, take_all, drop_all, length-take, length-drop, get_or-take, get_or-drop, set-append_left, set-append_right}
 use Rattle.std.proofs.lemmas.Grind.{flat_map-append}
 use Rattle.std.proofs.Math.Seq.{take-append-add, take-add}
 use Rattle.tl_shared.specs.Chunks.{flatten, AreFull, IsChunked, piece_or_nil}
@@ -158,6 +158,14 @@ module _ {X : Type 0} (size : ℕ) (ds : List (List X)) (xs : List X) (chunked :
 
   pub place_within : (q r : ℕ) → r < size → size * q + r < length xs → r < length (piece_or_nil q ds)
   place_within q r low h = omega (arith, piece_len q)
+
+  -- the items of piece `q` from a place of it on
+  pub piece_from : (q r at : ℕ) → r ≤ size → size * q + r ≡ at → drop r (piece_or_nil q ds) ≡ take (size - r) (drop at xs)
+  piece_from q r at low place =
+      let split : r + (size - r) ≡ size = omega arith in
+      ap (drop r) (piece_is q ∙ ap (λ n. take n (drop (size * q) xs)) (sym split))
+      ∙ drop-take r (size - r) (drop (size * q) xs)
+      ∙ ap (take (size - r)) (drop-drop r (size * q) xs ∙ ap (λ n. drop n xs) place)
 
   -- the list with one item changed
   pub with_list : (q r : ℕ) (x : X) → r < size → size * q + r < length xs → flatten (set ds q (set (piece_or_nil q ds) r x)) ≡ set xs (size * q + r) x

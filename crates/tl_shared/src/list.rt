@@ -1,5 +1,5 @@
 //! The list.
-ghost use Rattle.std.specs.Prelude.{◌≡◌, ◌+◌, ◌*◌, ◌/◌, ◌%◌, ◌<◌, ◌≤◌, ◌^◌, ◌++◌, [], length, take, drop, slice_index, slice_index_or, slice_set, All, IfOk};
+ghost use Rattle.std.specs.Prelude.{◌≡◌, ◌+◌, ◌-◌, ◌*◌, ◌/◌, ◌%◌, ◌<◌, ◌≤◌, ◌^◌, ◌++◌, [], length, take, drop, slice_index, slice_index_or, slice_set, All, IfOk};
 ghost use Rattle.tl_shared.specs.Chunks.{flatten, IsChunked, piece_or_nil, set_each, set_within};
 
 use crate::chunk::{Chunk, chunks_of};
@@ -122,6 +122,18 @@ impl<T: Shareable, const SIZE: usize> ListInChunks<T, SIZE> {
     {
         let chunk = self.chunks.chunk((at / SIZE as u64) as usize);
         &chunk[(at % SIZE as u64) as usize]
+    }
+
+    /// The items from `at` on, counted from 0, that stand in one chunk: at least one, and at most
+    /// `SIZE`.
+    pub fn chunk_from(&self, at: u64) -> &[T]
+        requires { at < length self.now }
+        ensures items { result.now ≡ take (SIZE - at % SIZE) (drop at self.now) }
+        ensures some { 0 < length result.now }
+    {
+        let whole = self.chunks.chunk((at / SIZE as u64) as usize);
+        let (_before, from) = whole.split_at((at % SIZE as u64) as usize);
+        from
     }
 
     /// Chunk `i`, counted from 0: the items from `SIZE i` on, at most `SIZE` of them.

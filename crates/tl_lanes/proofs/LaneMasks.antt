@@ -2,7 +2,7 @@
 use Rattle.std.proofs.Common.{◌≡◌, ℕ, ◌+◌, ◌-◌, ◌*◌, ◌%◌, ◌^◌, ◌≤◌, ◌<◌, ◌==◌, ◌⊎◌, List, Bool, true, false, cond, length, get_or, take, drop, map, replicate, refl, sym, ◌∙◌, ap, arith, inl, inr, w32, w64, of_z, to_z}
 use Rattle.std.specs.Prelude.{ℤ, pos}
 use Rattle.std.specs.Ordering.{int_eq}
-use Rattle.std.proofs.lemmas.List.{take_all, length-map, ext_get_or, get_or-map, take-map, drop-map}
+use Rattle.std.proofs.lemmas.List.{take_all, drop_all, length-map, ext_get_or, get_or-map, take-map, drop-map}
 use Rattle.std.proofs.lemmas.Bool.{cases_Bool, eq-eqb, ne_eqb}
 use Rattle.std.proofs.lemmas.Bool.Decides.{Decides-int_eq}
 use Rattle.std.proofs.lemmas.Simd.{bitmask_splat, map-map, zip2_splat_left, zip2_splat}
@@ -15,7 +15,9 @@ use Rattle.std.proofs.lemmas.Bool.{cases_eq}
 use Rattle.std.proofs.lemmas.List.{length-drop, get_or-set_same, get_or-set_other}
 use Rattle.std.proofs.lemmas.List.FromFn.{fill_by_all}
 use Rattle.std.proofs.lemmas.Simd.{mask_l-lt}
-use Rattle.tl_lanes.specs.Masks.{words_for, word_of, mask_of}
+use Rattle.std.proofs.lemmas.Simd.{bit_mask_l}
+use Rattle.std.proofs.lemmas.List.{get_or-take, get_or-drop}
+use Rattle.tl_lanes.specs.Masks.{words_for, word_of, mask_of, is_bit, AreBits, IsWordOf}
 
 -- two tests that agree on the values
 pub map_same : {X : Type 0} (d : X) (p q : X → Bool) (values : List X) → ((k : ℕ) → k < length values → p (get_or values k d) ≡ q (get_or values k d)) → map p values ≡ map q values
@@ -106,3 +108,25 @@ pub mask_is : (bits : List Bool) (out : List ℕ) (n : ℕ) → n ≡ length bit
 mask_is bits out n is long words =
     fill_by_all (word_of bits) out (words_for (length bits)) 0 (long ∙ ap words_for is)
     (λ k below. words k (let e = ap words_for is in omega arith))
+
+-- the bits of a word of these bits
+pub bit_of_word : (bits : List Bool) (k : ℕ) → is_bit (mask_l bits) k ≡ get_or bits k false
+bit_of_word bits k = ap (λ b. b == 1) (bit_mask_l bits k) ∙ as_bit (get_or bits k false) where
+  as_bit : (b : Bool) → (cond b 1 0 == 1) ≡ b
+  as_bit true = refl
+  as_bit false = refl
+
+pub word_bits : (bits : List Bool) (word : ℕ) → word ≡ mask_l bits → AreBits bits word
+word_bits bits word is k below = ap (λ w. is_bit w k) is ∙ bit_of_word bits k
+
+-- the bits of word i of a mask
+pub bits_of_word : (bits : List Bool) (i word : ℕ) → word ≡ word_of bits i → IsWordOf bits i word
+bits_of_word bits i word is k below =
+    ap (λ w. is_bit w k) is
+    ∙ bit_of_word (take 64 (drop (64 * i) bits)) k
+    ∙ get_or-take 64 (drop (64 * i) bits) k false below
+    ∙ get_or-drop (64 * i) bits k false
+
+-- a word past the bits is 0
+pub word_past : (bits : List Bool) (i : ℕ) → length bits ≤ 64 * i → word_of bits i ≡ 0
+word_past bits i past = ap (λ bs. mask_l (take 64 bs)) (drop_all (64 * i) bits past)

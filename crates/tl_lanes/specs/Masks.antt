@@ -1,5 +1,5 @@
 -- Masks: lists of words of 64 bits, of which bit j is bit j mod 64 of word j div 64.
-use Rattle.std.specs.Prelude.{ℕ, ◌+◌, ◌*◌, ◌/◌, ◌%◌, ◌==◌, Bool, true, false, List, [], ◌∷◌, map, take, drop, length, slice_index, if◌then◌else◌, not, ℤ, ◌≤ℤ◌, int_lt, int_le, All, Contains}
+use Rattle.std.specs.Prelude.{◌≡◌, ℕ, ◌+◌, ◌*◌, ◌/◌, ◌%◌, ◌<◌, ◌==◌, Bool, true, false, List, [], ◌∷◌, map, take, drop, length, slice_index, slice_index_or, if◌then◌else◌, not, ℤ, ◌≤ℤ◌, int_lt, int_le, All, Contains}
 use Rattle.std.specs.List.{range_with_len}
 use Rattle.std.specs.Int.{bit_at}
 use Rattle.std.specs.Ordering.{int_eq}
@@ -30,6 +30,14 @@ word_of bits i = mask_l (take 64 (drop (64 * i) bits))
 -- the mask with these bits and no further one
 abbrev pub mask_of : List Bool → List ℕ
 mask_of bits = map (word_of bits) (range_with_len 0 (words_for (length bits)))
+
+-- these are the first bits of the word, of 64, and its further bits are 0
+abbrev pub AreBits : List Bool → ℕ → Type 0
+AreBits bits word = (k : ℕ) → k < 64 → is_bit word k ≡ slice_index_or bits k false
+
+-- the word is word i of the mask with these bits and no further one
+abbrev pub IsWordOf : List Bool → ℕ → ℕ → Type 0
+IsWordOf bits i word = (k : ℕ) → k < 64 → is_bit word k ≡ slice_index_or bits (64 * i + k) false
 
 -- the value passes the comparison with the bound
 abbrev pub passes : LaneCmp → ℤ → ℤ → Bool

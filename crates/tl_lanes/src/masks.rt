@@ -2,7 +2,7 @@
 ghost use Rattle.std.specs.Prelude.{◌≡◌, ℕ, ◌+◌, ◌*◌, ◌/◌, ◌<◌, ◌≤◌, ◌==◌, not, Bool, length, map, slice_index, slice_index_or, FitsSigned, pos};
 ghost use Rattle.std.specs.Int.{w64};
 ghost use Rattle.std.specs.Simd.Lanes.{mask_l};
-ghost use Rattle.tl_lanes.specs.Masks.{words_for, word_of, mask_of, passes, agrees};
+ghost use Rattle.tl_lanes.specs.Masks.{words_for, word_of, mask_of, passes, agrees, AreBits};
 
 use std::simd::prelude::*;
 
@@ -156,6 +156,18 @@ fn rest_word<T, C: Comparison<T>>(test: &C, values: &[T]) -> u64
     word
 }
 
+// The word of at most 64 values.
+fn word_for<T, C: Comparison<T>>(test: &C, values: &[T]) -> u64
+    requires { length values.now ≤ 64 }
+    ensures { result ≡ mask_l (map (C.test test.now) values.now) }
+{
+    if values.len() == WORD {
+        test.word(values)
+    } else {
+        rest_word(test, values)
+    }
+}
+
 // Puts the words of the values that fill one.
 fn fill_whole<T, C: Comparison<T>>(test: &C, values: &[T], out: &mut [u64])
     requires { length out.old ≡ words_for (length values.now) }
@@ -196,4 +208,26 @@ pub fn compare_mask_u32(values: &[u32], equal: bool, code: u32, out: &mut [u64])
     ensures { out.new ≡ mask_of (map (λ x. agrees equal x code) values.now) }
 {
     fill(&CodeTest { equal, code }, values, out)
+}
+
+/// The word of at most 64 values that tells which of them pass the comparison with the bound: bit k
+/// is that of value k. Bits past the values are 0.
+#[tactic(auto, using(crate::proofs::LaneMasks::word_bits))]
+pub fn compare_word(values: &[i64], cmp: LaneCmp, bound: i64) -> u64
+    requires { length values.now ≤ 64 }
+    ensures word { result ≡ mask_l (map (λ x. passes cmp x bound) values.now) }
+    ensures bits { AreBits (map (λ x. passes cmp x bound) values.now) result }
+{
+    word_for(&SignedTest { cmp, bound }, values)
+}
+
+/// The word of at most 64 values that tells which of them are the code, where `equal`, or else
+/// which are not. Its bits stand as in `compare_word`.
+#[tactic(auto, using(crate::proofs::LaneMasks::word_bits))]
+pub fn compare_word_u32(values: &[u32], equal: bool, code: u32) -> u64
+    requires { length values.now ≤ 64 }
+    ensures word { result ≡ mask_l (map (λ x. agrees equal x code) values.now) }
+    ensures bits { AreBits (map (λ x. agrees equal x code) values.now) result }
+{
+    word_for(&CodeTest { equal, code }, values)
 }

@@ -105,7 +105,7 @@ fn rows_of(
     ensures some { OnOk result (1 ≤ length (columns_of schema.now kind)) }
     ensures distinct { OnOk result (are_distinct (names_of (columns_of schema.now kind)) ≡ true) }
 {
-    let mut reader = reader_of(alloc, block);
+    let mut reader = reader_of(alloc, block)?;
     let mut header = ByteRecord::new(alloc);
     if !next_record(&mut reader, &mut header)? {
         return Err(CsvFault::HeaderMissing { column: 1 });

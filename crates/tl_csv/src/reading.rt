@@ -9,15 +9,18 @@ use crate::byte_order_marks::past_byte_order_marks;
 use csv::{ByteRecord, Error, Reader, ReaderBuilder};
 use std::alloc::{AllocError, Global};
 
-/// A reader of the records of a block past its byte order marks, which may be of any length.
-pub fn reader_of(alloc: Global, block: &[u8]) -> Reader<&[u8]>
-    ensures whole { records_left result ≡ records_of block.now }
-    ensures reading { IsReading result }
+/// A reader of the records of a block past its byte order marks, which may be of any length. It
+/// goes into a box where it is made: its buffer and its tables are 16 KB, which each function that
+/// holds a reader among its locals would clear at its start.
+pub fn reader_of(alloc: Global, block: &[u8]) -> Result<Box<Reader<&[u8]>>, AllocError>
+    ensures whole { IfOk result (λ reader. records_left reader.value ≡ records_of block.now) }
+    ensures reading { IfOk result (λ reader. IsReading reader.value) }
 {
-    ReaderBuilder::new()
+    let reader = ReaderBuilder::new()
         .has_headers(false)
         .flexible(true)
-        .from_reader(alloc, past_byte_order_marks(block))
+        .from_reader(alloc, past_byte_order_marks(block));
+    Ok(Box::new(alloc, reader)?)
 }
 
 // What an error of a reader over bytes means that takes records of any length: out of memory.

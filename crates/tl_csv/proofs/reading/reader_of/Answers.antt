@@ -4,5 +4,5 @@ use Rattle.tl_csv.proofs.reading.reader_of.Goals as goal
 
 pub returns-clause-whole : goal.returns-clause-whole
 returns-clause-whole c =
-    let from = c.from_reader.ensures in
-    rw (from.state, from.source, c.past_byte_order_marks.ensures, no_mark c.args.block.now) refl
+    let from = c.from_reader-reader.ensures in
+    rw (c.in_ok-new.ensures.ok, from.state, from.source, c.past_byte_order_marks.ensures, no_mark c.args.block.now) refl

@@ -18,6 +18,7 @@ use Rattle.tl_types.specs.contracts.cells.CellPartialEq.TheImpl as same
 use Rattle.tl_types.specs.History.{same_cell, cell_at}
 use Rattle.tl_types.specs.Resolving.{same_key}
 use Rattle.tl_types.specs.Plain as plain
+use Rattle.tl_types.proofs.ValidEventOrder.{int_before}
 use Rattle.tl_query.specs.Ordered.{cell_before}
 use Rattle.tl_plain.specs.Keyed.{keyed}
 
@@ -48,13 +49,6 @@ alike (cell.Text r) (cell.Text s) (cell.Text t) h = nat_list_cmp_total.congr r s
 
 pub cell_total : IsTotalOrder cells.cmp-value.it
 cell_total = record { antisymm = turned; trans = before_both; congr = alike }
-
-pub int_before : (x y : ℤ) → is_lt (int_cmp x y) ≡ int_lt x y
-int_before x y = by_tests (int_lt x y) (int_lt y x) where
-  by_tests : (a b : Bool) → is_lt (cond a Less (cond b Greater Equal)) ≡ a
-  by_tests true b = refl
-  by_tests false true = refl
-  by_tests false false = refl
 
 pub cell_before_is : (x y : Cell) → is_lt (cells.cmp-value.it x y) ≡ cell_before x y
 cell_before_is (cell.Int i) (cell.Int j) = int_before i j

@@ -6,10 +6,8 @@ pub mod Ending
 pub mod KeyLemmas
 pub mod PairLemmas
 pub mod Places
-pub mod RunLemmas
 pub mod Searching
 pub mod Selecting
-pub mod Sorting
 pub mod TimeLemmas
 pub mod ValueLemmas
 pub mod Worked

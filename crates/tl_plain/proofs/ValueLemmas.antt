@@ -12,7 +12,7 @@ use Rattle.tl_types.specs.declared.cells.Cell.{Cell}
 use Rattle.tl_types.specs.contracts.cells.CellOrd.TheImpl as cells
 use Rattle.tl_types.specs.History.{same_cell}
 use Rattle.tl_query.specs.Ordered.{cell_before, inserted, with_value}
-use Rattle.tl_plain.proofs.Sorting.{all_inserted}
+use Rattle.tl_query.proofs.Sorting.{all_inserted}
 use Rattle.tl_plain.proofs.CellLemmas.{cell_total, cell_ranks, cell_before_is, cell_same_is, cell_symm, cell_level, cell_equal, cell_itself}
 
 -- the value is among them

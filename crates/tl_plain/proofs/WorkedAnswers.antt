@@ -24,7 +24,7 @@ use Rattle.tl_query.specs.Aggregates.{aggregate_of, passing_at, aggregate_runs}
 use Rattle.tl_query.specs.Joins.{joined_pairs}
 use Rattle.tl_query.specs.TypedFor.{is_typed_for}
 use Rattle.tl_query.specs.Answers.{answer_of, run_fields}
-use Rattle.tl_plain.proofs.RunLemmas.{runs_more, runs_none}
+use Rattle.tl_types.proofs.RunLemmas.{runs_more, runs_none}
 use Rattle.tl_plain.proofs.TimeLemmas.{le_test, not_le_test, lt_test}
 
 abbrev int_column : List ℕ → Column

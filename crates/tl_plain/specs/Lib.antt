@@ -3,4 +3,3 @@ pub mod Counted
 pub mod Grouping
 pub mod Keyed
 pub mod Pairing
-pub mod Stretching

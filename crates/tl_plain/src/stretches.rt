@@ -1,46 +1,14 @@
 //! The maximal runs of an aggregate over time.
-ghost use Rattle.std.specs.Prelude.{◌≡◌, ◌<◌, ◌^◌, length, IfOk, OnOk};
-ghost use Rattle.tl_types.specs.Runs.{same_field};
-ghost use Rattle.tl_types.specs.Runs.{add_stretch};
+ghost use Rattle.std.specs.Prelude.{◌≡◌, ◌<◌, ◌^◌, length, IfOk};
 ghost use Rattle.tl_query.specs.Aggregates.{span_start, span_end, runs_in};
 ghost use Rattle.tl_plain.specs.Choosing.{lent, there_at};
-ghost use Rattle.tl_plain.specs.Stretching.{ends_with_value};
 
 use crate::counting::value_at;
 use crate::rows::Row;
 use crate::times::next_change;
 use std::alloc::Global;
 use tl_query::{AggPlan, Span};
-use tl_types::{Field, NoMemory, Run};
-
-fn same_field(first: &Field, second: &Field) -> bool
-    ensures { result ≡ same_field first.now second.now }
-{
-    *first == *second
-}
-
-fn ends_with_value(runs: &[Run], value: &Field) -> bool
-    ensures { result ≡ ends_with_value runs.now value.now }
-{
-    match runs {
-        [] => false,
-        [.., last] => same_field(&last.value, value),
-    }
-}
-
-/// Appends a stretch of time: the last run goes on where it has the same value, else a run begins.
-/// The error is out of memory.
-fn add_stretch(runs: &mut Vec<Run>, stretch: Run) -> Result<(), NoMemory>
-    ensures { OnOk result (runs.new.items ≡ add_stretch runs.old.items stretch) }
-{
-    if ends_with_value(runs.as_slice(), &stretch.value) {
-        let last = runs.len() - 1;
-        runs[last].to = stretch.to;
-    } else {
-        runs.push(stretch)?;
-    }
-    Ok(())
-}
+use tl_types::{NoMemory, Run, add_stretch};
 
 /// The first moment of a range.
 pub(crate) fn span_start(span: Span) -> i64

@@ -17,3 +17,5 @@ pub mod Unplaced
 pub mod Words
 pub mod Utf8
 pub mod Spelled
+pub mod Sorting
+pub mod PairOrder

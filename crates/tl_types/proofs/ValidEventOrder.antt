@@ -96,14 +96,14 @@ equal x y h = parts x.time y.time x.opens y.opens x.row y.row (equal_of x.time y
 pub total : IsTotalOrder order.cmp-value.it
 total = then_total (on_total (λ (e : ValidEvent). e.time) int_cmp_total) (then_total (on_total (λ (e : ValidEvent). e.opens) bool_cmp_total) (on_total (λ (e : ValidEvent). e.row) nat_cmp_total))
 
-int_before : (x y : ℤ) → is_lt (int_cmp x y) ≡ int_lt x y
+pub int_before : (x y : ℤ) → is_lt (int_cmp x y) ≡ int_lt x y
 int_before x y = by_tests (int_lt x y) (int_lt y x) where
   by_tests : (a b : Bool) → is_lt (cond a Less (cond b Greater Equal)) ≡ a
   by_tests true b = refl
   by_tests false true = refl
   by_tests false false = refl
 
-nat_before : (m n : ℕ) → is_lt (nat_cmp m n) ≡ nat_lt m n
+pub nat_before : (m n : ℕ) → is_lt (nat_cmp m n) ≡ nat_lt m n
 nat_before m n = by_tests (nat_lt m n) (nat_eq m n) where
   by_tests : (a b : Bool) → is_lt (cond a Less (cond b Equal Greater)) ≡ a
   by_tests true b = refl

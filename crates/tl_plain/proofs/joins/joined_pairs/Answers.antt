@@ -1,7 +1,7 @@
 use Rattle.std.proofs.Common.{rules}
 use Rattle.std.proofs.lemmas.List.Sorted.{answers_always}
 use Rattle.tl_types.specs.declared.runs.Pair.{Pair}
-use Rattle.tl_plain.proofs.PairLemmas.{pairs_sorted}
+use Rattle.tl_query.proofs.PairOrder.{pairs_sorted}
 use Rattle.tl_plain.proofs.joins.joined_pairs.Goals as goal
 
 pub returns : goal.returns

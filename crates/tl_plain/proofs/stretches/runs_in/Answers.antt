@@ -4,7 +4,7 @@ use Rattle.std.proofs.lemmas.Int.{to_z-of_z}
 use Rattle.tl_query.specs.Aggregates.{aggregate_of, span_start}
 use Rattle.tl_plain.specs.Choosing.{lent, there_at}
 use Rattle.tl_plain.proofs.TimeLemmas.{there_same}
-use Rattle.tl_plain.proofs.RunLemmas.{none_made, more_made}
+use Rattle.tl_types.proofs.RunLemmas.{none_made, more_made}
 use Rattle.tl_plain.proofs.stretches.runs_in.Goals as goal
 
 pub loop-at-init : goal.loop-at-init

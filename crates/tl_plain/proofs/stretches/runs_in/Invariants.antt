@@ -2,7 +2,7 @@ use Rattle.std.proofs.Common.{◌-ℤ◌}
 use Rattle.tl_types.specs.Runs.{count_of}
 use Rattle.tl_query.specs.Aggregates.{aggregate_of, span_start}
 use Rattle.tl_plain.specs.Choosing.{lent, there_at}
-use Rattle.tl_plain.proofs.RunLemmas.{IsMade}
+use Rattle.tl_types.proofs.RunLemmas.{IsMade}
 use Rattle.tl_plain.proofs.stretches.runs_in.Given as goal
 
 abbrev pub invariant-loop-at : goal.invariant-loop-at

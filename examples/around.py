@@ -1,0 +1,308 @@
+#!/usr/bin/env python3
+"""Runs the command `timeline` where a script with its expected replies does not reach: what it does around the program.
+Ends with 1 where something is not as it should be, and says what."""
+import fcntl
+import os
+import pty
+import random
+import re
+import select
+import shutil
+import signal
+import subprocess
+import sys
+import tempfile
+import time
+
+HERE = os.path.dirname(os.path.abspath(__file__))
+TIMELINE = os.path.join(os.path.dirname(HERE), "timeline")
+HINT = "timeline: see ./timeline --help\n"
+HELD = "timeline: another program has this journal"
+
+failed = 0
+
+
+def judge(name, is_right, found):
+    global failed
+    if not is_right:
+        failed = 1
+        print(f"{name}: not as it should be: {found}")
+
+
+def run(words, given="", room=None, command=TIMELINE, **more):
+    """Runs the command, and gives its status, what it printed and what it said."""
+    done = subprocess.run([command, *words], input=given, cwd=room, capture_output=True, text=True, timeout=120, **more)
+    return done.returncode, done.stdout, done.stderr
+
+
+def make_journal(room, script=""):
+    judge("init", run(["init"], room=room) == (0, "", ""), room)
+    if script:
+        judge("a first script", run(["--strict", "run"], script, room)[0] == 0, script)
+
+
+def copy_of_the_command(room, rt):
+    """A copy of the command over crates of its own and with an `rt` of its own, which is a shell script."""
+    os.makedirs(f"{room}/crates/timeline/src")
+    os.makedirs(f"{room}/crates/low/src")
+    os.makedirs(f"{room}/docs")
+    os.makedirs(f"{room}/bin")
+    shutil.copy(TIMELINE, f"{room}/timeline")
+    shutil.copy(f"{HERE}/../docs/FORMATS.md", f"{room}/docs")
+    with open(f"{room}/crates.txt", "w") as crates:
+        crates.write("low:\nhigh: low\ntimeline: low\n")
+    for crate in ("timeline", "low"):
+        with open(f"{room}/crates/{crate}/src/main.rt", "w") as source:
+            source.write("\n")
+    with open(f"{room}/bin/rt", "w") as command:
+        command.write(f"#!/usr/bin/env bash\necho \"$*\" >>{room}/calls\n{rt}")
+    os.chmod(f"{room}/bin/rt", 0o755)
+    around = dict(os.environ, PATH=f"{room}/bin:{os.environ['PATH']}")
+    return lambda *words, given="": run(words, given, command=f"{room}/timeline", env=around)
+
+
+def words_are_answered_at_once():
+    """Where nothing is built, words that are none, and those that ask for a page, are answered and nothing is built."""
+    with tempfile.TemporaryDirectory() as room:
+        command = copy_of_the_command(room, "exit 1\n")
+        for words in ((), ("go",), ("run", "no file"), ("load",), ("load", "1t"), ("try", "a", "b"), ("--strict",)):
+            status, printed, said = command(*words)
+            judge(f"the words {words}", (status, printed) == (2, "! usage\n") and said.endswith(HINT), (status, said))
+        for words in (("-h",), ("help",), ("--help",)):
+            status, printed, said = command(*words)
+            judge(f"the words {words}", status == 0 and printed.startswith("timeline keeps") and not said, (status, said))
+        judge("nothing is built for words", not os.path.exists(f"{room}/calls"), "")
+        status, printed, said = command("--version")
+        judge("--version", status == 0 and printed.startswith("timeline") and not said, (status, printed, said))
+
+
+# What the prover says of two crates, and then the program that it makes, which says how it is called.
+BUILDS = r"""
+echo 'so far: 0 of 2 functions checked; the verdict comes last' >&2
+echo 'fn low::add: proved' >&2
+echo 'fn low::take: proved' >&2
+echo 'logic=proved functions=2' >&2
+echo 'so far: 0 of 1 functions checked; the verdict comes last' >&2
+echo 'fn timeline::main: proved' >&2
+mkdir -p out
+printf '#!/usr/bin/env bash\necho "the program: $*"\n' >out/timeline
+chmod +x out/timeline
+[[ -e fails ]] && exit 1
+echo '! usage'
+exit 2
+"""
+
+
+def the_build_says_how_far_it_is():
+    """Builds, runs with nothing built anew, and builds again where a source is newer; a build that fails ends with 125."""
+    with tempfile.TemporaryDirectory() as room:
+        command = copy_of_the_command(room, BUILDS)
+        status, printed, said = command("run")
+        told = re.findall(r"crate (\d) of 2, (\w+): (\d) of (\d) functions checked, 0 minutes gone", said)
+        judge("a build", (status, printed) == (0, "the program: run\n"), (status, printed, said))
+        judge("how far a build is", told == [("1", "low", "1", "2"), ("2", "timeline", "1", "1")], said)
+        judge("built once", command("run") == (0, "the program: run\n", ""), "")
+        later = time.time() + 5
+        os.utime(f"{room}/crates/low/src/main.rt", (later, later))
+        status, printed, said = command("init")
+        judge("a source that is newer", printed == "the program: init\n" and "building" in said, (status, printed, said))
+        with open(f"{room}/calls") as calls:
+            judge("builds", [it for it in calls.read().split("\n") if it == "run"] == ["run"] * 2, "")
+        with open(f"{room}/crates/timeline/fails", "w"):
+            os.utime(f"{room}/crates/low/src/main.rt", (later + 60, later + 60))
+        status, printed, said = command("run")
+        judge("a build that fails", (status, printed) == (125, "") and "build.log" in said, (status, printed, said))
+
+
+def try_without_a_program():
+    """Where nothing is built `try` runs the interpreter, whose own lines are not shown."""
+    ends = "cat\necho 'checked: ended' >&2\necho 'run=ended status=6 runners=1' >&2\nexit 6\n"
+    large = "echo 'interpreter: no-answer: too much' >&2\necho 'run=no-answer proved=no' >&2\nexit 6\n"
+    with tempfile.TemporaryDirectory() as room:
+        status, printed, said = copy_of_the_command(room, ends)("try", given="! script NoSession 1\n")
+        is_right = (status, printed) == (6, "! script NoSession 1\n") and "ended" not in said
+        judge("try with nothing built", is_right, (status, printed, said))
+    with tempfile.TemporaryDirectory() as room:
+        status, printed, said = copy_of_the_command(room, large)("try")
+        judge("try of what is too large", (status, printed) == (125, ""), (status, printed))
+        judge("what it says", said.endswith("timeline: too large for try: ./timeline build\n") and "no-answer" not in said, said)
+
+
+def files_are_opened():
+    """`try`, `run` and `load` open the file that stands behind them."""
+    with open(f"{HERE}/first.expected") as expected:
+        wanted = expected.read()
+    judge("try FILE", run(["try", f"{HERE}/first.tl"]) == (0, wanted, ""), wanted)
+    with tempfile.TemporaryDirectory() as room:
+        make_journal(room)
+        judge("run FILE", run(["run", f"{HERE}/first.tl"], room=room) == (0, wanted, ""), wanted)
+        with open(f"{room}/more.csv", "w") as more:
+            more.write("id,pay\n3,2900\n")
+        judge("load TABLE FILE", run(["load", "staff", "more.csv"], room=room) == (0, "load @4 ok\n", ""), room)
+
+
+def refusals_are_told():
+    """A refused load says so; `--strict` ends with 20 where a statement was refused, and else as the program does."""
+    with tempfile.TemporaryDirectory() as room:
+        make_journal(room, "a> CREATE TABLE t (k INT) KEY k\n")
+        told = "timeline: 1 of 1 statements was refused: nothing was loaded\n"
+        refused = "load @1 ! NotInt 2 1\n"
+        judge("a refused load", run(["load", "t"], "k\nx\n", room) == (0, refused, told), "")
+        judge("--strict load", run(["--strict", "load", "t"], "k\nx\n", room) == (20, refused, told), "")
+        script = 'a> SELECT k FROM t\na> select k FROM t\na> SELECT x FROM t\n'
+        replies = "a @1 rows 0\na @1 ! Unexpected 0\na @1 ! UnknownColumn 7\n"
+        judge("a run", run(["run"], script, room) == (0, replies, ""), "")
+        told = "timeline: 2 of 3 statements were refused\n"
+        judge("--strict run", run(["--strict", "run"], script, room) == (20, replies, told), "")
+        judge("--strict run, none refused", run(["--strict", "run"], "a> SELECT k FROM t\n", room) == (0, "a @1 rows 0\n", ""), "")
+        ends = run(["--strict", "run"], "a> S\nGO\nhello\n", room)
+        told = "timeline: 1 of 1 statements was refused\n"
+        judge("--strict with a status", ends == (6, "a @1 ! Unexpected 0\n! script NoSession 3\n", told), ends)
+        with open("/dev/full", "w") as full:
+            found = subprocess.run([TIMELINE, "--strict", "run"], input=script, cwd=room, stdout=full, text=True,
+                                   stderr=subprocess.DEVNULL, timeout=60).returncode
+        judge("--strict with an output that fails", found == 4, found)
+        # A row that looks like a reply, in a text of several lines, is none.
+        odd = 'a> CREATE TABLE o (k TEXT) KEY k\na> PUT o\nk\n"x\na @1 ! NotInt 2 1"\n\\.\na> SELECT k FROM o\n'
+        judge("--strict over texts of lines", run(["--strict", "run"], odd, room)[0::2] == (0, ""), "")
+
+
+def explanations_come_from_a_pipe():
+    """A script from a pipe is explained as one from a file, and so is a load."""
+    with tempfile.TemporaryDirectory() as room:
+        make_journal(room, "a> CREATE TABLE t (k INT, x INT) KEY k\n")
+        status, printed, said = run(["--explain", "run"], "# first\na> SELECT k from t\n", room)
+        wanted = "timeline: line 2 was refused: Unexpected 9\n    SELECT k from t\n             ^\n"
+        judge("--explain run", (status, printed) == (0, "a @1 ! Unexpected 9\n") and said.startswith(wanted), said)
+        status, printed, said = run(["--explain", "load", "t"], "k,x\r\n1,2\r\n3,12.50\r\n", room)
+        wanted = "timeline: the load was refused: NotInt 3 2\n    PUT t\n    line 3, record 3:\n    3,12.50\n      ^\n"
+        judge("--explain load", (status, printed) == (0, "load @1 ! NotInt 3 2\n") and said.startswith(wanted), said)
+
+
+def a_terminal_is_told():
+    """On a pseudo-terminal the replies come phase by phase, and a refusal is explained where it stands."""
+    with tempfile.TemporaryDirectory() as room:
+        make_journal(room, "a> CREATE TABLE t (k INT) KEY k\n")
+        number, terminal = pty.fork()
+        if number == 0:
+            os.chdir(room)
+            os.execv(TIMELINE, [TIMELINE, "run"])
+
+        def until(wanted):
+            """What the terminal shows up to this text, and for 20 seconds at most."""
+            shown, ends = "", time.time() + 20
+            while wanted not in shown and time.time() < ends:
+                if select.select([terminal], [], [], 0.2)[0]:
+                    try:
+                        shown += os.read(terminal, 4096).decode()
+                    except OSError:
+                        break
+            return shown
+
+        os.write(terminal, b"a> SELECT k FORM t\nGO\n")
+        shown = until("^\r\n")
+        judge("a terminal's first phase", "a @1 ! Unexpected 9\r\n" in shown and "line 1 was refused" in shown, shown)
+        os.write(terminal, b"a> SELECT k FROM t\n\x04")
+        shown = until("was refused\r\n")
+        judge("a terminal's last phase", "a @1 rows 0\r\n" in shown, shown)
+        judge("a terminal's count", "1 of 2 statements was refused\r\n" in shown, shown)
+        judge("a terminal's status", os.waitstatus_to_exitcode(os.waitpid(number, 0)[1]) == 0, shown)
+        os.close(terminal)
+
+
+def two_loaders_at_once():
+    """Two loaders, 40 loads each, with and without --wait: what was answered `ok` is there, and nothing else."""
+    for words in (["--wait", "load", "t"], ["load", "t"]):
+        with tempfile.TemporaryDirectory() as room:
+            make_journal(room, "a> CREATE TABLE t (k INT) KEY k\n")
+            loads = [(first + number) for number in range(40) for first in (1000, 2000)]
+            running, answered, refused = [], [], 0
+            for key in loads:
+                loader = subprocess.Popen([TIMELINE, *words], cwd=room, stdin=subprocess.PIPE, stdout=subprocess.PIPE,
+                                          stderr=subprocess.PIPE, text=True)
+                loader.stdin.write(f"k\n{key}\n")
+                loader.stdin.close()
+                running.append((key, loader))
+                if len(running) == 2:
+                    for loaded, it in running:
+                        printed = it.stdout.read()
+                        it.stderr.read()
+                        if it.wait() == 0 and printed.endswith(" ok\n"):
+                            answered.append((printed.split()[1], loaded))
+                        else:
+                            judge("a loader that is refused", (it.returncode, printed) == (5, "! device\n"), printed)
+                            refused += 1
+                    running = []
+            printed = run(["run"], "a> SELECT k FROM t\n", room)[1]
+            found = sorted(int(it) for it in printed.split("\n")[1:-1])
+            judge(f"{words}: what was answered is there", found == sorted(key for _, key in answered), (answered, found))
+            judge(f"{words}: a version is answered once", len({it for it, _ in answered}) == len(answered), answered)
+            judge(f"{words}: all are loaded", "--wait" not in words or refused == 0, refused)
+
+
+def another_program_has_the_journal():
+    """While another program has the lock of the journal, a run ends as one whose disk fails, and says why."""
+    with tempfile.TemporaryDirectory() as room:
+        make_journal(room, "a> CREATE TABLE t (k INT) KEY k\n")
+        with open(f"{room}/timeline.tlj", "rb") as journal:
+            before = journal.read()
+        with open(f"{room}/timeline.tlj", "rb") as other:
+            fcntl.flock(other, fcntl.LOCK_EX)
+            for words in (["run"], ["load", "t"], ["init"], ["--strict", "run"]):
+                found = run(words, "k\n1\n", room)
+                is_right = found[:2] == (5, "! device\n") and found[2].startswith(HELD)
+                judge(f"{words} over a journal that another program has", is_right, found)
+            with open(f"{room}/timeline.tlj", "rb") as journal:
+                judge("the journal that another program has", journal.read() == before, "")
+            waiter = subprocess.Popen([TIMELINE, "--wait", "load", "t"], cwd=room, stdin=subprocess.PIPE,
+                                      stdout=subprocess.PIPE, stderr=subprocess.PIPE, text=True)
+            waiter.stdin.write("k\n1\n")
+            waiter.stdin.close()
+            time.sleep(1)
+            judge("--wait", waiter.poll() is None, waiter.returncode)
+        printed, said = waiter.stdout.read(), waiter.stderr.read()
+        judge("--wait, once it is free", (waiter.wait(), printed) == (0, "load @2 ok\n") and HELD in said, (printed, said))
+        judge("a folder in the journal's place", refused_folder() == (5, "! device\n", ""), "")
+
+
+def refused_folder():
+    """What `--wait` makes of a journal that cannot be opened for another reason: it does not wait."""
+    with tempfile.TemporaryDirectory() as room:
+        os.mkdir(f"{room}/timeline.tlj")
+        return run(["--wait", "run"], "", room)
+
+
+def a_long_load_goes_on():
+    """A load of 1,500 batches that is killed three times goes on each time, and leaves no row out and none twice."""
+    with tempfile.TemporaryDirectory() as room:
+        make_journal(room, "a> CREATE TABLE t (k INT, x INT) KEY k\n")
+        with open(f"{room}/rows.csv", "w") as rows:
+            rows.write("k,x\n" + "".join(f"{key},{key % 7}\n" for key in range(3000)))
+        words = ["bash", f"{HERE}/long_load.sh", "rows.csv", "t", "2"]
+        for turn in range(40):
+            loader = subprocess.Popen(words, cwd=room, stdout=subprocess.DEVNULL, stderr=subprocess.DEVNULL,
+                                      start_new_session=True)
+            try:
+                loader.wait(random.uniform(0.1, 0.5) if turn < 3 else 100)
+                break
+            except subprocess.TimeoutExpired:
+                os.killpg(loader.pid, signal.SIGKILL)
+                loader.wait()
+        printed = run(["run"], "a> SELECT k, x FROM t\n", room)[1]
+        wanted = "a @1501 rows 3000\n" + "".join(f"{key},{key % 7}\n" for key in range(3000))
+        judge("a long load", loader.returncode == 0 and printed == wanted, (loader.returncode, printed[:200]))
+
+
+# A command that does not end is not as it should be either.
+signal.alarm(200)
+words_are_answered_at_once()
+the_build_says_how_far_it_is()
+try_without_a_program()
+files_are_opened()
+refusals_are_told()
+explanations_come_from_a_pipe()
+a_terminal_is_told()
+two_loaders_at_once()
+another_program_has_the_journal()
+a_long_load_goes_on()
+sys.exit(failed)

@@ -1,0 +1,102 @@
+#!/usr/bin/env python3
+"""Refuses memory to the program: each allocation of three runs in turn, alone and with all behind it, by the library
+that refuse.c makes. Each run has to give the usual result; or status 1, and then the replies of its first phases, whole,
+and a journal that opens and has at least the commits that were answered. `memory.py PROGRAM`; it prints a row for each
+run, `name, tried, wrong`, and says what was wrong."""
+import os
+import re
+import subprocess
+import sys
+import tempfile
+
+PROGRAM = os.path.abspath(sys.argv[1])
+SOURCE = os.path.join(os.path.dirname(os.path.abspath(__file__)), "refuse.c")
+
+# Each phase with its replies.
+WORKED = [
+    ("a> CREATE TABLE emp (id INT, dept TEXT, pay INT) KEY id\n", "a @1 ok\n"),
+    ("a> PUT emp\nid,dept,pay\n1,ops,100\n2,dev,50\n\\.\n", "a @2 ok\n"),
+    ("a> PUT emp\nid,dept,pay\n1,ops,150\n\\.\na> REMOVE emp\nid\n2\n\\.\n", "a @3 ok\na @4 ok\n"),
+    ("a> PUT emp\nid,dept,pay\n2,dev,50\n\\.\na> SELECT id, pay FROM emp AS OF 2\n", "a @5 ok\na @5 rows 2\n1,100\n2,50\n"),
+    ("a> COUNT FROM emp OVER SYSTEM 1 TO 6\n", "a @5 rows 4\n1,2,0\n2,4,2\n4,5,1\n5,6,2\n"),
+    ("a> JOIN emp WITH emp ON id = id OVER SYSTEM 2 TO 6\na> SELECT id FORM emp\n",
+     "a @5 rows 4\n2,3,1,ops,100,1,ops,100\n2,4,2,dev,50,2,dev,50\n3,6,1,ops,150,1,ops,150\n5,6,2,dev,50,2,dev,50\n"
+     "a @5 ! Unexpected 10\n"),
+]
+SAMPLE = [(None, "sample @1 ok\n"), (None, "sample @2 ok\n"), (None, "sample @2 rows 2\n0,2,\n2,3,9806\n"),
+          (None, "sample @2 rows 2\n0,2,\n2,3,19564\n"), (None, "sample @2 rows 2\n4,2,3,19564\n6,2,3,9806\n")]
+
+
+def called(words, given, room, library, **around):
+    environment = dict(os.environ, LD_PRELOAD=library, **around)
+    return subprocess.run([PROGRAM, *words], cwd=room, input=given, env=environment, capture_output=True, text=True, timeout=60)
+
+
+def version(replies):
+    """The greatest version that replies name, 0 where there is none."""
+    return max([int(it) for it in re.findall(r"^\w+ @(\d+) ok$", replies, re.M)], default=0)
+
+
+def journal_stands(room, printed):
+    """Whether the journal of a run opens again, with at least the commits that were answered."""
+    again = subprocess.run([PROGRAM, "run"], cwd=room, input="v> ?\n", capture_output=True, text=True, timeout=60)
+    found = re.fullmatch(r"v @(\d+) ! BadByte 0\n", again.stdout)
+    return again.returncode == 0 and found is not None and version(printed) <= int(found.group(1)) <= 5
+
+
+def trial(words, phases, library, **refusal):
+    """Runs once with some memory refused, and says what is wrong with it, or how many allocations it came to."""
+    whole = "".join(replies for _, replies in phases)
+    fronts = ["".join(replies for _, replies in phases[:it]) for it in range(len(phases) + 1)]
+    given = "GO\n".join(script for script, _ in phases) if words == ["run"] else ""
+    with tempfile.TemporaryDirectory() as room:
+        if words[0] == "run":
+            subprocess.run([PROGRAM, "init"], cwd=room, stdin=subprocess.DEVNULL, check=True)
+        done = called(words, given, room, library, ALLOCATIONS=f"{room}/allocations", **refusal)
+        is_usual = (done.returncode, done.stdout) == (0, whole)
+        is_cut = done.returncode == 1 and done.stdout in fronts
+        if not is_usual and not is_cut:
+            return f"status {done.returncode}, {done.stdout!r}, {done.stderr!r}", 0
+        if words[0] == "run" and not journal_stands(room, done.stdout):
+            return "the journal does not open, or lacks a commit that was answered", 0
+        with open(f"{room}/allocations") as allocations:
+            return None, int(allocations.read())
+
+
+def initialise(library, **refusal):
+    """Makes a journal with some memory refused: it is made, or nothing is."""
+    with tempfile.TemporaryDirectory() as room:
+        done = called(["init"], "", room, library, ALLOCATIONS=f"{room}/allocations", **refusal)
+        size = os.path.getsize(f"{room}/timeline.tlj") if os.path.exists(f"{room}/timeline.tlj") else 0
+        if (done.returncode, done.stdout, size) not in ((0, "", 17), (1, "", 0)):
+            return f"status {done.returncode}, {done.stdout!r}, {size} bytes", 0
+        with open(f"{room}/allocations") as allocations:
+            return None, int(allocations.read())
+
+
+def main():
+    with tempfile.TemporaryDirectory() as room:
+        library = f"{room}/refuse.so"
+        subprocess.run(["cc", "-shared", "-fPIC", "-O1", "-o", library, SOURCE], check=True)
+        runs = {
+            "init": lambda **refusal: initialise(library, **refusal),
+            "the worked script": lambda **refusal: trial(["run"], WORKED, library, **refusal),
+            "sample 2 7": lambda **refusal: trial(["sample", "2", "7"], SAMPLE, library, **refusal),
+        }
+        for name, attempt in runs.items():
+            what, count = attempt()
+            tried, wrong = 1, 0
+            if what:
+                wrong = 1
+                print(f"{name}, with no memory refused: {what}", file=sys.stderr)
+            for number in range(1, count + 1):
+                for on in ({}, {"REFUSE_ON": "1"}):
+                    tried += 1
+                    what, _ = attempt(REFUSE=str(number), **on)
+                    if what:
+                        wrong += 1
+                        print(f"{name}, allocation {number} refused{' and all behind it' if on else ''}: {what}", file=sys.stderr)
+            print(f"memory refused to {name}\t{tried}\t{wrong}")
+
+
+main()

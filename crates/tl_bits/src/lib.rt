@@ -8,6 +8,3 @@ mod row_sets;
 
 pub use bags::Bag;
 pub use row_sets::RowSet;
-
-#[cfg(test)]
-mod tests;

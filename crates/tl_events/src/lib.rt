@@ -10,6 +10,3 @@ mod version_maps;
 pub use event_lists::EventList;
 pub use tl_types::Event;
 pub use version_maps::{VersionEnd, VersionMap};
-
-#[cfg(test)]
-mod tests;

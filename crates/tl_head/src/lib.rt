@@ -11,6 +11,3 @@ mod passes;
 
 pub use head::{Head, NewHead};
 pub use passes::{Pass, WriterPass};
-
-#[cfg(test)]
-mod tests;

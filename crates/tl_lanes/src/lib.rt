@@ -12,6 +12,3 @@ pub use extremes::{masked_max, masked_min};
 pub use masked::masked_sum;
 pub use masks::{LaneCmp, compare_mask, compare_mask_u32, compare_word, compare_word_u32};
 pub use words::{and_into, and_not_into, count_ones, or_into};
-
-#[cfg(test)]
-mod tests;

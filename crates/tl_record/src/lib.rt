@@ -30,6 +30,3 @@ mod texts;
 pub use decoding::{Decoded, decode, one_record};
 pub use encoding::{encode, encode_with_gate};
 pub use faults::RecordFault;
-
-#[cfg(test)]
-mod tests;

@@ -14,8 +14,6 @@ mod phases;
 mod reader;
 mod script;
 mod session_names;
-#[cfg(test)]
-mod tests;
 mod texts;
 
 pub use jobs::ScriptFault;

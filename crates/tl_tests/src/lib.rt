@@ -1,18 +1,26 @@
-//! Tests of the crates below the journal and the engine: what no clause says, and calls that neither
-//! a script of `examples/` nor a test of another crate reaches, on their happy path. A crate whose
-//! tests stand here is proved once, where one with tests of its own is proved a second time.
+//! Tests of the crates below: what no clause says, and calls that neither a script of `examples/` nor
+//! a test of another crate reaches, on their happy path. A crate whose tests stand here is proved
+//! once, where one with tests of its own is proved a second time.
 #![tactic(auto)]
 
 #[cfg(test)]
 mod batches;
 #[cfg(test)]
+mod bits;
+#[cfg(test)]
 mod columns;
 #[cfg(test)]
 mod devices;
 #[cfg(test)]
+mod events;
+#[cfg(test)]
+mod lanes;
+#[cfg(test)]
 mod lists;
 #[cfg(test)]
 mod plain;
+#[cfg(test)]
+mod records;
 #[cfg(test)]
 mod statements;
 #[cfg(test)]

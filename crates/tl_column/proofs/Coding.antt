@@ -1,7 +1,7 @@
 -- Distinct texts, and the codes of cells.
-use Rattle.std.proofs.Common.{◌≡◌, ℕ, ◌+◌, ◌<◌, ◌≤◌, zero, suc, Bool, true, false, ◌||◌, List, [], ◌∷◌, ◌++◌, length, get_or, fold, Option, Some, None, option_map, MatchOption, IfSome, IsNone, if◌then◌else◌, refl, sym, ap, ◌∙◌, subst, arith, length-append}
+use Rattle.std.proofs.Common.{◌≡◌, ℕ, ◌+◌, ◌<◌, ◌≤◌, ◌^◌, zero, suc, Bool, true, false, ◌||◌, List, [], ◌∷◌, ◌++◌, length, get_or, fold, Option, Some, None, option_map, MatchOption, IfSome, IsNone, if◌then◌else◌, refl, sym, ap, ◌∙◌, subst, arith, length-append}
 use Rattle.std.specs.Str.{bytes_eq}
-use Rattle.std.proofs.lemmas.List.{get_or_append_left, map-append}
+use Rattle.std.proofs.lemmas.List.{get_or_append_left, map-append, length-map}
 use Rattle.std.proofs.lemmas.List.Folds.{list_any-append}
 use Rattle.std.proofs.lemmas.List.Sums.{fold-append}
 use Rattle.std.proofs.lemmas.Slice.Eq.{bytes_eq-Decides}
@@ -201,12 +201,14 @@ module _ (old new cells : List (List ℕ)) (codes more : List ℕ) (xs : List (L
   pushed_codes valid fresh =
       codes_append new codes more (subst (λ ts. AreCodes ts codes) (sym grown) (codes_kept codes cells old valid)) fresh
 
-  pub pushed_coded : IsCoded old codes → AreCodes new more → IsCoded new (codes ++ more)
-  pushed_coded coded fresh = record {
+  pub pushed_coded : IsCoded old codes → AreCodes new more → length xs + length cells < 2 ^ 32 → IsCoded new (codes ++ more)
+  pushed_coded coded fresh few = record {
     valid = pushed_codes coded.valid fresh;
     first =
         grown
         ∙ ap (λ ts. fold with_text ts cells) (coded.first ∙ ap (λ ts. dictionary_of ts) is)
         ∙ sym (fold-append with_text [] xs cells)
         ∙ ap (λ ts. dictionary_of ts) (sym (pushed_cells coded.valid));
+    few =
+        omega (arith, few, length-append codes more, length-map codes (text_of old), length-map more (text_of new), ap length is, ap length added);
   }

@@ -2,3 +2,4 @@ pub mod Ordered
 pub mod RunFacts
 pub mod Coding
 pub mod Known
+pub mod WordLemmas

@@ -1,6 +1,6 @@
 -- Codes in the order of their texts.
 use Rattle.std.proofs.Common.{◌≡◌, ◌≢◌, ℕ, ◌+◌, ◌-◌, ◌<◌, ◌≤◌, zero, suc, Bool, true, false, List, [], ◌∷◌, ◌++◌, length, get_or, take, drop, eqb, if◌then◌else◌, inl, inr, refl, sym, ap, ◌∙◌, subst, eq-eqb, arith, append_assoc, length-append}
-use Rattle.std.proofs.lemmas.List.{get_or_append_left, get_or-map, map_push, take_all, take_more}
+use Rattle.std.proofs.lemmas.List.{get_or_append_left, take_all, take_more}
 use Rattle.std.proofs.lemmas.Bool.{eqb-true, cases_eq}
 use Rattle.std.specs.declared.cmp.Ordering.TheVariants.{Less, Greater}
 use Rattle.tl_shared.specs.Chunks.{flatten}

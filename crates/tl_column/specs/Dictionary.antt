@@ -1,5 +1,5 @@
 -- The distinct texts of a column, and their codes.
-use Rattle.std.specs.Prelude.{◌≡◌, ℕ, ◌<◌, nat_eq, Bool, false, List, [], ◌∷◌, ◌++◌, length, map, slice_index_or, fold, Option, Some, None, option_map, suc, if◌then◌else◌}
+use Rattle.std.specs.Prelude.{◌≡◌, ℕ, ◌<◌, ◌^◌, nat_eq, Bool, false, List, [], ◌∷◌, ◌++◌, length, map, slice_index_or, fold, Option, Some, None, option_map, suc, if◌then◌else◌}
 use Rattle.std.specs.List.{list_any}
 use Rattle.std.specs.Str.{bytes_eq}
 use Rattle.std.specs.Borrow.{Bor}
@@ -43,10 +43,12 @@ AreCodes texts (code ∷ rest) = (code < length texts) × AreCodes texts rest
 abbrev pub texts_of : List (List ℕ) → List ℕ → List (List ℕ)
 texts_of texts codes = map (text_of texts) codes
 
--- each is the code of a text, and the texts are the distinct ones of the cells with these codes
+-- each is the code of a text, the texts are the distinct ones of the cells with these codes, and
+-- there are fewer than 2^32 of these
 pub record IsCoded (texts : List (List ℕ)) (codes : List ℕ) : Type 0 where
   pub valid : AreCodes texts codes
   pub first : texts ≡ dictionary_of (texts_of texts codes)
+  pub few : length codes < 2 ^ 32
 
 -- the texts that are lent
 abbrev pub lent_texts : List (Bor (List ℕ)) → List (List ℕ)

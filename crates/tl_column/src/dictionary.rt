@@ -40,6 +40,14 @@ impl Dictionary {
         }
     }
 
+    /// How many texts there are.
+    pub fn len(&self) -> u32
+        requires { length self.now < 2 ^ 32 }
+        ensures { result ≡ length self.now }
+    {
+        self.texts.len()
+    }
+
     /// The text of a code.
     pub fn text(&self, code: u32) -> &str
         requires { code < length self.now }
@@ -83,7 +91,7 @@ impl Dictionary {
         match self.code(text.as_str()) {
             Some(code) => Ok((self, code)),
             None => {
-                let code = self.texts.len();
+                let code = self.len();
                 Ok((self.followed_by(alloc, code, text)?, code))
             }
         }

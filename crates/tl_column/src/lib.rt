@@ -6,6 +6,7 @@
 
 mod dictionary;
 mod int_column;
+mod masks;
 mod runs;
 mod text_column;
 mod text_list;

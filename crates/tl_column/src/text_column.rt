@@ -1,12 +1,16 @@
 //! A column of texts.
-ghost use Rattle.std.specs.Prelude.{◌≡◌, ℕ, ◌+◌, ◌<◌, ◌≤◌, ◌^◌, ◌++◌, [], Some, false, length, fold, slice_index_or, IfOk, IfSome, IsNone, ◌↔◌};
+ghost use Rattle.std.specs.Prelude.{◌≡◌, ℕ, ◌+◌, ◌-◌, ◌%◌, ◌<◌, ◌≤◌, ◌^◌, ◌++◌, [], Some, false, length, map, take, drop, fold, slice_index_or, IfOk, IfSome, IsNone, ◌↔◌};
+ghost use Rattle.tl_lanes.specs.Masks.{word_of, IsWordOf};
+ghost use Rattle.tl_column.specs.Masks.{code_for, has_code, is_text};
 ghost use Rattle.tl_column.specs.Dictionary.{text_of, contains_text, code_in, with_text, dictionary_of, texts_of, AreCodes, lent_texts, KnowsCodes};
 
 use crate::dictionary::Dictionary;
+use crate::masks::items_of_word;
 use std::alloc::Global;
 use std::collections::HashMap;
 use std::marker::Model;
-use tl_shared::{Shareable, SharedList};
+use tl_lanes::compare_word_u32;
+use tl_shared::{CHUNK, Shareable, SharedList};
 use tl_types::{NoMemory, Text};
 
 /// A column of texts. Contracts see it as the list of its cells.
@@ -21,6 +25,8 @@ pub struct TextColumn {
 
 impl Model for TextColumn {
     ghost use Rattle.std.specs.Prelude.{List, ℕ};
+    ghost use Rattle.tl_lanes.specs.Masks.{word_of, IsWordOf};
+    ghost use Rattle.tl_column.specs.Masks.{code_for, has_code, is_text};
     ghost use Rattle.tl_column.specs.Dictionary.{texts_of, IsCoded};
 
     ghost Value = { List (List ℕ) };
@@ -90,6 +96,47 @@ impl TextColumn {
         ensures absent { IsNone result ↔ (contains_text self.now text.now ≡ false) }
     {
         self.dictionary.code(text)
+    }
+
+    /// The code of a text, and where no cell is the text a number that is no text's code.
+    pub fn code_for(&self, text: &str) -> u32
+        ensures { result ≡ code_for (dictionary_of self.now) text.now }
+    {
+        match self.dictionary.code(text) {
+            Some(code) => code,
+            None => self.dictionary.len(),
+        }
+    }
+
+    /// Word `i` of the mask of the cells whose code is this one, where `equal`, or else of those
+    /// whose code is another: bit j tells of row 64 i + j. Bits past the rows are 0.
+    pub fn mask_word_of(&self, i: u32, equal: bool, code: u32) -> u64
+        ensures word { result
+            ≡ word_of (map (has_code equal (dictionary_of self.now) code) self.now) i }
+        ensures bits { IsWordOf (map (has_code equal (dictionary_of self.now) code) self.now) i
+            result }
+    {
+        compare_word_u32(items_of_word(&self.codes, i), equal, code)
+    }
+
+    /// Word `i` of the mask of the cells that are the text, where `equal`, or else of those that
+    /// are not: bit j tells of row 64 i + j. Bits past the rows are 0.
+    pub fn mask_word(&self, i: u32, equal: bool, text: &str) -> u64
+        ensures word { result ≡ word_of (map (is_text equal text.now) self.now) i }
+        ensures bits { IsWordOf (map (is_text equal text.now) self.now) i result }
+    {
+        compare_word_u32(items_of_word(&self.codes, i), equal, self.code_for(text))
+    }
+
+    /// The codes of the cells from row `row` on, counted from 0, as far as they stand in one piece:
+    /// at least one, and up to the next row whose number 1,024 divides.
+    pub fn codes_from(&self, row: u32) -> &[u32]
+        requires { row < length self.now }
+        ensures codes { result.now
+            ≡ take (CHUNK - row % CHUNK) (drop row (map (code_for (dictionary_of self.now)) self.now)) }
+        ensures some { 0 < length result.now }
+    {
+        self.codes.chunk_from(row as u64)
     }
 
     /// The code of the cell of row `row`, counted from 0.

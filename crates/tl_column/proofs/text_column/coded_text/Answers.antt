@@ -1,4 +1,4 @@
-use Rattle.std.proofs.Common.{◌≡◌, sym, ◌∙◌}
+use Rattle.std.proofs.Common.{sym, ◌∙◌}
 use Rattle.tl_column.proofs.Known.{known_code, known_with, known_more}
 use Rattle.tl_column.proofs.text_column.coded_text.Goals as goal
 

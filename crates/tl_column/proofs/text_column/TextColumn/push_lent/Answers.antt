@@ -1,4 +1,5 @@
 use Rattle.std.proofs.Common.{◌≡◌, ◌++◌, [], length, fold, sym, ap, ◌∙◌, subst, arith}
+use Rattle.std.proofs.lemmas.List.{length-map}
 use Rattle.tl_column.specs.Dictionary.{with_text, texts_of, AreCodes, IsCoded, lent_texts}
 use Rattle.tl_column.proofs.Coding.{fold_short, pushed_cells, pushed_coded}
 use Rattle.tl_column.proofs.text_column.TextColumn.push_lent.Goals as goal
@@ -24,7 +25,7 @@ invariant_of-result c =
     let all : c.in_ok-push_all.field-0 ≡ codes ++ more = c.in_ok-push_all.ensures ∙ ap (λ t. codes ++ t) c.as_slice.ensures.value in
     let fresh : AreCodes new more = subst (λ ts. AreCodes ts more) (sym c.in_ok-settle.ensures) c.in_ok-dictionary.ensures.valid in
     subst (λ cs. IsCoded new cs) (sym all)
-    (pushed_coded old new cells codes more c.args.self.now grown c.self.view_is added c.self.invariant fresh)
+    (pushed_coded old new cells codes more c.args.self.now grown c.self.view_is added c.self.invariant fresh (omega (arith, c.requires, length-map c.args.cells.now (λ cell. cell.now))))
 
 pub returns : goal.returns
 returns c =

@@ -1,2 +1,4 @@
 pub mod Examples
 pub mod SearchLemmas
+pub mod TickedLemmas
+pub mod FollowLemmas

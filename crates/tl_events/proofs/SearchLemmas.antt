@@ -82,19 +82,22 @@ end_of_front entries version count split =
     ∙ entries_after (drop count entries) version (end_of (take count entries) version)
     (λ i entry here. split.back (count + i) entry (omega arith) (sym (slice_get-drop count entries i) ∙ here))
 
-pub end_of_none : (entries : List VersionEnd) (version count : ℕ) → count ≡ 0 → IsSplit entries version count → end_of entries version ≡ 0
-end_of_none entries version count none split = end_of_front entries version count split ∙ ap (λ n. end_of (take n entries) version) none
+-- the end of the last of some first entries that are not after the version
+pub end_so_far : (entries : List VersionEnd) (version middle : ℕ) (at : VersionEnd) → slice_get entries middle ≡ Some at → at.version ≤ version → at.end ≡ end_of (take (middle + 1) entries) version
+end_so_far entries version middle at here low =
+    let found : get_or entries middle at ≡ at = get_or_from_slice_get entries middle at at here in
+    let within : middle < length entries = slice_get_within entries middle at here in
+    sym (fold_more (later_end version) 0 entries middle at within
+    ∙ ap (later_end version (fold (later_end version) 0 (take middle entries))) found
+    ∙ cond-true (nat_le at.version version) at.end (fold (later_end version) 0 (take middle entries)) (le-leb at.version version low))
 
-pub end_of_some : (entries : List VersionEnd) (version count before : ℕ) (entry : VersionEnd) → count ≡ before + 1 → IsSplit entries version count
-    → slice_get entries before ≡ Some entry → end_of entries version ≡ entry.end
-end_of_some entries version count before entry is split here =
-    let at : get_or entries before entry ≡ entry = get_or_from_slice_get entries before entry entry here in
-    let within : before < length entries = slice_get_within entries before entry here in
-    let low : entry.version ≤ version = split.front before entry (omega arith) here in
-    end_of_front entries version count split ∙ ap (λ n. end_of (take n entries) version) is
-    ∙ fold_more (later_end version) 0 entries before entry within
-    ∙ ap (later_end version (fold (later_end version) 0 (take before entries))) at
-    ∙ cond-true (nat_le entry.version version) entry.end (fold (later_end version) 0 (take before entries)) (le-leb entry.version version low)
+-- where the first entries are those that are not after the version
+pub end_when_split : (entries : List VersionEnd) (version count end : ℕ) → IsSplit entries version count → end ≡ end_of (take count entries) version → end ≡ end_of entries version
+end_when_split entries version count end split is = is ∙ sym (end_of_front entries version count split)
+
+-- one entry more has no fewer digits
+pub digits_more : (n m steps bound : ℕ) → n ≡ m → steps ≤ bound + binary_digits n → steps ≤ bound + binary_digits (m + 1)
+digits_more n m steps bound is few = let e = fewer_digits n (m + 1) (omega arith) in omega arith
 
 -- what the entries of a table say of a version
 pub end_of_places : (rows : List plain.Row) (last version : ℕ) → end_of (ends_of rows last) version ≡ place_of rows (min version last)

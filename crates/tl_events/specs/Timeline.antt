@@ -5,6 +5,7 @@ use Rattle.std.specs.Int.Digits.{digits_of}
 use Rattle.tl_types.specs.declared.events.Event.{Event}
 use Rattle.tl_types.specs.Plain as plain
 use Rattle.tl_types.specs.Events.{invalidation, activation, ids_where, events_at, place_of}
+use Rattle.tl_types.specs.Walks.{IsQuiet}
 use Rattle.tl_events.specs.declared.version_maps.VersionEnd.{VersionEnd}
 
 -- the events of a version at which these rows end and so many rows from `first` on begin
@@ -54,3 +55,12 @@ ends_of rows zero = []
 ends_of rows (suc version) =
     ends_of rows version ++ (if length (events_at rows (suc version)) == 0 then [] else record
     { version = suc version; end = place_of rows (suc version) } ∷ [])
+
+-- the entries are those of the versions behind one and up to a last one that have events: each is
+-- of the next version that has some, with its place
+abbrev pub Follow : List plain.Row → ℕ → ℕ → List VersionEnd → Type 0
+Follow rows last at [] = IsQuiet rows at (suc last)
+Follow rows last at (entry ∷ entries) =
+    (at < entry.version) × (entry.version ≤ last) × IsQuiet rows at entry.version
+    × (entry.end ≡ place_of rows entry.version) × (0 < length (events_at rows entry.version))
+    × Follow rows last entry.version entries

@@ -5,8 +5,10 @@
 #![tactic(auto)]
 
 mod event_lists;
+pub mod laws;
+mod ticked;
 mod version_maps;
 
-pub use event_lists::EventList;
+pub use event_lists::{EventList, PackedEvent};
 pub use tl_types::Event;
 pub use version_maps::{VersionEnd, VersionMap};

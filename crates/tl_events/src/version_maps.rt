@@ -1,14 +1,15 @@
 //! Maps from versions to places among the events.
-ghost use Rattle.std.specs.Prelude.{◌≡◌, ℕ, ◌+◌, ◌<◌, ◌≤◌, List, [], ◌∷◌, ◌++◌, length, IfOk};
+ghost use Rattle.std.specs.Prelude.{◌≡◌, ℕ, ◌+◌, ◌<◌, ◌≤◌, List, [], ◌∷◌, ◌++◌, length, IfOk, Some, slice_get};
 ghost use Rattle.tl_types.specs.Plain as plain;
 ghost use Rattle.tl_types.specs.Events.{place_of};
 ghost use Rattle.tl_events.specs.declared.version_maps.VersionEnd.{VersionEnd};
 ghost use Rattle.tl_events.specs.Timeline.{end_of, IsAfter, binary_digits, Ascend, IsSplit, ends_of};
 
+use crate::ticked::TickedList;
 use std::alloc::Global;
 use std::marker::Model;
 use std::sync::ledger::Ledger;
-use tl_shared::{Shareable, SharedList};
+use tl_shared::Shareable;
 use tl_types::{NoMemory, Steps};
 
 /// Where the events of a version end.
@@ -30,7 +31,7 @@ impl Shareable for VersionEnd {
 /// entries, whose versions ascend.
 #[derive(Drop)]
 pub struct VersionMap {
-    entries: SharedList<VersionEnd>,
+    entries: TickedList<VersionEnd>,
 }
 
 impl Model for VersionMap {
@@ -45,28 +46,40 @@ impl Model for VersionMap {
     ghost invariant = { λ m. Ascend m.entries };
 }
 
-// How many entries are not after the version. It takes a step for each entry that it looks at.
-fn entries_to<L: Ledger>(
-    entries: &SharedList<VersionEnd>,
+// Where the entries are parted by a version.
+#[derive(Clone, Copy)]
+struct Parting {
+    // How many entries are not after the version.
+    count: u64,
+    // The end of the last of these, 0 where there is none.
+    end: u32,
+}
+
+// Where the entries are parted by the version. It takes a step for each entry that it looks at.
+fn search<L: Ledger>(
+    entries: &TickedList<VersionEnd>,
     version: u32,
     steps: &mut Steps<L>,
-) -> u64
+) -> Parting
     requires { Ascend entries.now }
-    ensures split { IsSplit entries.now version result }
+    ensures split { IsSplit entries.now version result.count }
+    ensures end { result.end ≡ end_of entries.now version }
     ensures steps { steps.new ≤ steps.old + binary_digits (length entries.now) }
 {
     let mut low = 0;
     let mut high = entries.len();
-    'search: while low < high {
+    let mut end = 0;
+    'halving: while low < high {
         let middle = low + (high - low) / 2;
-        steps.tick();
-        if entries.at(middle).version <= version {
+        let entry = *entries.at(middle, steps);
+        if entry.version <= version {
             low = middle + 1;
+            end = entry.end;
         } else {
             high = middle;
         }
     }
-    low
+    Parting { count: low, end }
 }
 
 impl VersionMap {
@@ -75,7 +88,7 @@ impl VersionMap {
         ensures { result ≡ [] }
     {
         VersionMap {
-            entries: SharedList::none(alloc),
+            entries: TickedList::none(alloc),
         }
     }
 
@@ -102,9 +115,39 @@ impl VersionMap {
             → version ≤ last → result ≡ place_of rows version }
         ensures steps { steps.new ≤ steps.old + binary_digits (length self.now + 1) }
     {
-        match entries_to(&self.entries, version, steps) {
-            0 => 0,
-            count => self.entries.at(count - 1).end,
-        }
+        search(&self.entries, version, steps).end
+    }
+
+    /// How many entries there are.
+    pub fn len(&self) -> u64
+        ensures { result ≡ length self.now }
+    {
+        self.entries.len()
+    }
+
+    /// Entry `i`, counted from 0. It takes one step.
+    pub fn entry_at<L: Ledger>(&self, i: u64, steps: &mut Steps<L>) -> VersionEnd
+        requires { i < length self.now }
+        ensures entry { slice_get self.now i ≡ Some result }
+        ensures steps { steps.new ≡ steps.old + 1 }
+    {
+        *self.entries.at(i, steps)
+    }
+
+    /// How many entries are not after the version: these are the first ones. It takes at most as
+    /// many steps as one more than the number of entries has binary digits.
+    pub fn entries_to<L: Ledger>(&self, version: u32, steps: &mut Steps<L>) -> u64
+        ensures split { IsSplit self.now version result }
+        ensures steps { steps.new ≤ steps.old + binary_digits (length self.now + 1) }
+    {
+        search(&self.entries, version, steps).count
+    }
+}
+
+impl Shareable for VersionMap {
+    fn share(&self, alloc: Global) -> Result<VersionMap, NoMemory> {
+        Ok(VersionMap {
+            entries: self.entries.share(alloc)?,
+        })
     }
 }

@@ -12,8 +12,12 @@ use Rattle.std.proofs.lemmas.Nat.Bits.{bit_at-lt, bit_at-zero, bit_at-trailing_z
 use Rattle.std.proofs.lemmas.Nat.{shr-shr, shr_le}
 use Rattle.std.proofs.lemmas.Simd.{mask_l-lt, bit_mask_l, ones-mask_l}
 use Rattle.std.specs.Simd.Lanes.{mask_l}
-use Rattle.std.specs.Int.{bit_at, w64, trailing_zeros}
-use Rattle.tl_bits.specs.Sets.{is_member, IsFree, IsNext, IsNextBit, IsFirstBit}
+use Rattle.std.specs.Int.{bit_at, bit_not, w64, trailing_zeros}
+use Rattle.std.specs.Int.Bits.{or_zero_r}
+use mir.Val.{bool_byte}
+use Rattle.std.proofs.lemmas.List.{set-set}
+use Rattle.std.specs.Prelude.{bit_and, bit_or}
+use Rattle.tl_bits.specs.Sets.{is_member, IsNext, IsNextBit, IsFirstBit}
 use Rattle.tl_lanes.specs.Masks.{words_for, is_bit, bit_of, bits_of, word_of}
 use Rattle.tl_lanes.proofs.MaskBits.{NoneFrom, length-bits_of, get_or-bits_of, get_or_within_bits, bits_of_is, bit_set, bit_of_set, bit_of_set_other, bit_of_changed, bit_of_kept, bit_cleared, bit_of_cleared, bit_of_cleared_other, zeros, bit_of_zeros}
 
@@ -32,6 +36,31 @@ puts_cleared words row there j = by_row (cases_eq j row) where
   by_row : (j ≡ row) ⊎ (j ≡ row → ⊥) → bit_of (bit_cleared words row) j ≡ (if j == row then false else bit_of words j)
   by_row (inl same) = ap (bit_of (bit_cleared words row)) same ∙ bit_of_cleared words row there ∙ sym (cond-true (j == row) false (bit_of words j) (eq-eqb j row same))
   by_row (inr other) = bit_of_cleared_other words row j there other ∙ sym (cond-false (j == row) false (bit_of words j) (ne_eqb j row other))
+
+-- the word of a row, with the row's bit put at the value of a number that is 0 or 1
+abbrev put_in : List ℕ → ℕ → ℕ → ℕ
+put_in words row b = bit_or (bit_and (get_or words (row / 64) 0) (bit_not w64 (1 * 2 ^ (row % 64) % 2 ^ 64))) (b * 2 ^ (row % 64) % 2 ^ 64)
+
+pub puts_bit : (words : List ℕ) (row b : ℕ) (bit : Bool) → b ≡ bool_byte bit → row / 64 < length words → PutsBit words (set words (row / 64) (put_in words row b)) row bit
+puts_bit words row b true is there =
+    let cleared = bit_cleared words row in
+    let long : row / 64 < length cleared = let e = length-set words (row / 64) (bit_and (get_or words (row / 64) 0) (bit_not w64 (1 * 2 ^ (row % 64) % 2 ^ 64))) in omega arith in
+    let word : get_or cleared (row / 64) 0 ≡ bit_and (get_or words (row / 64) 0) (bit_not w64 (1 * 2 ^ (row % 64) % 2 ^ 64)) = get_or-set_same words (row / 64) (bit_and (get_or words (row / 64) 0) (bit_not w64 (1 * 2 ^ (row % 64) % 2 ^ 64))) 0 there in
+    let same : bit_set cleared row ≡ set words (row / 64) (put_in words row b) =
+    ap (λ w. set cleared (row / 64) (bit_or w (1 * 2 ^ (row % 64) % 2 ^ 64))) word
+    ∙ set-set words (row / 64) (bit_and (get_or words (row / 64) 0) (bit_not w64 (1 * 2 ^ (row % 64) % 2 ^ 64))) (put_in words row 1)
+    ∙ ap (λ n. set words (row / 64) (put_in words row n)) (sym is) in
+    subst (λ new. PutsBit words new row true) same (λ j. puts_set cleared row long j ∙ by_row j (j == row) (puts_cleared words row there j)) where
+      by_row : (j : ℕ) (t : Bool) → bit_of (bit_cleared words row) j ≡ cond t false (bit_of words j) → cond t true (bit_of (bit_cleared words row) j) ≡ cond t true (bit_of words j)
+      by_row j true h = refl
+      by_row j false h = h
+puts_bit words row b false is there =
+    let none : b * 2 ^ (row % 64) % 2 ^ 64 ≡ 0 = ap (λ n. n * 2 ^ (row % 64) % 2 ^ 64) is ∙ zero_of (2 ^ (row % 64)) in
+    let same : bit_cleared words row ≡ set words (row / 64) (put_in words row b) =
+    ap (set words (row / 64)) (sym (ap (bit_or (bit_and (get_or words (row / 64) 0) (bit_not w64 (1 * 2 ^ (row % 64) % 2 ^ 64)))) none ∙ or_zero_r (bit_and (get_or words (row / 64) 0) (bit_not w64 (1 * 2 ^ (row % 64) % 2 ^ 64))))) in
+    subst (λ new. PutsBit words new row false) same (puts_cleared words row there) where
+      zero_of : (n : ℕ) → 0 * n % 2 ^ 64 ≡ 0
+      zero_of n = let e : 0 * n ≡ 0 = omega arith in ap (λ m. m % 2 ^ 64) e
 
 -- the list of a set with one bit put
 pub bits_of_put : (n : ℕ) (old new : List ℕ) (row : ℕ) (bit : Bool) → row < n → PutsBit old new row bit → bits_of n new ≡ set (bits_of n old) row bit

@@ -1,10 +1,15 @@
 -- A set of row ids as a list: of each row, from 0 on, whether the row is in it.
 use Rattle.std.specs.Prelude.{◌≡◌, ℕ, ◌≤◌, ◌<◌, Bool, true, false, List, length, slice_index_or}
+use Rattle.tl_types.specs.Events.{ids_from}
 use Rattle.tl_lanes.specs.Masks.{is_bit, bit_of}
 
 -- the row is in the set
 abbrev pub is_member : List Bool → ℕ → Bool
 is_member set row = slice_index_or set row false
+
+-- the ids of the rows in the set, ascending
+abbrev pub members : List Bool → List ℕ
+members set = ids_from 0 (λ member. member) set
 
 -- no row from one up to another is in the set
 abbrev pub IsFree : List Bool → ℕ → ℕ → Type 0

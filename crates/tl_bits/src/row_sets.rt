@@ -65,25 +65,29 @@ fn put_bit(words: &mut [u64], row: u32, bit: bool)
     ensures len { length words.new ≡ length words.old }
     ensures bits { (j : ℕ) → bit_of words.new j ≡ (if j == row then bit else bit_of words.old j) }
 {
-    let word = words[(row / WORD) as usize];
+    let at = (row / WORD) as usize;
     let one = 1 << (row % WORD);
-    words[(row / WORD) as usize] = if bit { word | one } else { word & !one };
+    words[at] = (words[at] & !one) | (u64::from(bit) << (row % WORD));
 }
 
-// Whether the bit of this row is set.
-fn has_bit(words: &[u64], row: u32) -> bool
+// Whether the bit of this row is set. It takes one step.
+fn has_bit<L: Ledger>(words: &[u64], row: u32, steps: &mut Steps<L>) -> bool
     requires { row / 64 < length words.now }
-    ensures { result ≡ bit_of words.now row }
+    ensures bit { result ≡ bit_of words.now row }
+    ensures steps { steps.new ≡ steps.old + 1 }
 {
+    steps.tick();
     (words[(row / WORD) as usize] >> (row % WORD)) & 1 == 1
 }
 
-// The word at a place.
-fn word_at(words: &[u64], i: usize) -> u64
+// The word at a place. It takes one step.
+fn word_at<L: Ledger>(words: &[u64], i: usize, steps: &mut Steps<L>) -> u64
     requires { i < length words.now }
     ensures word { result ≡ slice_index words.now i }
     ensures fits { result < 2 ^ 64 }
+    ensures steps { steps.new ≡ steps.old + 1 }
 {
+    steps.tick();
     words[i]
 }
 
@@ -121,8 +125,7 @@ fn next_bit<L: Ledger>(words: &[u64], from: u32, steps: &mut Steps<L>) -> Option
     let mut at = (from / WORD) as usize;
     let mut low = from % WORD;
     'words: while at < words.len() {
-        steps.tick();
-        if let Some(bit) = first_bit(words[at], low) {
+        if let Some(bit) = first_bit(word_at(words, at, steps), low) {
             return Some(at as u32 * WORD + bit);
         }
         low = 0;
@@ -131,21 +134,14 @@ fn next_bit<L: Ledger>(words: &[u64], from: u32, steps: &mut Steps<L>) -> Option
     None
 }
 
-// How many bits of the mask are set.
-fn count_bits(words: &[u64]) -> u64
+// How many bits of the mask are set. It takes one step for each word.
+fn count_bits<L: Ledger>(words: &[u64], steps: &mut Steps<L>) -> u64
     requires { length words.now ≤ 2 ^ 26 }
-    ensures { result ≡ count_by (λ bit. bit) (bits_of (64 * length words.now) words.now) }
+    ensures count { result ≡ count_by (λ bit. bit) (bits_of (64 * length words.now) words.now) }
+    ensures steps { steps.new ≡ steps.old + length words.now }
 {
+    steps.tick_many(words.len() as u64);
     count_ones(words)
-}
-
-// Takes one step for each word.
-fn tick_each<L: Ledger>(words: &[u64], steps: &mut Steps<L>)
-    ensures { steps.new ≡ steps.old + length words.now }
-{
-    for _word in words {
-        steps.tick();
-    }
 }
 
 impl RowSet {
@@ -183,8 +179,9 @@ impl RowSet {
         self.rows
     }
 
-    // Says whether the row is in the set.
-    fn put(&mut self, row: u32, member: bool)
+    /// Puts the row with this id into the set where `member` says so, and else takes it out. It
+    /// branches on nothing, so that it is as fast where puts and takings out alternate.
+    pub fn put(&mut self, row: u32, member: bool)
         requires { row < length self.old }
         ensures { self.new ≡ slice_set self.old row member }
     {
@@ -213,8 +210,7 @@ impl RowSet {
         ensures member { result ≡ is_member self.now row }
         ensures steps { steps.new ≡ steps.old + 1 }
     {
-        steps.tick();
-        has_bit(&self.words, row)
+        has_bit(&self.words, row, steps)
     }
 
     /// Word `i` of the set: its bit k says whether row 64 i + k is in the set, and is 0 past the
@@ -225,8 +221,7 @@ impl RowSet {
         ensures bits { (k : ℕ) → k < 64 → is_bit result k ≡ is_member self.now (64 * i + k) }
         ensures steps { steps.new ≡ steps.old + 1 }
     {
-        steps.tick();
-        word_at(&self.words, i as usize)
+        word_at(&self.words, i as usize, steps)
     }
 
     /// Says of all 64 rows of word `i` whether they are in the set: row 64 i + k where bit k is
@@ -259,7 +254,6 @@ impl RowSet {
         ensures count { result ≡ count_by (λ member. member) self.now }
         ensures steps { steps.new ≡ steps.old + words_for (length self.now) }
     {
-        tick_each(&self.words, steps);
-        count_bits(&self.words) as u32
+        count_bits(&self.words, steps) as u32
     }
 }

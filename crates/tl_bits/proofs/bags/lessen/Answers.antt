@@ -1,5 +1,4 @@
-use Rattle.std.proofs.Common.{◌≡◌, ◌≤◌, ℕ, sym, ap, ◌∙◌, arith}
-use Rattle.std.specs.Prelude.{ℤ, unwrap_or, Option, Some, None}
+use Rattle.std.proofs.Common.{sym, ap, ◌∙◌, arith}
 use Rattle.std.specs.BTreeMap.{get}
 use Rattle.std.specs.Ordering.{int_cmp}
 use Rattle.std.proofs.Math.Facts.{to_z-of_z}

@@ -1,4 +1,4 @@
-use Rattle.std.proofs.Common.{◌≡◌, ℕ, List, subst, sym, ◌∙◌, ap, w64}
+use Rattle.std.proofs.Common.{ℕ, List, subst, sym, ◌∙◌, w64}
 use Rattle.std.specs.Prelude.{ℤ}
 use Rattle.std.proofs.Math.Facts.{to_z-of_z}
 use Rattle.tl_bits.specs.Bags.{IsGreatest}

@@ -1,6 +1,6 @@
-use Rattle.std.proofs.Common.{◌≡◌, ◌≤◌, ◌-◌, ◌+◌, ℕ, List, ◌++◌, length, ap, sym, ◌∙◌, subst, arith}
+use Rattle.std.proofs.Common.{◌-◌, ◌+◌, ◌++◌, length, ap, sym, ◌∙◌, subst, arith}
 use Rattle.std.proofs.lemmas.List.{length-append, length-replicate}
-use Rattle.tl_lanes.specs.Masks.{bits_of, words_for}
+use Rattle.tl_lanes.specs.Masks.{bits_of}
 use Rattle.tl_lanes.proofs.MaskBits.{NoneFrom, zeros}
 use Rattle.tl_bits.proofs.SetLemmas.{Shows, lent_len, rows_are, set_of_grown, none_past_grown}
 use Rattle.tl_bits.proofs.row_sets.RowSet.grown.Goals as goal

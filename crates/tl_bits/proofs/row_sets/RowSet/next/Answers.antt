@@ -1,4 +1,4 @@
-use Rattle.std.proofs.Common.{◌≡◌, ◌+◌, ◌-◌, ◌/◌, ◌∙◌, ap, arith}
+use Rattle.std.proofs.Common.{◌+◌, ◌-◌, ◌/◌, ◌∙◌, ap, arith}
 use Rattle.std.proofs.lemmas.Option.{IfSome_then}
 use Rattle.tl_bits.proofs.SetLemmas.{Shows, lent_len, rows_are, next_member, member_bit, IfNone_then}
 use Rattle.tl_bits.proofs.row_sets.RowSet.next.Goals as goal

@@ -1,6 +1,6 @@
-use Rattle.std.proofs.Common.{◌≡◌, ℕ, List, length, ap, sym, ◌∙◌, subst, arith, ◌<◌, ◌/◌}
+use Rattle.std.proofs.Common.{ℕ, List, length, ap, sym, ◌∙◌, subst, ◌<◌, ◌/◌}
 use Rattle.std.proofs.lemmas.List.{with_items_is}
-use Rattle.tl_lanes.specs.Masks.{bits_of, words_for}
+use Rattle.tl_lanes.specs.Masks.{bits_of}
 use Rattle.tl_lanes.proofs.MaskBits.{NoneFrom}
 use Rattle.tl_bits.proofs.SetLemmas.{row_in_words, set_of_put, none_past_set}
 use Rattle.tl_bits.proofs.row_sets.RowSet.put.Goals as goal

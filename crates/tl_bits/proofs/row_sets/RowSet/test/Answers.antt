@@ -1,4 +1,4 @@
-use Rattle.std.proofs.Common.{◌≡◌, ℕ, ◌<◌, ◌/◌, List, length, subst, sym, ◌∙◌, ap}
+use Rattle.std.proofs.Common.{ℕ, ◌<◌, ◌/◌, List, length, subst, sym, ◌∙◌, ap}
 use Rattle.tl_lanes.specs.Masks.{bit_of}
 use Rattle.tl_bits.proofs.SetLemmas.{row_in_words, member_is_bit}
 use Rattle.tl_bits.proofs.row_sets.RowSet.test.Goals as goal
@@ -11,5 +11,5 @@ has_bit-requires g c =
 
 pub returns-clause-member : goal.returns-clause-member
 returns-clause-member g c =
-    c.has_bit.ensures ∙ ap (λ words. bit_of words c.args.row) c.deref.ensures.value
+    c.has_bit.ensures.bit ∙ ap (λ words. bit_of words c.args.row) c.deref.ensures.value
     ∙ sym (member_is_bit c.self.inside.rows c.self.inside.words.items c.args.self.now c.self.view_is c.self.invariant.1 c.args.row)

@@ -13,7 +13,8 @@ use Rattle.tl_types.specs.declared.cells.Cell.{Cell}
 use Rattle.tl_types.specs.declared.cells.Cell.TheVariants as cell
 use Rattle.tl_types.specs.contracts.cells.CellPartialEq.TheImpl as equal
 use Rattle.tl_types.specs.History.{same_cell, has_id}
-use Rattle.tl_batch.specs.KeyIndex.{IdsByKey, is_id, is_among_ids, has_further, has_row, Changes}
+use Rattle.tl_batch.specs.declared.few_ids.FewIds.{FewIds}
+use Rattle.tl_batch.specs.KeyIndex.{IdsByKey, is_of, is_among_few, is_among_ids, has_further, has_row, Changes}
 
 -- CELLS
 
@@ -66,8 +67,8 @@ pub copied : {X : Type 0} (key copy : Cell) (w : Option X) (before all after : L
 copied key copy w before all after same view change q = grind (arith, finds q after, eq_is copy q, finds q before)
 
 -- a map with its entries in another order finds the same
-pub reordered : (before after : List (Cell × ℕ)) (further : List (Cell × List ℕ)) (ids : IdsByKey) → ((q : Cell) → lookup (equal.eq-value.it q) after ≡ lookup (equal.eq-value.it q) before)
-    → record { first = before; further = further } ≡ ids → (x : Cell) (n : ℕ) → has_row (record { first = after; further = further }) x n ≡ has_row ids x n
+pub reordered : (before after : List (Cell × FewIds)) (further : List (Cell × List ℕ)) (ids : IdsByKey) → ((q : Cell) → lookup (equal.eq-value.it q) after ≡ lookup (equal.eq-value.it q) before)
+    → record { few = before; further = further } ≡ ids → (x : Cell) (n : ℕ) → has_row (record { few = after; further = further }) x n ≡ has_row ids x n
 reordered before after further ids same view x n = grind (arith, finds x after, finds x before)
 
 module _ {X : Type 0} (at : Option X → ℕ → Bool) (key : Cell) (w : Option X) (before after : List (Cell × X)) (change : Changes key w before after) where
@@ -163,32 +164,50 @@ found_further key ids entries all (Some id) there view has = grind arith
 pub set_fresh : (key : Cell) (id : ℕ) (set : List ℕ) (all : List (Cell × List ℕ)) → ((n : ℕ) → has_id set n ≡ nat_eq n id) → is_some (lookup (same_cell key) all) ≡ false → (n : ℕ) → has_id set n ≡ (nat_eq n id || has_further all key n)
 set_fresh key id set all one none n = grind arith
 
--- FIRST AND FURTHER IDS
+-- THE IDS IN THE MAP
 
 or_assoc : (a b c : Bool) → ((a || b) || c) ≡ (a || (b || c))
 or_assoc true b c = refl
 or_assoc false b c = refl
 
--- a key that has no first id gets one
-pub first_added : (key : Cell) (id : ℕ) (before after : List (Cell × ℕ)) (further : List (Cell × List ℕ)) → Changes key (Some id) before after → is_some (lookup (same_cell key) before) ≡ false
-    → (x : Cell) (n : ℕ) → (is_id (lookup (same_cell x) after) n || has_further further x n) ≡ ((same_cell x key && nat_eq n id) || (is_id (lookup (same_cell x) before) n || has_further further x n))
-first_added key id before after further change none x n = grind (arith, added is_id key (Some id) before after change id fresh x n) where
-  fresh : (m : ℕ) → nat_eq m id ≡ (nat_eq m id || is_id (lookup (same_cell key) before) m)
-  fresh m = grind arith
+-- a key gets one id more
+pub few_added : (key : Cell) (id : ℕ) (w : Option FewIds) (before after : List (Cell × FewIds)) (further : List (Cell × List ℕ)) → Changes key w before after
+    → ((n : ℕ) → is_among_few w n ≡ (nat_eq n id || is_among_few (lookup (same_cell key) before) n))
+    → (x : Cell) (n : ℕ) → (is_among_few (lookup (same_cell x) after) n || has_further further x n) ≡ ((same_cell x key && nat_eq n id) || (is_among_few (lookup (same_cell x) before) n || has_further further x n))
+few_added key id w before after further change more x n =
+    ap (λ b. b || has_further further x n) (added is_among_few key w before after change id more x n)
+    ∙ or_assoc (same_cell x key && nat_eq n id) (is_among_few (lookup (same_cell x) before) n) (has_further further x n)
 
--- a further id in the place of the first
-pub first_put : (key : Cell) (next : ℕ) (before after : List (Cell × ℕ)) (all left : List (Cell × List ℕ)) → Changes key (Some next) before after
+-- a key that has no ids in the map gets one
+pub first_added : (key : Cell) (id : ℕ) (ids : FewIds) (before after : List (Cell × FewIds)) (further : List (Cell × List ℕ)) → Changes key (Some ids) before after → ((n : ℕ) → is_of ids n ≡ nat_eq n id) → is_some (lookup (same_cell key) before) ≡ false
+    → (x : Cell) (n : ℕ) → (is_among_few (lookup (same_cell x) after) n || has_further further x n) ≡ ((same_cell x key && nat_eq n id) || (is_among_few (lookup (same_cell x) before) n || has_further further x n))
+first_added key id ids before after further change one none = few_added key id (Some ids) before after further change fresh where
+  by : (o : Option FewIds) → is_some o ≡ false → (n : ℕ) → is_of ids n ≡ (nat_eq n id || is_among_few o n)
+  by None e n = grind (arith, one n)
+  by (Some few) e n = absurd (cc)
+
+  fresh : (n : ℕ) → is_of ids n ≡ (nat_eq n id || is_among_few (lookup (same_cell key) before) n)
+  fresh = by (lookup (same_cell key) before) none
+
+-- a further id in the place of those in the map
+pub further_put : (key : Cell) (next : ℕ) (ids : FewIds) (before after : List (Cell × FewIds)) (all left : List (Cell × List ℕ)) → Changes key (Some ids) before after → ((n : ℕ) → is_of ids n ≡ nat_eq n next)
     → ((x : Cell) (n : ℕ) → has_further all x n ≡ ((same_cell x key && nat_eq n next) || has_further left x n))
-    → (x : Cell) (n : ℕ) → (is_id (lookup (same_cell x) after) n || has_further left x n) ≡ ((not (same_cell x key) && is_id (lookup (same_cell x) before) n) || has_further all x n)
-first_put key next before after all left change one x n = grind (arith, changed is_id key (Some next) before after change x n, one x n)
+    → (x : Cell) (n : ℕ) → (is_among_few (lookup (same_cell x) after) n || has_further left x n) ≡ ((not (same_cell x key) && is_among_few (lookup (same_cell x) before) n) || has_further all x n)
+further_put key next ids before after all left change is one x n = grind (arith, changed is_among_few key (Some ids) before after change x n, is n, one x n)
 
--- no further id is there for it
-pub first_gone : (key : Cell) (before after : List (Cell × ℕ)) (all left : List (Cell × List ℕ)) → Changes key None before after → ((x : Cell) (n : ℕ) → has_further left x n ≡ has_further all x n)
-    → (x : Cell) (n : ℕ) → (is_id (lookup (same_cell x) after) n || has_further left x n) ≡ ((not (same_cell x key) && is_id (lookup (same_cell x) before) n) || has_further all x n)
-first_gone key before after all left change same x n = grind (arith, changed is_id key None before after change x n, same x n)
+-- some of the ids in the map are left
+pub few_left : (key : Cell) (id : ℕ) (ids left : FewIds) (before after : List (Cell × FewIds)) (further : List (Cell × List ℕ)) → Changes key (Some left) before after → Some ids ≡ lookup (same_cell key) before
+    → ((n : ℕ) → is_of left n ≡ (not (nat_eq n id) && is_of ids n))
+    → (x : Cell) (n : ℕ) → (is_among_few (lookup (same_cell x) after) n || has_further further x n) ≡ ((not (same_cell x key && nat_eq n id) && is_among_few (lookup (same_cell x) before) n) || has_further further x n)
+few_left key id ids left before after further change there fewer x n =
+    ap (λ b. b || has_further further x n) (removed is_among_few key (Some left) before after change id (λ m. fewer m ∙ ap (λ o. not (nat_eq m id) && is_among_few o m) there) x n)
 
--- an id that is the first of its key
-pub was_first : (key : Cell) (id : ℕ) (first : List (Cell × ℕ)) (before left : List (Cell × List ℕ)) → is_id (lookup (same_cell key) first) id ≡ true
-    → ((x : Cell) (n : ℕ) → has_further left x n ≡ (not (same_cell x key && nat_eq n id) && has_further before x n))
-    → (x : Cell) (n : ℕ) → ((not (same_cell x key) && is_id (lookup (same_cell x) first) n) || has_further left x n) ≡ (not (same_cell x key && nat_eq n id) && (is_id (lookup (same_cell x) first) n || has_further before x n))
-was_first key id first before left there fewer x n = grind (arith, fewer x n, finds_same x key first)
+-- none of them is left
+pub none_left : (key : Cell) (id : ℕ) (ids : FewIds) (before : List (Cell × FewIds)) → Some ids ≡ lookup (same_cell key) before → ((n : ℕ) → false ≡ (not (nat_eq n id) && is_of ids n))
+    → (x : Cell) (n : ℕ) → (not (same_cell x key) && is_among_few (lookup (same_cell x) before) n) ≡ (not (same_cell x key && nat_eq n id) && is_among_few (lookup (same_cell x) before) n)
+none_left key id ids before there none x n = grind (arith, finds_same x key before, none n)
+
+-- an id was taken away from the further ones and from those in the map
+pub taken_from_both : (key : Cell) (id : ℕ) (few : List (Cell × FewIds)) (before left : List (Cell × List ℕ)) → ((x : Cell) (n : ℕ) → has_further left x n ≡ (not (same_cell x key && nat_eq n id) && has_further before x n))
+    → (x : Cell) (n : ℕ) → ((not (same_cell x key && nat_eq n id) && is_among_few (lookup (same_cell x) few) n) || has_further left x n) ≡ (not (same_cell x key && nat_eq n id) && (is_among_few (lookup (same_cell x) few) n || has_further before x n))
+taken_from_both key id few before left fewer x n = grind (arith, fewer x n)

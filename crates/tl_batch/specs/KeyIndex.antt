@@ -1,22 +1,32 @@
--- The ids of rows by their keys: an id or none for each key, and further ids of it.
+-- The ids of rows by their keys: one id or two of each key that has any, and further ones.
 use Rattle.std.specs.Prelude.{◌≡◌, if◌then◌else◌, ℕ, Bool, false, ◌||◌, ◌==◌, List, [], Option, Some, None}
 use Rattle.std.specs.Map.{lookup}
 use Rattle.tl_types.specs.declared.cells.Cell.{Cell}
 use Rattle.tl_types.specs.History.{has_id, same_cell}
+use Rattle.tl_batch.specs.declared.few_ids.FewIds.{FewIds}
 
--- the ids of rows by their keys
+-- the ids of rows by their keys: one or two of each, and the further ones
 pub record IdsByKey : Type 0 where
-  pub first : List (Cell × ℕ)
+  pub few : List (Cell × FewIds)
   pub further : List (Cell × List ℕ)
 
 -- no ids
 abbrev pub no_ids : IdsByKey
-no_ids = record { first = []; further = [] }
+no_ids = record { few = []; further = [] }
 
 -- the id is there, and it is this one
 abbrev pub is_id : Option ℕ → ℕ → Bool
 is_id None n = false
 is_id (Some id) n = n == id
+
+-- this is the one id or the other
+abbrev pub is_of : FewIds → ℕ → Bool
+is_of ids n = n == ids.first || is_id ids.second n
+
+-- there are one or two ids, and this is one of them
+abbrev pub is_among_few : Option FewIds → ℕ → Bool
+is_among_few None n = false
+is_among_few (Some ids) n = is_of ids n
 
 -- one of the ids, where there are any, is this one
 abbrev pub is_among_ids : Option (List ℕ) → ℕ → Bool
@@ -29,7 +39,7 @@ has_further further x n = is_among_ids (lookup (same_cell x) further) n
 
 -- the id stands there under the key
 abbrev pub has_row : IdsByKey → Cell → ℕ → Bool
-has_row ids x n = is_id (lookup (same_cell x) ids.first) n || has_further ids.further x n
+has_row ids x n = is_among_few (lookup (same_cell x) ids.few) n || has_further ids.further x n
 
 -- what is found at each key after what is found at one key has become this
 abbrev pub Changes : {X : Type 0} → Cell → Option X → List (Cell × X) → List (Cell × X) → Type 0

@@ -137,6 +137,9 @@ impl FurtherIds {
         ensures { (x : Cell) (n : ℕ) → has_further self.new x n
             ≡ (not (same_cell x key.now && (n == id)) && has_further self.old x n) }
     {
+        if self.ids.is_empty() {
+            return;
+        }
         self.cut(key, id);
         self.shed(key);
     }
@@ -148,6 +151,9 @@ impl FurtherIds {
         ensures none { IfNone result ((x : Cell) (n : ℕ) → has_further self.new x n
             ≡ has_further self.old x n) }
     {
+        if self.ids.is_empty() {
+            return None;
+        }
         let id = self.draw(key);
         self.shed(key);
         id

@@ -4,21 +4,22 @@ ghost use Rattle.std.specs.Map.{lookup};
 ghost use Rattle.tl_types.specs.declared.cells.Cell.{Cell};
 ghost use Rattle.tl_types.specs.Facts.{AscendFrom};
 ghost use Rattle.tl_types.specs.History.{has_id, same_cell};
-ghost use Rattle.tl_batch.specs.KeyIndex.{Changes, has_further, has_row, no_ids, is_id};
+ghost use Rattle.tl_batch.specs.KeyIndex.{Changes, has_further, has_row, no_ids, is_among_few};
 
+use crate::few_ids::FewIds;
 use crate::further_ids::FurtherIds;
 use crate::ids::IdSet;
 use std::alloc::Global;
 use std::collections::HashMap;
 use std::marker::Model;
-use tl_types::{Cell, NoMemory, Opened, Seq};
+use tl_types::{Cell, NoMemory, Seq};
 
-/// The ids of rows by their keys: one id of a key in a map, and the further ones, which a key has
-/// only where its rows have valid periods or while a commit is followed, in sets. A contract sees
-/// whether an id stands there under a key, by `has_row`.
+/// The ids of rows by their keys: one or two ids of a key in a map, and the further ones, which a
+/// key has only where its rows have valid periods, in sets. A contract sees whether an id stands
+/// there under a key, by `has_row`.
 #[derive(Drop)]
 pub(crate) struct KeyIndex {
-    first: HashMap<Cell, u32>,
+    few: HashMap<Cell, FewIds>,
     further: FurtherIds,
 }
 
@@ -27,7 +28,7 @@ impl Model for KeyIndex {
 
     ghost Value = { IdsByKey };
 
-    ghost view = { λ k. record { first = k.first.entries; further = k.further } };
+    ghost view = { λ k. record { few = k.few.entries; further = k.further } };
 }
 
 impl KeyIndex {
@@ -36,7 +37,7 @@ impl KeyIndex {
         ensures { result ≡ no_ids }
     {
         KeyIndex {
-            first: HashMap::new(alloc),
+            few: HashMap::new(alloc),
             further: FurtherIds::new(alloc),
         }
     }
@@ -45,8 +46,50 @@ impl KeyIndex {
     pub(crate) fn reserve(&mut self, keys: usize) -> Result<(), NoMemory>
         ensures { (x : Cell) (n : ℕ) → has_row self.new x n ≡ has_row self.old x n }
     {
-        self.first.reserve(keys)?;
+        self.few.reserve(keys)?;
         Ok(())
+    }
+
+    // The ids of a key in the map.
+    fn few_of(&self, key: &Cell) -> Option<FewIds>
+        ensures { result ≡ lookup (same_cell key.now) self.now.few }
+    {
+        match self.few.get(key) {
+            Some(ids) => Some(*ids),
+            None => None,
+        }
+    }
+
+    // Gives a key that has no ids in the map one.
+    fn insert_id(&mut self, key: &Cell, id: u32) -> Result<(), NoMemory>
+        requires { is_some (lookup (same_cell key.now) self.old.few) ≡ false }
+        ensures ok { OnOk result ((x : Cell) (n : ℕ) → has_row self.new x n
+            ≡ ((same_cell x key.now && (n == id)) || has_row self.old x n)) }
+        ensures err { OnErr result (self.new ≡ self.old) }
+    {
+        let copy = key.clone()?;
+        self.few.insert(copy, FewIds::one(id))?;
+        Ok(())
+    }
+
+    // Puts ids in the place of those that stand in the map under a key.
+    fn put_few(&mut self, key: &Cell, ids: FewIds)
+        requires { is_some (lookup (same_cell key.now) self.old.few) ≡ true }
+        ensures few { Changes key.now (Some ids) self.old.few self.new.few }
+        ensures further { self.new.further ≡ self.old.further }
+    {
+        let Some(few) = self.few.get_mut(key) else {
+            return;
+        };
+        *few = ids;
+    }
+
+    // Takes the ids of a key out of the map.
+    fn drop_few(&mut self, key: &Cell)
+        ensures few { Changes key.now None self.old.few self.new.few }
+        ensures further { self.new.further ≡ self.old.further }
+    {
+        self.few.remove(key);
     }
 
     /// Adds the id of a row of a key. The error is `NoMemory`, and leaves the ids as they were.
@@ -56,56 +99,43 @@ impl KeyIndex {
         ensures err { OnErr result ((x : Cell) (n : ℕ) → has_row self.new x n
             ≡ has_row self.old x n) }
     {
-        if self.first.contains_key(key) {
+        let Some(ids) = self.few_of(key) else {
+            self.insert_id(key, id)?;
+            return Ok(());
+        };
+        let Some(more) = ids.with(id) else {
             self.further.add(alloc, key, id)?;
             return Ok(());
-        }
-        let copy = key.clone()?;
-        self.first.insert(copy, id)?;
+        };
+        self.put_few(key, more);
         Ok(())
     }
 
-    // Whether this id stands in the map under the key.
-    fn is_first(&self, key: &Cell, id: u32) -> bool
-        ensures { result ≡ is_id (lookup (same_cell key.now) self.now.first) id }
-    {
-        match self.first.get(key) {
-            Some(first) => id == *first,
-            None => false,
-        }
-    }
-
-    // Puts an id in the place of the one that stands in the map under a key.
-    fn put_first(&mut self, key: &Cell, id: u32)
-        requires { is_some (lookup (same_cell key.now) self.old.first) ≡ true }
-        ensures first { Changes key.now (Some id) self.old.first self.new.first }
-        ensures further { self.new.further ≡ self.old.further }
-    {
-        let Some(first) = self.first.get_mut(key) else {
-            return;
-        };
-        *first = id;
-    }
-
-    // Takes the id of a key out of the map.
-    fn drop_first(&mut self, key: &Cell)
-        ensures first { Changes key.now None self.old.first self.new.first }
-        ensures further { self.new.further ≡ self.old.further }
-    {
-        self.first.remove(key);
-    }
-
-    // Takes the id of a key out of the map; one of its further ids comes in its place, where there
-    // is one.
-    fn remove_first(&mut self, key: &Cell, id: u32)
-        requires { is_id (lookup (same_cell key.now) self.old.first) id ≡ true }
+    // The key has none of its ids in the map any more; one of the further ones comes in their
+    // place, where there is one.
+    fn refill(&mut self, key: &Cell)
+        requires { is_some (lookup (same_cell key.now) self.old.few) ≡ true }
         ensures { (x : Cell) (n : ℕ) → has_row self.new x n
-            ≡ ((not (same_cell x key.now) && is_id (lookup (same_cell x) self.old.first) n)
+            ≡ ((not (same_cell x key.now) && is_among_few (lookup (same_cell x) self.old.few) n)
             || has_further self.old.further x n) }
     {
         match self.further.pop(key) {
-            Some(next) => self.put_first(key, next),
-            None => self.drop_first(key),
+            Some(next) => self.put_few(key, FewIds::one(next)),
+            None => self.drop_few(key),
+        }
+    }
+
+    // Takes an id of a key out of the map, under which these stand there.
+    fn remove_few(&mut self, key: &Cell, ids: FewIds, id: u32)
+        requires { Some ids ≡ lookup (same_cell key.now) self.old.few }
+        ensures { (x : Cell) (n : ℕ) → has_row self.new x n
+            ≡ ((not (same_cell x key.now && (n == id))
+            && is_among_few (lookup (same_cell x) self.old.few) n)
+            || has_further self.old.further x n) }
+    {
+        match ids.without(id) {
+            Some(left) => self.put_few(key, left),
+            None => self.refill(key),
         }
     }
 
@@ -115,8 +145,8 @@ impl KeyIndex {
             ≡ (not (same_cell x key.now && (n == id)) && has_row self.old x n) }
     {
         self.further.remove(key, id);
-        if self.is_first(key, id) {
-            self.remove_first(key, id);
+        if let Some(ids) = self.few_of(key) {
+            self.remove_few(key, ids, id);
         }
     }
 
@@ -125,8 +155,8 @@ impl KeyIndex {
         ensures some { IfSome result (λ id. has_row self.now key.now id ≡ true) }
         ensures none { IfNone result ((n : ℕ) → has_row self.now key.now n ≡ false) }
     {
-        match self.first.get(key) {
-            Some(id) => Some(*id),
+        match self.few_of(key) {
+            Some(ids) => Some(ids.any()),
             None => self.further.find(key),
         }
     }
@@ -137,8 +167,8 @@ impl KeyIndex {
             ≡ (has_row self.now key.now n || has_id ids.old n)) }
     {
         self.further.add_to(key, ids)?;
-        if let Some(id) = self.first.get(key) {
-            ids.add(*id)?;
+        if let Some(few) = self.few_of(key) {
+            few.add_to(ids)?;
         }
         Ok(())
     }

@@ -5,6 +5,7 @@
 mod affected;
 mod changing;
 mod faults;
+mod few_ids;
 mod following;
 mod further_ids;
 mod ids;

@@ -1,28 +1,14 @@
-//! The engine for temporal tables as a program: it opens a journal of commits, reads a script, runs
-//! its statements over the tables of the commits, appends those that it makes, and writes one reply
-//! for each statement. The top call `timeline` carries what is proved of it all.
+//! The engine for temporal tables as a program: the words after its name, its standard input and
+//! output and the file of its journal are handed to the call `timeline`, which does all.
 #![tactic(auto)]
 
-mod alone;
-mod closing;
-mod commands;
-mod no_source;
-mod opened;
-mod phases;
-mod running;
-mod samples;
-mod statuses;
-mod stops;
-mod top;
 mod words;
-mod writing;
 
-use statuses::Status;
 use std::process::ExitCode;
 use std::rt::Env;
 use tl_device::{FileDisk, OpenGate, RealSink, RealSource};
+use tl_program::{Status, timeline};
 use tl_types::NoMemory;
-use top::timeline;
 use words::{given_words, words_of};
 
 // The file of the journal, in the folder where the program is run.

@@ -2,7 +2,7 @@
 ghost use Rattle.std.specs.Prelude.{◌≡◌, IfOk, true};
 ghost use Rattle.std.specs.List.{list_all};
 ghost use Rattle.std.specs.Str.{is_utf8};
-ghost use Rattle.timeline.specs.Commands.{texts_of, words_of};
+ghost use Rattle.tl_program.specs.Commands.{texts_of, words_of};
 
 use std::alloc::{AllocError, Global};
 use std::env::FillError;

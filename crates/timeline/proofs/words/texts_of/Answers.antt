@@ -1,6 +1,6 @@
 use Rattle.std.proofs.Common.{◌∙◌}
-use Rattle.timeline.proofs.CommandLemmas.{word_is_utf8}
-use Rattle.timeline.proofs.words.texts_of.Goals as goal
+use Rattle.tl_program.proofs.CommandLemmas.{word_is_utf8}
+use Rattle.tl_program.proofs.words.texts_of.Goals as goal
 
 pub as_text-requires : goal.as_text-requires
 as_text-requires c =

@@ -1,6 +1,6 @@
 use Rattle.std.proofs.Common.{◌≡◌, take}
-use Rattle.timeline.specs.Commands.{texts_of}
-use Rattle.timeline.proofs.words.texts_of.Given as goal
+use Rattle.tl_program.specs.Commands.{texts_of}
+use Rattle.tl_program.proofs.words.texts_of.Given as goal
 
 -- the first words stand as texts
 abbrev pub invariant-loop-word : goal.invariant-loop-word

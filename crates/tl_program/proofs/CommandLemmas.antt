@@ -1,0 +1,44 @@
+-- The numbers that words spell.
+use Rattle.std.proofs.Common.{◌≡◌, ℕ, ◌<◌, ◌^◌, nat_lt, nat_le, Bool, true, false, ◌&&◌, cond, List, [], ◌∷◌, length, get_or, Option, Some, None, IfSome, Result, refl, ap, sym, ◌∙◌, arith}
+use Rattle.std.specs.Result.{result_ok}
+use Rattle.std.specs.Char.{is_ascii_digit}
+use Rattle.std.specs.List.{list_all}
+use Rattle.std.specs.Str.{all_ascii_digits, IsUtf8, is_utf8}
+use Rattle.std.proofs.lemmas.Str.{IsUtf8-from_is_utf8}
+use Rattle.std.proofs.lemmas.List.Folds.{list_all_at}
+use Rattle.std.specs.Str.Parse.{digits_value, ParsesUnsigned}
+use Rattle.std.proofs.lemmas.Str.Parse.{parse_digits}
+use Rattle.std.proofs.lemmas.Bool.{ltb-true}
+use Rattle.std.proofs.lemmas.Bool.Decides.{nat_tests}
+use Rattle.tl_csv.proofs.NumberLemmas.{own, ok_by_test, both_tests, all_tests, lt_true}
+use Rattle.tl_program.specs.Commands.{spelled_number, within}
+
+all_digits : (bs : List ℕ) → all_ascii_digits bs ≡ list_all is_ascii_digit bs
+all_digits [] = refl
+all_digits (b ∷ bs) = ap (λ t. is_ascii_digit b && t) (all_digits bs)
+
+-- what parsing digits gives
+pub number_parsed : {E : Type 0} (bs : List ℕ) (r : Result ℕ E) → ParsesUnsigned 64 10 bs r → list_all is_ascii_digit bs ≡ true → result_ok r ≡ spelled_number bs
+number_parsed bs r h digits =
+    ok_by_test r (nat_lt 0 (length bs) && list_all is_ascii_digit bs && nat_lt (digits_value 10 bs) (2 ^ 64)) _ (parse_digits own 64 bs r h (all_digits bs ∙ digits))
+    (λ t. let p = both_tests _ _ _ t in (ltb-true _ _ p.0, ltb-true _ _ p.2))
+    (λ p. all_tests _ _ _ (lt_true _ _ p.0) digits (lt_true _ _ p.1))
+
+-- at most 1,000,000 lines are fewer than 2 ^ 32
+pub few_lines : (o : Option ℕ) → IfSome (within 1 1000000 o) (λ n. n < 4294967296)
+few_lines None = tt
+few_lines (Some n) = by_test (nat_le 1 n && nat_le n 1000000) refl where
+  both : (a b : Bool) → (a && b) ≡ true → b ≡ true
+  both true b h = h
+  both false b h = absurd (cc)
+
+  by_test : (t : Bool) → (nat_le 1 n && nat_le n 1000000) ≡ t → IfSome (cond t (Some n) None) (λ m. m < 4294967296)
+  by_test true e = let h = both (nat_le 1 n) (nat_le n 1000000) e in grind (arith, nat_tests)
+  by_test false e = tt
+
+-- each of several words is UTF-8 where all are
+pub word_is_utf8 : (given : List (List ℕ)) (i : ℕ) (d word : List ℕ) → list_all is_utf8 given ≡ true → i < length given → word ≡ get_or given i d → IsUtf8 word
+word_is_utf8 given i d word all within is = by_test (is_utf8 (get_or given i d)) refl where
+  by_test : (t : Bool) → is_utf8 (get_or given i d) ≡ t → IsUtf8 word
+  by_test true e = IsUtf8-from_is_utf8 word (ap is_utf8 is ∙ e)
+  by_test false e = absurd (let f : true ≡ false = sym all ∙ list_all_at is_utf8 given i d within e in cc)

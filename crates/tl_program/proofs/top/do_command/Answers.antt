@@ -1,0 +1,19 @@
+use Rattle.std.proofs.Common.{ℕ, List, Some, subst, sym}
+use Rattle.std.specs.declared.option.Option.{Option}
+use Rattle.tl_program.specs.declared.commands.Command.{Command}
+use Rattle.tl_program.specs.Commands.{put_text}
+use Rattle.tl_program.specs.Coming.{block_reads}
+use Rattle.tl_program.specs.Ending.{EndsBy, RunEnds}
+use Rattle.tl_program.specs.Outside.{outside}
+use Rattle.tl_program.proofs.top.do_command.Goals as goal
+
+pub returns-in-Some-Load-clause-ends : goal.returns-in-Some-Load-clause-ends
+returns-in-Some-Load-clause-ends g c =
+    let source = g.S.Source in
+    let sink = g.K.Sink in
+    let disk = g.D.Disk in
+    let before = outside source.left source.faults sink.written sink.faults disk.reads disk.may_leave disk.faults c.args.source.now c.args.sink.now c.args.disk in
+    let after = outside source.left source.faults sink.written sink.faults disk.reads disk.may_leave disk.faults c.load.new.source c.load.new.sink c.load.result.disk in
+    subst (λ (o : Option Command). EndsBy o before after c.load.result.status) (sym c.in-Some-Load.is)
+    (subst (λ (x : Command). EndsBy (Some x) before after c.load.result.status) (sym c.in-Some-Load.field-0-is)
+    (subst (λ (t : List ℕ). RunEnds (block_reads (put_text t)) before after c.load.result.status) c.as_str.ensures.bytes c.load.ensures))

@@ -1,0 +1,21 @@
+use Rattle.std.proofs.Common.{◌∙◌, arith, ap, sym, subst}
+use Rattle.tl_types.specs.Limits.{standard_limits}
+use Rattle.tl_script.specs.Reader.{ScriptState, new_state}
+use Rattle.tl_program.specs.Coming.{script_coming}
+use Rattle.tl_program.specs.Ending.{RunEnds}
+use Rattle.tl_program.specs.Outside.{outside}
+use Rattle.tl_program.specs.Running.{HasNotBegun}
+use Rattle.tl_program.proofs.ScriptComing.{new_script_fresh}
+use Rattle.tl_program.proofs.top.run_script.Goals as goal
+
+pub run-requires-after_bounds : goal.run-requires-after_bounds
+run-requires-after_bounds g c κs within = subst (λ (s : ScriptState). HasNotBegun (script_coming s)) (sym (c.new-script.ensures ∙ ap new_state c.standard.ensures)) (new_script_fresh standard_limits (omega arith))
+
+pub returns : goal.returns
+returns g c =
+    let source = g.S.Source in
+    let sink = g.K.Sink in
+    let disk = g.D.Disk in
+    let before = outside source.left source.faults sink.written sink.faults disk.reads disk.may_leave disk.faults c.args.source.now c.args.sink.now c.args.disk in
+    let after = outside source.left source.faults sink.written sink.faults disk.reads disk.may_leave disk.faults c.run.new.source c.run.new.sink c.run.result.disk in
+    subst (λ (s : ScriptState). RunEnds (script_coming s).reads before after c.run.result.status) (c.new-script.ensures ∙ ap new_state c.standard.ensures) c.run.ensures

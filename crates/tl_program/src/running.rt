@@ -1,0 +1,181 @@
+//! The phases of a run, one after the other: the sessions of each answer its jobs at once, and the
+//! replies are written before the next phase is asked for.
+ghost use Rattle.std.specs.Prelude.{◌≡◌, ◌<◌, ◌≤◌, List, All, IfOk, length, map, option_map, true, Some};
+ghost use Rattle.tl_types.specs.declared.commits.Entry.{Entry};
+ghost use Rattle.tl_types.specs.Limits.{standard_limits};
+ghost use Rattle.tl_session.specs.Jobs.{job_of};
+ghost use Rattle.tl_session.specs.Phases.{HaveRun};
+ghost use Rattle.tl_program.specs.Coming.{Coming};
+ghost use Rattle.tl_program.specs.Jobs.{asked};
+ghost use Rattle.tl_program.specs.Outside.{streams, Streams};
+ghost use Rattle.tl_program.specs.Running.{replies_bytes, TakesPhase, GoesOn, HasNotBegun, Progress, RunsAndWrites};
+ghost use Rattle.tl_program.specs.Stopping.{Stops};
+
+use crate::phases::Phases;
+use crate::stops::{Stop, stop_for};
+use crate::writing::write_bytes;
+use std::alloc::Global;
+use std::sync::Wait;
+use std::thread::Threads;
+use tl_device::{Disk, Gate, Sink, Source};
+use tl_engine::{Engine, Named};
+use tl_script::{Job, Phase};
+use tl_session::{Job as LentJob, Reply, SharedAccess, put_reply, run_phase};
+use tl_types::{Bytes, NoMemory};
+
+/// A run: the engine over its journal, what the sessions of its phases share, and the phases that
+/// are still to come.
+pub(crate) struct Running<D: Disk, J: Named, P> {
+    /// The engine.
+    pub engine: Engine<D, J>,
+    /// What the sessions share.
+    pub shared: SharedAccess<J>,
+    /// The phases.
+    pub phases: P,
+}
+
+fn lent_block(block: &Option<Bytes>) -> Option<&[u8]>
+    ensures { option_map (λ b. b.now) result ≡ block.now }
+{
+    match block {
+        Some(bytes) => Some(bytes.as_slice()),
+        None => None,
+    }
+}
+
+fn lent_job<'a>(job: &'a Job) -> LentJob<'a>
+    ensures { job_of result ≡ asked job.now }
+{
+    LentJob {
+        session: job.session,
+        line: job.line,
+        text: job.text.as_str(),
+        block: lent_block(&job.block),
+    }
+}
+
+// The jobs of a phase, for the sessions that are asked to do them. The error is `NoMemory`.
+fn lent_jobs<'a>(alloc: Global, jobs: &'a [Job]) -> Result<Vec<LentJob<'a>>, NoMemory>
+    ensures { IfOk result (λ lent. map job_of lent.items ≡ map asked jobs.now) }
+{
+    let mut lent = Vec::new(alloc);
+    for job in jobs {
+        lent.push(lent_job(job))?;
+    }
+    Ok(lent)
+}
+
+// The bytes of the replies to jobs, each under the name of its session. The error is `NoMemory`.
+fn text_of<S: Source, P: Phases<S>>(
+    alloc: Global,
+    phases: &P,
+    jobs: &[LentJob],
+    replies: &[Reply],
+) -> Result<Vec<u8>, NoMemory>
+    requires each { length replies.now ≡ length jobs.now }
+    requires sessions { All (λ job. job.session < length (P.coming phases.now).names) jobs.now }
+    ensures { IfOk result (λ text. text.items ≡ replies_bytes (P.coming phases.now).names
+        (map job_of jobs.now) replies.now) }
+{
+    let mut text = Vec::new(alloc);
+    for i in 0..jobs.len() {
+        let name = phases.session_name(jobs[i].session);
+        put_reply(alloc, &mut text, name.as_bytes(), &replies[i])?;
+    }
+    Ok(text)
+}
+
+// Runs a phase, and writes its replies. None: all of them are written.
+fn run_one<
+    S: Source,
+    D: Disk + Send,
+    J: Named + Send + Sync,
+    P: Phases<S>,
+    K: Sink,
+    G: Gate,
+    R: AllocGlobal + Threads + Wait + Sync,
+>(rt: &R, running: &mut Running<D, J, P>, phase: &Phase, sink: &mut K, gate: &G) -> Option<Stop>
+    requires standard { J.limits ≡ standard_limits }
+    requires few { length (P.coming running.old.phases).names < 65536 }
+    requires parts { running.old.shared.parts ≡ 65536 }
+    requires sessions { All (λ job. job.session < length (P.coming running.old.phases).names)
+        phase.now.jobs.items }
+    ensures ran { RunsAndWrites (P.coming running.old.phases).names
+        (map asked phase.now.jobs.items) running.old.shared running.new.shared
+        (K.written sink.old) (K.written sink.new) (K.faults sink.old) (K.faults sink.new) result }
+    ensures same { running.new.phases ≡ running.old.phases }
+{
+    let alloc = rt.alloc();
+    let Ok(jobs) = lent_jobs(alloc, &phase.jobs) else {
+        return Some(Stop::NoMemory);
+    };
+    running.shared.set_count(running.phases.session_count());
+    let Ok(replies) = run_phase(rt, &running.engine, &mut running.shared, &jobs, gate) else {
+        return Some(Stop::NoMemory);
+    };
+    let Ok(text) = text_of::<S, P>(alloc, &running.phases, &jobs, &replies) else {
+        return Some(Stop::NoMemory);
+    };
+    write_bytes(sink, &text)
+}
+
+// Runs the next phase, and writes its replies. None: they are written, and a phase may come yet.
+fn run_next<
+    S: Source,
+    D: Disk + Send,
+    J: Named + Send + Sync,
+    P: Phases<S>,
+    K: Sink,
+    G: Gate,
+    R: AllocGlobal + Threads + Wait + Sync,
+>(rt: &R, running: &mut Running<D, J, P>, source: &mut S, sink: &mut K, gate: &G) -> Option<Stop>
+    requires standard { J.limits ≡ standard_limits }
+    requires live { (P.coming running.old.phases).live ≡ true }
+    requires few { length (P.coming running.old.phases).names
+        ≤ (P.coming running.old.phases).most }
+    requires most { (P.coming running.old.phases).most < 65536 }
+    requires parts { running.old.shared.parts ≡ 65536 }
+    ensures more { (first : Coming) (opening : List Entry) (begun : Streams)
+        → Progress first opening begun (P.coming running.old.phases) running.old.shared
+        (streams S.left S.faults K.written K.faults source.old sink.old)
+        → GoesOn first opening begun (P.coming running.new.phases) running.new.shared
+        (streams S.left S.faults K.written K.faults source.new sink.new) result }
+    ensures takes { TakesPhase (P.coming running.old.phases) (P.coming running.new.phases)
+        (S.left source.old) (S.left source.new) result }
+{
+    match running.phases.next(rt.alloc(), source) {
+        Ok(Some(phase)) => run_one::<S, D, J, P, K, G, R>(rt, running, &phase, sink, gate),
+        Ok(None) => Some(Stop::Ended),
+        Err(error) => Some(stop_for(error)),
+    }
+}
+
+/// Runs the phases one after the other, each with its sessions at once, and writes the replies of
+/// each before the next is asked for, until they stop.
+pub(crate) fn run_phases<
+    S: Source,
+    D: Disk + Send,
+    J: Named + Send + Sync,
+    P: Phases<S>,
+    K: Sink,
+    G: Gate,
+    R: AllocGlobal + Threads + Wait + Sync,
+>(rt: &R, running: &mut Running<D, J, P>, source: &mut S, sink: &mut K, gate: &G) -> Stop
+    requires standard { J.limits ≡ standard_limits }
+    requires fresh { HasNotBegun (P.coming running.old.phases) }
+    requires parts { running.old.shared.parts ≡ 65536 }
+    requires amount { running.old.shared.amount ≡ 0 }
+    ensures stops { Stops (λ turns. HaveRun running.old.shared.seen turns running.new.shared.seen
+        running.new.shared.amount) (P.coming running.old.phases).reads result
+        (streams S.left S.faults K.written K.faults source.old sink.old)
+        (streams S.left S.faults K.written K.faults source.new sink.new) }
+    ensures parts { running.new.shared.parts ≡ 65536 }
+{
+    'phases: for _ in rt.forever() {
+        let stop = run_next::<S, D, J, P, K, G, R>(rt, running, source, sink, gate);
+        if let Some(stop) = stop {
+            return stop;
+        }
+    }
+    unreachable!()
+}

@@ -1,0 +1,37 @@
+//! Why the phases of a run stopped.
+ghost use Rattle.std.specs.Prelude.{◌≡◌};
+ghost use Rattle.tl_program.specs.Stopping.{stop_for};
+
+use tl_script::{NextError, ScriptFault};
+
+/// Why no further phase is run.
+#[derive(Clone, Copy)]
+pub(crate) enum Stop {
+    /// All phases were run.
+    Ended,
+    /// The next phase has this fault.
+    Fault(ScriptFault),
+    /// The source failed. `faults` is its count of faults.
+    Source {
+        /// The count.
+        faults: u64,
+    },
+    /// The sink failed. `faults` is its count of faults.
+    Sink {
+        /// The count.
+        faults: u64,
+    },
+    /// Memory ran out.
+    NoMemory,
+}
+
+/// Why the phases stop where no further one is read, for this cause.
+pub(crate) fn stop_for(error: NextError) -> Stop
+    ensures { result ≡ stop_for error }
+{
+    match error {
+        NextError::NoMemory => Stop::NoMemory,
+        NextError::Source { faults } => Stop::Source { faults },
+        NextError::Fault(fault) => Stop::Fault(fault),
+    }
+}

@@ -1,0 +1,296 @@
+//! The top call: the whole of what the program does.
+ghost use Rattle.std.specs.Prelude.{◌≡◌, ℕ, List, IfOk, false};
+ghost use Rattle.std.specs.declared.option.Option.{Option};
+ghost use Rattle.std.specs.String.{string_bytes};
+ghost use Rattle.tl_program.specs.Coming.{block_reads, script_reads};
+ghost use Rattle.tl_program.specs.Commands.{command_of, put_text, reads_source, texts_of, uses_disk};
+ghost use Rattle.tl_program.specs.Ending.{Ends, EndsBy, InitEnds, RunEnds, SampleEnds};
+ghost use Rattle.tl_program.specs.Headline.{Completes, Headline};
+ghost use Rattle.tl_program.specs.Outside.{outside, outside_from};
+ghost use Rattle.tl_program.specs.Running.{HasNotBegun};
+ghost use Rattle.tl_program.specs.Sample.{sample_reading};
+
+use crate::alone::empty_disk;
+use crate::closing::{close, close_run, end_refused};
+use crate::commands::{Command, command_of};
+use crate::no_source::NoSource;
+use crate::opened::{Attached, Finished, run_opened};
+use crate::phases::{BlockPhase, Phases};
+use crate::samples::SamplePhases;
+use crate::statuses::Status;
+use std::alloc::Global;
+use std::marker::Brand;
+use std::snapshot::Snapshot;
+use std::sync::Wait;
+use std::thread::Threads;
+use tl_device::{Disk, Gate, Sink, Source, SureDisk};
+use tl_engine::Engine;
+use tl_journal::{InitRun, Journal, Refused};
+use tl_script::Script;
+use tl_types::{Limits, NoMemory};
+
+/// How a run ended, and the disk that it was given.
+#[derive(Drop)]
+pub struct Ending<D> {
+    /// How it ended.
+    pub status: Status,
+    /// The disk.
+    pub disk: D,
+}
+
+// The text of the statement that loads a table.
+fn put_text(alloc: Global, table: &str) -> Result<String, NoMemory>
+    ensures { IfOk result (λ text. string_bytes text ≡ put_text table.now) }
+{
+    format!(in alloc; "PUT {table}")
+}
+
+// Makes an empty journal.
+fn init<K: Sink, D: Disk>(alloc: Global, sink: &mut K, disk: D) -> Ending<D>
+    ensures { (left : Option (List ℕ)) (faults : ℕ) → InitEnds
+        (outside_from K.written K.faults D.reads D.may_leave D.faults left faults sink.old disk)
+        (outside_from K.written K.faults D.reads D.may_leave D.faults left faults
+        sink.new result.disk)
+        result.status }
+{
+    let InitRun { done, disk } = Journal::init(disk);
+    match done {
+        Ok(()) => Ending {
+            status: Status::Done,
+            disk,
+        },
+        Err(fault) => Ending {
+            status: end_refused(alloc, sink, fault),
+            disk,
+        },
+    }
+}
+
+// Runs phases over the journal on the disk.
+fn run<
+    R: AllocGlobal + Threads + Wait + Sync,
+    S: Source,
+    K: Sink,
+    D: Disk + Send,
+    P: Phases<S>,
+    G: Gate,
+>(rt: &R, phases: P, source: &mut S, sink: &mut K, disk: D, gate: &G) -> Ending<D>
+    requires { HasNotBegun (P.coming phases) }
+    ensures { RunEnds (P.coming phases).reads
+        (outside S.left S.faults K.written K.faults D.reads D.may_leave D.faults
+        source.old sink.old disk)
+        (outside S.left S.faults K.written K.faults D.reads D.may_leave D.faults
+        source.new sink.new result.disk)
+        result.status }
+{
+    let alloc = rt.alloc();
+    let begun = Snapshot::of(&disk);
+    match Engine::<D, Brand>::attach(alloc, disk, &Limits::standard()) {
+        Err(Refused { fault, disk }) => Ending {
+            status: end_refused(alloc, sink, fault),
+            disk,
+        },
+        Ok(opening) => {
+            let attached = Attached { opening, begun };
+            let Finished { stop, broke, disk } = run_opened::<S, D, Brand, P, K, G, R>(
+                rt, attached, phases, source, sink, gate,
+            );
+            let faults = disk.faults();
+            Ending {
+                status: close_run(alloc, sink, stop, broke, faults),
+                disk,
+            }
+        }
+    }
+}
+
+// Runs the script that the source has.
+fn run_script<R: AllocGlobal + Threads + Wait + Sync, S: Source, K: Sink, D: Disk + Send, G: Gate>(
+    rt: &R,
+    source: &mut S,
+    sink: &mut K,
+    disk: D,
+    gate: &G,
+) -> Ending<D>
+    ensures { RunEnds script_reads
+        (outside S.left S.faults K.written K.faults D.reads D.may_leave D.faults
+        source.old sink.old disk)
+        (outside S.left S.faults K.written K.faults D.reads D.may_leave D.faults
+        source.new sink.new result.disk)
+        result.status }
+{
+    let script = Script::new(rt.alloc(), &Limits::standard());
+    run::<R, S, K, D, Script, G>(rt, script, source, sink, disk, gate)
+}
+
+// Loads a table with what the source has.
+fn load<R: AllocGlobal + Threads + Wait + Sync, S: Source, K: Sink, D: Disk + Send, G: Gate>(
+    rt: &R,
+    table: &str,
+    source: &mut S,
+    sink: &mut K,
+    disk: D,
+    gate: &G,
+) -> Ending<D>
+    ensures { RunEnds (block_reads (put_text table.now))
+        (outside S.left S.faults K.written K.faults D.reads D.may_leave D.faults
+        source.old sink.old disk)
+        (outside S.left S.faults K.written K.faults D.reads D.may_leave D.faults
+        source.new sink.new result.disk)
+        result.status }
+{
+    let Ok(text) = put_text(rt.alloc(), table) else {
+        return Ending {
+            status: Status::NoMemory,
+            disk,
+        };
+    };
+    let phase = BlockPhase {
+        text: text.as_str(),
+        given: false,
+    };
+    run::<R, S, K, D, BlockPhase, G>(rt, phase, source, sink, disk, gate)
+}
+
+// Runs the sample of so many lines, whose generator begins with `start`, over a journal of its own
+// in memory.
+fn run_sample<R: AllocGlobal + Threads + Wait + Sync, K: Sink, G: Gate>(
+    rt: &R,
+    lines: u32,
+    start: u64,
+    sink: &mut K,
+    gate: &G,
+) -> Status
+    ensures { SampleEnds (sample_reading lines start) (K.written sink.old) (K.written sink.new)
+        (K.faults sink.old) (K.faults sink.new) result }
+{
+    let Ok(disk) = empty_disk(rt.alloc()) else {
+        return Status::NoMemory;
+    };
+    let phases = SamplePhases::new(lines, start);
+    let mut source = NoSource;
+    let ending = run::<R, NoSource, K, SureDisk, SamplePhases, G>(
+        rt,
+        phases,
+        &mut source,
+        sink,
+        disk,
+        gate,
+    );
+    ending.status
+}
+
+// Does a command, where the words are one.
+fn do_command<R: AllocGlobal + Threads + Wait + Sync, S: Source, K: Sink, D: Disk + Send, G: Gate>(
+    rt: &R,
+    command: Option<Command>,
+    source: &mut S,
+    sink: &mut K,
+    disk: D,
+    gate: &G,
+) -> Ending<D>
+    ensures ends { EndsBy command
+        (outside S.left S.faults K.written K.faults D.reads D.may_leave D.faults
+        source.old sink.old disk)
+        (outside S.left S.faults K.written K.faults D.reads D.may_leave D.faults
+        source.new sink.new result.disk)
+        result.status }
+    ensures unread { reads_source command ≡ false → source.new ≡ source.old }
+    ensures unused { uses_disk command ≡ false → result.disk ≡ disk }
+{
+    match command {
+        None => Ending {
+            status: close(rt.alloc(), sink, Status::Usage),
+            disk,
+        },
+        Some(Command::Init) => init(rt.alloc(), sink, disk),
+        Some(Command::Run) => run_script(rt, source, sink, disk, gate),
+        Some(Command::Load { table }) => load(rt, table.as_str(), source, sink, disk, gate),
+        Some(Command::Sample { lines, start }) => Ending {
+            status: run_sample(rt, lines, start, sink, gate),
+            disk,
+        },
+    }
+}
+
+/// All that the program does: it opens the journal on the disk, runs the statements of a script
+/// over the tables of its commits, appends each commit to the journal before it answers it, and
+/// writes one reply for each statement to the sink. It hands the disk back.
+///
+/// `words` are the words after the program's name:
+/// - `init` makes an empty journal on a disk of at most 17 bytes, and writes nothing to the sink.
+/// - `run` opens the journal and runs the script that the source gives.
+/// - `load TABLE` opens the journal and puts all that the source gives as one block of rows, by one
+///   statement `PUT TABLE` of a session `load`.
+/// - `sample N START` runs jobs that are made from the two numbers, over a journal of its own in
+///   memory: a table, N rows in blocks of 10,000, and three queries. Neither the source nor the
+///   disk is used.
+///
+/// The order is: the words; opening; then for each phase reading the source, the faults of the
+/// script, running, writing. The sessions of a phase run at once, each its own jobs in order; their
+/// replies are written, in the order of the jobs' lines, before more of the source is read. The
+/// statuses, each with its closing line but for `Done`, `NoMemory` and `SinkFault`:
+/// - `Done`: the source was read to its end, and the bytes written are the replies to all jobs, a
+///   transcript of the script's phases. The disk holds the journal of the commits that they end
+///   with, also in a crash. Where each phase has jobs of one session, the replies are those of the
+///   jobs done one after the other.
+/// - `NoMemory`: memory ran out. The replies of the phases before that are written; the disk may
+///   hold commits of jobs of the phase in which it ran out.
+/// - `Usage`: where the words are no command. Neither the source nor the disk is used.
+/// - `SourceFault`: only where the source's count of faults rose in this call. The replies are
+///   those of the phases whose `GO` lines were among the bytes taken.
+/// - `SinkFault`: only where the sink's count of faults rose in this call; what is written is a
+///   prefix of the bytes that the run was to write, with all replies of the phases before the last
+///   one that was run. The disk holds the commits of its jobs too.
+/// - `DiskFault`: only where the disk's count of faults rose in this call. Where it came in opening
+///   or in `init`, the closing line alone is written. Where it came in an append, that batch is
+///   answered `! device`, and `! broken` each batch without a fault of its own that its session, or
+///   any in a later phase, brings after it. Queries are answered still, and the disk holds the
+///   commits before the batch, or these and its own.
+/// - `ScriptFault`: where the script has that fault. No statement of its phase is run; the replies
+///   are those of the phases before it.
+/// - `NotInitialised`, `Damaged`: where the disk's bytes are no journal, or one whose commits do
+///   not fit one after the other. `AlreadyInitialised`: where `init` finds more than 17 bytes. The
+///   closing line alone is written, the source is unread, and the disk is as it was.
+///
+/// With the words of a command, a disk whose bytes are a journal of commits that fit one after the
+/// other (for `init` at most 17 bytes), a script without a fault and no count that rises, the status
+/// is `Done` or `NoMemory`. The call may wait, and starts threads of its own, which end with it.
+pub fn timeline<
+    R: AllocGlobal + Threads + Wait + Sync,
+    S: Source,
+    K: Sink,
+    D: Disk + Send,
+    G: Gate,
+>(rt: &R, words: &[String], source: &mut S, sink: &mut K, disk: D, gate: &G) -> Ending<D>
+    ensures ends { Ends (texts_of words.now)
+        (outside S.left S.faults K.written K.faults D.reads D.may_leave D.faults
+        source.old sink.old disk)
+        (outside S.left S.faults K.written K.faults D.reads D.may_leave D.faults
+        source.new sink.new result.disk)
+        result.status }
+    ensures headline { Headline (texts_of words.now)
+        (outside S.left S.faults K.written K.faults D.reads D.may_leave D.faults
+        source.old sink.old disk)
+        (outside S.left S.faults K.written K.faults D.reads D.may_leave D.faults
+        source.new sink.new result.disk)
+        result.status }
+    ensures complete { Completes (texts_of words.now)
+        (outside S.left S.faults K.written K.faults D.reads D.may_leave D.faults
+        source.old sink.old disk)
+        (outside S.left S.faults K.written K.faults D.reads D.may_leave D.faults
+        source.new sink.new result.disk)
+        result.status }
+    ensures unread { reads_source (command_of (texts_of words.now)) ≡ false
+        → source.new ≡ source.old }
+    ensures unused { uses_disk (command_of (texts_of words.now)) ≡ false
+        → result.disk ≡ disk }
+{
+    match command_of(rt.alloc(), words) {
+        Ok(command) => do_command(rt, command, source, sink, disk, gate),
+        Err(_) => Ending {
+            status: Status::NoMemory,
+            disk,
+        },
+    }
+}

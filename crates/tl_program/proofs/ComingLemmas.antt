@@ -3,11 +3,11 @@ use Rattle.std.proofs.Common.{◌≡◌, inl, inr, ℕ, ◌≤◌, Bool, true, f
 use Rattle.tl_device.specs.Known.{prepend_known}
 use Rattle.tl_device.proofs.Known.{prepend_none, read_more}
 use Rattle.tl_script.specs.declared.jobs.ScriptFault.{ScriptFault}
-use Rattle.tl_script.specs.Script.{Job, Reading}
+use Rattle.tl_script.specs.Script.{Job, ScriptReading}
 use Rattle.tl_script.specs.Phases.{with_phase, no_phase, no_phase_but}
 use Rattle.tl_script.specs.Reader.{with_phases, Grows}
 use Rattle.tl_script.specs.Taking.{IsAtEnd}
-use Rattle.tl_program.specs.Coming.{Coming, Comes, GivesPhase, GivesNoMore, IsFaulty, ReadsOn, HaveCome}
+use Rattle.tl_program.specs.Coming.{Coming, Comes, BringsPhase, BringsNoMore, BringsFault, ReadsOn, HaveCome}
 use Rattle.tl_program.specs.Running.{HasNotBegun}
 
 -- what the source has left, where it tells it
@@ -29,7 +29,7 @@ nothing_left : (left : Option (List ℕ)) → IsAtEnd left → rest_of left ≡ 
 nothing_left None none = refl
 nothing_left (Some l) none = none
 
-pub phases_then : (phases : List (List Job)) (jobs : List Job) (more : Reading) → with_phases phases (with_phase jobs more) ≡ with_phases (phases ++ jobs ∷ []) more
+pub phases_then : (phases : List (List Job)) (jobs : List Job) (more : ScriptReading) → with_phases phases (with_phase jobs more) ≡ with_phases (phases ++ jobs ∷ []) more
 phases_then phases jobs more = ap (λ ps. record { names = more.names; phases = ps; fault = more.fault }) (sym (append_assoc phases (jobs ∷ []) more.phases))
 
 -- nothing has come yet
@@ -53,7 +53,7 @@ reads_more first bytes phases old mid taken jobs new left live (inl reads) (inr 
     inr (none, ended, reads true taken ∙ (ap (with_phases phases) read ∙ phases_then phases jobs (no_phase new.names)))
 
 -- a phase more has come
-pub one_more_come : (first : Coming) (before : Option (List ℕ)) (bytes : List ℕ) (phases : List (List Job)) (old : Coming) (mid : Option (List ℕ)) (taken : List ℕ) (jobs : List Job) (new : Coming) (left : Option (List ℕ)) → HaveCome first before bytes phases old mid → mid ≡ prepend_known taken left → (old.at_end ≡ true → ⊥) → GivesPhase old taken jobs new left → HaveCome first before (bytes ++ taken) (phases ++ jobs ∷ []) new left
+pub one_more_come : (first : Coming) (before : Option (List ℕ)) (bytes : List ℕ) (phases : List (List Job)) (old : Coming) (mid : Option (List ℕ)) (taken : List ℕ) (jobs : List Job) (new : Coming) (left : Option (List ℕ)) → HaveCome first before bytes phases old mid → mid ≡ prepend_known taken left → (old.at_end ≡ true → ⊥) → BringsPhase old taken jobs new left → HaveCome first before (bytes ++ taken) (phases ++ jobs ∷ []) new left
 one_more_come first before bytes phases old mid taken jobs new left come order live gives =
     record {
       order = read_more before mid left bytes taken (bytes ++ taken) come.order order refl;
@@ -67,7 +67,7 @@ one_more_come first before bytes phases old mid taken jobs new left come order l
 -- THE END
 
 -- the source is at its end behind the last phase
-pub at_the_end : (first : Coming) (before : Option (List ℕ)) (bytes : List ℕ) (phases : List (List Job)) (old : Coming) (mid : Option (List ℕ)) (taken : List ℕ) (left : Option (List ℕ)) → HaveCome first before bytes phases old mid → mid ≡ prepend_known taken left → (old.at_end ≡ true → taken ≡ []) → GivesNoMore old taken left → IsAtEnd left
+pub at_the_end : (first : Coming) (before : Option (List ℕ)) (bytes : List ℕ) (phases : List (List Job)) (old : Coming) (mid : Option (List ℕ)) (taken : List ℕ) (left : Option (List ℕ)) → HaveCome first before bytes phases old mid → mid ≡ prepend_known taken left → (old.at_end ≡ true → taken ≡ []) → BringsNoMore old taken left → IsAtEnd left
 at_the_end first before bytes phases old mid taken left come order idle gives = by_test old.at_end refl where
   same : (l : Option (List ℕ)) → l ≡ prepend_known [] left → IsAtEnd l → IsAtEnd left
   same l e none = subst IsAtEnd (e ∙ prepend_none left) none
@@ -77,7 +77,7 @@ at_the_end first before bytes phases old mid taken left come order idle gives = 
   by_test false e = gives.none_left e
 
 -- what is read of all bytes is all that has come
-pub all_read : (first : Coming) (before : Option (List ℕ)) (bytes : List ℕ) (phases : List (List Job)) (old : Coming) (mid : Option (List ℕ)) (taken : List ℕ) (left : Option (List ℕ)) → HaveCome first before bytes phases old mid → (old.at_end ≡ true → taken ≡ []) → GivesNoMore old taken left → first.reads true (bytes ++ taken) ≡ with_phases phases (no_phase old.names)
+pub all_read : (first : Coming) (before : Option (List ℕ)) (bytes : List ℕ) (phases : List (List Job)) (old : Coming) (mid : Option (List ℕ)) (taken : List ℕ) (left : Option (List ℕ)) → HaveCome first before bytes phases old mid → (old.at_end ≡ true → taken ≡ []) → BringsNoMore old taken left → first.reads true (bytes ++ taken) ≡ with_phases phases (no_phase old.names)
 all_read first before bytes phases old mid taken left come idle gives = by_reads come.reads where
   by_reads : ReadsOn first bytes phases old mid → first.reads true (bytes ++ taken) ≡ with_phases phases (no_phase old.names)
   by_reads (inl reads) = reads true taken ∙ ap (with_phases phases) gives.read
@@ -86,9 +86,9 @@ all_read first before bytes phases old mid taken left come idle gives = by_reads
 -- A FAULT
 
 -- the fault stands behind all that has come
-pub fault_read : (first : Coming) (before : Option (List ℕ)) (bytes : List ℕ) (phases : List (List Job)) (old : Coming) (mid : Option (List ℕ)) (taken : List ℕ) (f : ScriptFault) (left : Option (List ℕ)) → HaveCome first before bytes phases old mid → (old.at_end ≡ true → ⊥) → IsFaulty old taken f left → first.reads true ((bytes ++ taken) ++ rest_of left) ≡ with_phases phases (no_phase_but old.names f)
+pub fault_read : (first : Coming) (before : Option (List ℕ)) (bytes : List ℕ) (phases : List (List Job)) (old : Coming) (mid : Option (List ℕ)) (taken : List ℕ) (f : ScriptFault) (left : Option (List ℕ)) → HaveCome first before bytes phases old mid → (old.at_end ≡ true → ⊥) → BringsFault old taken f left → first.reads true ((bytes ++ taken) ++ rest_of left) ≡ with_phases phases (no_phase_but old.names f)
 fault_read first before bytes phases old mid taken f left come live faulty = by_reads come.reads faulty where
-  by_reads : ReadsOn first bytes phases old mid → IsFaulty old taken f left → first.reads true ((bytes ++ taken) ++ rest_of left) ≡ with_phases phases (no_phase_but old.names f)
+  by_reads : ReadsOn first bytes phases old mid → BringsFault old taken f left → first.reads true ((bytes ++ taken) ++ rest_of left) ≡ with_phases phases (no_phase_but old.names f)
   by_reads (inr (none, ended, read)) faulty = absurd (live ended)
   by_reads (inl reads) (inl always) =
       ap (first.reads true) (append_assoc bytes taken (rest_of left)) ∙ (reads true (taken ++ rest_of left) ∙ ap (with_phases phases) (always (rest_of left)))
@@ -107,9 +107,9 @@ closed_read first before bytes phases old mid taken come live none = by_reads co
 -- WHAT ELSE MAY COME
 
 -- whatever is left, the phases that have come are the first, and their sessions' names too
-pub so_far_read : (first : Coming) (before : Option (List ℕ)) (bytes : List ℕ) (phases : List (List Job)) (now : Coming) (left : Option (List ℕ)) → HaveCome first before bytes phases now left → (more : Reading) × (first.reads true (bytes ++ rest_of left) ≡ with_phases phases more) × Grows now.names more.names
+pub so_far_read : (first : Coming) (before : Option (List ℕ)) (bytes : List ℕ) (phases : List (List Job)) (now : Coming) (left : Option (List ℕ)) → HaveCome first before bytes phases now left → (more : ScriptReading) × (first.reads true (bytes ++ rest_of left) ≡ with_phases phases more) × Grows now.names more.names
 so_far_read first before bytes phases now left come = by_reads come.reads where
-  by_reads : ReadsOn first bytes phases now left → (more : Reading) × (first.reads true (bytes ++ rest_of left) ≡ with_phases phases more) × Grows now.names more.names
+  by_reads : ReadsOn first bytes phases now left → (more : ScriptReading) × (first.reads true (bytes ++ rest_of left) ≡ with_phases phases more) × Grows now.names more.names
   by_reads (inl reads) = (now.reads true (rest_of left), reads true (rest_of left), come.known (rest_of left))
   by_reads (inr (none, ended, read)) =
       (no_phase now.names, ap (λ b. first.reads true (bytes ++ b)) (nothing_left left none) ∙ (ap (first.reads true) (append-nil bytes) ∙ read), ([], sym (append-nil now.names)))

@@ -4,7 +4,7 @@ use Rattle.std.specs.declared.option.Option.{Option}
 use Rattle.tl_types.specs.declared.commits.Commit.{Commit}
 use Rattle.tl_device.specs.Known.{append_known, prepend_known, Rose}
 use Rattle.tl_script.specs.declared.jobs.ScriptFault.{ScriptFault}
-use Rattle.tl_script.specs.Script.{Reading}
+use Rattle.tl_script.specs.Script.{ScriptReading}
 use Rattle.tl_session.specs.Turns.{Turn}
 use Rattle.tl_session.specs.Written.{jobs_of, transcript_bytes}
 use Rattle.tl_journal.specs.declared.faults.JournalFault.{JournalFault}
@@ -18,7 +18,7 @@ use Rattle.tl_program.specs.Jobs.{phases_asked}
 use Rattle.tl_program.specs.Ending.{Closes, EndsFor, EndsRefused, Told, ClosesAfter, OpenedEnds, status_for, wanted_by}
 use Rattle.tl_program.specs.Headline.{CutsReplies, CutsClosing, CutsClosed, CutsBySink, StopsInPhase, CutsByMemory, wanted_for}
 use Rattle.tl_program.specs.Outside.{Outside, streams_of, HoldsJournal}
-use Rattle.tl_program.specs.Stopping.{RunsAll, Stops}
+use Rattle.tl_program.specs.Stopping.{RunsAll, RunStops}
 use Rattle.tl_program.proofs.RunningLemmas.{written_more, written_none}
 use Rattle.tl_program.proofs.TopLemmas.{told_script}
 
@@ -60,12 +60,12 @@ refused_starved (journal.NotInitialised n) old new before after ended h e = star
 refused_starved (journal.AlreadyInitialised n) old new before after ended h e = starved (status.AlreadyInitialised n) old new before after ended h e (λ x. cc)
 refused_starved (journal.Damaged n) old new before after ended h e = starved (status.Damaged n) old new before after ended h e (λ x. cc)
 
-pub refused_sink : (reads : Bool → List ℕ → Reading) (script : List ℕ) (opening : List Commit) (before after : Outside) (ended : Status) (faults : ℕ) → EndsRefused before after ended → ended ≡ status.SinkFault faults → Rose before.sink_faults after.sink_faults × CutsBySink reads script opening before after
+pub refused_sink : (reads : Bool → List ℕ → ScriptReading) (script : List ℕ) (opening : List Commit) (before after : Outside) (ended : Status) (faults : ℕ) → EndsRefused before after ended → ended ≡ status.SinkFault faults → Rose before.sink_faults after.sink_faults × CutsBySink reads script opening before after
 refused_sink reads script opening before after ended faults h e =
     let w = refused_sunk h.fault before.written after.written before.sink_faults after.sink_faults ended faults h.ends e in
     (w.0, inl (record { fault = h.fault; refused = h.refused; counts = h.counts; unread = h.unread; keeps = h.keeps; some = w.1.0; written = w.1.1 }))
 
-pub refused_memory : (reads : Bool → List ℕ → Reading) (script : List ℕ) (opening : List Commit) (before after : Outside) (ended : Status) → EndsRefused before after ended → ended ≡ status.NoMemory → CutsByMemory reads script opening before after
+pub refused_memory : (reads : Bool → List ℕ → ScriptReading) (script : List ℕ) (opening : List Commit) (before after : Outside) (ended : Status) → EndsRefused before after ended → ended ≡ status.NoMemory → CutsByMemory reads script opening before after
 refused_memory reads script opening before after ended h e =
     inl (record {
       unread = h.unread;
@@ -74,7 +74,7 @@ refused_memory reads script opening before after ended h e =
     })
 
 -- memory ran out before anything was done
-pub nothing_done : (reads : Bool → List ℕ → Reading) (script : List ℕ) (opening : List Commit) (before : Outside) → CutsByMemory reads script opening before before
+pub nothing_done : (reads : Bool → List ℕ → ScriptReading) (script : List ℕ) (opening : List Commit) (before : Outside) → CutsByMemory reads script opening before before
 nothing_done reads script opening before =
     inl (record {
       unread = (refl, refl);
@@ -85,7 +85,7 @@ nothing_done reads script opening before =
 -- A JOURNAL THAT IS OPENED
 
 -- the replies of all phases that are read, and some first bytes of the closing line
-cut_closing : (reading : Reading) (closing : Option Commit → Status) (opening all : List Commit) (broke : Option Commit) (before after : Outside) (at : Option (List ℕ)) (turns : List (List Turn)) (n : ℕ) → map jobs_of turns ≡ phases_asked reading.phases → Told opening all broke turns → at ≡ append_known before.written (transcript_bytes reading.names turns)
+cut_closing : (reading : ScriptReading) (closing : Option Commit → Status) (opening all : List Commit) (broke : Option Commit) (before after : Outside) (at : Option (List ℕ)) (turns : List (List Turn)) (n : ℕ) → map jobs_of turns ≡ phases_asked reading.phases → Told opening all broke turns → at ≡ append_known before.written (transcript_bytes reading.names turns)
     → after.written ≡ append_known at (take n (closing_line (closing broke))) → HoldsJournal all broke before after → CutsClosing reading closing opening before after
 cut_closing reading closing opening all broke before after at turns n answers told first then_ holds =
     record {
@@ -99,12 +99,12 @@ cut_closing reading closing opening all broke before after at turns n answers to
       holds = holds;
     }
 
-module _ (reads : Bool → List ℕ → Reading) (script : List ℕ) (opening : List Commit) (before after : Outside) (ended : Status) (told : before.left ≡ Some script) (h : OpenedEnds reads opening before after ended) where
+module _ (reads : Bool → List ℕ → ScriptReading) (script : List ℕ) (opening : List Commit) (before after : Outside) (ended : Status) (told : before.left ≡ Some script) (h : OpenedEnds reads opening before after ended) where
   abbrev Own : List (List Turn) → Type 0
   Own = Told opening h.all h.broke
 
   abbrev At : Stop → Type 0
-  At why = Stops Own reads why (streams_of before) h.ends.at
+  At why = RunStops Own reads why (streams_of before) h.ends.at
 
   abbrev ClosesAt : Stop → Type 0
   ClosesAt why = ClosesAfter why (is_some h.broke) after.disk_faults h.ends.at.written after.written h.ends.at.sink_faults after.sink_faults ended

@@ -5,7 +5,7 @@ use Rattle.tl_types.specs.declared.commits.Commit.{Commit}
 use Rattle.tl_types.specs.declared.commits.Entry.{Entry}
 use Rattle.tl_types.specs.Entries.{commits_of, has_break}
 use Rattle.tl_device.specs.Known.{Rose}
-use Rattle.tl_script.specs.Script.{Reading}
+use Rattle.tl_script.specs.Script.{ScriptReading}
 use Rattle.tl_session.specs.Turns.{break_of}
 use Rattle.tl_journal.specs.Answers.{CountsFaults, IsDeviceOrMemory}
 use Rattle.tl_journal.specs.Image.{StandsFor}
@@ -26,7 +26,7 @@ closes_same why b c m n old new before after ended e f h =
     subst (λ (k : ℕ). ClosesAfter why c k old new before after ended) f (subst (λ (t : Bool). ClosesAfter why t m old new before after ended) e h)
 
 -- a run that was closed
-pub opened_ends : {D : Type 0} (reads : D → Option (List ℕ)) (may_leave : D → List ℕ → Type 0) (faults : D → ℕ) (begun disk : D) (entries : List Entry) (first_count : ℕ) (script : Bool → List ℕ → Reading)
+pub opened_ends : {D : Type 0} (reads : D → Option (List ℕ)) (may_leave : D → List ℕ → Type 0) (faults : D → ℕ) (begun disk : D) (entries : List Entry) (first_count : ℕ) (script : Bool → List ℕ → ScriptReading)
     (left_before left_after : Option (List ℕ)) (source_before source_after : ℕ) (written_before written_at written_after : Option (List ℕ)) (sink_before sink_at sink_after : ℕ) (why : Stop) (broke : Bool) (count : ℕ) (ended : Status)
     → first_count ≡ faults begun → count ≡ faults disk
     → OpensWith (commits_of entries) (record { left = left_before; source_faults = source_before; written = written_before; sink_faults = sink_before; reads = reads begun; may_leave = may_leave begun; disk_faults = faults begun })
@@ -79,7 +79,7 @@ sure_outside image may_leave written faults =
     record { left = None; source_faults = 0; written = written; sink_faults = faults; reads = Some image; may_leave = may_leave; disk_faults = 0 }
 
 -- phases that were run over an empty journal on such a disk
-pub sample_ends : (image later : List ℕ) (may_leave may_leave_later : List ℕ → Type 0) (reads : Bool → List ℕ → Reading) (reading : Reading) (old new : Option (List ℕ)) (first last : ℕ) (ended : Status)
+pub sample_ends : (image later : List ℕ) (may_leave may_leave_later : List ℕ → Type 0) (reads : Bool → List ℕ → ScriptReading) (reading : ScriptReading) (old new : Option (List ℕ)) (first last : ℕ) (ended : Status)
     → image ≡ empty_journal → reads ≡ (λ whole bytes. reading)
     → RunEnds reads (sure_outside image may_leave old first) (sure_outside later may_leave_later new last) ended
     → SampleEnds reading old new first last ended
@@ -89,7 +89,7 @@ sample_ends image later may_leave may_leave_later reads reading old new first la
       memory = only_memory refused.fault 0 0 refused.counts no_rise (refused.honest image [] refl (no_commit image empty) tt)
 sample_ends image later may_leave may_leave_later reads reading old new first last ended empty same (inr (opening, h)) = inr (
   h.all,
-  subst (λ (r : Bool → List ℕ → Reading). PhasesEnd (Told [] h.all None) r false 0 (sink_alone old first) (sink_alone new last) ended) same
+  subst (λ (r : Bool → List ℕ → ScriptReading). PhasesEnd (Told [] h.all None) r false 0 (sink_alone old first) (sink_alone new last) ended) same
       (subst (λ (o : Option Commit). PhasesEnd (Told [] h.all o) reads (is_some o) 0 (sink_alone old first) (sink_alone new last) ended) none
       (subst (λ (cs : List Commit). PhasesEnd (Told cs h.all h.broke) reads (is_some h.broke) 0 (sink_alone old first) (sink_alone new last) ended) opened h.ends)),
 ) where

@@ -4,7 +4,7 @@ use Rattle.std.specs.declared.option.Option.{Option}
 use Rattle.tl_types.specs.declared.commits.Commit.{Commit}
 use Rattle.tl_device.specs.Known.{append_known, prepend_known, Rose}
 use Rattle.tl_script.specs.declared.jobs.ScriptFault.{ScriptFault}
-use Rattle.tl_script.specs.Script.{Reading, Job as ScriptJob}
+use Rattle.tl_script.specs.Script.{ScriptReading, Job as ScriptJob}
 use Rattle.tl_script.specs.Taking.{IsAtEnd}
 use Rattle.tl_session.specs.Turns.{Turn, all_turns}
 use Rattle.tl_session.specs.Transcript.{Each}
@@ -27,7 +27,7 @@ use Rattle.tl_program.specs.Sample.{puts_from, blocks_of, sample_reading}
 use Rattle.tl_program.specs.Ending.{SampleEnds, sink_alone, status_for, wanted_by, Writes, EndsFor, EndsRefused, Told, ClosesAfter, OpenedEnds, RunEnds, EndsBy}
 use Rattle.tl_program.specs.Headline.{PrintsPlay, PrintsTranscript, PrintsAll, PrintsBreak, PrintsToFault, PrintsClosed, RunTells, RunHeadline, HeadlineBy}
 use Rattle.tl_program.specs.Outside.{Outside, streams_of, HoldsJournal}
-use Rattle.tl_program.specs.Stopping.{RunsAll, Stops}
+use Rattle.tl_program.specs.Stopping.{RunsAll, RunStops}
 use Rattle.tl_program.proofs.CutLemmas.{refused_sink, refused_memory, nothing_done, sink_cuts, memory_cuts}
 use Rattle.tl_program.proofs.RunningLemmas.{written_more}
 use Rattle.tl_program.proofs.TopLemmas.{told_script}
@@ -115,7 +115,7 @@ no_journal_source (journal.NotInitialised len) n e = cc
 no_journal_source (journal.AlreadyInitialised len) n e = cc
 no_journal_source (journal.Damaged at) n e = cc
 
-refused_tells : (reads : Bool → List ℕ → Reading) (script : List ℕ) (opening : List Commit) (before after : Outside) (ended : Status) → EndsRefused before after ended → RunTells reads script opening before after ended
+refused_tells : (reads : Bool → List ℕ → ScriptReading) (script : List ℕ) (opening : List Commit) (before after : Outside) (ended : Status) → EndsRefused before after ended → RunTells reads script opening before after ended
 refused_tells reads script opening before after ended h =
     record {
       done = λ e. absurd (refused_not_done h.fault before.written after.written before.sink_faults after.sink_faults ended h.ends e);
@@ -168,7 +168,7 @@ all_jobs_of [] = refl
 all_jobs_of (q ∷ turns) = jobs_on q (all_turns turns) ∙ ap (λ js. jobs_of q ++ js) (all_jobs_of turns)
 
 -- a transcript was printed
-prints : (reading : Reading) (opening all : List Commit) (broke : Option Commit) (closing : Status) (before after : Outside) (at : Option (List ℕ)) (turns : List (List Turn)) → map jobs_of turns ≡ phases_asked reading.phases → Told opening all broke turns
+prints : (reading : ScriptReading) (opening all : List Commit) (broke : Option Commit) (closing : Status) (before after : Outside) (at : Option (List ℕ)) (turns : List (List Turn)) → map jobs_of turns ≡ phases_asked reading.phases → Told opening all broke turns
     → at ≡ append_known before.written (transcript_bytes reading.names turns) → after.written ≡ append_known at (closing_line closing) → HoldsJournal all broke before after → PrintsTranscript reading opening all broke closing before after
 prints reading opening all broke closing before after at turns answers told first then_ holds =
     record {
@@ -207,12 +207,12 @@ nothing_left None taken script order none = absurd (cc)
 nothing_left (Some l) taken script order none = ap Some none
 
 -- the run of a script that the source told
-module _ (reads : Bool → List ℕ → Reading) (script : List ℕ) (opening : List Commit) (before after : Outside) (ended : Status) (told : before.left ≡ Some script) (h : OpenedEnds reads opening before after ended) where
+module _ (reads : Bool → List ℕ → ScriptReading) (script : List ℕ) (opening : List Commit) (before after : Outside) (ended : Status) (told : before.left ≡ Some script) (h : OpenedEnds reads opening before after ended) where
   abbrev Own : List (List Turn) → Type 0
   Own = Told opening h.all h.broke
 
   abbrev At : Stop → Type 0
-  At why = Stops Own reads why (streams_of before) h.ends.at
+  At why = RunStops Own reads why (streams_of before) h.ends.at
 
   abbrev Ends_ : Stop → Type 0
   Ends_ why = ClosesAfter why (is_some h.broke) after.disk_faults h.ends.at.written after.written h.ends.at.sink_faults after.sink_faults ended
@@ -293,7 +293,7 @@ module _ (reads : Bool → List ℕ → Reading) (script : List ℕ) (opening : 
     by_why (stop.Sink n) stops closes = absurd (let x : status.SourceFault faults ≡ status.SinkFault n = sym e ∙ closes.0 in cc)
     by_why stop.NoMemory stops closes = absurd (let x : status.SourceFault faults ≡ status.NoMemory = sym e ∙ closes.0 in cc)
 
-opened_tells : (reads : Bool → List ℕ → Reading) (script : List ℕ) (opening : List Commit) (before after : Outside) (ended : Status) → before.left ≡ Some script → OpenedEnds reads opening before after ended → RunTells reads script opening before after ended
+opened_tells : (reads : Bool → List ℕ → ScriptReading) (script : List ℕ) (opening : List Commit) (before after : Outside) (ended : Status) → before.left ≡ Some script → OpenedEnds reads opening before after ended → RunTells reads script opening before after ended
 opened_tells reads script opening before after ended told h =
     record {
       done = done_tells reads script opening before after ended told h;
@@ -304,7 +304,7 @@ opened_tells reads script opening before after ended told h =
       no_memory = memory_cuts reads script opening before after ended told h;
     }
 
-run_tells : (reads : Bool → List ℕ → Reading) (before after : Outside) (ended : Status) → RunEnds reads before after ended → RunHeadline reads before after ended
+run_tells : (reads : Bool → List ℕ → ScriptReading) (before after : Outside) (ended : Status) → RunEnds reads before after ended → RunHeadline reads before after ended
 run_tells reads before after ended (inl refused) = λ script image opening told is stands. refused_tells reads script opening before after ended refused
 run_tells reads before after ended (inr (own, h)) = λ script image opening told is stands.
     subst (λ (cs : List Commit). RunTells reads script cs before after ended) (sym ((h.opens.stands image is).only opening stands)) (opened_tells reads script own before after ended told h)
@@ -318,10 +318,10 @@ sample_lone : (lines start : ℕ) → AreLonePhases (phases_asked (sample_readin
 sample_lone lines start = ((0, (refl, tt)), puts_lone 2 (blocks_of lines start) _ ((0, (refl, (refl, (refl, tt)))), tt))
 
 -- a sample that is done printed its jobs done one after the other
-sample_tells : (reading : Reading) (old new : Option (List ℕ)) (before after : ℕ) (ended : Status) → AreLonePhases (phases_asked reading.phases) → SampleEnds reading old new before after ended → ended ≡ status.Done → PrintsPlay reading old new
+sample_tells : (reading : ScriptReading) (old new : Option (List ℕ)) (before after : ℕ) (ended : Status) → AreLonePhases (phases_asked reading.phases) → SampleEnds reading old new before after ended → ended ≡ status.Done → PrintsPlay reading old new
 sample_tells reading old new before after ended lone (inl h) e = absurd (no_memory_done (sym e ∙ h.0))
 sample_tells reading old new before after ended lone (inr (all, h)) e = by_why h.why h.stops h.closes where
-  by_why : (why : Stop) → Stops (Told [] all None) (λ whole bytes. reading) why (sink_alone old before) h.at → ClosesAfter why false 0 h.at.written new h.at.sink_faults after ended → PrintsPlay reading old new
+  by_why : (why : Stop) → RunStops (Told [] all None) (λ whole bytes. reading) why (sink_alone old before) h.at → ClosesAfter why false 0 h.at.written new h.at.sink_faults after ended → PrintsPlay reading old new
   by_why stop.Ended stops closes =
       let w = closed_as stop.Ended false 0 status.Done h.at.written new h.at.sink_faults after ended closes e no_memory_done no_sink_done in
       record {
@@ -343,7 +343,7 @@ sample_tells reading old new before after ended lone (inr (all, h)) e = by_why h
   by_why stop.NoMemory stops closes = absurd (no_memory_done (sym e ∙ closes.0))
 
 -- a run that is out of memory before it begins does nothing
-silent_tells : (reads : Bool → List ℕ → Reading) (script : List ℕ) (opening : List Commit) (before : Outside) (ended : Status) → ended ≡ status.NoMemory → RunTells reads script opening before before ended
+silent_tells : (reads : Bool → List ℕ → ScriptReading) (script : List ℕ) (opening : List Commit) (before : Outside) (ended : Status) → ended ≡ status.NoMemory → RunTells reads script opening before before ended
 silent_tells reads script opening before ended is =
     record {
       done = λ e. absurd (no_memory_done (sym e ∙ is));

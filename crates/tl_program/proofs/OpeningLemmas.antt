@@ -6,11 +6,11 @@ use Rattle.tl_journal.specs.declared.faults.JournalFault.{JournalFault}
 use Rattle.tl_journal.specs.declared.faults.JournalFault.TheVariants as journal
 use Rattle.tl_engine.specs.Fitting.{IsDamaged}
 use Rattle.tl_program.specs.Ending.{RefusedBy, NotMadeBy, MayBeShort}
-use Rattle.tl_program.specs.Outside.{Outside, IsSameDisk, LosesNothing}
+use Rattle.tl_program.specs.Outside.{Outside, IsSameDisk, LeavesNoLess}
 
 pub not_made : (fault : JournalFault) (before after : Outside) → MayBeShort before after
     → ((len : ℕ) → fault ≡ journal.NotInitialised len → ⊥) → ((at : ℕ) → fault ≡ journal.Damaged at → ⊥)
-    → ((len : ℕ) → fault ≡ journal.AlreadyInitialised len → ((17 < len) × IfSome before.reads (IsTooLong len)) × IsSameDisk before after × LosesNothing before after)
+    → ((len : ℕ) → fault ≡ journal.AlreadyInitialised len → ((17 < len) × IfSome before.reads (IsTooLong len)) × IsSameDisk before after × LeavesNoLess before after)
     → NotMadeBy fault before after
 not_made journal.NoMemory before after short not_short not_damaged too_long = short
 not_made (journal.Device faults) before after short not_short not_damaged too_long = short
@@ -19,7 +19,7 @@ not_made (journal.AlreadyInitialised len) before after short not_short not_damag
 not_made (journal.Damaged at) before after short not_short not_damaged too_long = not_damaged at refl
 
 pub refused_by : (fault : JournalFault) (before after : Outside)
-    → ((len : ℕ) → fault ≡ journal.NotInitialised len → (len < 17) × IfSome before.reads (IsTooShort len) × IsSameDisk before after × LosesNothing before after)
+    → ((len : ℕ) → fault ≡ journal.NotInitialised len → (len < 17) × IfSome before.reads (IsTooShort len) × IsSameDisk before after × LeavesNoLess before after)
     → ((len : ℕ) → fault ≡ journal.AlreadyInitialised len → ⊥)
     → ((at : ℕ) → fault ≡ journal.Damaged at → IfSome before.reads (IsDamaged standard_limits at) × IsSameDisk before after)
     → RefusedBy fault before after

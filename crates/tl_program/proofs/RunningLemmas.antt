@@ -9,11 +9,11 @@ use Rattle.tl_script.specs.declared.jobs.ScriptFault.{ScriptFault}
 use Rattle.tl_script.specs.declared.phases.NextError.{NextError}
 use Rattle.tl_script.specs.declared.phases.NextError.TheVariants as next
 use Rattle.tl_script.specs.declared.phases.Phase.{Phase}
-use Rattle.tl_script.specs.Script.{Job as ScriptJob, Reading}
+use Rattle.tl_script.specs.Script.{Job as ScriptJob, ScriptReading}
 use Rattle.tl_script.specs.Phases.{no_phase, no_phase_but}
 use Rattle.tl_script.specs.Reader.{with_phases, Grows, NextFaults}
 use Rattle.tl_session.specs.declared.replies.Reply.{Reply}
-use Rattle.tl_session.specs.declared.jobs.Job.{Job as LentJob}
+use Rattle.tl_session.specs.declared.jobs.LentJob.{LentJob}
 use Rattle.tl_session.specs.Jobs.{Job, job_of}
 use Rattle.tl_session.specs.Plain as plain
 use Rattle.tl_session.specs.Replies.{reply_bytes}
@@ -26,10 +26,10 @@ use Rattle.tl_session.proofs.EntryLemmas.{begins_itself}
 use Rattle.tl_session.proofs.PromiseLemmas.{run_more}
 use Rattle.tl_program.specs.declared.stops.Stop.{Stop}
 use Rattle.tl_program.specs.declared.stops.Stop.TheVariants as stop
-use Rattle.tl_program.specs.Coming.{Coming, GivesPhase, GivesNoMore, IsFaulty, Answers, ReadsOn}
+use Rattle.tl_program.specs.Coming.{Coming, BringsPhase, BringsNoMore, BringsFault, AnswersComing, ReadsOn}
 use Rattle.tl_program.specs.Jobs.{asked, phases_asked}
 use Rattle.tl_program.specs.Outside.{Streams}
-use Rattle.tl_program.specs.Running.{Advances, RunsWhole, RunsUnwritten, RunsShort, RunsAndWrites, HasNotBegun, Progress, GoesOn, TakesPhase, replies_bytes}
+use Rattle.tl_program.specs.Running.{Advances, RunsWhole, RunsUnwritten, RunsShort, RunsAndWrites, HasNotBegun, Progress, GoesOn, TakesOnePhase, replies_bytes}
 use Rattle.tl_program.specs.Writing.{WritesBytes}
 use Rattle.tl_program.specs.Stopping.{RunsAll, StopsAtSource, StopsAtSink, AreFronts, StopsShort, stop_for}
 use Rattle.tl_program.proofs.ComingLemmas.{rest_of, whole_told, all_told, none_come, one_more_come, at_the_end, all_read, fault_read, closed_read, so_far_read}
@@ -48,7 +48,7 @@ no_turn shared =
     record { parts = refl; later = begins_itself shared.seen; chains = λ s. begins_itself shared.seen; amount = omega arith }
 
 -- a phase was taken
-pub took_phase : (old new : Coming) (before after : Option (List ℕ)) (phase : Phase) (why : Option Stop) → Answers old before (Ok (Some phase)) new after → TakesPhase old new before after why
+pub took_phase : (old new : Coming) (before after : Option (List ℕ)) (phase : Phase) (why : Option Stop) → AnswersComing old before (Ok (Some phase)) new after → TakesOnePhase old new before after why
 took_phase old new before after phase (Some stop) a = tt
 took_phase old new before after phase None a = (by_test old.at_end refl, (a.taken, phase.jobs.items, a.order, a.says)) where
   by_test : (t : Bool) → old.at_end ≡ t → old.at_end ≡ false
@@ -138,7 +138,7 @@ phases_more phases jobs turns last e f =
 
 -- a phase was run, and its replies are written
 pub one_more_run : (first : Coming) (opening : List Entry) (begun : Streams) (old new : Coming) (before after : plain.SharedAccess) (at end : Streams) (taken : List ℕ) (jobs : List ScriptJob)
-    → Progress first opening begun old before at → at.left ≡ prepend_known taken end.left → (old.at_end ≡ true → ⊥) → GivesPhase old taken jobs new end.left
+    → Progress first opening begun old before at → at.left ≡ prepend_known taken end.left → (old.at_end ≡ true → ⊥) → BringsPhase old taken jobs new end.left
     → end.source_faults ≡ at.source_faults → RunsWhole new.names (map asked jobs) before after at.written end.written at.sink_faults end.sink_faults → Progress first opening begun new after end
 one_more_run first opening begun old new before after at end taken jobs p order live gives sure ran =
     record {
@@ -159,11 +159,11 @@ one_more_run first opening begun old new before after at end taken jobs p order 
     }
 
 -- how the phases of what is read stand to those that have come
-asked_then : (phases : List (List ScriptJob)) (reading more : Reading) → reading ≡ with_phases phases more → phases_asked reading.phases ≡ phases_asked phases ++ phases_asked more.phases
-asked_then phases reading more e = ap (λ (r : Reading). phases_asked r.phases) e ∙ map-append (λ js. map asked js) phases more.phases
+asked_then : (phases : List (List ScriptJob)) (reading more : ScriptReading) → reading ≡ with_phases phases more → phases_asked reading.phases ≡ phases_asked phases ++ phases_asked more.phases
+asked_then phases reading more e = ap (λ (r : ScriptReading). phases_asked r.phases) e ∙ map-append (λ js. map asked js) phases more.phases
 
 -- all phases of what is read have come
-asked_all : (phases : List (List ScriptJob)) (reading more : Reading) → reading ≡ with_phases phases more → more.phases ≡ [] → phases_asked reading.phases ≡ phases_asked phases
+asked_all : (phases : List (List ScriptJob)) (reading more : ScriptReading) → reading ≡ with_phases phases more → more.phases ≡ [] → phases_asked reading.phases ≡ phases_asked phases
 asked_all phases reading more e none = asked_then phases reading more e ∙ (ap (λ ps. phases_asked phases ++ phases_asked ps) none ∙ append-nil (phases_asked phases))
 
 -- the same turns under the names of what is read
@@ -181,7 +181,7 @@ written_grown begun at names more turns e g inside = e ∙ ap (append_known begu
 
 -- no phase comes any more
 pub all_run : (first : Coming) (opening : List Entry) (begun : Streams) (old : Coming) (shared : plain.SharedAccess) (at end : Streams) (taken : List ℕ)
-    → Progress first opening begun old shared at → at.left ≡ prepend_known taken end.left → (old.at_end ≡ true → taken ≡ []) → GivesNoMore old taken end.left
+    → Progress first opening begun old shared at → at.left ≡ prepend_known taken end.left → (old.at_end ≡ true → taken ≡ []) → BringsNoMore old taken end.left
     → end.source_faults ≡ at.source_faults → end.written ≡ at.written → end.sink_faults ≡ at.sink_faults
     → RunsAll (λ turns. HaveRun opening turns shared.seen shared.amount) (first.reads true) None begun end
 all_run first opening begun old shared at end taken p order idle gives source written sink =
@@ -190,19 +190,19 @@ all_run first opening begun old shared at end taken p order idle gives source wr
     record {
       script = p.bytes ++ taken;
       told = all_told begun.left end.left (p.bytes ++ taken) (read_more begun.left at.left end.left p.bytes taken (p.bytes ++ taken) p.come.order order refl) none;
-      fault_is = ap (λ (r : Reading). r.fault) read;
+      fault_is = ap (λ (r : ScriptReading). r.fault) read;
       whole = λ e. (none, read_more begun.left at.left end.left p.bytes taken (p.bytes ++ taken) p.come.order order refl);
       turns = p.turns;
       answers = p.answers ∙ sym (asked_all p.phases (first.reads true (p.bytes ++ taken)) (no_phase old.names) read refl);
       ran = p.ran;
-      written = written_named begun.written end.written old.names (first.reads true (p.bytes ++ taken)).names p.turns (written ∙ p.written) (ap (λ (r : Reading). r.names) read);
+      written = written_named begun.written end.written old.names (first.reads true (p.bytes ++ taken)).names p.turns (written ∙ p.written) (ap (λ (r : ScriptReading). r.names) read);
       source_sure = source ∙ p.source_sure;
       sink_sure = sink ∙ p.sink_sure;
     }
 
 -- the next phase has a fault
 pub faulty_run : (first : Coming) (opening : List Entry) (begun : Streams) (old : Coming) (shared : plain.SharedAccess) (at end : Streams) (taken : List ℕ) (f : ScriptFault)
-    → Progress first opening begun old shared at → at.left ≡ prepend_known taken end.left → (old.at_end ≡ true → ⊥) → IsFaulty old taken f end.left
+    → Progress first opening begun old shared at → at.left ≡ prepend_known taken end.left → (old.at_end ≡ true → ⊥) → BringsFault old taken f end.left
     → end.source_faults ≡ at.source_faults → end.written ≡ at.written → end.sink_faults ≡ at.sink_faults
     → RunsAll (λ turns. HaveRun opening turns shared.seen shared.amount) (first.reads true) (Some f) begun end
 faulty_run first opening begun old shared at end taken f p order live faulty source written sink =
@@ -211,12 +211,12 @@ faulty_run first opening begun old shared at end taken f p order live faulty sou
     record {
       script = script;
       told = whole_told begun.left end.left (p.bytes ++ taken) (read_more begun.left at.left end.left p.bytes taken (p.bytes ++ taken) p.come.order order refl);
-      fault_is = ap (λ (r : Reading). r.fault) read;
+      fault_is = ap (λ (r : ScriptReading). r.fault) read;
       whole = λ e. absurd (cc);
       turns = p.turns;
       answers = p.answers ∙ sym (asked_all p.phases (first.reads true script) (no_phase_but old.names f) read refl);
       ran = p.ran;
-      written = written_named begun.written end.written old.names (first.reads true script).names p.turns (written ∙ p.written) (ap (λ (r : Reading). r.names) read);
+      written = written_named begun.written end.written old.names (first.reads true script).names p.turns (written ∙ p.written) (ap (λ (r : ScriptReading). r.names) read);
       source_sure = source ∙ p.source_sure;
       sink_sure = sink ∙ p.sink_sure;
     }
@@ -232,11 +232,11 @@ failed_run first opening begun old shared at end taken p order live none rose wr
       taken = p.bytes ++ taken;
       order = read_more begun.left at.left end.left p.bytes taken (p.bytes ++ taken) p.come.order order refl;
       rose = subst (λ (n : ℕ). Rose n end.source_faults) p.source_sure rose;
-      faultless = ap (λ (r : Reading). r.fault) read;
+      faultless = ap (λ (r : ScriptReading). r.fault) read;
       turns = p.turns;
       answers = p.answers ∙ sym (asked_all p.phases (first.reads false (p.bytes ++ taken)) (no_phase old.names) read refl);
       ran = p.ran;
-      written = written_named begun.written end.written old.names (first.reads false (p.bytes ++ taken)).names p.turns (written ∙ p.written) (ap (λ (r : Reading). r.names) read);
+      written = written_named begun.written end.written old.names (first.reads false (p.bytes ++ taken)).names p.turns (written ∙ p.written) (ap (λ (r : ScriptReading). r.names) read);
       sink_sure = sink ∙ p.sink_sure;
     }
 
@@ -257,7 +257,7 @@ short_run first opening begun old shared at end taken p order live source writte
       answers = asked_then p.phases (first.reads true script) (old.reads true (taken ++ rest_of end.left)) reads ∙ ap (λ l. l ++ phases_asked (old.reads true (taken ++ rest_of end.left)).phases) (sym p.answers);
       fronts = none_answered (phases_asked (old.reads true (taken ++ rest_of end.left)).phases);
       ran = have_run_more opening p.turns [] shared shared p.ran (no_turn shared);
-      written = written_grown begun.written end.written old.names (first.reads true script).names p.turns (written ∙ p.written) (subst (λ (n : List (List ℕ)). Grows old.names n) (sym (ap (λ (r : Reading). r.names) reads)) (p.come.known (taken ++ rest_of end.left))) p.inside;
+      written = written_grown begun.written end.written old.names (first.reads true script).names p.turns (written ∙ p.written) (subst (λ (n : List (List ℕ)). Grows old.names n) (sym (ap (λ (r : ScriptReading). r.names) reads)) (p.come.known (taken ++ rest_of end.left))) p.inside;
       source_sure = source ∙ p.source_sure;
       sink_sure = sink ∙ p.sink_sure;
     } where
@@ -267,7 +267,7 @@ short_run first opening begun old shared at end taken p order live source writte
 
 -- the sink failed while it was given the replies of the next phase
 pub unwritten_run : (first : Coming) (opening : List Entry) (begun : Streams) (old new : Coming) (before after : plain.SharedAccess) (at end : Streams) (taken : List ℕ) (jobs : List ScriptJob)
-    → Progress first opening begun old before at → at.left ≡ prepend_known taken end.left → (old.at_end ≡ true → ⊥) → GivesPhase old taken jobs new end.left
+    → Progress first opening begun old before at → at.left ≡ prepend_known taken end.left → (old.at_end ≡ true → ⊥) → BringsPhase old taken jobs new end.left
     → end.source_faults ≡ at.source_faults → RunsUnwritten new.names (map asked jobs) before after at.written end.written at.sink_faults end.sink_faults
     → StopsAtSink (λ turns. HaveRun opening turns after.seen after.amount) (first.reads true) begun end
 unwritten_run first opening begun old new before after at end taken jobs p order live gives sure ran =
@@ -275,7 +275,7 @@ unwritten_run first opening begun old new before after at end taken jobs p order
     let read = so_far_read first begun.left (p.bytes ++ taken) (p.phases ++ jobs ∷ []) new end.left come in
     let script = (p.bytes ++ taken) ++ rest_of end.left in
     let names = (first.reads true script).names in
-    let grows = subst (λ (n : List (List ℕ)). Grows new.names n) (sym (ap (λ (r : Reading). r.names) read.1)) read.2 in
+    let grows = subst (λ (n : List (List ℕ)). Grows new.names n) (sym (ap (λ (r : ScriptReading). r.names) read.1)) read.2 in
     let last_inside = turns_inside (length new.names) jobs ran.turns gives.sessions ran.these in
     record {
       script = script;
@@ -296,7 +296,7 @@ unwritten_run first opening begun old new before after at end taken jobs p order
 
 -- memory ran out in the next phase
 pub stopped_run : (first : Coming) (opening : List Entry) (begun : Streams) (old new : Coming) (before after : plain.SharedAccess) (at end : Streams) (taken : List ℕ) (jobs : List ScriptJob)
-    → Progress first opening begun old before at → at.left ≡ prepend_known taken end.left → (old.at_end ≡ true → ⊥) → GivesPhase old taken jobs new end.left
+    → Progress first opening begun old before at → at.left ≡ prepend_known taken end.left → (old.at_end ≡ true → ⊥) → BringsPhase old taken jobs new end.left
     → end.source_faults ≡ at.source_faults → RunsShort (map asked jobs) before after at.written end.written at.sink_faults end.sink_faults
     → StopsShort (λ turns. HaveRun opening turns after.seen after.amount) (first.reads true) begun end
 stopped_run first opening begun old new before after at end taken jobs p order live gives sure ran =
@@ -304,7 +304,7 @@ stopped_run first opening begun old new before after at end taken jobs p order l
     let read = so_far_read first begun.left (p.bytes ++ taken) (p.phases ++ jobs ∷ []) new end.left come in
     let script = (p.bytes ++ taken) ++ rest_of end.left in
     let names = (first.reads true script).names in
-    let grows = subst (λ (n : List (List ℕ)). Grows new.names n) (sym (ap (λ (r : Reading). r.names) read.1)) read.2 in
+    let grows = subst (λ (n : List (List ℕ)). Grows new.names n) (sym (ap (λ (r : ScriptReading). r.names) read.1)) read.2 in
     record {
       script = script;
       told = whole_told begun.left end.left (p.bytes ++ taken) come.order;
@@ -327,7 +327,7 @@ not_over old taken answer idle other ended = other (idle ended).1
 
 -- a phase came, and was run
 pub phase_came : (first : Coming) (opening : List Entry) (begun : Streams) (old new : Coming) (before after : plain.SharedAccess) (at end : Streams) (phase : Phase) (why : Option Stop)
-    → (answers : Answers old at.left (Ok (Some phase)) new end.left) → end.source_faults ≡ at.source_faults
+    → (answers : AnswersComing old at.left (Ok (Some phase)) new end.left) → end.source_faults ≡ at.source_faults
     → RunsAndWrites new.names (map asked phase.jobs.items) before after at.written end.written at.sink_faults end.sink_faults why
     → Progress first opening begun old before at → GoesOn first opening begun new after end why
 phase_came first opening begun old new before after at end phase None h sure ran p =
@@ -346,7 +346,7 @@ phase_came first opening begun old new before after at end phase (Some stop.NoMe
 
 -- the phases stopped
 pub stop_came : (first : Coming) (opening : List Entry) (begun : Streams) (old new now : Coming) (shared : plain.SharedAccess) (at end : Streams) (e : NextError)
-    → (answers : Answers old at.left (Err e) new end.left) → NextFaults e at.source_faults end.source_faults → end.written ≡ at.written → end.sink_faults ≡ at.sink_faults
+    → (answers : AnswersComing old at.left (Err e) new end.left) → NextFaults e at.source_faults end.source_faults → end.written ≡ at.written → end.sink_faults ≡ at.sink_faults
     → Progress first opening begun old shared at → GoesOn first opening begun now shared end (Some (stop_for e))
 stop_came first opening begun old new now shared at end next.NoMemory h faults written sink p =
     (short_run first opening begun old shared at end h.taken p h.order (not_over old h.taken (Err next.NoMemory) h.idle (λ e. cc)) faults written sink, p.parts)

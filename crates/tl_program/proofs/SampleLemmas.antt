@@ -5,8 +5,8 @@ use Rattle.std.proofs.lemmas.Grind.{common_steps}
 use Rattle.tl_csv.specs.Sample.{Sample, block_end, block_of}
 use Rattle.tl_device.proofs.Known.{prepend_none}
 use Rattle.tl_script.specs.declared.phases.Phase.{Phase}
-use Rattle.tl_script.specs.Script.{Job, Reading}
-use Rattle.tl_program.specs.Coming.{Answers}
+use Rattle.tl_script.specs.Script.{Job, ScriptReading}
+use Rattle.tl_program.specs.Coming.{AnswersComing}
 use Rattle.tl_program.specs.Sample.{before_blocks, next_blocks, blocks_of, phase_with, phases_with, puts_from, queries_from, SampleState, blocks_left, rows_from, left_behind, left_of, phases_left, sample_names, sample_coming, sample_reading, GivesNext}
 
 -- BLOCKS
@@ -97,7 +97,7 @@ all_left lines start =
 
 -- ANSWERS
 
-pub sample_gives : (old new : SampleState) (left : Option (List ℕ)) (phase : Phase) → GivesNext old phase.jobs.items new → Answers (sample_coming old) left (Ok (Some phase)) (sample_coming new) left
+pub sample_gives : (old new : SampleState) (left : Option (List ℕ)) (phase : Phase) → GivesNext old phase.jobs.items new → AnswersComing (sample_coming old) left (Ok (Some phase)) (sample_coming new) left
 sample_gives old new left phase h = record {
   taken = [];
   order = sym (prepend_none left);
@@ -118,5 +118,5 @@ sample_gives old new left phase h = record {
 pub sample_script : (state : SampleState) (lines start : ℕ) → state ≡ record { sample = record { lines = lines; start = start; given = 0 }; given = 0; asked = false } → (sample_coming state).reads ≡ (λ whole bytes. sample_reading lines start)
 sample_script state lines start e =
     ap (λ (st : SampleState). (sample_coming st).reads) e ∙ ap (λ (ps : List (List Job)). as_read ps) (all_left lines start) where
-      as_read : List (List Job) → Bool → List ℕ → Reading
+      as_read : List (List Job) → Bool → List ℕ → ScriptReading
       as_read ps whole bytes = record { names = sample_names; phases = ps; fault = None }

@@ -5,12 +5,12 @@ use Rattle.tl_types.specs.Limits.{standard_limits}
 use Rattle.tl_script.specs.declared.phases.NextError.{NextError}
 use Rattle.tl_script.specs.declared.phases.NextError.TheVariants as next
 use Rattle.tl_script.specs.declared.phases.Phase.{Phase}
-use Rattle.tl_script.specs.Script.{Job, Reading, load_of, job_with}
+use Rattle.tl_script.specs.Script.{Job, ScriptReading, load_of, job_with}
 use Rattle.tl_script.specs.Phases.{with_phase, no_phase, most_sessions, reading_from}
 use Rattle.tl_script.specs.Reader.{ScriptState, new_state, spot_of, reading_ahead, Grows, ComesNext, ComesLast, Loads}
 use Rattle.tl_script.specs.Reader as reader
 use Rattle.tl_script.specs.Taking.{IsAtEnd}
-use Rattle.tl_program.specs.Coming.{Comes, GivesPhase, StopsFor, Says, Answers, script_coming, loader_names, block_coming}
+use Rattle.tl_program.specs.Coming.{Comes, BringsPhase, BringsNone, SaysComing, AnswersComing, script_coming, loader_names, block_coming}
 use Rattle.tl_program.specs.Running.{HasNotBegun}
 use Rattle.tl_program.proofs.NamesLemmas.{names_kept, not_longer, grows_itself}
 
@@ -26,8 +26,8 @@ ahead_few state more few = (names_kept true state.limits (spot_of state) (state.
 
 -- what comes behind a phase is at most as much as what came before it
 names_in : (old new : ScriptState) (taken : List ℕ) (jobs : List Job) (left : Option (List ℕ)) → (new.at_end ≡ false × ComesNext old taken jobs new) ⊎ ComesLast old taken jobs new left → (bytes : List ℕ) × Grows new.names (reading_ahead true old bytes).names
-names_in old new taken jobs left (inl (open_, next)) = (taken ++ [], subst (λ (r : Reading). Grows new.names r.names) (sym (next true [])) (ahead_known new []))
-names_in old new taken jobs left (inr last) = (taken, subst (λ (r : Reading). Grows new.names r.names) (sym last.read) (ahead_known new []))
+names_in old new taken jobs left (inl (open_, next)) = (taken ++ [], subst (λ (r : ScriptReading). Grows new.names r.names) (sym (next true [])) (ahead_known new []))
+names_in old new taken jobs left (inr last) = (taken, subst (λ (r : ScriptReading). Grows new.names r.names) (sym last.read) (ahead_known new []))
 
 few_in : (old new : ScriptState) (taken : List ℕ) (jobs : List Job) (left : Option (List ℕ)) → (new.at_end ≡ false × ComesNext old taken jobs new) ⊎ ComesLast old taken jobs new left → length old.names ≤ most_sessions old.limits → length new.names ≤ most_sessions old.limits
 few_in old new taken jobs left comes few =
@@ -44,7 +44,7 @@ left_none : (old new : ScriptState) (taken : List ℕ) (jobs : List Job) (left :
 left_none old new taken jobs left (inl (open_, next)) e = absurd (cc)
 left_none old new taken jobs left (inr last) e = last.none_left
 
-gives : (old new : ScriptState) (taken : List ℕ) (jobs : List Job) (left : Option (List ℕ)) → reader.GivesPhase old taken jobs new left → GivesPhase (script_coming old) taken jobs (script_coming new) left
+gives : (old new : ScriptState) (taken : List ℕ) (jobs : List Job) (left : Option (List ℕ)) → reader.GivesPhase old taken jobs new left → BringsPhase (script_coming old) taken jobs (script_coming new) left
 gives old new taken jobs left h =
     record {
       live = h.live;
@@ -57,18 +57,18 @@ gives old new taken jobs left h =
       comes = comes old new taken jobs left h.comes;
     }
 
-stops : (old : ScriptState) (taken : List ℕ) (e : NextError) (left : Option (List ℕ)) → reader.StopsFor old taken e left → StopsFor (script_coming old) taken e left
+stops : (old : ScriptState) (taken : List ℕ) (e : NextError) (left : Option (List ℕ)) → reader.StopsFor old taken e left → BringsNone (script_coming old) taken e left
 stops old taken next.NoMemory left h = tt
 stops old taken (next.Source faults) left h = h
 stops old taken (next.Fault f) left (inl always) = inl (λ more. always true more)
 stops old taken (next.Fault f) left (inr end) = inr (end.none_left, end.read)
 
-says : (old new : ScriptState) (taken : List ℕ) (answer : Result (Option Phase) NextError) (left : Option (List ℕ)) → reader.Says old taken answer new left → Says (script_coming old) taken answer (script_coming new) left
+says : (old new : ScriptState) (taken : List ℕ) (answer : Result (Option Phase) NextError) (left : Option (List ℕ)) → reader.SaysNext old taken answer new left → SaysComing (script_coming old) taken answer (script_coming new) left
 says old new taken (Ok (Some phase)) left h = gives old new taken phase.jobs.items left h
 says old new taken (Ok None) left h = record { none_left = h.none_left; read = h.read }
 says old new taken (Err e) left h = stops old taken e left h.cause
 
-pub script_answers : (old new : ScriptState) (before : Option (List ℕ)) (answer : Result (Option Phase) NextError) (after : Option (List ℕ)) → reader.Answers old before answer new after → Answers (script_coming old) before answer (script_coming new) after
+pub script_answers : (old new : ScriptState) (before : Option (List ℕ)) (answer : Result (Option Phase) NextError) (after : Option (List ℕ)) → reader.AnswersNext old before answer new after → AnswersComing (script_coming old) before answer (script_coming new) after
 script_answers old new before answer after h =
     record { taken = h.taken; order = h.order; idle = h.idle; says = says old new h.taken answer after h.says }
 
@@ -87,8 +87,8 @@ one_job text bytes jobs e = by_test (nat_lt standard_limits.phase (length bytes)
   first (x ∷ xs) = x
 
   by_test : (t : Bool) → nat_lt standard_limits.phase (length bytes) ≡ t → jobs ≡ job_with 1 text (Some bytes) ∷ []
-  by_test true t = absurd (let f = rw t at e in let g : [] ≡ jobs ∷ [] = ap (λ (r : Reading). r.phases) f in cc)
-  by_test false t = let f = rw t at e in sym (ap (λ (r : Reading). first r.phases) f)
+  by_test true t = absurd (let f = rw t at e in let g : [] ≡ jobs ∷ [] = ap (λ (r : ScriptReading). r.phases) f in cc)
+  by_test false t = let f = rw t at e in sym (ap (λ (r : ScriptReading). first r.phases) f)
 
 first_alone : (text bytes : List ℕ) (jobs : List Job) → jobs ≡ job_with 1 text (Some bytes) ∷ [] → All (λ job. job.session < 1) jobs
 first_alone text bytes jobs e = rw e (λ k d inside. at k d inside) where
@@ -97,7 +97,7 @@ first_alone text bytes jobs e = rw e (λ k d inside. at k d inside) where
   at (suc k) d inside = absurd (omega (arith, inside))
 
 -- the whole source is the block
-pub block_given : (text : List ℕ) (before after : Option (List ℕ)) (phase : Phase) → Loads standard_limits text before (Ok phase) after → Answers (block_coming text false) before (Ok (Some phase)) (block_coming text true) after
+pub block_given : (text : List ℕ) (before after : Option (List ℕ)) (phase : Phase) → Loads standard_limits text before (Ok phase) after → AnswersComing (block_coming text false) before (Ok (Some phase)) (block_coming text true) after
 block_given text before after phase h = record {
   taken = h.taken;
   order = h.order;

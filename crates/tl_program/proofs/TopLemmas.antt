@@ -2,7 +2,7 @@
 use Rattle.std.proofs.Common.{◌≡◌, ℕ, Bool, true, false, ◌≤◌, List, [], length, Some, None, is_some, IfSome, refl, ap, subst, sym, ◌∙◌, inl, inr, arith}
 use Rattle.std.specs.declared.option.Option.{Option}
 use Rattle.tl_device.specs.Known.{Rose}
-use Rattle.tl_script.specs.Script.{Reading}
+use Rattle.tl_script.specs.Script.{ScriptReading}
 use Rattle.tl_session.specs.Turns.{Turn}
 use Rattle.tl_journal.specs.Answers.{CountsFaults, IsTooLong}
 use Rattle.tl_journal.specs.declared.faults.JournalFault.{JournalFault}
@@ -17,7 +17,7 @@ use Rattle.tl_program.specs.Commands.{put_text}
 use Rattle.tl_program.specs.Status.{closing_line}
 use Rattle.tl_program.specs.Coming.{script_reads, block_reads}
 use Rattle.tl_program.specs.Sample.{sample_reading}
-use Rattle.tl_program.specs.Stopping.{Stops}
+use Rattle.tl_program.specs.Stopping.{RunStops}
 use Rattle.tl_program.specs.Ending.{wanted_by, Writes, Told, ClosesAfter, PhasesEnd, EndsFor, EndsRefused, NotMadeBy, InitEnds, RunEnds, sink_alone, SampleEnds, EndsBy}
 use Rattle.tl_program.specs.Headline.{IsDoneOrNoMemory, StaysSure, IsHonest, RunCompletes, CompletesBy}
 use Rattle.tl_program.specs.Outside.{Outside, Streams, streams_of}
@@ -41,13 +41,13 @@ told_script None script own e told = absurd (cc)
 told_script (Some l) script own e told = let same : l ≡ own = cc in sym same ∙ told
 
 -- phases in which no fault is read are all run where no count rises
-phases_complete : (Ran : List (List Turn) → Type 0) (reads : Bool → List ℕ → Reading) (broke : Bool) (faults : ℕ) (before after : Streams) (ended : Status) → PhasesEnd Ran reads broke faults before after ended
+phases_complete : (Ran : List (List Turn) → Type 0) (reads : Bool → List ℕ → ScriptReading) (broke : Bool) (faults : ℕ) (before after : Streams) (ended : Status) → PhasesEnd Ran reads broke faults before after ended
     → ((script : List ℕ) → IfSome before.left (λ l. l ≡ script) → (reads true script).fault ≡ None) → broke ≡ false → (Rose before.source_faults after.source_faults → ⊥) → (Rose before.sink_faults after.sink_faults → ⊥) → IsDoneOrNoMemory ended
 phases_complete Ran reads broke faults before after ended h faultless unbroken source sink = by_why h.why h.stops h.closes where
   sink_from : h.at.sink_faults ≡ before.sink_faults → Rose h.at.sink_faults after.sink_faults → ⊥
   sink_from e rose = sink (subst (λ (n : ℕ). Rose n after.sink_faults) e rose)
 
-  by_why : (why : Stop) → Stops Ran reads why before h.at → ClosesAfter why broke faults h.at.written after.written h.at.sink_faults after.sink_faults ended → IsDoneOrNoMemory ended
+  by_why : (why : Stop) → RunStops Ran reads why before h.at → ClosesAfter why broke faults h.at.written after.written h.at.sink_faults after.sink_faults ended → IsDoneOrNoMemory ended
   by_why stop.Ended stops closes =
       writes_complete (closing_line (wanted_by broke faults)) (wanted_by broke faults) h.at.written after.written h.at.sink_faults after.sink_faults ended (ap (λ b. wanted_by b faults) unbroken) closes (sink_from stops.sink_sure)
   by_why (stop.Fault f) stops closes = absurd (let e : None ≡ Some f = sym (faultless stops.script stops.told) ∙ stops.fault_is in cc)
@@ -55,7 +55,7 @@ phases_complete Ran reads broke faults before after ended h faultless unbroken s
   by_why (stop.Sink n) stops closes = absurd (sink (subst (λ (n : ℕ). Rose before.sink_faults n) (sym closes.2) stops.0.rose))
   by_why stop.NoMemory stops closes = inr closes.0
 
-run_complete : (reads : Bool → List ℕ → Reading) (before after : Outside) (ended : Status) → RunEnds reads before after ended → RunCompletes reads before after ended
+run_complete : (reads : Bool → List ℕ → ScriptReading) (before after : Outside) (ended : Status) → RunEnds reads before after ended → RunCompletes reads before after ended
 run_complete reads before after ended (inl refused) = λ honest faultless sure. refused_complete before after ended refused honest sure
 run_complete reads before after ended (inr (opening, h)) = λ honest faultless sure.
     phases_complete (Told opening h.all h.broke) reads (is_some h.broke) after.disk_faults (streams_of before) (streams_of after) ended h.ends

@@ -8,7 +8,7 @@ use Rattle.tl_script.specs.declared.jobs.ScriptFault.TheVariants as fault
 use Rattle.tl_script.specs.declared.phases.NextError.{NextError}
 use Rattle.tl_script.specs.declared.phases.NextError.TheVariants as next
 use Rattle.tl_script.specs.declared.phases.Phase.{Phase}
-use Rattle.tl_script.specs.Script.{Job, Reading, load_of}
+use Rattle.tl_script.specs.Script.{Job, ScriptReading, load_of}
 use Rattle.tl_script.specs.Phases.{with_phase, no_phase, no_phase_but, most_sessions, script_start, reading_from}
 use Rattle.tl_script.specs.Reader.{ScriptState, reading_ahead, with_phases, Grows}
 use Rattle.tl_script.specs.Taking.{IsAtEnd}
@@ -17,7 +17,7 @@ use Rattle.tl_script.specs.Taking.{IsAtEnd}
 -- whether the source is known to be at its end; whether a phase may come; the names of the sessions
 -- so far, in order of number; and how many there may be
 pub record Coming : Type 0 where
-  pub reads : Bool → List ℕ → Reading
+  pub reads : Bool → List ℕ → ScriptReading
   pub at_end : Bool
   pub live : Bool
   pub names : List (List ℕ)
@@ -32,7 +32,7 @@ Comes old taken jobs new left =
     × (old.reads true taken ≡ with_phase jobs (no_phase new.names)))
 
 -- a phase came
-pub record GivesPhase (old : Coming) (taken : List ℕ) (jobs : List Job) (new : Coming) (left : Option (List ℕ)) : Type 0 where
+pub record BringsPhase (old : Coming) (taken : List ℕ) (jobs : List Job) (new : Coming) (left : Option (List ℕ)) : Type 0 where
   pub live : new.live ≡ true
   pub names : Grows old.names new.names
   pub most : new.most ≡ old.most
@@ -43,35 +43,35 @@ pub record GivesPhase (old : Coming) (taken : List ℕ) (jobs : List Job) (new :
   pub comes : Comes old taken jobs new left
 
 -- all phases came
-pub record GivesNoMore (old : Coming) (taken : List ℕ) (left : Option (List ℕ)) : Type 0 where
+pub record BringsNoMore (old : Coming) (taken : List ℕ) (left : Option (List ℕ)) : Type 0 where
   pub none_left : old.at_end ≡ false → IsAtEnd left
   pub read : old.reads true taken ≡ no_phase old.names
 
 -- the next phase has this fault, whatever follows the bytes that were taken, or because none does
-abbrev pub IsFaulty : Coming → List ℕ → ScriptFault → Option (List ℕ) → Type 0
-IsFaulty old taken f left =
+abbrev pub BringsFault : Coming → List ℕ → ScriptFault → Option (List ℕ) → Type 0
+BringsFault old taken f left =
     ((more : List ℕ) → old.reads true (taken ++ more) ≡ no_phase_but old.names f)
     ⊎ (IsAtEnd left × (old.reads true taken ≡ no_phase_but old.names f))
 
 -- why no phase came: memory ran out, the source failed before the bytes taken had a whole phase, or
 -- the phase has a fault
-abbrev pub StopsFor : Coming → List ℕ → NextError → Option (List ℕ) → Type 0
-StopsFor old taken next.NoMemory left = Unit {0}
-StopsFor old taken (next.Source faults) left = old.reads false taken ≡ no_phase old.names
-StopsFor old taken (next.Fault f) left = IsFaulty old taken f left
+abbrev pub BringsNone : Coming → List ℕ → NextError → Option (List ℕ) → Type 0
+BringsNone old taken next.NoMemory left = Unit {0}
+BringsNone old taken (next.Source faults) left = old.reads false taken ≡ no_phase old.names
+BringsNone old taken (next.Fault f) left = BringsFault old taken f left
 
 -- what the answer says of the bytes that were taken
-abbrev pub Says : Coming → List ℕ → Result (Option Phase) NextError → Coming → Option (List ℕ) → Type 0
-Says old taken (Ok (Some phase)) new left = GivesPhase old taken phase.jobs.items new left
-Says old taken (Ok None) new left = GivesNoMore old taken left
-Says old taken (Err e) new left = StopsFor old taken e left
+abbrev pub SaysComing : Coming → List ℕ → Result (Option Phase) NextError → Coming → Option (List ℕ) → Type 0
+SaysComing old taken (Ok (Some phase)) new left = BringsPhase old taken phase.jobs.items new left
+SaysComing old taken (Ok None) new left = BringsNoMore old taken left
+SaysComing old taken (Err e) new left = BringsNone old taken e left
 
 -- bytes were taken of the source, none where it is at its end, and the answer says this of them
-pub record Answers (old : Coming) (before : Option (List ℕ)) (answer : Result (Option Phase) NextError) (new : Coming) (after : Option (List ℕ)) : Type 0 where
+pub record AnswersComing (old : Coming) (before : Option (List ℕ)) (answer : Result (Option Phase) NextError) (new : Coming) (after : Option (List ℕ)) : Type 0 where
   pub taken : List ℕ
   pub order : before ≡ prepend_known taken after
   pub idle : old.at_end ≡ true → (taken ≡ []) × (answer ≡ Ok None)
-  pub says : Says old taken answer new after
+  pub says : SaysComing old taken answer new after
 
 -- THE PHASES SO FAR
 
@@ -95,7 +95,7 @@ pub record HaveCome (first : Coming) (before : Option (List ℕ)) (bytes : List 
 -- WHERE PHASES COME FROM
 
 -- how a script is read, the whole of one (`reading_of`), or the start of one (`phases_closed`)
-abbrev pub script_reads : Bool → List ℕ → Reading
+abbrev pub script_reads : Bool → List ℕ → ScriptReading
 script_reads whole bytes = reading_from whole standard_limits script_start bytes
 
 -- what may still come of a script that is read so far
@@ -115,7 +115,7 @@ loader_names = codes "load" ∷ []
 
 -- how a whole source is read that is the block of this statement; its start closes no phase, and
 -- shows where the block is too long
-abbrev pub block_reads : List ℕ → Bool → List ℕ → Reading
+abbrev pub block_reads : List ℕ → Bool → List ℕ → ScriptReading
 block_reads text true bytes = load_of standard_limits.phase text bytes
 block_reads text false bytes =
     if nat_lt standard_limits.phase (length bytes) then no_phase_but [] (fault.PhaseTooLong 1)

@@ -6,7 +6,7 @@ use Rattle.tl_types.specs.declared.commits.Commit.{Commit}
 use Rattle.tl_types.specs.Limits.{standard_limits}
 use Rattle.tl_device.specs.Known.{append_known, Rose}
 use Rattle.tl_device.specs.Disk.{Only}
-use Rattle.tl_script.specs.Script.{Reading}
+use Rattle.tl_script.specs.Script.{ScriptReading}
 use Rattle.tl_session.specs.Turns.{Turn, meant, all_turns}
 use Rattle.tl_session.specs.Transcript.{Transcript}
 use Rattle.tl_session.specs.Play.{AreLone, IsPlay}
@@ -28,8 +28,8 @@ use Rattle.tl_program.specs.Status.{closing_line}
 use Rattle.tl_program.specs.Commands.{command_of, put_text}
 use Rattle.tl_program.specs.Coming.{script_reads, block_reads}
 use Rattle.tl_program.specs.Sample.{sample_reading}
-use Rattle.tl_program.specs.Stopping.{Stops}
-use Rattle.tl_program.specs.Outside.{Outside, Streams, streams_of, IsUnread, IsSameDisk, LosesNothing, KeepsJournal, OpensWith, HoldsJournal}
+use Rattle.tl_program.specs.Stopping.{RunStops}
+use Rattle.tl_program.specs.Outside.{Outside, Streams, streams_of, IsUnread, IsSameDisk, LeavesNoLess, KeepsJournal, OpensWith, HoldsJournal}
 
 -- THE SINK
 
@@ -100,7 +100,7 @@ RefusedBy journal.NoMemory before after = Unit {0}
 RefusedBy (journal.Device faults) before after = Unit {0}
 RefusedBy (journal.NotInitialised len) before after =
     (len < 17) × IfSome before.reads (IsTooShort len) × IsSameDisk before after
-    × LosesNothing before after
+    × LeavesNoLess before after
 RefusedBy (journal.AlreadyInitialised len) before after = ⊥
 RefusedBy (journal.Damaged at) before after =
     IfSome before.reads (IsDamaged standard_limits at) × IsSameDisk before after
@@ -130,7 +130,7 @@ NotMadeBy (journal.Device faults) before after = MayBeShort before after
 NotMadeBy (journal.NotInitialised len) before after = ⊥
 NotMadeBy (journal.AlreadyInitialised len) before after =
     (17 < len) × IfSome before.reads (IsTooLong len) × IsSameDisk before after
-    × LosesNothing before after
+    × LeavesNoLess before after
 NotMadeBy (journal.Damaged at) before after = ⊥
 
 -- the journal was not made, for this fault
@@ -188,10 +188,10 @@ ClosesAfter stop.NoMemory broke faults old new before after ended =
 
 -- the phases stopped for this, with the source and the sink as they then were, and the run was
 -- closed
-pub record PhasesEnd (Ran : List (List Turn) → Type 0) (reads : Bool → List ℕ → Reading) (broke : Bool) (faults : ℕ) (before after : Streams) (ended : Status) : Type 0 where
+pub record PhasesEnd (Ran : List (List Turn) → Type 0) (reads : Bool → List ℕ → ScriptReading) (broke : Bool) (faults : ℕ) (before after : Streams) (ended : Status) : Type 0 where
   pub why : Stop
   pub at : Streams
-  pub stops : Stops Ran reads why before at
+  pub stops : RunStops Ran reads why before at
   pub left_same : after.left ≡ at.left
   pub source_same : after.source_faults ≡ at.source_faults
   pub closes : ClosesAfter why broke faults at.written after.written at.sink_faults
@@ -199,7 +199,7 @@ pub record PhasesEnd (Ran : List (List Turn) → Type 0) (reads : Bool → List 
 
 -- how a run over a journal ends that was opened with these commits: the disk holds all commits of
 -- which the replies tell, or, where a break came, these or these and the break's
-pub record OpenedEnds (reads : Bool → List ℕ → Reading) (opening : List Commit) (before after : Outside) (ended : Status) : Type 0 where
+pub record OpenedEnds (reads : Bool → List ℕ → ScriptReading) (opening : List Commit) (before after : Outside) (ended : Status) : Type 0 where
   pub opens : OpensWith opening before
   pub all : List Commit
   pub broke : Option Commit
@@ -208,7 +208,7 @@ pub record OpenedEnds (reads : Bool → List ℕ → Reading) (opening : List Co
       (streams_of before) (streams_of after) ended
 
 -- how a run of phases ends, of which this is read of the bytes that a source has
-abbrev pub RunEnds : (Bool → List ℕ → Reading) → Outside → Outside → Status → Type 0
+abbrev pub RunEnds : (Bool → List ℕ → ScriptReading) → Outside → Outside → Status → Type 0
 RunEnds reads before after ended =
     EndsRefused before after ended
     ⊎ ((opening : List Commit) × OpenedEnds reads opening before after ended)
@@ -220,7 +220,7 @@ sink_alone written faults =
 
 -- how the run of a sample ends: memory ran out before its first phase; or over a journal of its
 -- own, from no commits on, with no source, and without a break
-abbrev pub SampleEnds : Reading → Option (List ℕ) → Option (List ℕ) → ℕ → ℕ → Status → Type 0
+abbrev pub SampleEnds : ScriptReading → Option (List ℕ) → Option (List ℕ) → ℕ → ℕ → Status → Type 0
 SampleEnds reading old new before after ended =
     WritesNothing status.NoMemory old new before after ended
     ⊎ ((all : List Commit) × PhasesEnd (Told [] all None) (λ whole bytes. reading) false 0

@@ -6,7 +6,7 @@ use Rattle.tl_types.specs.declared.commits.Commit.{Commit}
 use Rattle.tl_types.specs.Limits.{standard_limits}
 use Rattle.tl_device.specs.Known.{append_known, prepend_known, Rose}
 use Rattle.tl_script.specs.declared.jobs.ScriptFault.{ScriptFault}
-use Rattle.tl_script.specs.Script.{Reading}
+use Rattle.tl_script.specs.Script.{ScriptReading}
 use Rattle.tl_session.specs.Jobs.{Job}
 use Rattle.tl_session.specs.Play.{AreLonePhases}
 use Rattle.tl_session.specs.Transcript.{Transcript}
@@ -50,13 +50,13 @@ pub record IsHonest (before : Outside) : Type 0 where
   pub fitting : FitInTurn standard_limits commits
 
 -- the source tells a script in which no fault is read
-pub record IsFaultless (reads : Bool → List ℕ → Reading) (before : Outside) : Type 0 where
+pub record IsFaultless (reads : Bool → List ℕ → ScriptReading) (before : Outside) : Type 0 where
   pub script : List ℕ
   pub told : before.left ≡ Some script
   pub whole : (reads true script).fault ≡ None
 
 -- a script without a fault, over a journal, is run to its end where no count rises
-abbrev pub RunCompletes : (Bool → List ℕ → Reading) → Outside → Outside → Status → Type 0
+abbrev pub RunCompletes : (Bool → List ℕ → ScriptReading) → Outside → Outside → Status → Type 0
 RunCompletes reads before after ended =
     IsHonest before → IsFaultless reads before → StaysSure before after → IsDoneOrNoMemory ended
 
@@ -85,7 +85,7 @@ Completes words before after ended = CompletesBy (command_of words) before after
 -- or none, and this closing line behind it; the disk holds these commits, or also the break's. Where
 -- nothing broke and each phase has jobs of one session, it is the play: the jobs done one after the
 -- other.
-pub record PrintsTranscript (reading : Reading) (opening all : List Commit) (broke : Option Commit) (closing : Status) (before after : Outside) : Type 0 where
+pub record PrintsTranscript (reading : ScriptReading) (opening all : List Commit) (broke : Option Commit) (closing : Status) (before after : Outside) : Type 0 where
   pub bytes : List ℕ
   pub begins : IsPrefix opening all
   pub transcript : IsTranscript reading.names (phases_asked reading.phases) opening all broke bytes
@@ -103,14 +103,14 @@ pub record FailsToOpen (closing : Status) (before after : Outside) : Type 0 wher
   pub keeps : KeepsJournal before after
 
 -- the script was read to its end, and a transcript without a break was printed
-pub record PrintsAll (reading : Reading) (opening : List Commit) (before after : Outside) : Type 0 where
+pub record PrintsAll (reading : ScriptReading) (opening : List Commit) (before after : Outside) : Type 0 where
   pub faultless : reading.fault ≡ None
   pub read : after.left ≡ Some []
   pub all : List Commit
   pub prints : PrintsTranscript reading opening all None status.Done before after
 
 -- the script was read to its end, a break came, and a transcript with it was printed
-pub record PrintsBreak (reading : Reading) (opening : List Commit) (closing : Status) (before after : Outside) : Type 0 where
+pub record PrintsBreak (reading : ScriptReading) (opening : List Commit) (closing : Status) (before after : Outside) : Type 0 where
   pub faultless : reading.fault ≡ None
   pub read : after.left ≡ Some []
   pub all : List Commit
@@ -118,7 +118,7 @@ pub record PrintsBreak (reading : Reading) (opening : List Commit) (closing : St
   pub prints : PrintsTranscript reading opening all (Some broke) closing before after
 
 -- a transcript of the phases before a fault of the script was printed
-pub record PrintsToFault (reading : Reading) (f : ScriptFault) (opening : List Commit) (before after : Outside) : Type 0 where
+pub record PrintsToFault (reading : ScriptReading) (f : ScriptFault) (opening : List Commit) (before after : Outside) : Type 0 where
   pub fault_is : reading.fault ≡ Some f
   pub all : List Commit
   pub broke : Option Commit
@@ -126,7 +126,7 @@ pub record PrintsToFault (reading : Reading) (f : ScriptFault) (opening : List C
 
 -- the source failed, and a transcript was printed of the phases that are closed in what was taken,
 -- in which no fault is read
-pub record PrintsClosed (closed : List ℕ → Reading) (opening : List Commit) (closing : Status) (before after : Outside) : Type 0 where
+pub record PrintsClosed (closed : List ℕ → ScriptReading) (opening : List Commit) (closing : Status) (before after : Outside) : Type 0 where
   pub rose : Rose before.source_faults after.source_faults
   pub taken : List ℕ
   pub order : before.left ≡ prepend_known taken after.left
@@ -152,7 +152,7 @@ pub record CutsOpening (before after : Outside) : Type 0 where
 -- the sink failed at the replies of a phase: those of the phases before it were written, and some
 -- first bytes of its own. With all of its own they are a transcript, from the opening's commits to
 -- all commits, with a break or none; the disk holds these commits, or also the break's.
-pub record CutsReplies (reading : Reading) (opening : List Commit) (before after : Outside) : Type 0 where
+pub record CutsReplies (reading : ScriptReading) (opening : List Commit) (before after : Outside) : Type 0 where
   pub turns : List (List Turn)
   pub last : List Turn
   pub later : List (List Job)
@@ -168,7 +168,7 @@ pub record CutsReplies (reading : Reading) (opening : List Commit) (before after
 
 -- a transcript of what is read was printed, and some first bytes of the closing line, which is that
 -- of the status for the break, or for none
-pub record CutsClosing (reading : Reading) (closing : Option Commit → Status) (opening : List Commit) (before after : Outside) : Type 0 where
+pub record CutsClosing (reading : ScriptReading) (closing : Option Commit → Status) (opening : List Commit) (before after : Outside) : Type 0 where
   pub bytes : List ℕ
   pub all : List Commit
   pub broke : Option Commit
@@ -180,7 +180,7 @@ pub record CutsClosing (reading : Reading) (closing : Option Commit → Status) 
   pub holds : HoldsJournal all broke before after
 
 -- the same once the source had failed, of the phases that are closed in what was taken
-pub record CutsClosed (closed : List ℕ → Reading) (closing : Option Commit → Status) (opening : List Commit) (before after : Outside) : Type 0 where
+pub record CutsClosed (closed : List ℕ → ScriptReading) (closing : Option Commit → Status) (opening : List Commit) (before after : Outside) : Type 0 where
   pub rose : Rose before.source_faults after.source_faults
   pub taken : List ℕ
   pub order : before.left ≡ prepend_known taken after.left
@@ -193,7 +193,7 @@ wanted_for None faults broke = wanted_by (is_some broke) faults
 wanted_for (Some f) faults broke = status.ScriptFault f
 
 -- the sink failed: in opening, at the replies of a phase, or at the closing line
-abbrev pub CutsBySink : (Bool → List ℕ → Reading) → List ℕ → List Commit → Outside → Outside → Type 0
+abbrev pub CutsBySink : (Bool → List ℕ → ScriptReading) → List ℕ → List Commit → Outside → Outside → Type 0
 CutsBySink reads script opening before after =
     CutsOpening before after
     ⊎ (CutsReplies (reads true script) opening before after
@@ -212,7 +212,7 @@ pub record StopsAtOnce (before after : Outside) : Type 0 where
 -- first jobs of each of its sessions, so many as were done, they are a transcript, from the
 -- opening's commits to all commits, with a break or none; the disk holds these commits, or also the
 -- break's.
-pub record StopsInPhase (reading : Reading) (opening : List Commit) (before after : Outside) : Type 0 where
+pub record StopsInPhase (reading : ScriptReading) (opening : List Commit) (before after : Outside) : Type 0 where
   pub turns : List (List Turn)
   pub last : List Turn
   pub later : List (List Job)
@@ -227,7 +227,7 @@ pub record StopsInPhase (reading : Reading) (opening : List Commit) (before afte
   pub holds : HoldsJournal all broke before after
 
 -- memory ran out: at once, in a phase, or for the closing line, of which nothing is then written
-abbrev pub CutsByMemory : (Bool → List ℕ → Reading) → List ℕ → List Commit → Outside → Outside → Type 0
+abbrev pub CutsByMemory : (Bool → List ℕ → ScriptReading) → List ℕ → List Commit → Outside → Outside → Type 0
 CutsByMemory reads script opening before after =
     StopsAtOnce before after
     ⊎ (StopsInPhase (reads true script) opening before after
@@ -237,14 +237,14 @@ CutsByMemory reads script opening before after =
 -- THE RUN OF A SCRIPT
 
 -- the jobs of what is read, done one after the other from no commits on, were printed
-pub record PrintsPlay (reading : Reading) (old new : Option (List ℕ)) : Type 0 where
+pub record PrintsPlay (reading : ScriptReading) (old new : Option (List ℕ)) : Type 0 where
   pub bytes : List ℕ
   pub all : List Commit
   pub play : IsPlayOf reading.names (all_jobs (phases_asked reading.phases)) [] all bytes
   pub written : new ≡ append_known old bytes
 
 -- what is proved of the run of a script over a journal of these commits
-pub record RunTells (reads : Bool → List ℕ → Reading) (script : List ℕ) (opening : List Commit) (before after : Outside) (ended : Status) : Type 0 where
+pub record RunTells (reads : Bool → List ℕ → ScriptReading) (script : List ℕ) (opening : List Commit) (before after : Outside) (ended : Status) : Type 0 where
   pub done : ended ≡ status.Done → PrintsAll (reads true script) opening before after
   pub no_memory : ended ≡ status.NoMemory → CutsByMemory reads script opening before after
   pub source_fault : (faults : ℕ) → ended ≡ status.SourceFault faults
@@ -264,7 +264,7 @@ pub record RunTells (reads : Bool → List ℕ → Reading) (script : List ℕ) 
 -- is that of the phases before the fault, and at status 3 of those closed in what was taken. At
 -- status 4 a prefix of one, with its closing line, was written, and at status 1 the replies of the
 -- phases before memory ran out; the disk holds the commits of what was run and not written, too.
-abbrev pub RunHeadline : (Bool → List ℕ → Reading) → Outside → Outside → Status → Type 0
+abbrev pub RunHeadline : (Bool → List ℕ → ScriptReading) → Outside → Outside → Status → Type 0
 RunHeadline reads before after ended =
     (script image : List ℕ) (opening : List Commit)
     → before.left ≡ Some script → before.reads ≡ Some image → StandsFor opening image

@@ -86,8 +86,8 @@ pub record IsSameDisk (before after : Outside) : Type 0 where
   pub no_more : (c : List ℕ) → after.may_leave c → before.may_leave c
 
 -- where the disk tells its bytes, a crash leaves all that it could leave before
-abbrev pub LosesNothing : Outside → Outside → Type 0
-LosesNothing before after =
+abbrev pub LeavesNoLess : Outside → Outside → Type 0
+LeavesNoLess before after =
     (b : List ℕ) → before.reads ≡ Some b → (c : List ℕ) → before.may_leave c → after.may_leave c
 
 -- a journal that the disk was stays one of the same commits: it is read as before, or without what

@@ -18,8 +18,8 @@ use Rattle.tl_program.specs.declared.stops.Stop.{Stop}
 use Rattle.tl_program.specs.declared.stops.Stop.TheVariants as stop
 use Rattle.tl_program.specs.Jobs.{phases_asked}
 use Rattle.tl_program.specs.Outside.{Streams}
-use Rattle.tl_program.specs.Coming.{Coming, GivesPhase, HaveCome}
-use Rattle.tl_program.specs.Stopping.{Stops}
+use Rattle.tl_program.specs.Coming.{Coming, BringsPhase, HaveCome}
+use Rattle.tl_program.specs.Stopping.{RunStops}
 
 -- sessions took these turns: each began with what the shared pass had seen, that pass has seen what
 -- each of them saw, and the shared share counts the commits and breaks
@@ -95,16 +95,16 @@ pub record Progress (first : Coming) (opening : List Entry) (begun : Streams) (n
 abbrev pub GoesOn : Coming → List Entry → Streams → Coming → plain.SharedAccess → Streams → Option Stop → Type 0
 GoesOn first opening begun now shared at None = Progress first opening begun now shared at
 GoesOn first opening begun now shared at (Some why) =
-    Stops (λ turns. HaveRun opening turns shared.seen shared.amount) first.reads why begun at
+    RunStops (λ turns. HaveRun opening turns shared.seen shared.amount) first.reads why begun at
     × (shared.parts ≡ 65536)
 
 -- a step after which the phases go on took one phase, of bytes of a source that was not yet known to
 -- be at its end
-abbrev pub TakesPhase : Coming → Coming → Option (List ℕ) → Option (List ℕ) → Option Stop → Type 0
-TakesPhase old new before after None =
+abbrev pub TakesOnePhase : Coming → Coming → Option (List ℕ) → Option (List ℕ) → Option Stop → Type 0
+TakesOnePhase old new before after None =
     (old.at_end ≡ false) × ((taken : List ℕ) × (jobs : List ScriptJob)
-    × (before ≡ prepend_known taken after) × GivesPhase old taken jobs new after)
-TakesPhase old new before after (Some why) = Unit {0}
+    × (before ≡ prepend_known taken after) × BringsPhase old taken jobs new after)
+TakesOnePhase old new before after (Some why) = Unit {0}
 
 -- the replies to jobs, each under the name of its session
 abbrev pub replies_bytes : List (List ℕ) → List Job → List Reply → List ℕ

@@ -3,7 +3,7 @@ use Rattle.std.specs.Prelude.{◌≡◌, ℕ, zero, suc, ◌+◌, ◌-◌, ◌<�
 use Rattle.std.specs.declared.option.Option.{Option}
 use Rattle.std.specs.Fmt.{decimal}
 use Rattle.tl_csv.specs.Sample.{Sample, block_end, block_of}
-use Rattle.tl_script.specs.Script.{Job, Reading}
+use Rattle.tl_script.specs.Script.{Job, ScriptReading}
 use Rattle.tl_program.specs.Coming.{Coming}
 
 -- a block, where there is one, and what comes behind it
@@ -57,12 +57,12 @@ phases_with blocks =
     ∷ (puts_from 2 blocks ++ queries_from (length blocks + 2) (length blocks + 1) ∷ [])
 
 -- a sample of these blocks, as a script of the session `sample`
-abbrev pub reading_with : List (List ℕ) → Reading
+abbrev pub reading_with : List (List ℕ) → ScriptReading
 reading_with blocks =
     record { names = codes "sample" ∷ []; phases = phases_with blocks; fault = None }
 
 -- a sample of so many lines, whose generator begins with a number
-abbrev pub sample_reading : ℕ → ℕ → Reading
+abbrev pub sample_reading : ℕ → ℕ → ScriptReading
 sample_reading lines start = reading_with (blocks_of lines start)
 
 -- PHASE BY PHASE

@@ -5,7 +5,7 @@ use Rattle.tl_device.specs.Known.{append_known, prepend_known, Rose}
 use Rattle.tl_script.specs.declared.jobs.ScriptFault.{ScriptFault}
 use Rattle.tl_script.specs.declared.phases.NextError.{NextError}
 use Rattle.tl_script.specs.declared.phases.NextError.TheVariants as next
-use Rattle.tl_script.specs.Script.{Reading}
+use Rattle.tl_script.specs.Script.{ScriptReading}
 use Rattle.tl_script.specs.Taking.{IsAtEnd}
 use Rattle.tl_session.specs.Jobs.{Job}
 use Rattle.tl_session.specs.Turns.{Turn, of_session}
@@ -21,7 +21,7 @@ use Rattle.tl_program.specs.Outside.{Streams}
 
 -- all phases before this fault were run, or, without one, all phases, and the source was read to
 -- its end; their replies are written
-pub record RunsAll (Ran : List (List Turn) → Type 0) (reads : List ℕ → Reading) (fault : Option ScriptFault) (before after : Streams) : Type 0 where
+pub record RunsAll (Ran : List (List Turn) → Type 0) (reads : List ℕ → ScriptReading) (fault : Option ScriptFault) (before after : Streams) : Type 0 where
   pub script : List ℕ
   pub told : IfSome before.left (λ left. left ≡ script)
   pub fault_is : (reads script).fault ≡ fault
@@ -36,7 +36,7 @@ pub record RunsAll (Ran : List (List Turn) → Type 0) (reads : List ℕ → Rea
 
 -- the source failed: the phases were run that are closed in the bytes taken of it, in which no fault
 -- is read, and their replies are written
-pub record StopsAtSource (Ran : List (List Turn) → Type 0) (closed : List ℕ → Reading) (before after : Streams) : Type 0 where
+pub record StopsAtSource (Ran : List (List Turn) → Type 0) (closed : List ℕ → ScriptReading) (before after : Streams) : Type 0 where
   pub taken : List ℕ
   pub order : before.left ≡ prepend_known taken after.left
   pub rose : Rose before.source_faults after.source_faults
@@ -50,7 +50,7 @@ pub record StopsAtSource (Ran : List (List Turn) → Type 0) (closed : List ℕ 
 
 -- the sink failed while it was given the replies of a phase: those of the phases before it are
 -- written, and some prefix of its own
-pub record StopsAtSink (Ran : List (List Turn) → Type 0) (reads : List ℕ → Reading) (before after : Streams) : Type 0 where
+pub record StopsAtSink (Ran : List (List Turn) → Type 0) (reads : List ℕ → ScriptReading) (before after : Streams) : Type 0 where
   pub script : List ℕ
   pub told : IfSome before.left (λ left. left ≡ script)
   pub turns : List (List Turn)
@@ -74,7 +74,7 @@ AreFronts last (jobs ∷ later) =
 
 -- memory ran out: the replies of some of the first phases are written, and none of the phase in
 -- which it ran out, of which some jobs may be done
-pub record StopsShort (Ran : List (List Turn) → Type 0) (reads : List ℕ → Reading) (before after : Streams) : Type 0 where
+pub record StopsShort (Ran : List (List Turn) → Type 0) (reads : List ℕ → ScriptReading) (before after : Streams) : Type 0 where
   pub script : List ℕ
   pub told : IfSome before.left (λ left. left ≡ script)
   pub turns : List (List Turn)
@@ -89,14 +89,14 @@ pub record StopsShort (Ran : List (List Turn) → Type 0) (reads : List ℕ → 
   pub sink_sure : after.sink_faults ≡ before.sink_faults
 
 -- what was done, by why the phases stopped
-abbrev pub Stops : (List (List Turn) → Type 0) → (Bool → List ℕ → Reading) → Stop → Streams → Streams → Type 0
-Stops Ran reads stop.Ended before after = RunsAll Ran (reads true) None before after
-Stops Ran reads (stop.Fault f) before after = RunsAll Ran (reads true) (Some f) before after
-Stops Ran reads (stop.Source faults) before after =
+abbrev pub RunStops : (List (List Turn) → Type 0) → (Bool → List ℕ → ScriptReading) → Stop → Streams → Streams → Type 0
+RunStops Ran reads stop.Ended before after = RunsAll Ran (reads true) None before after
+RunStops Ran reads (stop.Fault f) before after = RunsAll Ran (reads true) (Some f) before after
+RunStops Ran reads (stop.Source faults) before after =
     StopsAtSource Ran (reads false) before after × (faults ≡ after.source_faults)
-Stops Ran reads (stop.Sink faults) before after =
+RunStops Ran reads (stop.Sink faults) before after =
     StopsAtSink Ran (reads true) before after × (faults ≡ after.sink_faults)
-Stops Ran reads stop.NoMemory before after = StopsShort Ran (reads true) before after
+RunStops Ran reads stop.NoMemory before after = StopsShort Ran (reads true) before after
 
 -- why the phases stop where no further one is read, for this cause
 abbrev pub stop_for : NextError → Stop

@@ -1,7 +1,7 @@
 //! The phases that a run goes through: those of a script, or one that puts a whole source.
 ghost use Rattle.std.specs.Prelude.{◌≡◌, ◌<◌, length, get_or, [], true, OnOk, IfErr};
 ghost use Rattle.tl_script.specs.Reader.{NextFaults};
-ghost use Rattle.tl_program.specs.Coming.{Answers, block_coming, script_coming};
+ghost use Rattle.tl_program.specs.Coming.{AnswersComing, block_coming, script_coming};
 
 use std::alloc::Global;
 use tl_device::Source;
@@ -20,7 +20,7 @@ pub(crate) trait Phases<S: Source>: Drop {
     /// handed on. `NoMemory`: memory ran out.
     fn next(&mut self, alloc: Global, source: &mut S) -> Result<Option<Phase>, NextError>
         requires { (coming self.old).live ≡ true }
-        ensures answers { Answers (coming self.old) (S.left source.old) result (coming self.new)
+        ensures answers { AnswersComing (coming self.old) (S.left source.old) result (coming self.new)
             (S.left source.new) }
         ensures sure { OnOk result (S.faults source.new ≡ S.faults source.old) }
         ensures faults { IfErr result (λ e. NextFaults e (S.faults source.old)

@@ -8,8 +8,8 @@ ghost use Rattle.tl_session.specs.Phases.{HaveRun};
 ghost use Rattle.tl_program.specs.Coming.{Coming};
 ghost use Rattle.tl_program.specs.Jobs.{asked};
 ghost use Rattle.tl_program.specs.Outside.{streams, Streams};
-ghost use Rattle.tl_program.specs.Running.{replies_bytes, TakesPhase, GoesOn, HasNotBegun, Progress, RunsAndWrites};
-ghost use Rattle.tl_program.specs.Stopping.{Stops};
+ghost use Rattle.tl_program.specs.Running.{replies_bytes, TakesOnePhase, GoesOn, HasNotBegun, Progress, RunsAndWrites};
+ghost use Rattle.tl_program.specs.Stopping.{RunStops};
 
 use crate::phases::Phases;
 use crate::stops::{Stop, stop_for};
@@ -20,7 +20,7 @@ use std::thread::Threads;
 use tl_device::{Disk, Gate, Sink, Source};
 use tl_engine::{Engine, Named};
 use tl_script::{Job, Phase};
-use tl_session::{Job as LentJob, Reply, SharedAccess, put_reply, run_phase};
+use tl_session::{LentJob, Reply, SharedAccess, put_reply, run_phase};
 use tl_types::{Bytes, NoMemory};
 
 /// A run: the engine over its journal, what the sessions of its phases share, and the phases that
@@ -140,7 +140,7 @@ fn run_next<
         (streams S.left S.faults K.written K.faults source.old sink.old)
         → GoesOn first opening begun (P.coming running.new.phases) running.new.shared
         (streams S.left S.faults K.written K.faults source.new sink.new) result }
-    ensures takes { TakesPhase (P.coming running.old.phases) (P.coming running.new.phases)
+    ensures takes { TakesOnePhase (P.coming running.old.phases) (P.coming running.new.phases)
         (S.left source.old) (S.left source.new) result }
 {
     match running.phases.next(rt.alloc(), source) {
@@ -165,7 +165,7 @@ pub(crate) fn run_phases<
     requires fresh { HasNotBegun (P.coming running.old.phases) }
     requires parts { running.old.shared.parts ≡ 65536 }
     requires amount { running.old.shared.amount ≡ 0 }
-    ensures stops { Stops (λ turns. HaveRun running.old.shared.seen turns running.new.shared.seen
+    ensures stops { RunStops (λ turns. HaveRun running.old.shared.seen turns running.new.shared.seen
         running.new.shared.amount) (P.coming running.old.phases).reads result
         (streams S.left S.faults K.written K.faults source.old sink.old)
         (streams S.left S.faults K.written K.faults source.new sink.new) }

@@ -7,7 +7,7 @@ use Rattle.tl_script.specs.declared.open_phase.OpenPhase.{OpenPhase}
 use Rattle.tl_script.specs.declared.phases.Phase.{Phase}
 use Rattle.tl_script.specs.Script.{Job}
 use Rattle.tl_script.specs.Phases.{Spot, phase_start, reading_from, with_phase, no_phase}
-use Rattle.tl_script.specs.Reader.{Grows, Answers, ComesNext, ComesLast}
+use Rattle.tl_script.specs.Reader.{Grows, AnswersNext, ComesNext, ComesLast}
 use Rattle.tl_script.specs.InHand.{spot_in, place_of, IsBetween, IsNamed, IsNamedPlace, JobsNamed, TakesPhase, PhaseSays, state_in}
 
 -- the names before a phase of which nothing is read are all
@@ -86,7 +86,7 @@ pub gives : (old found last : OpenPhase) (pending rest : List ℕ) (old_end live
     → TakesPhase old.limits (spot_in old) pending before (Ok true) found rest at_end after
     → found.limits ≡ old.limits → JobsNamed found → Grows (spot_in old).before found.names
     → last.limits ≡ found.limits → phase.jobs.items ≡ found.jobs.items → last.names ≡ found.names → last.line ≡ found.line → last.ended ≡ found.ended
-    → Answers (state_in old pending old_end live) before (Ok (Some phase)) (state_in last rest at_end true) after
+    → AnswersNext (state_in old pending old_end live) before (Ok (Some phase)) (state_in last rest at_end true) after
 gives old found last pending rest old_end live at_end before after phase between on takes l-1 is_named grown l-2 j n m g =
     record {
       taken = takes.taken;

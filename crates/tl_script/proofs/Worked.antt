@@ -2,7 +2,7 @@
 use Rattle.std.proofs.Common.{◌≡◌, ℕ, List, [], ◌∷◌, ◌++◌, Option, Some, None, refl, codes}
 use Rattle.std.specs.Str.{is_utf8, chars}
 use Rattle.tl_types.specs.declared.limits.Limits.{Limits}
-use Rattle.tl_script.specs.Script.{Job, Reading, load_of}
+use Rattle.tl_script.specs.Script.{Job, ScriptReading, load_of}
 use Rattle.tl_script.specs.Phases.{reading_of, phases_closed}
 use Rattle.tl_script.specs.declared.jobs.ScriptFault.{ScriptFault}
 use Rattle.tl_script.specs.declared.jobs.ScriptFault.TheVariants as fault
@@ -22,7 +22,7 @@ line text = text ++ (10 ∷ [])
 abbrev job : ℕ → ℕ → List ℕ → Option (List ℕ) → Job
 job session line text block = record { session = session; line = line; text = text; block = block }
 
-abbrev read : List (List ℕ) → List (List Job) → Option ScriptFault → Reading
+abbrev read : List (List ℕ) → List (List Job) → Option ScriptFault → ScriptReading
 read names phases fault = record { names = names; phases = phases; fault = fault }
 
 empty : reading_of ample [] ≡ read [] [] None

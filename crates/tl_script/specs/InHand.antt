@@ -10,7 +10,7 @@ use Rattle.tl_script.specs.declared.open_phase.OpenBlock.{OpenBlock}
 use Rattle.tl_script.specs.declared.phases.NextError.{NextError}
 use Rattle.tl_script.specs.declared.phases.NextError.TheVariants as next
 use Rattle.tl_script.specs.declared.lines_in_hand.Found.{Found}
-use Rattle.tl_script.specs.Script.{Reading, lines_of, stands_in}
+use Rattle.tl_script.specs.Script.{ScriptReading, lines_of, stands_in}
 use Rattle.tl_script.specs.Reader.{ScriptState}
 use Rattle.tl_script.specs.Taking.{IsAtEnd}
 use Rattle.tl_script.specs.Phases.{Place, Outside, Inside, Spot, Step, Fails, Goes, Ends, early_fault, end_at, no_phase, phase_start, behind_go, session_number, most_sessions, with_name, with_job, reading_from, with_phase, no_phase_but}
@@ -99,7 +99,7 @@ pub record BeginsLine (bytes : List ℕ) (number : ℕ) : Type 0 where
       ≡ take number bytes ∷ lines_of (drop number bytes ++ more)
 
 -- what is ahead of a phase that a GO line ended, or that goes on
-abbrev pub ahead_of : Bool → Bool → Limits → Spot → List ℕ → Reading
+abbrev pub ahead_of : Bool → Bool → Limits → Spot → List ℕ → ScriptReading
 ahead_of true whole limits spot bytes =
     with_phase spot.jobs (reading_from whole limits (behind_go spot) bytes)
 ahead_of false whole limits spot bytes = reading_from whole limits spot bytes

@@ -6,7 +6,7 @@ use Rattle.tl_types.specs.declared.limits.Limits.{Limits}
 use Rattle.tl_types.specs.Names.{same_bytes}
 use Rattle.tl_script.specs.declared.jobs.ScriptFault.{ScriptFault}
 use Rattle.tl_script.specs.declared.jobs.ScriptFault.TheVariants as fault
-use Rattle.tl_script.specs.Script.{Job, Reading, lines_of, without_last, text_of, is_passed_over, statement_of, stands_in, has_block, ends_block}
+use Rattle.tl_script.specs.Script.{Job, ScriptReading, lines_of, without_last, text_of, is_passed_over, statement_of, stands_in, has_block, ends_block}
 
 -- STATES
 
@@ -174,56 +174,56 @@ line_step whole limits spot line =
 -- READINGS
 
 -- no further phase, and no fault
-abbrev pub no_phase : List (List ℕ) → Reading
+abbrev pub no_phase : List (List ℕ) → ScriptReading
 no_phase names = record { names = names; phases = []; fault = None }
 
 -- no further phase, and this fault
-abbrev pub no_phase_but : List (List ℕ) → ScriptFault → Reading
+abbrev pub no_phase_but : List (List ℕ) → ScriptFault → ScriptReading
 no_phase_but names f = record { names = names; phases = []; fault = Some f }
 
 -- a phase of these jobs first
-abbrev pub with_phase : List Job → Reading → Reading
+abbrev pub with_phase : List Job → ScriptReading → ScriptReading
 with_phase jobs more =
     record { names = more.names; phases = jobs ∷ more.phases; fault = more.fault }
 
 -- the lines after the last GO are a phase where they have a job
-abbrev pub last_phase : Spot → List Job → Reading
+abbrev pub last_phase : Spot → List Job → ScriptReading
 last_phase spot [] = no_phase spot.before
 last_phase spot (job ∷ jobs) = with_phase (job ∷ jobs) (no_phase spot.names)
 
 -- what stands at the end of the input: the last phase, or a block that is not ended
-abbrev pub end_at : Spot → Place → Reading
+abbrev pub end_at : Spot → Place → ScriptReading
 end_at spot Outside = last_phase spot spot.jobs
 end_at spot (Inside session begun text block) = no_phase_but spot.before (fault.BlockOpen begun)
 
 -- what stands behind all lines of the whole input, or of the start of one
-abbrev pub behind_lines : Bool → Spot → Reading
+abbrev pub behind_lines : Bool → Spot → ScriptReading
 behind_lines true spot = end_at spot spot.place
 behind_lines false spot = no_phase spot.before
 
 -- what is read from a line on, where this is read behind it
-abbrev pub with_step : Step → Spot → (Spot → Reading) → Reading
+abbrev pub with_step : Step → Spot → (Spot → ScriptReading) → ScriptReading
 with_step (Fails f) spot ahead = no_phase_but spot.before f
 with_step (Goes next) spot ahead = ahead next
 with_step Ends spot ahead = with_phase spot.jobs (ahead (behind_go spot))
 
 -- what is read of these lines
-abbrev pub reading_lines : Bool → Limits → Spot → List (List ℕ) → Reading
+abbrev pub reading_lines : Bool → Limits → Spot → List (List ℕ) → ScriptReading
 reading_lines whole limits spot [] = behind_lines whole spot
 reading_lines whole limits spot (line ∷ lines) =
     with_step (line_step whole limits spot line) spot
     (λ next. reading_lines whole limits next lines)
 
 -- what is read of these bytes, the whole rest of the input or the start of it
-abbrev pub reading_from : Bool → Limits → Spot → List ℕ → Reading
+abbrev pub reading_from : Bool → Limits → Spot → List ℕ → ScriptReading
 reading_from whole limits spot bytes = reading_lines whole limits spot (lines_of bytes)
 
 -- what is read of a script: the names of the sessions of its phases, in order of number, the phases
 -- before its first fault, and the fault where it has one
-abbrev pub reading_of : Limits → List ℕ → Reading
+abbrev pub reading_of : Limits → List ℕ → ScriptReading
 reading_of limits bytes = reading_from true limits script_start bytes
 
 -- what is read of the start of a script: the phases whose GO line, with its LF, is among the bytes,
 -- up to the first fault that every script has that begins so
-abbrev pub phases_closed : Limits → List ℕ → Reading
+abbrev pub phases_closed : Limits → List ℕ → ScriptReading
 phases_closed limits bytes = reading_from false limits script_start bytes

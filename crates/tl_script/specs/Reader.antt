@@ -8,7 +8,7 @@ use Rattle.tl_script.specs.declared.jobs.ScriptError.TheVariants as script
 use Rattle.tl_script.specs.declared.phases.NextError.{NextError}
 use Rattle.tl_script.specs.declared.phases.NextError.TheVariants as next
 use Rattle.tl_script.specs.declared.phases.Phase.{Phase}
-use Rattle.tl_script.specs.Script.{Job, Reading, load_of}
+use Rattle.tl_script.specs.Script.{Job, ScriptReading, load_of}
 use Rattle.tl_script.specs.Taking.{IsAtEnd}
 use Rattle.tl_script.specs.Phases.{Spot, phase_start, reading_from, with_phase, no_phase, no_phase_but}
 
@@ -43,7 +43,7 @@ spot_of state = phase_start state.names state.line state.ended
 
 -- what a reader still reads where these bytes follow those that it has, and the input ends there or
 -- may go on
-abbrev pub reading_ahead : Bool → ScriptState → List ℕ → Reading
+abbrev pub reading_ahead : Bool → ScriptState → List ℕ → ScriptReading
 reading_ahead whole state bytes =
     reading_from whole state.limits (spot_of state) (state.pending ++ bytes)
 
@@ -106,29 +106,29 @@ StopsFor old taken (next.Source faults) left = reading_ahead false old taken ≡
 StopsFor old taken (next.Fault f) left = IsFaulty old taken f ⊎ IsFaultyAtEnd old taken f left
 
 -- no phase was read, and none will be
-pub record Stops (old : ScriptState) (taken : List ℕ) (e : NextError) (new : ScriptState)
+pub record ReadStops (old : ScriptState) (taken : List ℕ) (e : NextError) (new : ScriptState)
     (left : Option (List ℕ)) : Type 0 where
   pub ends : new.live ≡ false
   pub names : new.names ≡ old.names
   pub cause : StopsFor old taken e left
 
 -- what a call says of the bytes that it took
-abbrev pub Says : ScriptState → List ℕ → Result (Option Phase) NextError → ScriptState
+abbrev pub SaysNext : ScriptState → List ℕ → Result (Option Phase) NextError → ScriptState
     → Option (List ℕ) → Type 0
-Says old taken (Ok (Some phase)) new left = GivesPhase old taken phase.jobs.items new left
-Says old taken (Ok None) new left = IsDone old taken new left
-Says old taken (Err e) new left = Stops old taken e new left
+SaysNext old taken (Ok (Some phase)) new left = GivesPhase old taken phase.jobs.items new left
+SaysNext old taken (Ok None) new left = IsDone old taken new left
+SaysNext old taken (Err e) new left = ReadStops old taken e new left
 
 -- a call took bytes of a source, no more than the lines of a phase, a line and one read have, and
 -- says this of them; where the source is at its end already none is taken and none comes
-pub record Answers (old : ScriptState) (before : Option (List ℕ))
+pub record AnswersNext (old : ScriptState) (before : Option (List ℕ))
     (answer : Result (Option Phase) NextError) (new : ScriptState) (after : Option (List ℕ))
     : Type 0 where
   pub taken : List ℕ
   pub order : before ≡ prepend_known taken after
   pub bound : length taken ≤ old.limits.phase + old.limits.line + 65536
   pub idle : old.at_end ≡ true → (taken ≡ []) × (answer ≡ Ok None)
-  pub says : Says old taken answer new after
+  pub says : SaysNext old taken answer new after
 
 -- being out of memory, or a fault of the bytes, leaves the count of faults; a fault of the source
 -- raised it to the count that is handed on
@@ -140,7 +140,7 @@ NextFaults (next.Fault f) before now = now ≡ before
 -- RUNS
 
 -- these phases first
-abbrev pub with_phases : List (List Job) → Reading → Reading
+abbrev pub with_phases : List (List Job) → ScriptReading → ScriptReading
 with_phases phases more =
     record { names = more.names; phases = phases ++ more.phases; fault = more.fault }
 

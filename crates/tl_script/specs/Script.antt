@@ -15,7 +15,7 @@ pub record Job : Type 0 where
 
 -- what is read of a script: the names of the sessions of its phases, in order of number, the phases
 -- before its first fault, and the fault where it has one
-pub record Reading : Type 0 where
+pub record ScriptReading : Type 0 where
   pub names : List (List ℕ)
   pub phases : List (List Job)
   pub fault : Option ScriptFault
@@ -107,7 +107,7 @@ job_with n text block = record { session = 0; line = n; text = text; block = blo
 
 -- the script of one job that puts a whole input as its block, or the fault where that has more
 -- than so many bytes
-abbrev pub load_of : ℕ → List ℕ → List ℕ → Reading
+abbrev pub load_of : ℕ → List ℕ → List ℕ → ScriptReading
 load_of limit text block =
     if nat_lt limit (length block)
     then record { names = []; phases = []; fault = Some (fault.PhaseTooLong 1) }

@@ -1,6 +1,6 @@
 //! A script that is read from a source, phase by phase.
 ghost use Rattle.std.specs.Prelude.{◌≡◌, ◌<◌, ◌^◌, length, true, get_or, [], OnOk, IfErr};
-ghost use Rattle.tl_script.specs.Reader.{new_state, Answers, NextFaults};
+ghost use Rattle.tl_script.specs.Reader.{new_state, AnswersNext, NextFaults};
 
 use crate::open_phase::OpenPhase;
 use crate::pending::Pending;
@@ -96,7 +96,7 @@ impl Script {
         source: &mut S,
     ) -> Result<Option<Phase>, NextError>
         requires { self.old.live ≡ true }
-        ensures answers { Answers self.old (S.left source.old) result self.new
+        ensures answers { AnswersNext self.old (S.left source.old) result self.new
             (S.left source.new) }
         ensures sure { OnOk result (S.faults source.new ≡ S.faults source.old) }
         ensures faults { IfErr result (λ e. NextFaults e (S.faults source.old)

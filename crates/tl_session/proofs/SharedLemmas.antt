@@ -9,7 +9,7 @@ use Rattle.tl_types.specs.declared.commits.Entry.{Entry}
 use Rattle.tl_session.specs.declared.replies.Reply.{Reply}
 use Rattle.std.specs.declared.alloc.AllocError.{AllocError}
 use Rattle.std.specs.declared.alloc.Global.{Global}
-use Rattle.tl_session.specs.declared.jobs.Job.{Job as LentJob}
+use Rattle.tl_session.specs.declared.jobs.LentJob.{LentJob}
 use Rattle.tl_session.specs.Jobs.{Job, job_of}
 use Rattle.tl_session.specs.Plain as plain
 use Rattle.tl_session.specs.Phases.{Runs, AllRan, TakesTurns, RunsPhase, RunsFronts, own_jobs, replies_of, parts_of, amounts_of, AllSeenIn, IsFresh, AllFresh, NoneRanOut, HaveReplies, KeepAll}

@@ -2,7 +2,7 @@
 
 /// One statement of a session.
 #[derive(Clone, Copy, Drop)]
-pub struct Job<'a> {
+pub struct LentJob<'a> {
     /// The number of its session, from 0: the author of its batch.
     pub session: u32,
     /// The number of the line that it stands on, from 1.

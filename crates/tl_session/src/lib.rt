@@ -12,7 +12,7 @@ mod runs;
 mod sessions;
 mod statements;
 
-pub use jobs::Job;
+pub use jobs::LentJob;
 pub use phases::{AccessParts, SharedAccess, run_phase};
 pub use readings::{JobReading, read_job};
 pub use replies::{Refusal, Reply, ReplyBody, put_reply};

@@ -8,7 +8,7 @@ ghost use Rattle.tl_session.specs.Phases.{Runs, AllFresh, AllSeenIn, HaveReplies
 ghost use Rattle.tl_session.specs.Turns.{Turn};
 ghost use Rattle.tl_session.specs.Written.{jobs_of};
 
-use crate::jobs::Job;
+use crate::jobs::LentJob;
 use crate::replies::Reply;
 use crate::runs::run_all;
 use crate::sessions::Session;
@@ -187,7 +187,7 @@ fn last_reply<J: Named>(sessions: &mut [Session<J>], place: u32) -> Option<Reply
 fn replies_in_order<J: Named>(
     alloc: Global,
     sessions: &mut [Session<J>],
-    jobs: &[Job],
+    jobs: &[LentJob],
 ) -> Result<Vec<Reply>, NoMemory>
     ensures kept { KeepAll sessions.old sessions.new }
     ensures told { (turns : List Turn) → jobs_of turns ≡ map job_of jobs.now →
@@ -210,7 +210,7 @@ fn replies_in_order<J: Named>(
 fn hand_out<J: Named>(
     alloc: Global,
     sessions: &mut [Session<J>],
-    jobs: &[Job],
+    jobs: &[LentJob],
 ) -> Result<Vec<Reply>, NoMemory>
     ensures kept { KeepAll sessions.old sessions.new }
     ensures whole { OnOk result (NoneRanOut sessions.old) }
@@ -238,7 +238,7 @@ pub fn run_phase<
     rt: &R,
     engine: &Engine<D, J>,
     shared: &mut SharedAccess<J>,
-    jobs: &[Job],
+    jobs: &[LentJob],
     gate: &G,
 ) -> Result<Vec<Reply>, NoMemory>
     requires standard { J.limits ≡ standard_limits }

@@ -4,7 +4,7 @@ ghost use Rattle.tl_types.specs.Limits.{standard_limits};
 ghost use Rattle.tl_session.specs.Jobs.{job_of};
 ghost use Rattle.tl_session.specs.Phases.{AllRan, AreNumbered, Ran, own_jobs};
 
-use crate::jobs::Job;
+use crate::jobs::LentJob;
 use crate::sessions::Session;
 use crate::statements::run_statement;
 use std::sync::Wait;
@@ -18,7 +18,7 @@ pub(crate) fn run_session<D: Disk, J: Named, G: Gate, R: AllocGlobal + Wait>(
     rt: &R,
     engine: &Engine<D, J>,
     session: &mut Session<J>,
-    jobs: &[Job],
+    jobs: &[LentJob],
     gate: &G,
 )
     requires standard { J.limits ≡ standard_limits }
@@ -38,7 +38,7 @@ pub(crate) fn run_session<D: Disk, J: Named, G: Gate, R: AllocGlobal + Wait>(
 
 // How many threads the sessions are run by: one where the jobs are of one session alone, and one
 // for each session otherwise.
-fn threads_for(jobs: &[Job], sessions: usize) -> usize
+fn threads_for(jobs: &[LentJob], sessions: usize) -> usize
     requires { 0 < sessions }
     ensures { 0 < result }
 {
@@ -60,7 +60,7 @@ pub fn run_all<
     J: Named + Send + Sync,
     G: Gate,
     R: AllocGlobal + Threads + Wait + Sync,
->(rt: &R, engine: &Engine<D, J>, sessions: &mut Vec<Session<J>>, jobs: &[Job], gate: &G)
+>(rt: &R, engine: &Engine<D, J>, sessions: &mut Vec<Session<J>>, jobs: &[LentJob], gate: &G)
     requires standard { J.limits ≡ standard_limits }
     requires numbered { AreNumbered sessions.old.items }
     ensures count { length sessions.new.items ≡ length sessions.old.items }

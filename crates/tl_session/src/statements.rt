@@ -9,7 +9,7 @@ ghost use Rattle.tl_session.specs.Jobs.{job_of};
 ghost use Rattle.tl_session.specs.Reading.{block_of, DoesMatch, IsKnown};
 ghost use Rattle.tl_session.specs.Statements.{Answers, IsLook, SeesMore, Settles, Stops, Tells, outcome_of};
 
-use crate::jobs::Job;
+use crate::jobs::LentJob;
 use crate::readings::{JobReading, read_job};
 use crate::replies::{Refusal, Reply, ReplyBody};
 use crate::sessions::{Access, Session};
@@ -34,7 +34,7 @@ struct Settled {
 }
 
 // The block of a job; it is empty where there is none.
-fn block_of<'a>(job: &Job<'a>) -> &'a [u8]
+fn block_of<'a>(job: &LentJob<'a>) -> &'a [u8]
     ensures { result.now ≡ block_of (job_of job.now).block }
 {
     match job.block {
@@ -48,7 +48,7 @@ fn look_at<D: Disk, J: Named, G: Gate, R: AllocGlobal + Wait>(
     rt: &R,
     engine: &Engine<D, J>,
     access: &mut Access<J>,
-    job: &Job,
+    job: &LentJob,
     gate: &G,
 ) -> Result<Look, NoMemory>
     ensures sees { SeesMore access.old access.new }
@@ -108,7 +108,7 @@ fn answer<D: Disk, J: Named, G: Gate, R: AllocGlobal + Wait>(
     rt: &R,
     engine: &Engine<D, J>,
     access: &mut Access<J>,
-    job: &Job,
+    job: &LentJob,
     gate: &G,
 ) -> Result<Settled, NoMemory>
     requires standard { J.limits ≡ standard_limits }
@@ -143,7 +143,7 @@ pub fn run_statement<D: Disk, J: Named, G: Gate, R: AllocGlobal + Wait>(
     rt: &R,
     engine: &Engine<D, J>,
     session: &mut Session<J>,
-    job: &Job,
+    job: &LentJob,
     gate: &G,
 ) -> Result<(), NoMemory>
     requires standard { J.limits ≡ standard_limits }

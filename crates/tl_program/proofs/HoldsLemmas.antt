@@ -5,6 +5,7 @@ use Rattle.tl_types.specs.declared.commits.Commit.{Commit}
 use Rattle.tl_types.specs.declared.commits.Entry.{Entry}
 use Rattle.tl_types.specs.Entries.{commits_of, has_break}
 use Rattle.tl_device.specs.Disk.{Only}
+use Rattle.tl_device.specs.declared.disk.Disk.{Ghosts as DiskGhosts}
 use Rattle.tl_session.specs.Turns.{break_of}
 use Rattle.tl_journal.specs.Image.{header, StandsFor, BeforeOrAfter}
 use Rattle.tl_journal.specs.Stands.{IsJournal}
@@ -61,5 +62,5 @@ holds es before after legal count leaves reads whole =
     }
 
 -- a whole journal is what a read gives, and all that a crash leaves
-pub whole_image : {D : Type 0} (reads : D → Option (List ℕ)) (may_leave : D → List ℕ → Type 0) (disk : D) (commits : List Commit) → (gate : ℕ) × IsJournal reads may_leave disk commits gate → (bytes : List ℕ) × (reads disk ≡ Some bytes) × Only bytes (may_leave disk)
-whole_image reads may_leave disk commits (gate, h) = ((header ++ h.front) ++ 0 ∷ [], h.stored.reads_as, h.stored.only)
+pub whole_image : {D : Type 0} (disks : DiskGhosts D) (disk : D) (commits : List Commit) → (gate : ℕ) × IsJournal disks.reads disks.may_leave disk commits gate → (bytes : List ℕ) × (disks.reads disk ≡ Some bytes) × Only bytes (disks.may_leave disk)
+whole_image disks disk commits (gate, h) = ((header ++ h.front) ++ 0 ∷ [], h.stored.reads_as, h.stored.only)

@@ -71,11 +71,11 @@ pub(crate) fn run_opened<
     requires standard { J.limits ≡ standard_limits }
     requires whole { has_break J.opening ≡ false }
     requires fresh { HasNotBegun (P.coming phases) }
-    ensures { Finishes D.reads D.may_leave D.faults attached.begun.value
+    ensures { Finishes D.Disk attached.begun.value
         attached.opening.history.entries attached.opening.history.first_count
         (P.coming phases).reads
-        (streams S.left S.faults K.written K.faults source.old sink.old)
-        (streams S.left S.faults K.written K.faults source.new sink.new)
+        (streams S.Source K.Sink source.old sink.old)
+        (streams S.Source K.Sink source.new sink.new)
         result.stop result.broke result.disk }
 {
     sessions_make_a_transcript();

@@ -29,6 +29,7 @@ pub trait Words {
 }
 
 /// The words of a process. It tells nothing of them.
+#[derive(Drop)]
 pub struct EnvWords<'a, R> {
     /// The runtime that has them.
     pub rt: &'a R,

@@ -8,7 +8,7 @@ use Rattle.tl_script.specs.Script.{Reading}
 use Rattle.tl_session.specs.Turns.{break_of}
 use Rattle.tl_session.specs.Phases.{HaveRun}
 use Rattle.tl_types.specs.Legality.{are_legal}
-use Rattle.tl_journal.specs.Stands.{IsJournal}
+use Rattle.tl_journal.specs.Stands.{DiskStandsFor}
 use Rattle.tl_engine.specs.Counting.{news}
 use Rattle.tl_engine.specs.Standing.{IsCount, IsImageOf}
 use Rattle.timeline.specs.declared.stops.Stop.{Stop}
@@ -26,7 +26,7 @@ told_some o b e = ap is_some e
 pub finished : {D : Type 0} (reads : D → Option (List ℕ)) (may_leave : D → List ℕ → Type 0) (faults : D → ℕ) (begun disk : D) (entries named start seen last : List Entry) (first count amount : ℕ) (tells : Bool) (script : Bool → List ℕ → Reading) (before after : Streams) (why : Stop) (broke : Bool)
     → entries ≡ named → first ≡ count → tells ≡ is_some (reads begun) → has_break named ≡ false → MakesTranscript → MakesPlay → start ≡ named
     → IsPrefix seen last → IsPrefix named last → news named + amount ≡ news last → are_legal last ≡ true
-    → (tells ≡ true → has_break last ≡ false → (gate : ℕ) × IsJournal reads may_leave disk (commits_of last) gate)
+    → (tells ≡ true → has_break last ≡ false → (gate : ℕ) × DiskStandsFor reads may_leave disk (commits_of last) gate)
     → (tells ≡ true → (image : List ℕ) → may_leave disk image → IsImageOf last image)
     → (tells ≡ true → (image : List ℕ) → reads disk ≡ Some image → IsImageOf last image)
     → IsCount (has_break last) count (faults disk) → broke ≡ has_break last

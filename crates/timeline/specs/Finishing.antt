@@ -6,7 +6,7 @@ use Rattle.tl_types.specs.Entries.{commits_of, has_break}
 use Rattle.tl_types.specs.Legality.{are_legal}
 use Rattle.tl_script.specs.Script.{Reading}
 use Rattle.tl_session.specs.Turns.{break_of}
-use Rattle.tl_journal.specs.Stands.{IsJournal}
+use Rattle.tl_journal.specs.Stands.{DiskStandsFor}
 use Rattle.tl_engine.specs.Standing.{IsCount, IsImageOf}
 use Rattle.timeline.specs.declared.stops.Stop.{Stop}
 use Rattle.timeline.specs.Ending.{Told}
@@ -23,7 +23,7 @@ pub record Finishes {D : Type 0} (reads : D → Option (List ℕ)) (may_leave : 
   pub broke_is : broke ≡ has_break last
   pub count : IsCount (has_break last) first_count (faults disk)
   pub whole : (b : List ℕ) → reads begun ≡ Some b → has_break last ≡ false
-      → (gate : ℕ) × IsJournal reads may_leave disk (commits_of last) gate
+      → (gate : ℕ) × DiskStandsFor reads may_leave disk (commits_of last) gate
   pub leaves : (b : List ℕ) → reads begun ≡ Some b
       → (image : List ℕ) → may_leave disk image → IsImageOf last image
   pub stands : (b : List ℕ) → reads begun ≡ Some b

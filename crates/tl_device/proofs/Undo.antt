@@ -7,7 +7,7 @@ use Rattle.tl_device.specs.Plain.{Kept}
 use Rattle.tl_device.specs.Kept.{over_old, after_write, after_torn, after_cut, after_no_cut, after_sync, after_no_sync}
 use Rattle.tl_device.specs.declared.call.Call.{Call}
 use Rattle.tl_device.specs.declared.call.Call.TheVariants as call
-use Rattle.tl_device.specs.Replay.{undone, Left, Since, Leaves, LeftSince, IsReady, as_read}
+use Rattle.tl_device.specs.Replay.{undone, Left, Since, Leaves, LeftSince, HasRoomFor, as_read}
 
 -- as many bytes as are taken away are kept
 length_kept : (at over : ℕ) (old : List ℕ) → over ≤ length old - at → length (take over (drop at old)) ≡ over
@@ -189,9 +189,9 @@ no_sync_elapses k new is = subst (λ (n : Kept). Elapses (length k.done) (length
     (record { later = omega arith; nothing_else = λ t c le left. inl left })
 
 -- a call spends itself and the bytes that it writes
-pub spends : (k new : Kept) (n : ℕ) → new.spare ≡ k.spare - n → new.spare_calls ≡ k.spare_calls - 1 → (b m : ℕ) → IsReady k (n + b) (m + 1) → IsReady new b m
+pub spends : (k new : Kept) (n : ℕ) → new.spare ≡ k.spare - n → new.spare_calls ≡ k.spare_calls - 1 → (b m : ℕ) → HasRoomFor k (n + b) (m + 1) → HasRoomFor new b m
 spends k new n bytes calls b m ready = (omega (arith, bytes, ready.0), omega (arith, calls, ready.1))
 
 -- a call that writes nothing spends itself
-pub spends_call : (k new : Kept) → new.spare ≡ k.spare → new.spare_calls ≡ k.spare_calls - 1 → (b m : ℕ) → IsReady k b (m + 1) → IsReady new b m
+pub spends_call : (k new : Kept) → new.spare ≡ k.spare → new.spare_calls ≡ k.spare_calls - 1 → (b m : ℕ) → HasRoomFor k b (m + 1) → HasRoomFor new b m
 spends_call k new bytes calls b m ready = (omega (arith, bytes, ready.0), omega (arith, calls, ready.1))

@@ -148,6 +148,7 @@ elapses k new one more undo =
     (record {
       later = omega arith;
       nothing_else = λ t c le left. ⊎_elim (λ now. inr now) (λ (past : (t ≤ length k.done) × Since k.done (undone new.bytes new.log one) t c). inl (subst (λ (s : List ℕ × List ℕ). Since k.done s t c) undo past.1)) left;
+      nothing_lost = λ t c le past. inr (le, subst (λ (s : List ℕ × List ℕ). Since k.done s t c) (sym undo) past);
     })
 
 -- from the moment before a write to the one after it
@@ -186,7 +187,7 @@ no_sync_back k new is c left = subst (λ (m : Kept). Leaves m c) (sym is) left
 -- and no moment passes
 pub no_sync_elapses : (k new : Kept) → new ≡ after_no_sync k → Elapses (length k.done) (length new.done) (LeftSince k) (LeftSince new) (Leaves new)
 no_sync_elapses k new is = subst (λ (n : Kept). Elapses (length k.done) (length n.done) (LeftSince k) (LeftSince n) (Leaves n)) (sym is)
-    (record { later = omega arith; nothing_else = λ t c le left. inl left })
+    (record { later = omega arith; nothing_else = λ t c le left. inl left; nothing_lost = λ t c le past. past })
 
 -- a call spends itself and the bytes that it writes
 pub spends : (k new : Kept) (n : ℕ) → new.spare ≡ k.spare - n → new.spare_calls ≡ k.spare_calls - 1 → (b m : ℕ) → HasRoomFor k (n + b) (m + 1) → HasRoomFor new b m

@@ -7,7 +7,7 @@ use Rattle.tl_device.specs.Plain.{Kept}
 use Rattle.tl_device.specs.Kept.{over_old, after_write, after_torn, after_cut, after_no_cut, after_sync, after_no_sync}
 use Rattle.tl_device.specs.declared.call.Call.{Call}
 use Rattle.tl_device.specs.declared.call.Call.TheVariants as call
-use Rattle.tl_device.specs.Replay.{undone, Left, Since, Leaves, LeftSince, IsReady, as_read}
+use Rattle.tl_device.specs.Replay.{undone, Left, Since, Leaves, LeftSince, HasRoomFor, as_read}
 
 -- as many bytes as are taken away are kept
 length_kept : (at over : ℕ) (old : List ℕ) → over ≤ length old - at → length (take over (drop at old)) ≡ over
@@ -148,6 +148,7 @@ elapses k new one more undo =
     (record {
       later = omega arith;
       nothing_else = λ t c le left. ⊎_elim (λ now. inr now) (λ (past : (t ≤ length k.done) × Since k.done (undone new.bytes new.log one) t c). inl (subst (λ (s : List ℕ × List ℕ). Since k.done s t c) undo past.1)) left;
+      nothing_lost = λ t c le past. inr (le, subst (λ (s : List ℕ × List ℕ). Since k.done s t c) (sym undo) past);
     })
 
 -- from the moment before a write to the one after it
@@ -186,12 +187,12 @@ no_sync_back k new is c left = subst (λ (m : Kept). Leaves m c) (sym is) left
 -- and no moment passes
 pub no_sync_elapses : (k new : Kept) → new ≡ after_no_sync k → Elapses (length k.done) (length new.done) (LeftSince k) (LeftSince new) (Leaves new)
 no_sync_elapses k new is = subst (λ (n : Kept). Elapses (length k.done) (length n.done) (LeftSince k) (LeftSince n) (Leaves n)) (sym is)
-    (record { later = omega arith; nothing_else = λ t c le left. inl left })
+    (record { later = omega arith; nothing_else = λ t c le left. inl left; nothing_lost = λ t c le past. past })
 
 -- a call spends itself and the bytes that it writes
-pub spends : (k new : Kept) (n : ℕ) → new.spare ≡ k.spare - n → new.spare_calls ≡ k.spare_calls - 1 → (b m : ℕ) → IsReady k (n + b) (m + 1) → IsReady new b m
+pub spends : (k new : Kept) (n : ℕ) → new.spare ≡ k.spare - n → new.spare_calls ≡ k.spare_calls - 1 → (b m : ℕ) → HasRoomFor k (n + b) (m + 1) → HasRoomFor new b m
 spends k new n bytes calls b m ready = (omega (arith, bytes, ready.0), omega (arith, calls, ready.1))
 
 -- a call that writes nothing spends itself
-pub spends_call : (k new : Kept) → new.spare ≡ k.spare → new.spare_calls ≡ k.spare_calls - 1 → (b m : ℕ) → IsReady k b (m + 1) → IsReady new b m
+pub spends_call : (k new : Kept) → new.spare ≡ k.spare → new.spare_calls ≡ k.spare_calls - 1 → (b m : ℕ) → HasRoomFor k b (m + 1) → HasRoomFor new b m
 spends_call k new bytes calls b m ready = (omega (arith, bytes, ready.0), omega (arith, calls, ready.1))

@@ -31,11 +31,12 @@ Follows step old new = (c : List ℕ) → new c → (d : List ℕ) × old d × s
 abbrev pub Only : List ℕ → (List ℕ → Type 0) → Type 0
 Only file outcomes = (c : List ℕ) → outcomes c → c ≡ file
 
--- from one moment to a later one, since any moment up to the first only that is added which a
--- crash now may leave
+-- from one moment to a later one, since any moment up to the first nothing is lost, and only that is
+-- added which a crash now may leave
 pub record Elapses (before now : ℕ) (past since : ℕ → List ℕ → Type 0) (may_leave : List ℕ → Type 0) : Type 0 where
   pub later : before ≤ now
   pub nothing_else : (t : ℕ) (c : List ℕ) → t ≤ before → since t c → past t c ⊎ may_leave c
+  pub nothing_lost : (t : ℕ) (c : List ℕ) → t ≤ before → past t c → since t c
 
 -- a crash at each moment since an old one leaves what has P
 pub record LeavesOnly (was now : ℕ) (past since : ℕ → List ℕ → Type 0) (P : List ℕ → Type 0) : Type 0 where
@@ -43,6 +44,7 @@ pub record LeavesOnly (was now : ℕ) (past since : ℕ → List ℕ → Type 0)
   pub each : (c : List ℕ) → since was c → P c
   -- for a run that began earlier
   pub before : (t : ℕ) (c : List ℕ) → t ≤ was → since t c → past t c ⊎ P c
+  pub nothing_lost : (t : ℕ) (c : List ℕ) → t ≤ was → past t c → since t c
 
 -- the disk reads as these bytes, and a crash leaves just them
 pub record IsStored {D : Type 0} (reads : D → Option (List ℕ)) (may_leave : D → List ℕ → Type 0) (disk : D) (file : List ℕ) : Type 0 where

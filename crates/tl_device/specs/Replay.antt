@@ -48,8 +48,8 @@ abbrev pub LeftSince : Kept → ℕ → List ℕ → Type 0
 LeftSince kept t c = Since kept.done (kept.bytes, kept.log) t c
 
 -- there is room for b bytes in n calls
-abbrev pub IsReady : Kept → ℕ → ℕ → Type 0
-IsReady kept b n = (b ≤ kept.spare) × (n ≤ kept.spare_calls)
+abbrev pub HasRoomFor : Kept → ℕ → ℕ → Type 0
+HasRoomFor kept b n = (b ≤ kept.spare) × (n ≤ kept.spare_calls)
 
 -- since the last moment only what may be left now
 since_last : (calls : List Call) (s : List ℕ × List ℕ) (c : List ℕ)
@@ -83,5 +83,5 @@ as_told kept c told = as_read kept.done (kept.bytes, kept.log) c cc
 
 -- room for more is room for less
 pub fewer_ready : (kept : Kept) (b n less few : ℕ) → less ≤ b → few ≤ n
-    → IsReady kept b n → IsReady kept less few
+    → HasRoomFor kept b n → HasRoomFor kept less few
 fewer_ready kept b n less few bytes calls ready = (omega (arith, ready.0), omega (arith, ready.1))

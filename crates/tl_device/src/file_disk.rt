@@ -4,21 +4,26 @@ ghost use Rattle.tl_device.specs.Known.{Rose};
 
 use crate::disk::Disk;
 use crate::failed::{Failed, NoMemory};
+use crate::locking::Lockable;
 use crate::named_file::NamedFile;
 use std::rt::Files;
 
 /// A disk over a file of the system. It opens its file at its first call other than `room`, an
-/// empty one where it is missing, and keeps what is there. It is always ready, and tells nothing of
-/// content: a crash may leave anything. A call is answered `Failed` exactly where the system
-/// answers it by an error, the opening included, or where the end of a write passes 2^64; the count
-/// of faults then rose.
+/// empty one where it is missing, keeps what is there, and takes the file's lock, which it has until
+/// it is dropped: where another has it the file is not opened, and nothing is read or written. It is
+/// always ready, and tells nothing of content: a crash may leave anything. A call is answered
+/// `Failed` exactly where the system answers it by an error, the opening and the lock included, or
+/// where the end of a write passes 2^64; the count of faults then rose.
 #[derive(Drop)]
 pub struct FileDisk<'a, R: Files> {
     file: NamedFile<'a, R>,
     faults: u64,
 }
 
-impl<'a, R: Files> FileDisk<'a, R> {
+impl<'a, R: Files> FileDisk<'a, R>
+where
+    R::File: Lockable,
+{
     /// A disk over the file at `path` of the system `files`, such as the runtime that `main` is
     /// given, with no fault so far.
     pub fn new(files: &'a R, path: String) -> FileDisk<'a, R>
@@ -39,7 +44,10 @@ impl<'a, R: Files> FileDisk<'a, R> {
     }
 }
 
-impl<'a, R: Files> Disk for FileDisk<'a, R> {
+impl<'a, R: Files> Disk for FileDisk<'a, R>
+where
+    R::File: Lockable,
+{
     ghost reads = { λ _. None };
 
     ghost may_leave = { λ _ _. Unit {0} };

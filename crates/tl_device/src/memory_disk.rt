@@ -3,7 +3,7 @@ ghost use Rattle.std.specs.Prelude.{◌≡◌, ◌+◌, ◌-◌, ◌^◌, ◌<�
 ghost use Rattle.tl_device.specs.Known.{Rose};
 ghost use Rattle.tl_device.specs.Calls.{next_fails, after_call};
 ghost use Rattle.tl_device.specs.Kept.{fresh, after_write, after_torn, after_cut, after_no_cut, after_sync, after_no_sync, with_room};
-ghost use Rattle.tl_device.specs.Replay.{Leaves, LeftSince, IsReady, since_now, since_then, as_told, fewer_ready};
+ghost use Rattle.tl_device.specs.Replay.{Leaves, LeftSince, HasRoomFor, since_now, since_then, as_told, fewer_ready};
 
 use crate::calls::Calls;
 use crate::disk::Disk;
@@ -64,7 +64,7 @@ impl Disk for MemoryDisk {
 
     ghost faults = { λ d. d.calls.faults };
 
-    ghost ready = { λ d b n. IsReady d.kept b n };
+    ghost ready = { λ d b n. HasRoomFor d.kept b n };
 
     ghost only_now = { λ d c left. since_now d.kept c left };
 
@@ -114,7 +114,7 @@ impl Disk for MemoryDisk {
     /// and a crash may leave any bytes in the range of the write.
     fn write_at(&mut self, at: u64, from: &[u8]) -> Result<(), Failed>
         requires at { at ≤ length self.old.kept.bytes }
-        requires ready { IsReady self.old.kept (length from.now) 1 }
+        requires ready { HasRoomFor self.old.kept (length from.now) 1 }
         ensures end { OnOk result (at + length from.now < 2 ^ 64) }
         ensures fails { is_err result ≡ next_fails self.old.calls }
         ensures wrote { OnOk result (self.new.kept ≡ after_write self.old.kept at from.now) }
@@ -135,7 +135,7 @@ impl Disk for MemoryDisk {
     /// that are to fail; a read then gives what it gave, and a crash may leave the bytes cut.
     fn cut(&mut self, len: u64) -> Result<(), Failed>
         requires at { len ≤ length self.old.kept.bytes }
-        requires ready { IsReady self.old.kept 0 1 }
+        requires ready { HasRoomFor self.old.kept 0 1 }
         ensures fails { is_err result ≡ next_fails self.old.calls }
         ensures did_cut { OnOk result (self.new.kept ≡ after_cut self.old.kept len) }
         ensures no_cut { OnErr result (self.new.kept ≡ after_no_cut self.old.kept len) }
@@ -153,7 +153,7 @@ impl Disk for MemoryDisk {
     /// Makes a crash leave just what a read gives. It fails exactly where the number of this call
     /// is among those that are to fail, and then changes nothing but the room that is left.
     fn sync(&mut self) -> Result<(), Failed>
-        requires { IsReady self.old.kept 0 1 }
+        requires { HasRoomFor self.old.kept 0 1 }
         ensures fails { is_err result ≡ next_fails self.old.calls }
         ensures synced { OnOk result (self.new.kept ≡ after_sync self.old.kept) }
         ensures no_sync { OnErr result (self.new.kept ≡ after_no_sync self.old.kept) }

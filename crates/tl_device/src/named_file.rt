@@ -3,6 +3,7 @@ ghost use Rattle.std.specs.Prelude.{◌≡◌, ◌+◌, ◌^◌, ◌<◌, ◌≤
 ghost use Rattle.std.specs.Fs.{new_options, with_read, with_write, with_create};
 ghost use Rattle.std.specs.Io.KnownBytes.{Consumes, IsAtEnd};
 
+use crate::locking::Lockable;
 use std::fs::{File, OpenFile, OpenOptions};
 use std::io;
 use std::io::{Read, Seek, SeekFrom, Write};
@@ -16,7 +17,10 @@ pub struct NamedFile<'a, R: Files> {
     file: Option<R::File>,
 }
 
-impl<'a, R: Files> NamedFile<'a, R> {
+impl<'a, R: Files> NamedFile<'a, R>
+where
+    R::File: Lockable,
+{
     /// The file at this path, not opened yet.
     pub fn new(files: &'a R, path: String) -> NamedFile<'a, R> {
         NamedFile {
@@ -26,11 +30,18 @@ impl<'a, R: Files> NamedFile<'a, R> {
         }
     }
 
+    // The file, opened and with its lock taken.
+    fn open_locked(&self) -> io::Result<R::File> {
+        let file = kept_options().open(self.files, self.path.as_str())?;
+        file.take_lock()?;
+        Ok(file)
+    }
+
     // The file, which is opened unless it is open.
     fn open(&mut self) -> io::Result<&mut R::File> {
         let file = match self.file.take() {
             Some(file) => file,
-            None => kept_options().open(self.files, self.path.as_str())?,
+            None => self.open_locked()?,
         };
         Ok(self.file.insert(file))
     }

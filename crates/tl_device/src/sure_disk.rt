@@ -1,7 +1,7 @@
 // A disk in memory that never fails.
 ghost use Rattle.std.specs.Prelude.{◌≡◌, ◌+◌, ◌-◌, ◌^◌, ◌<◌, ◌≤◌, ◌++◌, length, take, drop, min, Some, Ok, IfOk, OnOk, OnErr};
 ghost use Rattle.tl_device.specs.Kept.{fresh, after_write, after_cut, after_sync, with_room};
-ghost use Rattle.tl_device.specs.Replay.{Leaves, LeftSince, IsReady, since_now, since_then, as_told, fewer_ready};
+ghost use Rattle.tl_device.specs.Replay.{Leaves, LeftSince, HasRoomFor, since_now, since_then, as_told, fewer_ready};
 
 use crate::disk::Disk;
 use crate::failed::{Failed, NoMemory};
@@ -54,7 +54,7 @@ impl Disk for SureDisk {
 
     ghost faults = { λ _. 0 };
 
-    ghost ready = { λ d b n. IsReady d b n };
+    ghost ready = { λ d b n. HasRoomFor d b n };
 
     ghost only_now = { λ d c left. since_now d c left };
 
@@ -86,7 +86,7 @@ impl Disk for SureDisk {
     /// Writes `from` over the bytes from `at` on, and further past the end. It never fails.
     fn write_at(&mut self, at: u64, from: &[u8]) -> Result<(), Failed>
         requires at { at ≤ length self.old.bytes }
-        requires ready { IsReady self.old (length from.now) 1 }
+        requires ready { HasRoomFor self.old (length from.now) 1 }
         ensures sure { result ≡ Ok tt }
         ensures end { at + length from.now < 2 ^ 64 }
         ensures wrote { self.new ≡ after_write self.old at from.now }
@@ -98,7 +98,7 @@ impl Disk for SureDisk {
     /// Cuts to the first `len` bytes. It never fails.
     fn cut(&mut self, len: u64) -> Result<(), Failed>
         requires at { len ≤ length self.old.bytes }
-        requires ready { IsReady self.old 0 1 }
+        requires ready { HasRoomFor self.old 0 1 }
         ensures sure { result ≡ Ok tt }
         ensures did_cut { self.new ≡ after_cut self.old len }
     {
@@ -108,7 +108,7 @@ impl Disk for SureDisk {
 
     /// Makes a crash leave just what a read gives. It never fails.
     fn sync(&mut self) -> Result<(), Failed>
-        requires { IsReady self.old 0 1 }
+        requires { HasRoomFor self.old 0 1 }
         ensures sure { result ≡ Ok tt }
         ensures synced { self.new ≡ after_sync self.old }
     {

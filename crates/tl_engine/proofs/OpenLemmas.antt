@@ -8,9 +8,9 @@ use Rattle.tl_types.specs.declared.limits.Limits.{Limits}
 use Rattle.tl_types.specs.Entries.{commits_of}
 use Rattle.tl_device.specs.Disk.{IsStored}
 use Rattle.tl_journal.specs.Answers.{CountsFaults, IsDeviceOrMemory}
-use Rattle.tl_journal.specs.Image.{StandsFor, IsJournalOf}
+use Rattle.tl_journal.specs.Image.{ImageStandsFor, ImageStandsOnlyFor}
 use Rattle.tl_journal.specs.Moments.{EachMoment, EachMomentBySync, IsUntouched, OldOr}
-use Rattle.tl_journal.specs.Stands.{StandsAs, SameOrTrimmed}
+use Rattle.tl_journal.specs.Stands.{JournalStandsFor, SameOrTrimmed}
 use Rattle.tl_journal.specs.Plain as journal
 use Rattle.tl_journal.specs.declared.faults.JournalFault.{JournalFault}
 use Rattle.tl_journal.specs.declared.faults.JournalFault.TheVariants as fault
@@ -30,7 +30,7 @@ count_still b c first old new none still same count =
 
 module _ {D : Type 0} (reads : D → Option (List ℕ)) (may_leave : D → List ℕ → Type 0) where
   -- the history that is made of a journal
-  pub stands_over : (h : plain.History D) (entries : List Entry) (j : journal.Journal D) (first : ℕ) (limits : Limits) → h ≡ record { entries = entries; journal = j; first_count = first; limits = limits } → StandsAs reads may_leave j (commits_of entries) → StandsOnDisk reads may_leave h
+  pub stands_over : (h : plain.History D) (entries : List Entry) (j : journal.Journal D) (first : ℕ) (limits : Limits) → h ≡ record { entries = entries; journal = j; first_count = first; limits = limits } → JournalStandsFor reads may_leave j (commits_of entries) → StandsOnDisk reads may_leave h
   stands_over h entries j first limits same stands =
       let made : plain.History D = record { entries = entries; journal = j; first_count = first; limits = limits } in
       subst (λ x. StandsOnDisk reads may_leave x) (sym same) (stands_alone reads may_leave made stands)
@@ -44,16 +44,16 @@ module _ {D : Type 0} (reads : D → Option (List ℕ)) (may_leave : D → List 
   stored_there opening image has = subst (λ b. IsStored reads may_leave opening.disk b) has.same has.stored
 
   -- the commits that were read are those that the disk stood for
-  pub found_there : (opening : journal.FoundCommits D) (found cs : List Commit) (image : List ℕ) → IsJournalOf found opening.image → HasImage reads may_leave image opening → StandsFor cs image → found ≡ cs
+  pub found_there : (opening : journal.FoundCommits D) (found cs : List Commit) (image : List ℕ) → ImageStandsOnlyFor found opening.image → HasImage reads may_leave image opening → ImageStandsFor cs image → found ≡ cs
   found_there opening found cs image whole has stands =
-      sym (whole.only cs (subst (λ b. StandsFor cs b) (sym has.same) stands))
+      sym (whole.only cs (subst (λ b. ImageStandsFor cs b) (sym has.same) stands))
 
   -- the disk stood for some
-  pub some_there : (opening : journal.FoundCommits D) (found : List Commit) (image : List ℕ) → IsJournalOf found opening.image → HasImage reads may_leave image opening → StandsFor found image
-  some_there opening found image whole has = subst (λ b. StandsFor found b) has.same whole.stands
+  pub some_there : (opening : journal.FoundCommits D) (found : List Commit) (image : List ℕ) → ImageStandsOnlyFor found opening.image → HasImage reads may_leave image opening → ImageStandsFor found image
+  some_there opening found image whole has = subst (λ b. ImageStandsFor found b) has.same whole.stands
 
-  pub now_there : (last : D) (found cs : List Commit) (old : List ℕ → Type 0) → found ≡ cs → ((c : List ℕ) → may_leave last c → StandsFor found c) → (c : List ℕ) → may_leave last c → OldOr old (StandsFor cs) c
-  now_there last found cs old same leaves c left = inr (subst (λ l. StandsFor l c) same (leaves c left))
+  pub now_there : (last : D) (found cs : List Commit) (old : List ℕ → Type 0) → found ≡ cs → ((c : List ℕ) → may_leave last c → ImageStandsFor found c) → (c : List ℕ) → may_leave last c → OldOr old (ImageStandsFor cs) c
+  now_there last found cs old same leaves c left = inr (subst (λ l. ImageStandsFor l c) same (leaves c left))
 
 module _ {D : Type 0} (reads : D → Option (List ℕ)) (may_leave : D → List ℕ → Type 0) (moment : D → ℕ) (left_since : D → ℕ → List ℕ → Type 0) where
   -- what each moment leaves of an equal disk
@@ -61,13 +61,13 @@ module _ {D : Type 0} (reads : D → Option (List ℕ)) (may_leave : D → List 
   moments_same a b c P same moments = subst (λ d. EachMoment moment left_since a d P) (sym same) moments
 
   -- what each moment of an opening leaves
-  pub opened_moments : (disk last : D) (opening : journal.FoundCommits D) (found cs : List Commit) → ((b : List ℕ) → reads disk ≡ Some b → HasImage reads may_leave b opening) → found ≡ cs → EachMoment moment left_since disk opening.disk (may_leave disk) → EachMoment moment left_since opening.disk last (StandsFor found) → EachMomentBySync reads may_leave moment left_since disk last (StandsFor cs)
+  pub opened_moments : (disk last : D) (opening : journal.FoundCommits D) (found cs : List Commit) → ((b : List ℕ) → reads disk ≡ Some b → HasImage reads may_leave b opening) → found ≡ cs → EachMoment moment left_since disk opening.disk (may_leave disk) → EachMoment moment left_since opening.disk last (ImageStandsFor found) → EachMomentBySync reads may_leave moment left_since disk last (ImageStandsFor cs)
   opened_moments disk last opening found cs image same first second =
       inr (record {
         synced = opening.disk;
         stored = λ b told. stored_there reads may_leave opening b (image b told);
         until_then = first;
-        from_then = subst (λ l. EachMoment moment left_since opening.disk last (StandsFor l)) same second;
+        from_then = subst (λ l. EachMoment moment left_since opening.disk last (ImageStandsFor l)) same second;
       })
 
 -- a fault of the disk or of memory is none of these
@@ -99,9 +99,9 @@ module _ {D : Type 0} (read : D → Option (List ℕ)) (may_leave : D → List �
   other_fault (Err r) f P none kinds = λ is. absurd (none (subst (λ e. IsDeviceOrMemory e) is kinds))
 
   -- the bytes that were told are a journal of the commits that were applied
-  pub image_found : (answer : Result (plain.History D) (Refused D)) (entries : List Entry) (image b : List ℕ) → IfOk answer (λ h. h.entries ≡ entries) → IsJournalOf (commits_of entries) image → image ≡ b → IfOk answer (λ h. IsJournalOf (commits_of h.entries) b)
+  pub image_found : (answer : Result (plain.History D) (Refused D)) (entries : List Entry) (image b : List ℕ) → IfOk answer (λ h. h.entries ≡ entries) → ImageStandsOnlyFor (commits_of entries) image → image ≡ b → IfOk answer (λ h. ImageStandsOnlyFor (commits_of h.entries) b)
   image_found (Ok h) entries image b at whole same =
-      subst (λ es. IsJournalOf (commits_of es) b) (sym at) (subst (λ i. IsJournalOf (commits_of entries) i) same whole)
+      subst (λ es. ImageStandsOnlyFor (commits_of es) b) (sym at) (subst (λ i. ImageStandsOnlyFor (commits_of entries) i) same whole)
   image_found (Err r) entries image b at whole same = tt
 
   -- a history goes on to be an engine's, or there is no memory for it
@@ -116,10 +116,10 @@ module _ {D : Type 0} (read : D → Option (List ℕ)) (may_leave : D → List �
         stands = λ b told. tt;
         image = λ b told. tt;
         honest = λ b cs smaller told stands within fitting. inl no_memory;
-        any_moment = λ b cs told stands. subst (λ d. EachMomentBySync read may_leave moment left_since disk d (StandsFor cs)) (sym at) (opens.any_moment b cs told stands);
+        any_moment = λ b cs told stands. subst (λ d. EachMomentBySync read may_leave moment left_since disk d (ImageStandsFor cs)) (sym at) (opens.any_moment b cs told stands);
         no_journal = λ b told none. subst (λ d. EachMoment moment left_since disk d (may_leave disk)) (sym at) (opens.no_journal b told none);
         no_journal_now = λ b told none. subst (λ d. IsUntouched read may_leave disk d) (sym at) (opens.no_journal_now b told none);
-        now = λ b cs told stands. subst (λ d. (c : List ℕ) → may_leave d c → OldOr (may_leave disk) (StandsFor cs) c) (sym at) (opens.now b cs told stands);
+        now = λ b cs told stands. subst (λ d. (c : List ℕ) → may_leave d c → OldOr (may_leave disk) (ImageStandsFor cs) c) (sym at) (opens.now b cs told stands);
         reads = λ b told. subst (λ d. (c : List ℕ) × (read d ≡ Some c) × SameOrTrimmed b c) (sym at) (opens.reads b told);
         faults = subst (λ f. CountsFaults f (fault_count disk) (fault_count r.disk)) (sym no_memory) (ap fault_count at ∙ opens.count.1);
         too_short = λ len is. absurd (not_short len (inl (sym is ∙ no_memory)));

@@ -9,7 +9,7 @@ use Rattle.tl_index.specs.Snapshots.{commit_entry}
 use Rattle.tl_record.specs.Spelling.{spelling}
 use Rattle.std.specs.Prelude.{Option, Some, None, IfSome, Result, Err}
 use Rattle.tl_journal.specs.Answers.{IsTooShort, IsDeviceOrMemory}
-use Rattle.tl_journal.specs.Image.{header, Opens, StandsFor, IsJournalOf, IsDamagedOnlyAt, size_of}
+use Rattle.tl_journal.specs.Image.{header, OpenGates, ImageStandsFor, ImageStandsOnlyFor, IsDamagedOnlyAt, size_of}
 use Rattle.tl_journal.specs.declared.found.Found.{Found}
 use Rattle.tl_journal.specs.declared.faults.JournalFault.{JournalFault}
 use Rattle.tl_journal.specs.declared.faults.JournalFault.TheVariants as fault
@@ -22,7 +22,7 @@ use Rattle.tl_engine.proofs.ListLemmas.{commits_more}
 use Rattle.tl_engine.proofs.FitLemmas.{none_unfit}
 
 -- gates and records take as many bytes as their commits say
-length_opens : (cs : List Commit) (front : List ℕ) → Opens cs front → length front ≡ size_of cs
+length_opens : (cs : List Commit) (front : List ℕ) → OpenGates cs front → length front ≡ size_of cs
 length_opens [] front opens = ap length opens
 length_opens (c ∷ cs) front opens =
     let tail : List ℕ = opens.1 in
@@ -50,20 +50,20 @@ applied_read limits opening old new c read more =
     subst (λ cs. HasRead cs opening) (sym (ap commits_of more ∙ commits_more old c)) read
 
 -- where all is spelled well, the gate of the first unfit commit is where the journal is damaged
-pub unfit_read : {D : Type 0} (limits : Limits) (opening : journal.FoundCommits D) (before : List Commit) (at : ℕ) (image : List ℕ) → (first : IsFirstUnfit limits before opening at) → FitInTurn limits before → (later : List Commit) → IsJournalOf ((before ++ first.commit ∷ []) ++ later) image → IsUnfitAt limits at image
+pub unfit_read : {D : Type 0} (limits : Limits) (opening : journal.FoundCommits D) (before : List Commit) (at : ℕ) (image : List ℕ) → (first : IsFirstUnfit limits before opening at) → FitInTurn limits before → (later : List Commit) → ImageStandsOnlyFor ((before ++ first.commit ∷ []) ++ later) image → IsUnfitAt limits at image
 unfit_read limits opening before at image first fitting later whole =
     record {
       before = before;
       commit = first.commit;
       later = later;
-      whole = subst (λ cs. IsJournalOf cs image) (append_assoc before (first.commit ∷ []) later) whole;
+      whole = subst (λ cs. ImageStandsOnlyFor cs image) (append_assoc before (first.commit ∷ []) later) whole;
       fitting = fitting;
       unfit = first.unfit;
       at_is = first.at_is;
     }
 
 -- an image whose commits all fit is not damaged
-pub fit_undamaged : (limits : Limits) (at : ℕ) (image : List ℕ) (cs : List Commit) → StandsFor cs image → FitInTurn limits cs → IsDamaged limits at image → ⊥
+pub fit_undamaged : (limits : Limits) (at : ℕ) (image : List ℕ) (cs : List Commit) → ImageStandsFor cs image → FitInTurn limits cs → IsDamaged limits at image → ⊥
 fit_undamaged limits at image cs stands fitting damaged =
     elim damaged as (λ _. ⊥) [
       | inl d ↦ d.no_journal cs stands
@@ -138,7 +138,7 @@ pub place_of_err : {T : Type 0} (a b : ℕ) → ◌≡◌ {A = Result T JournalF
 place_of_err a b e = cc
 
 -- where all is spelled well, the journal is damaged at the gate of the first commit that does not fit
-pub unfit_there : {D : Type 0} (limits : Limits) (opening : journal.FoundCommits D) (before : List Commit) (o : Option ℕ) (at place : ℕ) (image : List ℕ) → o ≡ Some at → IfSome o (IsFirstUnfit limits before opening) → FitInTurn limits before → ((found : List Commit) → HasRead found opening → (later : List Commit) × IsJournalOf (found ++ later) opening.image) → opening.image ≡ image → at ≡ place → IsDamaged limits place image
+pub unfit_there : {D : Type 0} (limits : Limits) (opening : journal.FoundCommits D) (before : List Commit) (o : Option ℕ) (at place : ℕ) (image : List ℕ) → o ≡ Some at → IfSome o (IsFirstUnfit limits before opening) → FitInTurn limits before → ((found : List Commit) → HasRead found opening → (later : List Commit) × ImageStandsOnlyFor (found ++ later) opening.image) → opening.image ≡ image → at ≡ place → IsDamaged limits place image
 unfit_there limits opening before o at place image is unfit fitting whole same there =
     let first : IsFirstUnfit limits before opening at = subst (λ p. IfSome p (IsFirstUnfit limits before opening)) is unfit in
     let later = whole (before ++ first.commit ∷ []) first.read in
@@ -146,14 +146,14 @@ unfit_there limits opening before o at place image is unfit fitting whole same t
     subst (λ n. IsDamaged limits n image) there (subst (λ b. IsDamaged limits at b) same (inr u))
 
 -- a journal has 17 bytes at least
-stands_long : (cs : List Commit) (b : List ℕ) → StandsFor cs b → 17 ≤ length b
+stands_long : (cs : List Commit) (b : List ℕ) → ImageStandsFor cs b → 17 ≤ length b
 stands_long cs b stands =
     let e : length b ≡ length ((header ++ stands.0) ++ 0 ∷ stands.2.0) = ap length stands.2.1 in
     let l : length (header ++ stands.0) ≡ 16 + length stands.0 = length-append header stands.0 in
     omega (arith, e, l, length-append (header ++ stands.0) (0 ∷ stands.2.0))
 
 -- a journal whose commits fit meets faults of the disk or of memory alone
-pub honest_fault : (limits : Limits) (e : JournalFault) (o : Option (List ℕ)) (b : List ℕ) (cs : List Commit) → o ≡ Some b → StandsFor cs b → FitInTurn limits cs
+pub honest_fault : (limits : Limits) (e : JournalFault) (o : Option (List ℕ)) (b : List ℕ) (cs : List Commit) → o ≡ Some b → ImageStandsFor cs b → FitInTurn limits cs
     → ((len : ℕ) → e ≡ fault.NotInitialised len → (len < 17) × IfSome o (IsTooShort len))
     → ((at : ℕ) → e ≡ fault.Damaged at → IfSome o (IsDamaged limits at))
     → ((len : ℕ) → e ≡ fault.AlreadyInitialised len → ⊥) → IsDeviceOrMemory e

@@ -5,9 +5,9 @@ use Rattle.tl_types.specs.declared.commits.Commit.{Commit}
 use Rattle.tl_types.specs.declared.commits.Entry.{Entry}
 use Rattle.tl_types.specs.Entries.{commits_of, has_break}
 use Rattle.tl_index.specs.Snapshots.{commit_entry, break_entry}
-use Rattle.tl_journal.specs.Image.{StandsFor, BeforeOrAfter}
+use Rattle.tl_journal.specs.Image.{ImageStandsFor, BeforeOrAfter}
 use Rattle.tl_journal.specs.Moments.{EachMoment}
-use Rattle.tl_journal.specs.Stands.{StandsAs}
+use Rattle.tl_journal.specs.Stands.{JournalStandsFor}
 use Rattle.tl_journal.specs.Plain as journal
 use Rattle.tl_engine.specs.Lists.{tried_commits}
 use Rattle.tl_engine.specs.Standing.{IsImageOf, IsOneOf, StandsOnDisk}
@@ -16,13 +16,13 @@ use Rattle.tl_engine.proofs.ListLemmas.{commits_more, commits_at_break, break_th
 use Rattle.tl_engine.proofs.MomentLemmas.{next_moments, looser_moments}
 
 -- what a crash leaves of a journal
-pub image_left : {D : Type 0} (reads : D → Option (List ℕ)) (may_leave : D → List ℕ → Type 0) (j : journal.Journal D) (cs : List Commit) → StandsAs reads may_leave j cs → (image : List ℕ) → may_leave j.disk image → StandsFor cs image
+pub image_left : {D : Type 0} (reads : D → Option (List ℕ)) (may_leave : D → List ℕ → Type 0) (j : journal.Journal D) (cs : List Commit) → JournalStandsFor reads may_leave j cs → (image : List ℕ) → may_leave j.disk image → ImageStandsFor cs image
 image_left reads may_leave j cs stands image left =
     (stands.on_disk.front, stands.on_disk.opens, ([], stands.on_disk.stored.only image left))
 
 module _ {D : Type 0} (reads : D → Option (List ℕ)) (may_leave : D → List ℕ → Type 0) where
   -- a journal of commits alone
-  pub stands_alone : (h : plain.History D) → StandsAs reads may_leave h.journal (commits_of h.entries) → StandsOnDisk reads may_leave h
+  pub stands_alone : (h : plain.History D) → JournalStandsFor reads may_leave h.journal (commits_of h.entries) → StandsOnDisk reads may_leave h
   stands_alone h stands =
       record {
         whole = λ w. stands;
@@ -30,10 +30,10 @@ module _ {D : Type 0} (reads : D → Option (List ℕ)) (may_leave : D → List 
       }
 
   -- with one commit more
-  pub stands_more : (old : List Entry) (h : plain.History D) (c : Commit) → h.entries ≡ old ++ commit_entry c ∷ [] → StandsAs reads may_leave h.journal (commits_of old ++ c ∷ []) → StandsOnDisk reads may_leave h
+  pub stands_more : (old : List Entry) (h : plain.History D) (c : Commit) → h.entries ≡ old ++ commit_entry c ∷ [] → JournalStandsFor reads may_leave h.journal (commits_of old ++ c ∷ []) → StandsOnDisk reads may_leave h
   stands_more old h c more stands =
       let e : commits_of h.entries ≡ commits_of old ++ c ∷ [] = ap commits_of more ∙ commits_more old c in
-      stands_alone h (subst (λ cs. StandsAs reads may_leave h.journal cs) (sym e) stands)
+      stands_alone h (subst (λ cs. JournalStandsFor reads may_leave h.journal cs) (sym e) stands)
 
   -- with the break of a commit
   pub stands_broken : (old : List Entry) (h : plain.History D) (c : Commit) → has_break old ≡ false → h.entries ≡ old ++ break_entry c ∷ [] → ((image : List ℕ) → may_leave h.journal.disk image → BeforeOrAfter (commits_of old) c image) → StandsOnDisk reads may_leave h
@@ -45,17 +45,17 @@ module _ {D : Type 0} (reads : D → Option (List ℕ)) (may_leave : D → List 
         whole = λ w. absurd (let e : true ≡ false = sym there ∙ w in cc);
         leaves = λ image left.
             elim (now image left) as (λ _. IsImageOf h.entries image) [
-              | inl s ↦ inl (subst (λ cs. StandsFor cs image) (sym same) s)
-              | inr s ↦ inr (subst (λ cs. StandsFor cs image) (sym tried) s)
+              | inl s ↦ inl (subst (λ cs. ImageStandsFor cs image) (sym same) s)
+              | inr s ↦ inr (subst (λ cs. ImageStandsFor cs image) (sym tried) s)
             ];
       }
 
   -- with nothing but room
-  pub stands_still : (old h : plain.History D) → h.entries ≡ old.entries → (StandsAs reads may_leave old.journal (commits_of old.entries) → StandsAs reads may_leave h.journal (commits_of old.entries)) → ((image : List ℕ) → may_leave h.journal.disk image → may_leave old.journal.disk image) → StandsOnDisk reads may_leave old → StandsOnDisk reads may_leave h
+  pub stands_still : (old h : plain.History D) → h.entries ≡ old.entries → (JournalStandsFor reads may_leave old.journal (commits_of old.entries) → JournalStandsFor reads may_leave h.journal (commits_of old.entries)) → ((image : List ℕ) → may_leave h.journal.disk image → may_leave old.journal.disk image) → StandsOnDisk reads may_leave old → StandsOnDisk reads may_leave h
   stands_still old h same as_before no_more stands =
       record {
         whole = λ w.
-            subst (λ es. StandsAs reads may_leave h.journal (commits_of es)) (sym same)
+            subst (λ es. JournalStandsFor reads may_leave h.journal (commits_of es)) (sym same)
             (as_before (stands.whole (ap has_break (sym same) ∙ w)));
         leaves = λ image left. subst (λ es. IsImageOf es image) (sym same) (stands.leaves image (no_more image left));
       }
@@ -74,7 +74,7 @@ pub one_of_tried : (old new : List Entry) (c : Commit) → tried_commits new ≡
 one_of_tried old new c tried image either =
     elim either as (λ _. IsOneOf old new image) [
       | inl s ↦ inl s
-      | inr s ↦ inr (subst (λ cs. StandsFor cs image) (sym tried) s)
+      | inr s ↦ inr (subst (λ cs. ImageStandsFor cs image) (sym tried) s)
     ]
 
 -- all that was tried with one commit more, or with its break

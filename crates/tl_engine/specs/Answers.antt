@@ -12,7 +12,7 @@ use Rattle.tl_batch.specs.Made.{AreWithin}
 use Rattle.tl_device.specs.Known.{Rose}
 use Rattle.tl_index.specs.Snapshots.{commit_entry, break_entry}
 use Rattle.tl_journal.specs.Answers.{CountsFaults, IsTooShort, IsDeviceOrMemory}
-use Rattle.tl_journal.specs.Image.{StandsFor, IsJournalOf}
+use Rattle.tl_journal.specs.Image.{ImageStandsFor, ImageStandsOnlyFor}
 use Rattle.tl_journal.specs.Moments.{EachMoment, EachMomentBySync, IsUntouched, LosesNothing, OldOr}
 use Rattle.tl_journal.specs.Stands.{SameOrTrimmed}
 use Rattle.tl_journal.specs.declared.faults.JournalFault.TheVariants as journal_fault
@@ -48,29 +48,29 @@ pub record Opens {D : Type 0} (read : D → Option (List ℕ)) (may_leave : D �
   pub stands : (b : List ℕ) → read disk ≡ Some b → IfOk answer (StandsOnDisk read may_leave)
   -- and these bytes are a journal of just the commits of the history
   pub image : (b : List ℕ) → read disk ≡ Some b
-      → IfOk answer (λ h. IsJournalOf (commits_of h.entries) b)
+      → IfOk answer (λ h. ImageStandsOnlyFor (commits_of h.entries) b)
   -- a journal whose commits fit in turn, with the limits given or smaller ones, is refused by the
   -- disk or for memory alone
   pub honest : (b : List ℕ) (cs : List Commit) (smaller : Limits) → read disk ≡ Some b
-      → StandsFor cs b → AreWithin smaller given → FitInTurn smaller cs
+      → ImageStandsFor cs b → AreWithin smaller given → FitInTurn smaller cs
       → IfErr answer (λ r. IsDeviceOrMemory r.fault)
   -- at each moment a crash leaves what it could before, and from a sync on a journal of the same
   -- commits
-  pub any_moment : (b : List ℕ) (cs : List Commit) → read disk ≡ Some b → StandsFor cs b
+  pub any_moment : (b : List ℕ) (cs : List Commit) → read disk ≡ Some b → ImageStandsFor cs b
       → EachMomentBySync read may_leave moment left_since disk (disk_opened answer)
-      (StandsFor cs)
+      (ImageStandsFor cs)
   -- where the bytes are no journal, a crash at each moment leaves what it could before
   pub no_journal : (b : List ℕ) → read disk ≡ Some b
-      → ((cs : List Commit) → StandsFor cs b → ⊥)
+      → ((cs : List Commit) → ImageStandsFor cs b → ⊥)
       → EachMoment moment left_since disk (disk_opened answer) (may_leave disk)
   -- and at the end a read gives these bytes
   pub no_journal_now : (b : List ℕ) → read disk ≡ Some b
-      → ((cs : List Commit) → StandsFor cs b → ⊥)
+      → ((cs : List Commit) → ImageStandsFor cs b → ⊥)
       → IsUntouched read may_leave disk (disk_opened answer)
   -- a crash at the end leaves what it could before, or a journal of the same commits
-  pub now : (b : List ℕ) (cs : List Commit) → read disk ≡ Some b → StandsFor cs b
+  pub now : (b : List ℕ) (cs : List Commit) → read disk ≡ Some b → ImageStandsFor cs b
       → (c : List ℕ) → may_leave (disk_opened answer) c
-      → OldOr (may_leave disk) (StandsFor cs) c
+      → OldOr (may_leave disk) (ImageStandsFor cs) c
   -- a read at the end gives the same bytes, or those without what stood past the closed gate
   pub reads : (b : List ℕ) → read disk ≡ Some b
       → (c : List ℕ) × (read (disk_opened answer) ≡ Some c) × SameOrTrimmed b c

@@ -9,7 +9,7 @@ use Rattle.tl_types.specs.Resolving.{resolved}
 use Rattle.tl_device.specs.Known.{Rose}
 use Rattle.tl_journal.specs.Moments.{EachMoment, IsUntouched}
 use Rattle.tl_journal.specs.Plain as journal
-use Rattle.tl_journal.specs.Stands.{StandsAs}
+use Rattle.tl_journal.specs.Stands.{JournalStandsFor}
 use Rattle.tl_engine.specs.declared.faults.CommitFault.{CommitFault}
 use Rattle.tl_engine.specs.declared.faults.CommitFault.TheVariants as fault
 
@@ -28,8 +28,8 @@ pub record TakesRoom {D : Type 0} (reads : D → Option (List ℕ)) (may_leave :
   pub untouched : IsUntouched reads may_leave old.disk new.disk
   pub moments : EachMoment moment left_since old.disk new.disk (may_leave old.disk)
   pub count_same : faults new.disk ≡ faults old.disk
-  pub stands : (cs : List Commit) → StandsAs reads may_leave old cs
-      → StandsAs reads may_leave new cs
+  pub stands : (cs : List Commit) → JournalStandsFor reads may_leave old cs
+      → JournalStandsFor reads may_leave new cs
 
 -- the disk failed: this is its count of faults now, and it rose
 abbrev pub HasFailed : ℕ → ℕ → ℕ → Type 0

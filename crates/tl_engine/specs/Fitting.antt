@@ -4,7 +4,7 @@ use Rattle.tl_types.specs.declared.commits.Commit.{Commit}
 use Rattle.tl_types.specs.declared.limits.Limits.{Limits}
 use Rattle.tl_types.specs.History.{database_of, fits}
 use Rattle.tl_types.specs.Legality.{FitInTurn}
-use Rattle.tl_journal.specs.Image.{IsJournalOf, IsDamagedOnlyAt, size_of}
+use Rattle.tl_journal.specs.Image.{ImageStandsOnlyFor, IsDamagedOnlyAt, size_of}
 
 -- the image is a journal's, and the commit behind the gate at this offset is the first one that
 -- does not fit those before it
@@ -12,7 +12,7 @@ pub record IsUnfitAt (limits : Limits) (at : ℕ) (image : List ℕ) : Type 0 wh
   pub before : List Commit
   pub commit : Commit
   pub later : List Commit
-  pub whole : IsJournalOf (before ++ commit ∷ later) image
+  pub whole : ImageStandsOnlyFor (before ++ commit ∷ later) image
   pub fitting : FitInTurn limits before
   pub unfit : fits limits (database_of before) commit ≡ false
   pub at_is : at ≡ 16 + size_of before

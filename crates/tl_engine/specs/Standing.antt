@@ -9,10 +9,10 @@ use Rattle.tl_device.specs.Known.{Rose}
 use Rattle.tl_batch.specs.KeyIndex.{IdsByKey}
 use Rattle.tl_batch.specs.Made.{AreWithin}
 use Rattle.tl_batch.specs.Standing.{StandFor}
-use Rattle.tl_journal.specs.Image.{StandsFor}
+use Rattle.tl_journal.specs.Image.{ImageStandsFor}
 use Rattle.tl_journal.specs.Moments.{IsUntouched}
 use Rattle.tl_journal.specs.Plain as journal
-use Rattle.tl_journal.specs.Stands.{StandsAs}
+use Rattle.tl_journal.specs.Stands.{JournalStandsFor}
 use Rattle.tl_engine.specs.Lists.{tried_commits}
 use Rattle.tl_engine.specs.Plain as plain
 
@@ -36,14 +36,14 @@ pub record IsHistory {D : Type 0} (faults : D → ℕ) (keys : List IdsByKey) (h
 -- the image is a journal of the commits, or of these and the commit of the break
 abbrev pub IsImageOf : List Entry → List ℕ → Type 0
 IsImageOf entries image =
-    StandsFor (commits_of entries) image ⊎ StandsFor (tried_commits entries) image
+    ImageStandsFor (commits_of entries) image ⊎ ImageStandsFor (tried_commits entries) image
 
 -- the disk stands for the history: while there is no break it has just the journal of the commits,
 -- also in a crash; once there is one, what a read gives and what a crash leaves stand for the
 -- commits, or for these and the commit of the break
 pub record StandsOnDisk {D : Type 0} (reads : D → Option (List ℕ)) (may_leave : D → List ℕ → Type 0) (history : plain.History D) : Type 0 where
   pub whole : has_break history.entries ≡ false
-      → StandsAs reads may_leave history.journal (commits_of history.entries)
+      → JournalStandsFor reads may_leave history.journal (commits_of history.entries)
   pub leaves : (image : List ℕ) → may_leave history.journal.disk image
       → IsImageOf history.entries image
 
@@ -57,4 +57,5 @@ pub record HasRoomAlone {D : Type 0} (reads : D → Option (List ℕ)) (may_leav
 
 -- the image is a journal of the commits of the old entries, or of all that the new entries name
 abbrev pub IsOneOf : List Entry → List Entry → List ℕ → Type 0
-IsOneOf old new image = StandsFor (commits_of old) image ⊎ StandsFor (tried_commits new) image
+IsOneOf old new image =
+    ImageStandsFor (commits_of old) image ⊎ ImageStandsFor (tried_commits new) image

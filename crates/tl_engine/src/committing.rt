@@ -9,7 +9,7 @@ ghost use Rattle.tl_batch.specs.Made.{AreWithin, batch_matches};
 ghost use Rattle.tl_batch.specs.Standing.{StandFor};
 ghost use Rattle.tl_journal.specs.Image.{BeforeOrAfter, IsBodyOf};
 ghost use Rattle.tl_journal.specs.Moments.{EachMoment};
-ghost use Rattle.tl_journal.specs.Stands.{StandsAs};
+ghost use Rattle.tl_journal.specs.Stands.{JournalStandsFor};
 ghost use Rattle.tl_engine.specs.Committing.{IsRefusal, TakesRoom, HasFailed};
 ghost use Rattle.tl_engine.specs.Writing.{IsDraft};
 
@@ -114,13 +114,13 @@ pub(crate) fn append<D: Disk>(journal: &mut Journal<D>, body: &Bytes) -> Result<
     requires fits { length body.now ≤ journal.old.spare }
     requires whole { journal.old.broken ≡ None }
     ensures stored { (cs : List CommitValue) (c : CommitValue) →
-        StandsAs D.reads D.may_leave journal.old cs → IsBodyOf c body.now →
-        OnOk result (StandsAs D.reads D.may_leave journal.new (cs ++ c ∷ [])) }
+        JournalStandsFor D.reads D.may_leave journal.old cs → IsBodyOf c body.now →
+        OnOk result (JournalStandsFor D.reads D.may_leave journal.new (cs ++ c ∷ [])) }
     ensures any_moment { (cs : List CommitValue) (c : CommitValue) →
-        StandsAs D.reads D.may_leave journal.old cs → IsBodyOf c body.now →
+        JournalStandsFor D.reads D.may_leave journal.old cs → IsBodyOf c body.now →
         EachMoment D.moment D.left_since journal.old.disk journal.new.disk (BeforeOrAfter cs c) }
     ensures now { (cs : List CommitValue) (c : CommitValue) →
-        StandsAs D.reads D.may_leave journal.old cs → IsBodyOf c body.now →
+        JournalStandsFor D.reads D.may_leave journal.old cs → IsBodyOf c body.now →
         (image : List ℕ) → D.may_leave journal.new.disk image → BeforeOrAfter cs c image }
     ensures ok { OnOk result ((journal.new.broken ≡ None)
         × (D.faults journal.new.disk ≡ D.faults journal.old.disk)) }

@@ -5,7 +5,7 @@ ghost use Rattle.tl_types.specs.Entries.{commits_of, has_break};
 ghost use Rattle.tl_types.specs.History.{database_of};
 ghost use Rattle.tl_batch.specs.Made.{batch_matches};
 ghost use Rattle.tl_types.specs.Legality.{are_legal};
-ghost use Rattle.tl_journal.specs.Stands.{IsJournal};
+ghost use Rattle.tl_journal.specs.Stands.{DiskStandsFor};
 ghost use Rattle.tl_engine.specs.Counting.{news};
 ghost use Rattle.tl_engine.specs.Saying.{CommitSays, becomes, names_table};
 ghost use Rattle.tl_engine.specs.Standing.{IsCount, IsImageOf};
@@ -103,7 +103,7 @@ impl<D: Disk, J: Named> Engine<D, J> {
         ensures counted { news J.opening + share.amount ≡ news result.snapshot }
         ensures legal { IsTrue (are_legal result.snapshot) }
         ensures whole { J.told ≡ true → has_break result.snapshot ≡ false →
-            (gate : ℕ) × IsJournal D.reads D.may_leave result.disk
+            (gate : ℕ) × DiskStandsFor D.reads D.may_leave result.disk
             (commits_of result.snapshot) gate }
         ensures leaves { J.told ≡ true → (image : List ℕ) →
             D.may_leave result.disk image → IsImageOf result.snapshot image }

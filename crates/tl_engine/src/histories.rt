@@ -8,11 +8,11 @@ ghost use Rattle.tl_batch.specs.Made.{AreWithin, batch_matches};
 ghost use Rattle.tl_index.specs.Snapshots.{commit_entry};
 ghost use Rattle.tl_types.specs.Legality.{are_legal};
 ghost use Rattle.tl_journal.specs.Answers.{CountsFaults, IsDeviceOrMemory};
-ghost use Rattle.tl_journal.specs.Image.{StandsFor};
+ghost use Rattle.tl_journal.specs.Image.{ImageStandsFor};
 ghost use Rattle.tl_device.specs.Disk.{IsStored};
 ghost use Rattle.tl_journal.specs.Opening.{HasRead, IsAtClosedGate};
 ghost use Rattle.tl_journal.specs.Moments.{EachMoment};
-ghost use Rattle.tl_journal.specs.Stands.{IsJournal, SameOrTrimmed};
+ghost use Rattle.tl_journal.specs.Stands.{DiskStandsFor, SameOrTrimmed};
 ghost use Rattle.tl_engine.specs.Answers.{disk_opened, IsOpened, Opens, Appends, Fails, version_of};
 ghost use Rattle.tl_engine.specs.Writing.{IsDraft, DraftFails, WriteFails};
 ghost use Rattle.tl_types.specs.Legality.{FitInTurn};
@@ -261,7 +261,7 @@ impl<D: Disk> History<D> {
         ensures snapshot { result.snapshot ≡ self.entries }
         ensures disk { result.disk ≡ self.journal.disk }
         ensures whole { StandsOnDisk D.reads D.may_leave self → has_break self.entries ≡ false →
-            IsJournal D.reads D.may_leave result.disk
+            DiskStandsFor D.reads D.may_leave result.disk
             (commits_of self.entries) self.journal.gate }
         ensures leaves { StandsOnDisk D.reads D.may_leave self → (image : List ℕ) →
             D.may_leave result.disk image → IsImageOf self.entries image }
@@ -296,10 +296,10 @@ fn finish<D: Disk>(begun: Begun<D>, limits: Limits) -> Result<History<D>, Refuse
         IfOk result (StandsOnDisk D.reads D.may_leave) }
     ensures any_moment { IsStored D.reads D.may_leave begun.opening.disk begun.opening.image →
         EachMoment D.moment D.left_since begun.opening.disk (disk_opened result)
-        (StandsFor (commits_of begun.replay)) }
+        (ImageStandsFor (commits_of begun.replay)) }
     ensures now { IsStored D.reads D.may_leave begun.opening.disk begun.opening.image →
         (c : List ℕ) → D.may_leave (disk_opened result) c →
-        StandsFor (commits_of begun.replay) c }
+        ImageStandsFor (commits_of begun.replay) c }
     ensures reads { (b : List ℕ) → D.reads begun.opening.disk ≡ Some b → (c : List ℕ)
         × (D.reads (disk_opened result) ≡ Some c) × SameOrTrimmed b c }
     ensures count { IfOk result (λ h. (h.first_count ≡ D.faults begun.opening.disk)

@@ -4,7 +4,7 @@ ghost use Rattle.tl_types.specs.Entries.{commits_of};
 ghost use Rattle.tl_types.specs.Limits.{standard_limits};
 ghost use Rattle.tl_batch.specs.Made.{AreWithin};
 ghost use Rattle.tl_journal.specs.Answers.{CountsFaults, IsTooShort};
-ghost use Rattle.tl_journal.specs.Image.{IsJournalOf};
+ghost use Rattle.tl_journal.specs.Image.{ImageStandsOnlyFor};
 ghost use Rattle.tl_journal.specs.Moments.{EachMoment, IsUntouched, LosesNothing};
 ghost use Rattle.tl_journal.specs.Opening.{HasRead, IsAtClosedGate};
 ghost use Rattle.tl_journal.specs.declared.faults.JournalFault.TheVariants as journal_fault;
@@ -38,7 +38,7 @@ pub(crate) fn begin<D: Disk>(
     ensures read { IfOk result (λ o. HasRead (commits_of o.replay) o.opening) }
     ensures end { IfOk result (λ o. IsAtClosedGate o.opening) }
     ensures fitting { IfOk result (λ o. FitInTurn limits.now (commits_of o.replay)) }
-    ensures whole { IfOk result (λ o. IsJournalOf (commits_of o.replay) o.opening.image) }
+    ensures whole { IfOk result (λ o. ImageStandsOnlyFor (commits_of o.replay) o.opening.image) }
     ensures image { (b : List ℕ) → D.reads disk ≡ Some b →
         IfOk result (λ o. HasImage D.reads D.may_leave b o.opening) }
     ensures untouched { IsUntouched D.reads D.may_leave disk (disk_begun result) }

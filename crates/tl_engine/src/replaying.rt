@@ -7,7 +7,7 @@ ghost use Rattle.tl_types.specs.Limits.{standard_limits};
 ghost use Rattle.tl_batch.specs.Made.{AreWithin};
 ghost use Rattle.tl_index.specs.Snapshots.{commit_entry};
 ghost use Rattle.tl_journal.specs.Answers.{IsDamagedOrMemoryThere};
-ghost use Rattle.tl_journal.specs.Image.{IsJournalOf, IsDamagedOnlyAt};
+ghost use Rattle.tl_journal.specs.Image.{ImageStandsOnlyFor, IsDamagedOnlyAt};
 ghost use Rattle.tl_journal.specs.Opening.{HasRead, IsAtClosedGate};
 ghost use Rattle.tl_journal.specs.declared.faults.JournalFault.TheVariants as journal_fault;
 ghost use Rattle.tl_types.specs.Legality.{FitInTurn};
@@ -102,7 +102,7 @@ fn replay_fitting<D: Disk>(
     ensures read { result ≡ Ok None → HasRead (commits_of replay.new) opening.new }
     ensures end { result ≡ Ok None → IsAtClosedGate opening.new }
     ensures whole { result ≡ Ok None →
-        IsJournalOf (commits_of replay.new) opening.old.image }
+        ImageStandsOnlyFor (commits_of replay.new) opening.old.image }
     ensures unfit { IfOk result (λ o. IfSome o
         (IsFirstUnfit limits.now (commits_of replay.new) opening.new)) }
     ensures damaged { (at : ℕ) → result ≡ Err (journal_fault.Damaged at) →
@@ -127,7 +127,7 @@ fn pass_over<D: Disk>(alloc: Global, opening: &mut FoundCommits<D>) -> Result<()
     ensures image { opening.new.image ≡ opening.old.image }
     ensures whole { (found : List CommitValue) → HasRead found opening.old →
         OnOk result ((later : List CommitValue)
-        × IsJournalOf (found ++ later) opening.old.image) }
+        × ImageStandsOnlyFor (found ++ later) opening.old.image) }
     ensures damaged { (at : ℕ) → result ≡ Err (journal_fault.Damaged at) →
         IsDamagedOnlyAt at opening.old.image }
     ensures kinds { IfErr result IsDamagedOrMemoryThere }
@@ -152,7 +152,7 @@ pub(crate) fn replay_all<D: Disk>(
     ensures image { opening.new.image ≡ opening.old.image }
     ensures read { IfOk result (λ r. HasRead (commits_of r) opening.new) }
     ensures end { OnOk result (IsAtClosedGate opening.new) }
-    ensures whole { IfOk result (λ r. IsJournalOf (commits_of r) opening.old.image) }
+    ensures whole { IfOk result (λ r. ImageStandsOnlyFor (commits_of r) opening.old.image) }
     ensures fitting { IfOk result (λ r. FitInTurn limits.now (commits_of r)) }
     ensures damaged { (at : ℕ) → result ≡ Err (journal_fault.Damaged at) →
         IsDamaged limits.now at opening.old.image }

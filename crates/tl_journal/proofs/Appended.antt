@@ -4,13 +4,13 @@ use Rattle.tl_types.specs.declared.commits.Commit.{Commit}
 use Rattle.tl_record.specs.Spelling.{spelling, IsCommit}
 use Rattle.tl_device.specs.Disk.{IsStored}
 use Rattle.tl_journal.specs.Image.{header}
-use Rattle.tl_journal.specs.Stands.{IsJournal}
+use Rattle.tl_journal.specs.Stands.{DiskStandsFor}
 use Rattle.tl_journal.proofs.Crash.{opens_more}
 
 one_open : ◌≢◌ {A = ℕ} 1 0
 one_open e = omega (arith, e)
 
-pub one_more : {D : Type 0} (reads : D → Option (List ℕ)) (may_leave : D → List ℕ → Type 0) (old new : D) (cs : List Commit) (c : Commit) (body : List ℕ) (gate : ℕ) (j : IsJournal reads may_leave old cs gate) → IsCommit c → body ≡ spelling c ++ 0 ∷ [] → IsStored reads may_leave new (((header ++ j.front) ++ 1 ∷ spelling c) ++ 0 ∷ []) → IsJournal reads may_leave new (cs ++ c ∷ []) (gate + length body)
+pub one_more : {D : Type 0} (reads : D → Option (List ℕ)) (may_leave : D → List ℕ → Type 0) (old new : D) (cs : List Commit) (c : Commit) (body : List ℕ) (gate : ℕ) (j : DiskStandsFor reads may_leave old cs gate) → IsCommit c → body ≡ spelling c ++ 0 ∷ [] → IsStored reads may_leave new (((header ++ j.front) ++ 1 ∷ spelling c) ++ 0 ∷ []) → DiskStandsFor reads may_leave new (cs ++ c ∷ []) (gate + length body)
 one_more reads may_leave old new cs c body gate j fits body_is stored = record {
   front = j.front ++ 1 ∷ spelling c;
   opens = opens_more cs j.front c 1 one_open fits j.opens;

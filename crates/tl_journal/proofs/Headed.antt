@@ -3,9 +3,9 @@ use Rattle.std.proofs.Common.{◌≡◌, inl, inr, ⊎_elim, ℕ, ◌+◌, List,
 use Rattle.std.proofs.lemmas.List.{take_at}
 use Rattle.tl_types.specs.declared.commits.Commit.{Commit}
 use Rattle.tl_device.specs.Disk.{IsStored, MayCut}
-use Rattle.tl_journal.specs.Image.{header, StandsFor}
+use Rattle.tl_journal.specs.Image.{header, ImageStandsFor}
 use Rattle.tl_journal.specs.Opening.{HasReadTo}
-use Rattle.tl_journal.specs.Stands.{IsJournal, SameOrTrimmed}
+use Rattle.tl_journal.specs.Stands.{DiskStandsFor, SameOrTrimmed}
 
 -- what is left by the cut behind the closed gate
 pub cut_image : (found : List Commit) (at : ℕ) (image tail : List ℕ) (was : HasReadTo found at image) → drop at image ≡ 0 ∷ tail → take (at + 1) image ≡ (header ++ was.front) ++ 0 ∷ []
@@ -13,13 +13,13 @@ cut_image found at image tail was e =
     ap (λ l. take (at + 1) l) (was.image_is ∙ ap (λ l. (header ++ was.front) ++ l) e ∙ sym (append_assoc (header ++ was.front) (0 ∷ []) tail))
     ∙ take_at ((header ++ was.front) ++ 0 ∷ []) tail (at + 1) (omega (arith, was.at_is, length-append (header ++ was.front) (0 ∷ [])))
 
-pub cut_stands : (found : List Commit) (at : ℕ) (image tail c : List ℕ) → HasReadTo found at image → drop at image ≡ 0 ∷ tail → MayCut (at + 1) image c → StandsFor found c
+pub cut_stands : (found : List Commit) (at : ℕ) (image tail c : List ℕ) → HasReadTo found at image → drop at image ≡ 0 ∷ tail → MayCut (at + 1) image c → ImageStandsFor found c
 cut_stands found at image tail c was e m = ⊎_elim
     (λ same. (was.front, was.opens, (tail, same ∙ was.image_is ∙ ap (λ l. (header ++ was.front) ++ l) e)))
     (λ cut. (was.front, was.opens, ([], cut ∙ cut_image found at image tail was e)))
     m
 
-pub journal_cut : {D : Type 0} (reads : D → Option (List ℕ)) (may_leave : D → List ℕ → Type 0) (disk : D) (found : List Commit) (at : ℕ) (image tail : List ℕ) → HasReadTo found at image → drop at image ≡ 0 ∷ tail → IsStored reads may_leave disk (take (at + 1) image) → IsJournal reads may_leave disk found at
+pub journal_cut : {D : Type 0} (reads : D → Option (List ℕ)) (may_leave : D → List ℕ → Type 0) (disk : D) (found : List Commit) (at : ℕ) (image tail : List ℕ) → HasReadTo found at image → drop at image ≡ 0 ∷ tail → IsStored reads may_leave disk (take (at + 1) image) → DiskStandsFor reads may_leave disk found at
 journal_cut reads may_leave disk found at image tail was e stored = record {
   front = was.front;
   opens = was.opens;

@@ -4,7 +4,7 @@ use Rattle.std.proofs.lemmas.List.{drop_at, append-nil, drop-drop}
 use Rattle.tl_types.specs.declared.commits.Commit.{Commit}
 use Rattle.tl_record.specs.Spelling.{spelling, IsCommit}
 use Rattle.tl_record.specs.Decoding.{BeginsWith}
-use Rattle.tl_journal.specs.Image.{header, Opens, size_of, Carries, NoRecord, BreaksAt, IsJournalOf, IsDamagedOnlyAt}
+use Rattle.tl_journal.specs.Image.{header, OpenGates, size_of, Carries, NoRecord, BreaksAt, ImageStandsOnlyFor, IsDamagedOnlyAt}
 use Rattle.tl_journal.specs.Records.{IsOnlyRecord, IsGateBefore, IsBrokenHere}
 use Rattle.tl_journal.specs.Opening.{HasReadTo}
 use Rattle.tl_journal.proofs.Crash.{opens_more}
@@ -46,7 +46,7 @@ counted : (g : ℕ) (r s t front : List ℕ) (n : ℕ) → n ≡ length front �
 counted g r s t front n at is same = omega (arith, at, ap length is, length-append s t, ap length same)
 
 -- a broken gate is no gate with a record, and stands behind it
-pub breaks_on : (gate : ℕ) (c : Commit) (next : List ℕ) (n : ℕ) (cs : List Commit) (front : List ℕ) (last : ℕ) (more : List ℕ) → IsCommit c → IsOnlyRecord (spelling c ++ next) c → 0 < length next → Opens cs front → gate ∷ (spelling c ++ next) ≡ front ++ last ∷ more → n ≡ length front → last ≢ 0 → NoRecord more → (m : ℕ) × (n ≡ (1 + length (spelling c)) + m) × BreaksAt m next
+pub breaks_on : (gate : ℕ) (c : Commit) (next : List ℕ) (n : ℕ) (cs : List Commit) (front : List ℕ) (last : ℕ) (more : List ℕ) → IsCommit c → IsOnlyRecord (spelling c ++ next) c → 0 < length next → OpenGates cs front → gate ∷ (spelling c ++ next) ≡ front ++ last ∷ more → n ≡ length front → last ≢ 0 → NoRecord more → (m : ℕ) × (n ≡ (1 + length (spelling c)) + m) × BreaksAt m next
 breaks_on gate c [] n cs front last more fits only some o e at is_open none = absurd (omega (arith, some))
 breaks_on gate c (y ∷ ys) n [] front last more fits only some o e at is_open none =
     absurd (none c y ys fits (sym (ap (λ l. drop 1 l) (e ∙ ap (λ l. l ++ last ∷ more) o))))
@@ -73,7 +73,7 @@ none_later : (more : List ℕ) (later : List Commit) → Carries later (0 ∷ mo
 none_later more [] f = refl
 none_later more (x ∷ cs) f = absurd (f.1.2 (sym (ap (λ l. get_or l 0 0) (f.2.1 ∙ ap (λ l. l ++ 0 ∷ f.2.0) f.1.4))))
 
-no_break : (more : List ℕ) (cs : List Commit) (front : List ℕ) (gate : ℕ) (rest : List ℕ) → Opens cs front → 0 ∷ more ≡ front ++ gate ∷ rest → gate ≢ 0 → ⊥
+no_break : (more : List ℕ) (cs : List Commit) (front : List ℕ) (gate : ℕ) (rest : List ℕ) → OpenGates cs front → 0 ∷ more ≡ front ++ gate ∷ rest → gate ≢ 0 → ⊥
 no_break more [] front gate rest o e is_open = is_open (sym (ap (λ l. get_or l 0 0) (e ∙ ap (λ l. l ++ gate ∷ rest) o)))
 no_break more (x ∷ cs) front gate rest o e is_open = o.2 (sym (ap (λ l. get_or l 0 0) (e ∙ ap (λ l. l ++ gate ∷ rest) o.4)))
 
@@ -88,7 +88,7 @@ broken_later gate more (x ∷ cs) is_open none f =
     let o = f.1 in
     some_byte o.1 f.2.0 more x 0 o.3 none (ap (λ l. drop 1 l) (f.2.1 ∙ ap (λ l. l ++ 0 ∷ f.2.0) o.4) ∙ append_assoc (spelling x) o.1 (0 ∷ f.2.0))
 
-break_here : (gate : ℕ) (more : List ℕ) (n : ℕ) (cs : List Commit) (front : List ℕ) (last : ℕ) (rest : List ℕ) → NoRecord more → Opens cs front → gate ∷ more ≡ front ++ last ∷ rest → n ≡ length front → n ≡ 0
+break_here : (gate : ℕ) (more : List ℕ) (n : ℕ) (cs : List Commit) (front : List ℕ) (last : ℕ) (rest : List ℕ) → NoRecord more → OpenGates cs front → gate ∷ more ≡ front ++ last ∷ rest → n ≡ length front → n ≡ 0
 break_here gate more n [] front last rest none o e at = at ∙ ap length o
 break_here gate more n (x ∷ cs) front last rest none o e at = absurd (some_byte o.1 rest more x last o.3 none (ap (λ l. drop 1 l) (e ∙ ap (λ l. l ++ last ∷ rest) o.4) ∙ append_assoc (spelling x) o.1 (last ∷ rest)))
 
@@ -136,7 +136,7 @@ read_on found c at end image was g is = record {
     further n at end a b r p q is = omega (arith, p, q, is)
 
 -- at the closed gate the image is a journal's
-pub closed_image : (found : List Commit) (at : ℕ) (image tail : List ℕ) → HasReadTo found at image → drop at image ≡ 0 ∷ tail → IsJournalOf found image
+pub closed_image : (found : List Commit) (at : ℕ) (image tail : List ℕ) → HasReadTo found at image → drop at image ≡ 0 ∷ tail → ImageStandsOnlyFor found image
 closed_image found at image tail was e = record {
   stands = (was.front, was.opens, (tail, was.image_is ∙ ap (λ l. (header ++ was.front) ++ l) e));
   only = λ cs s.

@@ -10,11 +10,11 @@ header =
     ∷ 106 ∷ 111 ∷ 117 ∷ 114 ∷ 110 ∷ 97 ∷ 108 ∷ []
 
 -- open gates, each followed by the record of its commit
-abbrev pub Opens : List Commit → List ℕ → Type 0
-Opens [] front = front ≡ []
-Opens (c ∷ cs) front =
+abbrev pub OpenGates : List Commit → List ℕ → Type 0
+OpenGates [] front = front ≡ []
+OpenGates (c ∷ cs) front =
     (gate : ℕ) × (tail : List ℕ) × (gate ≢ 0) × IsCommit c
-    × (front ≡ gate ∷ (spelling c ++ tail)) × Opens cs tail
+    × (front ≡ gate ∷ (spelling c ++ tail)) × OpenGates cs tail
 
 -- these bytes and then a closed gate; what stands past it is not looked at
 abbrev pub Ends : List ℕ → List ℕ → Type 0
@@ -22,15 +22,15 @@ Ends front image = (tail : List ℕ) × (image ≡ front ++ 0 ∷ tail)
 
 -- open gates and the records of these commits, and then a closed gate
 abbrev pub Carries : List Commit → List ℕ → Type 0
-Carries cs rest = (front : List ℕ) × Opens cs front × Ends front rest
+Carries cs rest = (front : List ℕ) × OpenGates cs front × Ends front rest
 
 -- the image of a journal of these commits
-abbrev pub StandsFor : List Commit → List ℕ → Type 0
-StandsFor cs image = (front : List ℕ) × Opens cs front × Ends (header ++ front) image
+abbrev pub ImageStandsFor : List Commit → List ℕ → Type 0
+ImageStandsFor cs image = (front : List ℕ) × OpenGates cs front × Ends (header ++ front) image
 
 -- the image of a journal of these commits, without this one or with it
 abbrev pub BeforeOrAfter : List Commit → Commit → List ℕ → Type 0
-BeforeOrAfter cs c image = StandsFor cs image ⊎ StandsFor (cs ++ c ∷ []) image
+BeforeOrAfter cs c image = ImageStandsFor cs image ⊎ ImageStandsFor (cs ++ c ∷ []) image
 
 -- the record of a commit with a closed gate behind it, as an append writes it
 abbrev pub IsBodyOf : Commit → List ℕ → Type 0
@@ -53,7 +53,7 @@ pub record BreaksAt (at : ℕ) (rest : List ℕ) : Type 0 where
   pub front : List ℕ
   pub gate : ℕ
   pub more : List ℕ
-  pub opens : Opens commits front
+  pub opens : OpenGates commits front
   pub rest_is : rest ≡ front ++ gate ∷ more
   pub at_is : at ≡ length front
   pub is_open : gate ≢ 0
@@ -78,13 +78,13 @@ abbrev pub IsDamagedAt : ℕ → List ℕ → Type 0
 IsDamagedAt at image = ((at ≡ 0) × HasAnotherName image) ⊎ HasBrokenGate at image
 
 -- the image is a journal's, of these commits and of no others
-pub record IsJournalOf (commits : List Commit) (image : List ℕ) : Type 0 where
-  pub stands : StandsFor commits image
-  pub only : (cs : List Commit) → StandsFor cs image → cs ≡ commits
+pub record ImageStandsOnlyFor (commits : List Commit) (image : List ℕ) : Type 0 where
+  pub stands : ImageStandsFor commits image
+  pub only : (cs : List Commit) → ImageStandsFor cs image → cs ≡ commits
   pub sound : (at : ℕ) → IsDamagedAt at image → ⊥
 
 -- the image is no journal's, and is damaged there and nowhere else
 pub record IsDamagedOnlyAt (at : ℕ) (image : List ℕ) : Type 0 where
   pub here : IsDamagedAt at image
   pub only : (n : ℕ) → IsDamagedAt n image → n ≡ at
-  pub no_journal : (cs : List Commit) → StandsFor cs image → ⊥
+  pub no_journal : (cs : List Commit) → ImageStandsFor cs image → ⊥

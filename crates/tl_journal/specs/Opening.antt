@@ -3,7 +3,7 @@ use Rattle.std.specs.Prelude.{◌≡◌, ◌+◌, ◌<◌, ℕ, List, [], ◌∷
 use Rattle.std.specs.declared.option.Option.{Option}
 use Rattle.tl_types.specs.declared.commits.Commit.{Commit}
 use Rattle.tl_record.specs.Spelling.{spelling}
-use Rattle.tl_journal.specs.Image.{header, Opens, size_of, Carries, StandsFor, BreaksAt, HasBrokenGate}
+use Rattle.tl_journal.specs.Image.{header, OpenGates, size_of, Carries, ImageStandsFor, BreaksAt, HasBrokenGate}
 use Rattle.tl_journal.specs.declared.found.Found.{Found}
 use Rattle.tl_journal.specs.Plain as plain
 
@@ -12,11 +12,11 @@ use Rattle.tl_journal.specs.Plain as plain
 -- of the image stands there or further on
 pub record HasReadTo (found : List Commit) (at : ℕ) (image : List ℕ) : Type 0 where
   pub front : List ℕ
-  pub opens : Opens found front
+  pub opens : OpenGates found front
   pub image_is : image ≡ (header ++ front) ++ drop at image
   pub at_is : at ≡ length (header ++ front)
   pub gate_is : at ≡ 16 + size_of found
-  pub onward : (cs : List Commit) → StandsFor cs image → (later : List Commit)
+  pub onward : (cs : List Commit) → ImageStandsFor cs image → (later : List Commit)
       × (cs ≡ found ++ later) × Carries later (drop at image)
   pub damage : (n : ℕ) → HasBrokenGate n image →
       (m : ℕ) × (n ≡ at + m) × BreaksAt m (drop at image)

@@ -5,7 +5,7 @@ ghost use Rattle.tl_device.specs.Known.{Rose};
 ghost use Rattle.tl_device.specs.Disk.{IsStored};
 ghost use Rattle.tl_journal.specs.Image.{Ends, BeforeOrAfter, IsBodyOf};
 ghost use Rattle.tl_journal.specs.Gates.{EndsGated};
-ghost use Rattle.tl_journal.specs.Stands.{IsJournal};
+ghost use Rattle.tl_journal.specs.Stands.{DiskStandsFor};
 ghost use Rattle.tl_journal.specs.Moments.{EachMoment};
 
 use tl_device::{Disk, Failed};
@@ -68,14 +68,14 @@ pub(crate) fn put<D: Disk>(disk: &mut D, gate: u64, body: &[u8]) -> Result<(), F
     ensures longer { OnOk result (IfSome (D.reads disk.new) (λ b.
         gate + 1 + length body.now ≤ length b)) }
     ensures stored { (cs : List Commit) (c : Commit) → IsBodyOf c body.now →
-        IsJournal D.reads D.may_leave disk.old cs gate →
-        OnOk result (IsJournal D.reads D.may_leave disk.new (cs ++ c ∷ [])
+        DiskStandsFor D.reads D.may_leave disk.old cs gate →
+        OnOk result (DiskStandsFor D.reads D.may_leave disk.new (cs ++ c ∷ [])
         (gate + length body.now)) }
     ensures any_moment { (cs : List Commit) (c : Commit) → IsBodyOf c body.now →
-        IsJournal D.reads D.may_leave disk.old cs gate →
+        DiskStandsFor D.reads D.may_leave disk.old cs gate →
         EachMoment D.moment D.left_since disk.old disk.new (BeforeOrAfter cs c) }
     ensures now { (cs : List Commit) (c : Commit) → IsBodyOf c body.now →
-        IsJournal D.reads D.may_leave disk.old cs gate →
+        DiskStandsFor D.reads D.may_leave disk.old cs gate →
         (image : List ℕ) → D.may_leave disk.new image → BeforeOrAfter cs c image }
     ensures sure { OnOk result (D.faults disk.new ≡ D.faults disk.old) }
     ensures rose { OnErr result (Rose (D.faults disk.old) (D.faults disk.new)) }

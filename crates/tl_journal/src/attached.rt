@@ -1,6 +1,6 @@
 //! A journal that was opened with all its commits.
 ghost use Rattle.std.specs.Prelude.{◌≡◌, ℕ, [], Err, IfOk, IfErr};
-ghost use Rattle.tl_journal.specs.Image.{IsJournalOf, IsDamagedOnlyAt};
+ghost use Rattle.tl_journal.specs.Image.{ImageStandsOnlyFor, IsDamagedOnlyAt};
 ghost use Rattle.tl_journal.specs.Opening.{HasRead, IsAtClosedGate, commits_found, HaveGatesFrom};
 ghost use Rattle.tl_journal.specs.Answers.{IsDamagedOrMemoryThere};
 ghost use Rattle.tl_journal.specs.declared.faults.JournalFault.TheVariants as fault;
@@ -32,7 +32,8 @@ pub(crate) fn all_found<D: Disk>(
     ensures found { IfOk result (λ found. HasRead (commits_found found) opening.new) }
     ensures end { IfOk result (λ found. IsAtClosedGate opening.new) }
     ensures gates { IfOk result (λ found. HaveGatesFrom opening.old.at found) }
-    ensures all { IfOk result (λ found. IsJournalOf (commits_found found) opening.old.image) }
+    ensures all { IfOk result (λ found.
+        ImageStandsOnlyFor (commits_found found) opening.old.image) }
     ensures damaged { (at : ℕ) → result ≡ Err (fault.Damaged at) →
         IsDamagedOnlyAt at opening.old.image }
     ensures kinds { IfErr result IsDamagedOrMemoryThere }

@@ -3,10 +3,10 @@ ghost use Rattle.std.specs.Prelude.{◌≡◌, ◌+◌, ◌<◌, ◌++◌, ◌�
 ghost use Rattle.tl_types.specs.declared.commits.Commit.{Commit as CommitValue};
 ghost use Rattle.tl_record.specs.Spelling.{spelling};
 ghost use Rattle.tl_device.specs.Disk.{IsStored};
-ghost use Rattle.tl_journal.specs.Image.{StandsFor, IsJournalOf, IsDamagedOnlyAt};
+ghost use Rattle.tl_journal.specs.Image.{ImageStandsFor, ImageStandsOnlyFor, IsDamagedOnlyAt};
 ghost use Rattle.tl_journal.specs.Moments.{EachMoment};
 ghost use Rattle.tl_journal.specs.Opening.{HasRead, IsAtClosedGate, IsOpening};
-ghost use Rattle.tl_journal.specs.Stands.{StandsAs, SameOrTrimmed};
+ghost use Rattle.tl_journal.specs.Stands.{JournalStandsFor, SameOrTrimmed};
 ghost use Rattle.tl_journal.specs.Answers.{disk_opened, CountsFaults, IsDeviceOrMemory, IsDamagedOrMemory};
 ghost use Rattle.tl_journal.specs.declared.faults.JournalFault.TheVariants as fault;
 
@@ -84,7 +84,7 @@ impl<D: Disk> FoundCommits<D> {
             IfOk result (λ o. IfSome o (λ f. HasRead (found ++ f.commit ∷ []) self.new)) }
         ensures end { result ≡ Ok None → (self.new ≡ self.old) × IsAtClosedGate self.new }
         ensures all { (found : List CommitValue) → HasRead found self.old → result ≡ Ok None →
-            IsJournalOf found self.old.image }
+            ImageStandsOnlyFor found self.old.image }
         ensures damaged { (found : List CommitValue) (at : ℕ) → HasRead found self.old →
             result ≡ Err (fault.Damaged at) → IsDamagedOnlyAt at self.old.image }
         ensures kept { OnErr result (self.new ≡ self.old) }
@@ -109,15 +109,15 @@ impl<D: Disk> FoundCommits<D> {
         requires { IsAtClosedGate self }
         ensures stands { (found : List CommitValue) → HasRead found self →
             IsStored D.reads D.may_leave self.disk self.image →
-            IfOk result (λ j. StandsAs D.reads D.may_leave j found) }
+            IfOk result (λ j. JournalStandsFor D.reads D.may_leave j found) }
         ensures shape { IfOk result (λ j.
             (j.gate ≡ self.at) × (j.spare ≡ 0) × (j.broken ≡ None)) }
         ensures any_moment { (found : List CommitValue) → HasRead found self →
             IsStored D.reads D.may_leave self.disk self.image →
-            EachMoment D.moment D.left_since self.disk (disk_opened result) (StandsFor found) }
+            EachMoment D.moment D.left_since self.disk (disk_opened result) (ImageStandsFor found) }
         ensures now { (found : List CommitValue) → HasRead found self →
             IsStored D.reads D.may_leave self.disk self.image →
-            (c : List ℕ) → D.may_leave (disk_opened result) c → StandsFor found c }
+            (c : List ℕ) → D.may_leave (disk_opened result) c → ImageStandsFor found c }
         ensures reads { (found : List CommitValue) (b : List ℕ) → HasRead found self →
             D.reads self.disk ≡ Some b →
             (c : List ℕ) × (D.reads (disk_opened result) ≡ Some c) × SameOrTrimmed b c }

@@ -3,10 +3,10 @@ ghost use Rattle.std.specs.Prelude.{◌≡◌, ◌+◌, ◌^◌, ◌<◌, ◌≤
 ghost use Rattle.tl_types.specs.declared.commits.Commit.{Commit as CommitValue};
 ghost use Rattle.tl_device.specs.Known.{Rose};
 ghost use Rattle.tl_device.specs.Disk.{IsStored};
-ghost use Rattle.tl_journal.specs.Image.{StandsFor, BeforeOrAfter, IsBodyOf, IsJournalOf, IsDamagedOnlyAt};
+ghost use Rattle.tl_journal.specs.Image.{ImageStandsFor, BeforeOrAfter, IsBodyOf, ImageStandsOnlyFor, IsDamagedOnlyAt};
 ghost use Rattle.tl_journal.specs.Moments.{EachMoment, EachMomentBySync, IsUntouched, LosesNothing, IsShort, OldOr};
 ghost use Rattle.tl_journal.specs.Opening.{HasRead, commits_found, HaveGatesFrom};
-ghost use Rattle.tl_journal.specs.Stands.{StandsAs, IsReady, SameOrTrimmed, empty_journal};
+ghost use Rattle.tl_journal.specs.Stands.{JournalStandsFor, IsReady, SameOrTrimmed, empty_journal};
 ghost use Rattle.tl_journal.specs.Answers.{disk_begun, disk_attached, CountsFaults, IsTooShort, IsTooLong};
 ghost use Rattle.tl_journal.specs.declared.faults.JournalFault.TheVariants as fault;
 ghost use Rattle.tl_journal.specs.declared.faults.AppendFault.TheVariants as failure;
@@ -130,23 +130,24 @@ impl<D: Disk> Journal<D> {
     /// commits.
     pub fn attach(alloc: Global, disk: D) -> Result<Attached<D>, Refused<D>>
         ensures stands { (b : List ℕ) → D.reads disk ≡ Some b →
-            IfOk result (λ a. StandsAs D.reads D.may_leave a.journal (commits_found a.found)) }
+            IfOk result (λ a.
+            JournalStandsFor D.reads D.may_leave a.journal (commits_found a.found)) }
         ensures all { (b : List ℕ) → D.reads disk ≡ Some b →
-            IfOk result (λ a. IsJournalOf (commits_found a.found) b) }
+            IfOk result (λ a. ImageStandsOnlyFor (commits_found a.found) b) }
         ensures gates { IfOk result (λ a. HaveGatesFrom 16 a.found) }
         ensures whole { IfOk result (λ a. (a.journal.broken ≡ None) × (a.journal.spare ≡ 0)) }
         ensures any_moment { (b : List ℕ) (cs : List CommitValue) → D.reads disk ≡ Some b →
-            StandsFor cs b → EachMomentBySync D.reads D.may_leave D.moment D.left_since
-            disk (disk_attached result) (StandsFor cs) }
+            ImageStandsFor cs b → EachMomentBySync D.reads D.may_leave D.moment D.left_since
+            disk (disk_attached result) (ImageStandsFor cs) }
         ensures no_journal { (b : List ℕ) → D.reads disk ≡ Some b →
-            ((cs : List CommitValue) → StandsFor cs b → ⊥) →
+            ((cs : List CommitValue) → ImageStandsFor cs b → ⊥) →
             EachMoment D.moment D.left_since disk (disk_attached result) (D.may_leave disk) }
         ensures no_journal_now { (b : List ℕ) → D.reads disk ≡ Some b →
-            ((cs : List CommitValue) → StandsFor cs b → ⊥) →
+            ((cs : List CommitValue) → ImageStandsFor cs b → ⊥) →
             IsUntouched D.reads D.may_leave disk (disk_attached result) }
         ensures now { (b : List ℕ) (cs : List CommitValue) → D.reads disk ≡ Some b →
-            StandsFor cs b → (c : List ℕ) → D.may_leave (disk_attached result) c →
-            OldOr (D.may_leave disk) (StandsFor cs) c }
+            ImageStandsFor cs b → (c : List ℕ) → D.may_leave (disk_attached result) c →
+            OldOr (D.may_leave disk) (ImageStandsFor cs) c }
         ensures reads { (b : List ℕ) → D.reads disk ≡ Some b → (c : List ℕ)
             × (D.reads (disk_attached result) ≡ Some c) × SameOrTrimmed b c }
         ensures sure { IfOk result (λ a. D.faults a.journal.disk ≡ D.faults disk) }
@@ -206,8 +207,9 @@ impl<D: Disk> Journal<D> {
         ensures any_moment { EachMoment D.moment D.left_since self.old.disk self.new.disk
             (D.may_leave self.old.disk) }
         ensures faults { D.faults self.new.disk ≡ D.faults self.old.disk }
-        ensures stands { (cs : List CommitValue) → StandsAs D.reads D.may_leave self.old cs →
-            StandsAs D.reads D.may_leave self.new cs }
+        ensures stands { (cs : List CommitValue) →
+            JournalStandsFor D.reads D.may_leave self.old cs →
+            JournalStandsFor D.reads D.may_leave self.new cs }
     {
         self.disk.room(bytes + 1, 4)?;
         self.spare = bytes;
@@ -225,16 +227,16 @@ impl<D: Disk> Journal<D> {
         requires body { (c : CommitValue) × IsBodyOf c body.now }
         requires fits { length body.now ≤ self.old.spare }
         ensures stored { (cs : List CommitValue) (c : CommitValue) →
-            StandsAs D.reads D.may_leave self.old cs → IsBodyOf c body.now →
-            OnOk result (StandsAs D.reads D.may_leave self.new (cs ++ c ∷ [])) }
+            JournalStandsFor D.reads D.may_leave self.old cs → IsBodyOf c body.now →
+            OnOk result (JournalStandsFor D.reads D.may_leave self.new (cs ++ c ∷ [])) }
         ensures any_moment { (cs : List CommitValue) (c : CommitValue) →
-            StandsAs D.reads D.may_leave self.old cs → IsBodyOf c body.now →
+            JournalStandsFor D.reads D.may_leave self.old cs → IsBodyOf c body.now →
             EachMoment D.moment D.left_since self.old.disk self.new.disk (BeforeOrAfter cs c) }
         ensures now { (cs : List CommitValue) (c : CommitValue) →
-            StandsAs D.reads D.may_leave self.old cs → IsBodyOf c body.now →
+            JournalStandsFor D.reads D.may_leave self.old cs → IsBodyOf c body.now →
             (image : List ℕ) → D.may_leave self.new.disk image → BeforeOrAfter cs c image }
         ensures reads { (cs : List CommitValue) (c : CommitValue) →
-            StandsAs D.reads D.may_leave self.old cs → IsBodyOf c body.now →
+            JournalStandsFor D.reads D.may_leave self.old cs → IsBodyOf c body.now →
             (image : List ℕ) → D.reads self.new.disk ≡ Some image → BeforeOrAfter cs c image }
         ensures sure { OnOk result (D.faults self.new.disk ≡ D.faults self.old.disk) }
         ensures whole { OnOk result ((self.old.broken ≡ None) × (self.new.broken ≡ None)) }

@@ -9,7 +9,7 @@ use Rattle.tl_device.specs.declared.disk.Disk.{Ghosts as DiskGhosts}
 use Rattle.tl_script.specs.Script.{ScriptReading}
 use Rattle.tl_session.specs.Turns.{break_of}
 use Rattle.tl_journal.specs.Answers.{CountsFaults, IsDeviceOrMemory}
-use Rattle.tl_journal.specs.Image.{StandsFor}
+use Rattle.tl_journal.specs.Image.{ImageStandsFor}
 use Rattle.tl_journal.specs.Stands.{empty_journal}
 use Rattle.tl_journal.specs.declared.faults.JournalFault.{JournalFault}
 use Rattle.tl_journal.specs.declared.faults.JournalFault.TheVariants as journal
@@ -71,8 +71,8 @@ only_memory fault before now counts sure (inr (n, e)) = absurd (sure (subst (λ 
 -- THE SAMPLE
 
 -- the empty journal is a journal of no commit
-no_commit : (image : List ℕ) → image ≡ empty_journal → StandsFor [] image
-no_commit image e = subst (λ (b : List ℕ). StandsFor [] b) (sym e) ([], refl, ([], refl))
+no_commit : (image : List ℕ) → image ≡ empty_journal → ImageStandsFor [] image
+no_commit image e = subst (λ (b : List ℕ). ImageStandsFor [] b) (sym e) ([], refl, ([], refl))
 
 -- the outside of a run without a source, over a disk in memory that never fails
 abbrev pub sure_outside : List ℕ → (List ℕ → Type 0) → Option (List ℕ) → ℕ → Outside

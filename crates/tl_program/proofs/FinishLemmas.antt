@@ -9,7 +9,7 @@ use Rattle.tl_script.specs.Script.{ScriptReading}
 use Rattle.tl_session.specs.Turns.{break_of}
 use Rattle.tl_session.specs.Phases.{HaveRun}
 use Rattle.tl_types.specs.Legality.{are_legal}
-use Rattle.tl_journal.specs.Stands.{IsJournal}
+use Rattle.tl_journal.specs.Stands.{DiskStandsFor}
 use Rattle.tl_engine.specs.Counting.{news}
 use Rattle.tl_engine.specs.Standing.{IsCount, IsImageOf}
 use Rattle.tl_program.specs.declared.stops.Stop.{Stop}
@@ -27,7 +27,7 @@ told_some o b e = ap is_some e
 pub finished : {D : Type 0} (disks : DiskGhosts D) (begun disk : D) (entries named start seen last : List Entry) (first count amount : ℕ) (tells : Bool) (script : Bool → List ℕ → ScriptReading) (before after : Streams) (why : Stop) (broke : Bool)
     → entries ≡ named → first ≡ count → tells ≡ is_some (disks.reads begun) → has_break named ≡ false → MakesTranscript → MakesPlay → start ≡ named
     → IsPrefix seen last → IsPrefix named last → news named + amount ≡ news last → are_legal last ≡ true
-    → (tells ≡ true → has_break last ≡ false → (gate : ℕ) × IsJournal disks.reads disks.may_leave disk (commits_of last) gate)
+    → (tells ≡ true → has_break last ≡ false → (gate : ℕ) × DiskStandsFor disks.reads disks.may_leave disk (commits_of last) gate)
     → (tells ≡ true → (image : List ℕ) → disks.may_leave disk image → IsImageOf last image)
     → (tells ≡ true → (image : List ℕ) → disks.reads disk ≡ Some image → IsImageOf last image)
     → IsCount (has_break last) count (disks.faults disk) → broke ≡ has_break last

@@ -7,8 +7,8 @@ use Rattle.tl_types.specs.Entries.{commits_of, has_break}
 use Rattle.tl_device.specs.Disk.{Only}
 use Rattle.tl_device.specs.declared.disk.Disk.{Ghosts as DiskGhosts}
 use Rattle.tl_session.specs.Turns.{break_of}
-use Rattle.tl_journal.specs.Image.{header, StandsFor, BeforeOrAfter}
-use Rattle.tl_journal.specs.Stands.{IsJournal}
+use Rattle.tl_journal.specs.Image.{header, ImageStandsFor, BeforeOrAfter}
+use Rattle.tl_journal.specs.Stands.{DiskStandsFor}
 use Rattle.tl_types.specs.Legality.{are_legal}
 use Rattle.tl_engine.specs.Standing.{IsCount, IsImageOf}
 use Rattle.tl_program.specs.Outside.{Outside, StandsWithBreak, IsSettled, CountsBreak, HoldsJournal}
@@ -33,13 +33,13 @@ image : (es : List Entry) (bytes : List ℕ) → are_legal es ≡ true → IsIma
 image es bytes legal h = by_break (either es) where
   by_break : ((has_break es ≡ false) × (break_of es ≡ None)) ⊎ ((has_break es ≡ true) × ((c : Commit) × (break_of es ≡ Some c))) → StandsWithBreak (commits_of es) (break_of es) bytes
   by_break (inl e) = subst (λ (o : Option Commit). StandsWithBreak (commits_of es) o bytes) (sym e.1) (both h) where
-    both : IsImageOf es bytes → StandsFor (commits_of es) bytes
+    both : IsImageOf es bytes → ImageStandsFor (commits_of es) bytes
     both (inl own) = own
-    both (inr own) = subst (λ (cs : List Commit). StandsFor cs bytes) (tried_none es legal e.1) own
+    both (inr own) = subst (λ (cs : List Commit). ImageStandsFor cs bytes) (tried_none es legal e.1) own
   by_break (inr e) = subst (λ (o : Option Commit). StandsWithBreak (commits_of es) o bytes) (sym e.1.1) (one h) where
     one : IsImageOf es bytes → BeforeOrAfter (commits_of es) e.1.0 bytes
     one (inl own) = inl own
-    one (inr own) = inr (subst (λ (cs : List Commit). StandsFor cs bytes) (tried_some es e.1.0 legal e.1.1) own)
+    one (inr own) = inr (subst (λ (cs : List Commit). ImageStandsFor cs bytes) (tried_some es e.1.0 legal e.1.1) own)
 
 settled : (es : List Entry) (after : Outside) → (has_break es ≡ false → (bytes : List ℕ) × (after.reads ≡ Some bytes) × Only bytes after.may_leave) → IsSettled (break_of es) after
 settled es after h = by_break (either es) where
@@ -62,5 +62,5 @@ holds es before after legal count leaves reads whole =
     }
 
 -- a whole journal is what a read gives, and all that a crash leaves
-pub whole_image : {D : Type 0} (disks : DiskGhosts D) (disk : D) (commits : List Commit) → (gate : ℕ) × IsJournal disks.reads disks.may_leave disk commits gate → (bytes : List ℕ) × (disks.reads disk ≡ Some bytes) × Only bytes (disks.may_leave disk)
+pub whole_image : {D : Type 0} (disks : DiskGhosts D) (disk : D) (commits : List Commit) → (gate : ℕ) × DiskStandsFor disks.reads disks.may_leave disk commits gate → (bytes : List ℕ) × (disks.reads disk ≡ Some bytes) × Only bytes (disks.may_leave disk)
 whole_image disks disk commits (gate, h) = ((header ++ h.front) ++ 0 ∷ [], h.stored.reads_as, h.stored.only)

@@ -26,7 +26,7 @@ use Rattle.tl_session.specs.Turns.{Turn, meant, all_turns}
 use Rattle.tl_session.specs.Transcript.{Transcript}
 use Rattle.tl_session.specs.Play.{AreLone, IsPlay}
 use Rattle.tl_journal.specs.Answers.{CountsFaults, IsTooShort, IsTooLong, IsDeviceOrMemory}
-use Rattle.tl_journal.specs.Image.{StandsFor}
+use Rattle.tl_journal.specs.Image.{ImageStandsFor}
 use Rattle.tl_journal.specs.Moments.{IsShort, OldOr}
 use Rattle.tl_journal.specs.Stands.{empty_journal}
 use Rattle.tl_journal.specs.declared.faults.JournalFault.{JournalFault}
@@ -128,7 +128,7 @@ pub record EndsRefused (before after : Outside) (ended : Status) : Type 0 where
   pub unread : IsUnread before after
   pub keeps : KeepsJournal before after
   -- a journal of commits that fit one after the other is refused for memory or a fault of the disk
-  pub honest : (b : List ℕ) (cs : List Commit) → before.reads ≡ Some b → StandsFor cs b
+  pub honest : (b : List ℕ) (cs : List Commit) → before.reads ≡ Some b → ImageStandsFor cs b
       → FitInTurn standard_limits cs → IsDeviceOrMemory fault
   pub ends : EndsFor fault before.written after.written before.sink_faults after.sink_faults ended
 

@@ -7,7 +7,7 @@ use Rattle.tl_types.specs.Legality.{are_legal}
 use Rattle.tl_device.specs.declared.disk.Disk.{Ghosts as DiskGhosts}
 use Rattle.tl_script.specs.Script.{ScriptReading}
 use Rattle.tl_session.specs.Turns.{break_of}
-use Rattle.tl_journal.specs.Stands.{IsJournal}
+use Rattle.tl_journal.specs.Stands.{DiskStandsFor}
 use Rattle.tl_engine.specs.Standing.{IsCount, IsImageOf}
 use Rattle.tl_program.specs.declared.stops.Stop.{Stop}
 use Rattle.tl_program.specs.Ending.{Told}
@@ -24,7 +24,7 @@ pub record Finishes {D : Type 0} (disks : DiskGhosts D) (begun : D) (opening : L
   pub broke_is : broke ≡ has_break last
   pub count : IsCount (has_break last) first_count (disks.faults disk)
   pub whole : (b : List ℕ) → disks.reads begun ≡ Some b → has_break last ≡ false
-      → (gate : ℕ) × IsJournal disks.reads disks.may_leave disk (commits_of last) gate
+      → (gate : ℕ) × DiskStandsFor disks.reads disks.may_leave disk (commits_of last) gate
   pub leaves : (b : List ℕ) → disks.reads begun ≡ Some b
       → (image : List ℕ) → disks.may_leave disk image → IsImageOf last image
   pub stands : (b : List ℕ) → disks.reads begun ≡ Some b

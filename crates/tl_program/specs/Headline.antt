@@ -28,7 +28,7 @@ use Rattle.tl_session.specs.Transcript.{Transcript}
 use Rattle.tl_session.specs.Turns.{Turn, meant}
 use Rattle.tl_session.specs.Written.{IsTranscript, IsPlayOf, all_jobs, jobs_of, turns_bytes, transcript_bytes}
 use Rattle.tl_journal.specs.Answers.{CountsFaults}
-use Rattle.tl_journal.specs.Image.{StandsFor}
+use Rattle.tl_journal.specs.Image.{ImageStandsFor}
 use Rattle.tl_journal.specs.declared.faults.JournalFault.{JournalFault}
 use Rattle.tl_types.specs.Legality.{FitInTurn}
 use Rattle.tl_program.specs.declared.statuses.Status.{Status}
@@ -61,7 +61,7 @@ pub record IsHonest (before : Outside) : Type 0 where
   pub image : List ℕ
   pub commits : List Commit
   pub told : before.reads ≡ Some image
-  pub stands : StandsFor commits image
+  pub stands : ImageStandsFor commits image
   pub fitting : FitInTurn standard_limits commits
 
 -- the source tells a script in which no fault is read
@@ -282,7 +282,7 @@ pub record RunTells (reads : Bool → List ℕ → ScriptReading) (script : List
 abbrev pub RunHeadline : (Bool → List ℕ → ScriptReading) → Outside → Outside → Status → Type 0
 RunHeadline reads before after ended =
     (script image : List ℕ) (opening : List Commit)
-    → before.left ≡ Some script → before.reads ≡ Some image → StandsFor opening image
+    → before.left ≡ Some script → before.reads ≡ Some image → ImageStandsFor opening image
     → RunTells reads script opening before after ended
 
 -- the same by what the words ask for; a sample that is done printed its jobs done one after the other

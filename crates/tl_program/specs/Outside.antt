@@ -9,7 +9,7 @@ use Rattle.tl_device.specs.Disk.{Only}
 use Rattle.tl_device.specs.declared.disk.Disk.{Ghosts as DiskGhosts}
 use Rattle.tl_device.specs.declared.sink.Sink.{Ghosts as SinkGhosts}
 use Rattle.tl_device.specs.declared.source.Source.{Ghosts as SourceGhosts}
-use Rattle.tl_journal.specs.Image.{StandsFor, IsJournalOf, BeforeOrAfter}
+use Rattle.tl_journal.specs.Image.{ImageStandsFor, ImageStandsOnlyFor, BeforeOrAfter}
 use Rattle.tl_journal.specs.Moments.{OldOr}
 use Rattle.tl_journal.specs.Stands.{SameOrTrimmed}
 use Rattle.tl_types.specs.Legality.{FitInTurn}
@@ -94,18 +94,18 @@ LeavesNoLess before after =
 pub record KeepsJournal (before after : Outside) : Type 0 where
   pub same_or_trimmed : (b : List ℕ) → before.reads ≡ Some b
       → (c : List ℕ) × (after.reads ≡ Some c) × SameOrTrimmed b c
-  pub leaves : (b : List ℕ) (cs : List Commit) → before.reads ≡ Some b → StandsFor cs b
-      → (c : List ℕ) → after.may_leave c → OldOr before.may_leave (StandsFor cs) c
+  pub leaves : (b : List ℕ) (cs : List Commit) → before.reads ≡ Some b → ImageStandsFor cs b
+      → (c : List ℕ) → after.may_leave c → OldOr before.may_leave (ImageStandsFor cs) c
 
 -- a history opens with these commits: they fit one after the other, and where the disk tells its
 -- bytes it is a journal of them, and of no others
 pub record OpensWith (opening : List Commit) (before : Outside) : Type 0 where
   pub fitting : FitInTurn standard_limits opening
-  pub stands : (b : List ℕ) → before.reads ≡ Some b → IsJournalOf opening b
+  pub stands : (b : List ℕ) → before.reads ≡ Some b → ImageStandsOnlyFor opening b
 
 -- the image is a journal of the commits, or, where a break came, of these and the break's
 abbrev pub StandsWithBreak : List Commit → Option Commit → List ℕ → Type 0
-StandsWithBreak commits None image = StandsFor commits image
+StandsWithBreak commits None image = ImageStandsFor commits image
 StandsWithBreak commits (Some c) image = BeforeOrAfter commits c image
 
 -- without a break a crash leaves what a read gives and nothing else

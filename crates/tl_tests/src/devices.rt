@@ -7,8 +7,8 @@ use std::rt::Files;
 use std::test::Fail;
 use std::{env, fs, io};
 use tl_device::{
-    Disk, Failed, FileDisk, MemorySink, NoMemory, RealSink, RealSource, Sink, Source, SureSink,
-    SureSource, write_all,
+    Disk, Failed, FileDisk, Lockable, MemorySink, NoMemory, RealSink, RealSource, Sink, Source,
+    SureSink, SureSource, write_all,
 };
 
 // A reader that fails.
@@ -159,14 +159,20 @@ fn stored<D: Disk>(disk: &mut D, from: &[u8]) -> bool {
 }
 
 // Whether a file that is not there is an empty disk, keeps what is written, and can be cut.
-fn a_new_file_keeps<R: Files>(files: &R, path: String) -> bool {
+fn a_new_file_keeps<R: Files>(files: &R, path: String) -> bool
+where
+    R::File: Lockable,
+{
     let mut disk = FileDisk::new(files, path);
     let empty = disk.len() == Ok(0);
     empty && stored(&mut disk, b"kept bytes") && disk.cut(7) == Ok(())
 }
 
 // Whether the file then holds seven bytes, and a write past the end of all files fails.
-fn the_file_is_read_again<R: Files>(files: &R, path: String) -> bool {
+fn the_file_is_read_again<R: Files>(files: &R, path: String) -> bool
+where
+    R::File: Lockable,
+{
     let mut disk = FileDisk::new(files, path);
     let mut into = [0; 5];
     let read = disk.read_at(3, &mut into) == Ok(4);
@@ -176,7 +182,10 @@ fn the_file_is_read_again<R: Files>(files: &R, path: String) -> bool {
 }
 
 // Whether a file in a folder that is not there is a disk that fails.
-fn a_lost_file_fails<R: Files>(files: &R, path: String) -> bool {
+fn a_lost_file_fails<R: Files>(files: &R, path: String) -> bool
+where
+    R::File: Lockable,
+{
     let mut disk = FileDisk::new(files, path);
     disk.len() == Err(Failed) && disk.sync() == Err(Failed) && disk.faults() == 2
 }

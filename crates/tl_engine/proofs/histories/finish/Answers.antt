@@ -1,7 +1,7 @@
 -- The journal stands for the commits that were applied.
 use Rattle.std.proofs.Common.{ap, subst}
 use Rattle.tl_types.specs.Entries.{commits_of}
-use Rattle.tl_journal.specs.Image.{StandsFor}
+use Rattle.tl_journal.specs.Image.{ImageStandsFor}
 use Rattle.tl_engine.proofs.OpenLemmas.{stands_over, reads_same, moments_same}
 use Rattle.tl_engine.proofs.histories.finish.Goals as goal
 
@@ -15,7 +15,7 @@ pub returns-in-Ok-clause-any_moment : goal.returns-in-Ok-clause-any_moment
 returns-in-Ok-clause-any_moment g c =
     λ stored.
     moments_same g.D.Disk.reads g.D.Disk.may_leave g.D.Disk.moment g.D.Disk.left_since c.args.begun.opening.disk c.in-Ok.journal.disk c.over.result.journal.disk
-    (StandsFor (commits_of c.args.begun.replay)) (ap (λ h. h.journal.disk) c.over.ensures.value)
+    (ImageStandsFor (commits_of c.args.begun.replay)) (ap (λ h. h.journal.disk) c.over.ensures.value)
     (c.in-Ok.ensures.any_moment (commits_of c.args.begun.replay) c.requires.read stored)
 
 pub returns-in-Ok-clause-now : goal.returns-in-Ok-clause-now

@@ -1,7 +1,7 @@
 -- The commits that are passed over.
 use Rattle.std.proofs.Common.{refl, ◌∙◌, subst, ap, Ok, ◌++◌}
 use Rattle.std.proofs.lemmas.Result.{err_from_is_err_and}
-use Rattle.tl_journal.specs.Image.{IsJournalOf, IsDamagedOnlyAt}
+use Rattle.tl_journal.specs.Image.{ImageStandsOnlyFor, IsDamagedOnlyAt}
 use Rattle.tl_engine.proofs.ReadLemmas.{read_start, read_next, fewer_left, damaged_there, damaged_by}
 use Rattle.tl_engine.proofs.replaying.pass_over.Goals as goal
 
@@ -54,4 +54,4 @@ returns-clause-whole g c =
     λ found r.
     let l = c.commits.invariant.read found r in
     let none = c.in_default.is in
-    (l.0, subst (λ b. IsJournalOf (found ++ l.0) b) c.commits.invariant.image (c.in_ok-found.ensures.all (found ++ l.0) l.1 (ap (λ o. Ok o) none)))
+    (l.0, subst (λ b. ImageStandsOnlyFor (found ++ l.0) b) c.commits.invariant.image (c.in_ok-found.ensures.all (found ++ l.0) l.1 (ap (λ o. Ok o) none)))

@@ -2,7 +2,7 @@
 use Rattle.std.proofs.Common.{◌∙◌, subst, ap, Ok}
 use Rattle.std.proofs.lemmas.Result.{err_from_is_err_and}
 use Rattle.tl_types.specs.Entries.{commits_of}
-use Rattle.tl_journal.specs.Image.{IsJournalOf, IsDamagedOnlyAt}
+use Rattle.tl_journal.specs.Image.{ImageStandsOnlyFor, IsDamagedOnlyAt}
 use Rattle.tl_engine.specs.Replaying.{IsApplied}
 use Rattle.tl_engine.proofs.FitLemmas.{applied_fit}
 use Rattle.tl_engine.proofs.ReadLemmas.{fewer_left, applied_next, first_unfit, damaged_there, damaged_by}
@@ -58,5 +58,5 @@ pub returns-clause-whole : goal.returns-clause-whole
 returns-clause-whole g c =
     λ all.
     let none = c.in_default.is in
-    subst (λ b. IsJournalOf (commits_of c.commits.replay) b) c.commits.invariant.image
+    subst (λ b. ImageStandsOnlyFor (commits_of c.commits.replay) b) c.commits.invariant.image
     (c.in_ok-found.ensures.all (commits_of c.commits.replay) c.commits.invariant.read (ap (λ o. Ok o) none))

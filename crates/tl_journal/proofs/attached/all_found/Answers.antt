@@ -1,6 +1,6 @@
 use Rattle.std.proofs.Common.{rules, ◌≡◌, ◌∙◌, ◌+◌, [], ◌∷◌, ◌++◌, length, Ok, Err, None, IfSome, subst}
 use Rattle.tl_record.specs.Spelling.{spelling}
-use Rattle.tl_journal.specs.Image.{IsJournalOf, IsDamagedOnlyAt}
+use Rattle.tl_journal.specs.Image.{ImageStandsOnlyFor, IsDamagedOnlyAt}
 use Rattle.tl_journal.specs.Opening.{HasReadTo, commits_found}
 use Rattle.tl_journal.specs.declared.faults.JournalFault.TheVariants as fault
 use Rattle.tl_journal.proofs.Listed.{one_found}
@@ -28,4 +28,4 @@ reading-preserved g c =
 pub returns-clause-all : goal.returns-clause-all
 returns-clause-all g c =
     let e : c.next.result ≡ Ok None = search rules in
-    subst (λ l. IsJournalOf (commits_found c.reading.found) l) c.reading.invariant.1 (c.next.ensures.all (commits_found c.reading.found) c.reading.invariant.2 e)
+    subst (λ l. ImageStandsOnlyFor (commits_found c.reading.found) l) c.reading.invariant.1 (c.next.ensures.all (commits_found c.reading.found) c.reading.invariant.2 e)

@@ -1,7 +1,7 @@
 use Rattle.std.proofs.Common.{rules, ◌≡◌, ◌+◌, length, subst, sym, refl}
 use Rattle.tl_device.specs.Disk.{MayCut}
 use Rattle.tl_journal.specs.Plain as plain
-use Rattle.tl_journal.specs.Image.{StandsFor}
+use Rattle.tl_journal.specs.Image.{ImageStandsFor}
 use Rattle.tl_journal.specs.Opening.{IsAtClosedGate}
 use Rattle.tl_journal.proofs.Phases.{weaker}
 use Rattle.tl_journal.proofs.Headed.{cut_stands, journal_cut, same_or_trimmed}
@@ -11,7 +11,7 @@ pub returns-in_default-clause-any_moment : goal.returns-in_default-clause-any_mo
 returns-in_default-clause-any_moment g c =
     let P : plain.FoundCommits g.row.D.Denot → Type 0 = λ o. IsAtClosedGate o in
     let r = subst P (sym c.self.view_is) c.requires in
-    rw (← c.self.view_is) (λ found was stored. weaker _ _ _ _ (MayCut (c.self.inside.at + 1) c.self.inside.image.items) (StandsFor found) (λ d m. cut_stands found c.self.inside.at c.self.inside.image.items r.0 d was r.1 m) (c.trim.ensures.any_moment c.self.inside.image.items stored))
+    rw (← c.self.view_is) (λ found was stored. weaker _ _ _ _ (MayCut (c.self.inside.at + 1) c.self.inside.image.items) (ImageStandsFor found) (λ d m. cut_stands found c.self.inside.at c.self.inside.image.items r.0 d was r.1 m) (c.trim.ensures.any_moment c.self.inside.image.items stored))
 
 pub returns-in_default-clause-now : goal.returns-in_default-clause-now
 returns-in_default-clause-now g c =
@@ -32,7 +32,7 @@ pub returns-clause-any_moment : goal.returns-clause-any_moment
 returns-clause-any_moment g c =
     let P : plain.FoundCommits g.row.D.Denot → Type 0 = λ o. IsAtClosedGate o in
     let r = subst P (sym c.self.view_is) c.requires in
-    rw (c.at_gate.ensures, ← c.self.view_is) (λ found was stored. weaker _ _ _ _ (MayCut (c.self.inside.at + 1) c.self.inside.image.items) (StandsFor found) (λ d m. cut_stands found c.self.inside.at c.self.inside.image.items r.0 d was r.1 m) (c.trim.ensures.any_moment c.self.inside.image.items stored))
+    rw (c.at_gate.ensures, ← c.self.view_is) (λ found was stored. weaker _ _ _ _ (MayCut (c.self.inside.at + 1) c.self.inside.image.items) (ImageStandsFor found) (λ d m. cut_stands found c.self.inside.at c.self.inside.image.items r.0 d was r.1 m) (c.trim.ensures.any_moment c.self.inside.image.items stored))
 
 pub returns-clause-now : goal.returns-clause-now
 returns-clause-now g c =

@@ -1,6 +1,6 @@
 use Rattle.std.proofs.Common.{◌≡◌, ◌∙◌, ℕ, List, Some, refl, subst}
 use Rattle.tl_device.specs.Disk.{IsStored}
-use Rattle.tl_journal.specs.Image.{IsJournalOf}
+use Rattle.tl_journal.specs.Image.{ImageStandsOnlyFor}
 use Rattle.tl_journal.specs.Opening.{commits_found}
 use Rattle.tl_journal.proofs.Opened.{stored_there, opened_moments, opened_now}
 use Rattle.tl_journal.proofs.journal.Journal.attach.Goals as goal
@@ -19,13 +19,13 @@ returns-in-Ok-finish-clause-any_moment g c b names r s =
     let same = c.in-Ok-all_found.ensures.disk in
     let read = c.in-Ok-all_found.ensures.image ∙ c.in-Ok.ensures.image b r in
     let there = stored_there g.D.Disk.reads g.D.Disk.may_leave o.disk opened.disk b opened.image (stored b r) same read in
-    let all = subst (λ l. IsJournalOf cs l) (c.in-Ok.ensures.image b r) c.in-Ok-all_found.ensures.all in
+    let all = subst (λ l. ImageStandsOnlyFor cs l) (c.in-Ok.ensures.image b r) c.in-Ok-all_found.ensures.all in
     opened_moments g.D.Disk.reads g.D.Disk.may_leave g.D.Disk.moment g.D.Disk.left_since c.args.disk o.disk opened.disk c.in-Ok-finish.journal.disk c.in-Ok-finish.journal.disk b cs names stored c.in-Ok.ensures.any_moment same refl (c.in-Ok-finish.ensures.any_moment cs c.in-Ok-all_found.ensures.found there) all s
 
 pub returns-in-Ok-finish-clause-no_journal : goal.returns-in-Ok-finish-clause-no_journal
 returns-in-Ok-finish-clause-no_journal g c b r none =
     let cs = commits_found c.in-Ok-all_found.found in
-    let all = subst (λ l. IsJournalOf cs l) (c.in-Ok.ensures.image b r) c.in-Ok-all_found.ensures.all in
+    let all = subst (λ l. ImageStandsOnlyFor cs l) (c.in-Ok.ensures.image b r) c.in-Ok-all_found.ensures.all in
     absurd (none cs all.stands)
 
 pub returns-in-Ok-finish-clause-now : goal.returns-in-Ok-finish-clause-now
@@ -38,7 +38,7 @@ returns-in-Ok-finish-clause-now g c b names r s =
     let same = c.in-Ok-all_found.ensures.disk in
     let read = c.in-Ok-all_found.ensures.image ∙ c.in-Ok.ensures.image b r in
     let there = stored_there g.D.Disk.reads g.D.Disk.may_leave o.disk opened.disk b opened.image (stored b r) same read in
-    let all = subst (λ l. IsJournalOf cs l) (c.in-Ok.ensures.image b r) c.in-Ok-all_found.ensures.all in
+    let all = subst (λ l. ImageStandsOnlyFor cs l) (c.in-Ok.ensures.image b r) c.in-Ok-all_found.ensures.all in
     opened_now g.D.Disk.may_leave c.args.disk c.in-Ok-finish.journal.disk c.in-Ok-finish.journal.disk b cs names refl (c.in-Ok-finish.ensures.now cs c.in-Ok-all_found.ensures.found there) all s
 
 pub returns-in-Ok-finish-clause-reads : goal.returns-in-Ok-finish-clause-reads
@@ -61,13 +61,13 @@ returns-in-Err-finish-clause-any_moment g c b names r s =
     let same = c.in-Ok-all_found.ensures.disk in
     let read = c.in-Ok-all_found.ensures.image ∙ c.in-Ok.ensures.image b r in
     let there = stored_there g.D.Disk.reads g.D.Disk.may_leave o.disk opened.disk b opened.image (stored b r) same read in
-    let all = subst (λ l. IsJournalOf cs l) (c.in-Ok.ensures.image b r) c.in-Ok-all_found.ensures.all in
+    let all = subst (λ l. ImageStandsOnlyFor cs l) (c.in-Ok.ensures.image b r) c.in-Ok-all_found.ensures.all in
     opened_moments g.D.Disk.reads g.D.Disk.may_leave g.D.Disk.moment g.D.Disk.left_since c.args.disk o.disk opened.disk c.in-Err-finish.refused.disk c.in-Err-finish.refused.disk b cs names stored c.in-Ok.ensures.any_moment same refl (c.in-Err-finish.ensures.any_moment cs c.in-Ok-all_found.ensures.found there) all s
 
 pub returns-in-Err-finish-clause-no_journal : goal.returns-in-Err-finish-clause-no_journal
 returns-in-Err-finish-clause-no_journal g c b r none =
     let cs = commits_found c.in-Ok-all_found.found in
-    let all = subst (λ l. IsJournalOf cs l) (c.in-Ok.ensures.image b r) c.in-Ok-all_found.ensures.all in
+    let all = subst (λ l. ImageStandsOnlyFor cs l) (c.in-Ok.ensures.image b r) c.in-Ok-all_found.ensures.all in
     absurd (none cs all.stands)
 
 pub returns-in-Err-finish-clause-now : goal.returns-in-Err-finish-clause-now
@@ -80,7 +80,7 @@ returns-in-Err-finish-clause-now g c b names r s =
     let same = c.in-Ok-all_found.ensures.disk in
     let read = c.in-Ok-all_found.ensures.image ∙ c.in-Ok.ensures.image b r in
     let there = stored_there g.D.Disk.reads g.D.Disk.may_leave o.disk opened.disk b opened.image (stored b r) same read in
-    let all = subst (λ l. IsJournalOf cs l) (c.in-Ok.ensures.image b r) c.in-Ok-all_found.ensures.all in
+    let all = subst (λ l. ImageStandsOnlyFor cs l) (c.in-Ok.ensures.image b r) c.in-Ok-all_found.ensures.all in
     opened_now g.D.Disk.may_leave c.args.disk c.in-Err-finish.refused.disk c.in-Err-finish.refused.disk b cs names refl (c.in-Err-finish.ensures.now cs c.in-Ok-all_found.ensures.found there) all s
 
 pub returns-in-Err-finish-clause-reads : goal.returns-in-Err-finish-clause-reads
@@ -96,11 +96,11 @@ returns-in-Err-finish-clause-reads g c b r =
 pub returns-in-Ok-finish-clause-no_journal_now : goal.returns-in-Ok-finish-clause-no_journal_now
 returns-in-Ok-finish-clause-no_journal_now g c b r none =
     let cs = commits_found c.in-Ok-all_found.found in
-    let all = subst (λ l. IsJournalOf cs l) (c.in-Ok.ensures.image b r) c.in-Ok-all_found.ensures.all in
+    let all = subst (λ l. ImageStandsOnlyFor cs l) (c.in-Ok.ensures.image b r) c.in-Ok-all_found.ensures.all in
     absurd (none cs all.stands)
 
 pub returns-in-Err-finish-clause-no_journal_now : goal.returns-in-Err-finish-clause-no_journal_now
 returns-in-Err-finish-clause-no_journal_now g c b r none =
     let cs = commits_found c.in-Ok-all_found.found in
-    let all = subst (λ l. IsJournalOf cs l) (c.in-Ok.ensures.image b r) c.in-Ok-all_found.ensures.all in
+    let all = subst (λ l. ImageStandsOnlyFor cs l) (c.in-Ok.ensures.image b r) c.in-Ok-all_found.ensures.all in
     absurd (none cs all.stands)

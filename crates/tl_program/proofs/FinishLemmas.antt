@@ -11,7 +11,7 @@ use Rattle.tl_session.specs.Phases.{HaveRun}
 use Rattle.tl_types.specs.Legality.{are_legal}
 use Rattle.tl_journal.specs.Stands.{DiskStandsFor}
 use Rattle.tl_engine.specs.Counting.{news}
-use Rattle.tl_engine.specs.Standing.{IsCount, IsImageOf}
+use Rattle.tl_engine.specs.Standing.{IsCount, ImageStandsForEntries}
 use Rattle.tl_program.specs.declared.stops.Stop.{Stop}
 use Rattle.tl_program.specs.Ending.{Told}
 use Rattle.tl_program.specs.Finishing.{Finishes}
@@ -28,8 +28,8 @@ pub finished : {D : Type 0} (disks : DiskGhosts D) (begun disk : D) (entries nam
     → entries ≡ named → first ≡ count → tells ≡ is_some (disks.reads begun) → has_break named ≡ false → MakesTranscript → MakesPlay → start ≡ named
     → IsPrefix seen last → IsPrefix named last → news named + amount ≡ news last → are_legal last ≡ true
     → (tells ≡ true → has_break last ≡ false → (gate : ℕ) × DiskStandsFor disks.reads disks.may_leave disk (commits_of last) gate)
-    → (tells ≡ true → (image : List ℕ) → disks.may_leave disk image → IsImageOf last image)
-    → (tells ≡ true → (image : List ℕ) → disks.reads disk ≡ Some image → IsImageOf last image)
+    → (tells ≡ true → (image : List ℕ) → disks.may_leave disk image → ImageStandsForEntries last image)
+    → (tells ≡ true → (image : List ℕ) × (disks.reads disk ≡ Some image) × ImageStandsForEntries last image)
     → IsCount (has_break last) count (disks.faults disk) → broke ≡ has_break last
     → RunStops (λ turns. HaveRun start turns seen amount) script why before after
     → Finishes disks begun entries first script before after why broke disk

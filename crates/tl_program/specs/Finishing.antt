@@ -8,7 +8,7 @@ use Rattle.tl_device.specs.declared.disk.Disk.{Ghosts as DiskGhosts}
 use Rattle.tl_script.specs.Script.{ScriptReading}
 use Rattle.tl_session.specs.Turns.{break_of}
 use Rattle.tl_journal.specs.Stands.{DiskStandsFor}
-use Rattle.tl_engine.specs.Standing.{IsCount, IsImageOf}
+use Rattle.tl_engine.specs.Standing.{IsCount, ImageStandsForEntries}
 use Rattle.tl_program.specs.declared.stops.Stop.{Stop}
 use Rattle.tl_program.specs.Ending.{Told}
 use Rattle.tl_program.specs.Outside.{Streams}
@@ -26,6 +26,6 @@ pub record Finishes {D : Type 0} (disks : DiskGhosts D) (begun : D) (opening : L
   pub whole : (b : List ℕ) → disks.reads begun ≡ Some b → has_break last ≡ false
       → (gate : ℕ) × DiskStandsFor disks.reads disks.may_leave disk (commits_of last) gate
   pub leaves : (b : List ℕ) → disks.reads begun ≡ Some b
-      → (image : List ℕ) → disks.may_leave disk image → IsImageOf last image
+      → (image : List ℕ) → disks.may_leave disk image → ImageStandsForEntries last image
   pub stands : (b : List ℕ) → disks.reads begun ≡ Some b
-      → (image : List ℕ) → disks.reads disk ≡ Some image → IsImageOf last image
+      → (image : List ℕ) × (disks.reads disk ≡ Some image) × ImageStandsForEntries last image

@@ -108,23 +108,23 @@ abbrev pub StandsWithBreak : List Commit → Option Commit → List ℕ → Type
 StandsWithBreak commits None image = ImageStandsFor commits image
 StandsWithBreak commits (Some c) image = BeforeOrAfter commits c image
 
--- without a break a crash leaves what a read gives and nothing else
-abbrev pub IsSettled : Option Commit → Outside → Type 0
-IsSettled None outside =
+-- a crash leaves what a read gives and nothing else
+abbrev pub IsSettled : Outside → Type 0
+IsSettled outside =
     (image : List ℕ) × (outside.reads ≡ Some image) × Only image outside.may_leave
-IsSettled (Some c) outside = Unit {0}
 
 -- a break comes only where the disk's count of faults rose
 abbrev pub CountsBreak : Option Commit → ℕ → ℕ → Type 0
 CountsBreak None before now = now ≡ before
 CountsBreak (Some c) before now = Rose before now
 
--- The disk holds the journal of the commits: where it told its bytes, what a read gives and what a
--- crash now leaves stand for them, or, with a break, for these and the break's.
+-- The disk holds the journal of the commits: where it told its bytes it tells them still, and what a
+-- read gives and what a crash now leaves stand for them, or, with a break, for these or these and
+-- the break's; without a break a crash leaves what a read gives.
 pub record HoldsJournal (commits : List Commit) (broke : Option Commit) (before after : Outside) : Type 0 where
   pub counts : CountsBreak broke before.disk_faults after.disk_faults
   pub leaves : (b : List ℕ) → before.reads ≡ Some b
       → (image : List ℕ) → after.may_leave image → StandsWithBreak commits broke image
   pub reads : (b : List ℕ) → before.reads ≡ Some b
-      → (image : List ℕ) → after.reads ≡ Some image → StandsWithBreak commits broke image
-  pub settled : (b : List ℕ) → before.reads ≡ Some b → IsSettled broke after
+      → (image : List ℕ) × (after.reads ≡ Some image) × StandsWithBreak commits broke image
+  pub settled : (b : List ℕ) → before.reads ≡ Some b → broke ≡ None → IsSettled after

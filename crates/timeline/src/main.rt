@@ -2,21 +2,19 @@
 //! output and the file of its journal are handed to the call `timeline`, which does all.
 #![tactic(auto)]
 
-mod words;
-
 use std::process::ExitCode;
 use std::rt::Env;
 use tl_device::{FileDisk, OpenGate, RealSink, RealSource};
-use tl_program::{Status, timeline};
+use tl_program::{EnvWords, Status, given_words, timeline, words_of};
 use tl_types::NoMemory;
-use words::{given_words, words_of};
 
 // The file of the journal, in the folder where the program is run.
 const JOURNAL: &str = "timeline.tlj";
 
 // The words that the program goes by.
 fn own_words(rt: &(impl Env + AllocGlobal)) -> Result<Vec<String>, NoMemory> {
-    words_of(rt.alloc(), &given_words(rt)?)
+    let alloc = rt.alloc();
+    words_of(alloc, &given_words(alloc, &EnvWords { rt })?)
 }
 
 fn main(rt: HostRuntime) -> ExitCode {

@@ -5,6 +5,7 @@ use Rattle.tl_types.specs.declared.commits.Commit.{Commit}
 use Rattle.tl_types.specs.declared.commits.Entry.{Entry}
 use Rattle.tl_types.specs.Entries.{commits_of, has_break}
 use Rattle.tl_device.specs.Known.{Rose}
+use Rattle.tl_device.specs.declared.disk.Disk.{Ghosts as DiskGhosts}
 use Rattle.tl_script.specs.Script.{ScriptReading}
 use Rattle.tl_session.specs.Turns.{break_of}
 use Rattle.tl_journal.specs.Answers.{CountsFaults, IsDeviceOrMemory}
@@ -26,29 +27,29 @@ closes_same why b c m n old new before after ended e f h =
     subst (λ (k : ℕ). ClosesAfter why c k old new before after ended) f (subst (λ (t : Bool). ClosesAfter why t m old new before after ended) e h)
 
 -- a run that was closed
-pub opened_ends : {D : Type 0} (reads : D → Option (List ℕ)) (may_leave : D → List ℕ → Type 0) (faults : D → ℕ) (begun disk : D) (entries : List Entry) (first_count : ℕ) (script : Bool → List ℕ → ScriptReading)
+pub opened_ends : {D : Type 0} (disks : DiskGhosts D) (begun disk : D) (entries : List Entry) (first_count : ℕ) (script : Bool → List ℕ → ScriptReading)
     (left_before left_after : Option (List ℕ)) (source_before source_after : ℕ) (written_before written_at written_after : Option (List ℕ)) (sink_before sink_at sink_after : ℕ) (why : Stop) (broke : Bool) (count : ℕ) (ended : Status)
-    → first_count ≡ faults begun → count ≡ faults disk
-    → OpensWith (commits_of entries) (record { left = left_before; source_faults = source_before; written = written_before; sink_faults = sink_before; reads = reads begun; may_leave = may_leave begun; disk_faults = faults begun })
-    → Finishes reads may_leave faults begun entries first_count script (record { left = left_before; source_faults = source_before; written = written_before; sink_faults = sink_before }) (record { left = left_after; source_faults = source_after; written = written_at; sink_faults = sink_at }) why broke disk
+    → first_count ≡ disks.faults begun → count ≡ disks.faults disk
+    → OpensWith (commits_of entries) (record { left = left_before; source_faults = source_before; written = written_before; sink_faults = sink_before; reads = disks.reads begun; may_leave = disks.may_leave begun; disk_faults = disks.faults begun })
+    → Finishes disks begun entries first_count script (record { left = left_before; source_faults = source_before; written = written_before; sink_faults = sink_before }) (record { left = left_after; source_faults = source_after; written = written_at; sink_faults = sink_at }) why broke disk
     → ClosesAfter why broke count written_at written_after sink_at sink_after ended
-    → OpenedEnds script (commits_of entries) (record { left = left_before; source_faults = source_before; written = written_before; sink_faults = sink_before; reads = reads begun; may_leave = may_leave begun; disk_faults = faults begun })
-    (record { left = left_after; source_faults = source_after; written = written_after; sink_faults = sink_after; reads = reads disk; may_leave = may_leave disk; disk_faults = faults disk }) ended
-opened_ends reads may_leave faults begun disk entries first_count script left_before left_after source_before source_after written_before written_at written_after sink_before sink_at sink_after why broke count ended first counted opens f closes =
-    let before : Outside = record { left = left_before; source_faults = source_before; written = written_before; sink_faults = sink_before; reads = reads begun; may_leave = may_leave begun; disk_faults = faults begun } in
-    let after : Outside = record { left = left_after; source_faults = source_after; written = written_after; sink_faults = sink_after; reads = reads disk; may_leave = may_leave disk; disk_faults = faults disk } in
+    → OpenedEnds script (commits_of entries) (record { left = left_before; source_faults = source_before; written = written_before; sink_faults = sink_before; reads = disks.reads begun; may_leave = disks.may_leave begun; disk_faults = disks.faults begun })
+    (record { left = left_after; source_faults = source_after; written = written_after; sink_faults = sink_after; reads = disks.reads disk; may_leave = disks.may_leave disk; disk_faults = disks.faults disk }) ended
+opened_ends disks begun disk entries first_count script left_before left_after source_before source_after written_before written_at written_after sink_before sink_at sink_after why broke count ended first counted opens f closes =
+    let before : Outside = record { left = left_before; source_faults = source_before; written = written_before; sink_faults = sink_before; reads = disks.reads begun; may_leave = disks.may_leave begun; disk_faults = disks.faults begun } in
+    let after : Outside = record { left = left_after; source_faults = source_after; written = written_after; sink_faults = sink_after; reads = disks.reads disk; may_leave = disks.may_leave disk; disk_faults = disks.faults disk } in
     record {
       opens = opens;
       all = commits_of f.last;
       broke = break_of f.last;
-      holds = holds f.last before after f.legal (subst (λ (n : ℕ). IsCount (has_break f.last) n (faults disk)) first f.count) f.leaves f.stands (λ b told unbroken. whole_image reads may_leave disk (commits_of f.last) (f.whole b told unbroken));
+      holds = holds f.last before after f.legal (subst (λ (n : ℕ). IsCount (has_break f.last) n (disks.faults disk)) first f.count) f.leaves f.stands (λ b told unbroken. whole_image disks disk (commits_of f.last) (f.whole b told unbroken));
       ends = record {
         why = why;
         at = record { left = left_after; source_faults = source_after; written = written_at; sink_faults = sink_at };
         stops = f.stops;
         left_same = refl;
         source_same = refl;
-        closes = closes_same why broke (is_some (break_of f.last)) count (faults disk) written_at written_after sink_at sink_after ended (f.broke_is ∙ has_break_is f.last) counted closes;
+        closes = closes_same why broke (is_some (break_of f.last)) count (disks.faults disk) written_at written_after sink_at sink_after ended (f.broke_is ∙ has_break_is f.last) counted closes;
       };
     }
 

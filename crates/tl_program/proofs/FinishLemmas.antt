@@ -4,13 +4,14 @@ use Rattle.std.specs.declared.option.Option.{Option}
 use mathlib.Core.List.{IsPrefix}
 use Rattle.tl_types.specs.declared.commits.Entry.{Entry}
 use Rattle.tl_types.specs.Entries.{commits_of, has_break}
+use Rattle.tl_device.specs.declared.disk.Disk.{Ghosts as DiskGhosts}
 use Rattle.tl_script.specs.Script.{ScriptReading}
 use Rattle.tl_session.specs.Turns.{break_of}
 use Rattle.tl_session.specs.Phases.{HaveRun}
 use Rattle.tl_types.specs.Legality.{are_legal}
 use Rattle.tl_journal.specs.Stands.{DiskStandsFor}
 use Rattle.tl_engine.specs.Counting.{news}
-use Rattle.tl_engine.specs.Standing.{IsCount, IsImageOf}
+use Rattle.tl_engine.specs.Standing.{IsCount, ImageStandsForEntries}
 use Rattle.tl_program.specs.declared.stops.Stop.{Stop}
 use Rattle.tl_program.specs.Ending.{Told}
 use Rattle.tl_program.specs.Finishing.{Finishes}
@@ -23,16 +24,16 @@ use Rattle.tl_program.proofs.ToldLemmas.{MakesTranscript, MakesPlay, told}
 pub told_some : (o : Option (List ℕ)) (b : List ℕ) → o ≡ Some b → is_some o ≡ true
 told_some o b e = ap is_some e
 
-pub finished : {D : Type 0} (reads : D → Option (List ℕ)) (may_leave : D → List ℕ → Type 0) (faults : D → ℕ) (begun disk : D) (entries named start seen last : List Entry) (first count amount : ℕ) (tells : Bool) (script : Bool → List ℕ → ScriptReading) (before after : Streams) (why : Stop) (broke : Bool)
-    → entries ≡ named → first ≡ count → tells ≡ is_some (reads begun) → has_break named ≡ false → MakesTranscript → MakesPlay → start ≡ named
+pub finished : {D : Type 0} (disks : DiskGhosts D) (begun disk : D) (entries named start seen last : List Entry) (first count amount : ℕ) (tells : Bool) (script : Bool → List ℕ → ScriptReading) (before after : Streams) (why : Stop) (broke : Bool)
+    → entries ≡ named → first ≡ count → tells ≡ is_some (disks.reads begun) → has_break named ≡ false → MakesTranscript → MakesPlay → start ≡ named
     → IsPrefix seen last → IsPrefix named last → news named + amount ≡ news last → are_legal last ≡ true
-    → (tells ≡ true → has_break last ≡ false → (gate : ℕ) × DiskStandsFor reads may_leave disk (commits_of last) gate)
-    → (tells ≡ true → (image : List ℕ) → may_leave disk image → IsImageOf last image)
-    → (tells ≡ true → (image : List ℕ) → reads disk ≡ Some image → IsImageOf last image)
-    → IsCount (has_break last) count (faults disk) → broke ≡ has_break last
+    → (tells ≡ true → has_break last ≡ false → (gate : ℕ) × DiskStandsFor disks.reads disks.may_leave disk (commits_of last) gate)
+    → (tells ≡ true → (image : List ℕ) → disks.may_leave disk image → ImageStandsForEntries last image)
+    → (tells ≡ true → (image : List ℕ) × (disks.reads disk ≡ Some image) × ImageStandsForEntries last image)
+    → IsCount (has_break last) count (disks.faults disk) → broke ≡ has_break last
     → RunStops (λ turns. HaveRun start turns seen amount) script why before after
-    → Finishes reads may_leave faults begun entries first script before after why broke disk
-finished reads may_leave faults begun disk entries named start seen last first count amount tells script before after why broke same counts is unbroken transcript plays begins on opens sum legal whole leaves stands counted broke_is stops =
+    → Finishes disks begun entries first script before after why broke disk
+finished disks begun disk entries named start seen last first count amount tells script before after why broke same counts is unbroken transcript plays begins on opens sum legal whole leaves stands counted broke_is stops =
     record {
       last = last;
       legal = legal;
@@ -40,8 +41,8 @@ finished reads may_leave faults begun disk entries named start seen last first c
           (stops_as (λ turns. HaveRun start turns seen amount) (Told (commits_of named) (commits_of last) (break_of last)) script why before after
           (λ turns ran. told named seen last amount turns transcript plays on opens legal sum unbroken (subst (λ (es : List Entry). HaveRun es turns seen amount) begins ran)) stops);
       broke_is = broke_is;
-      count = subst (λ (n : ℕ). IsCount (has_break last) n (faults disk)) (sym counts) counted;
-      whole = λ b e unbroken. whole (is ∙ told_some (reads begun) b e) unbroken;
-      leaves = λ b e. leaves (is ∙ told_some (reads begun) b e);
-      stands = λ b e. stands (is ∙ told_some (reads begun) b e);
+      count = subst (λ (n : ℕ). IsCount (has_break last) n (disks.faults disk)) (sym counts) counted;
+      whole = λ b e unbroken. whole (is ∙ told_some (disks.reads begun) b e) unbroken;
+      leaves = λ b e. leaves (is ∙ told_some (disks.reads begun) b e);
+      stands = λ b e. stands (is ∙ told_some (disks.reads begun) b e);
     }

@@ -15,3 +15,4 @@ pub mod ScriptComing
 pub mod StopLemmas
 pub mod ToldLemmas
 pub mod TopLemmas
+mod WordLemmas

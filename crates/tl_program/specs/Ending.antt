@@ -1,4 +1,19 @@
--- What a run leaves outside, and why it ended.
+-- What a run leaves outside, and why it ended. By status, what says it here, and which field of
+-- `RunTells` (Headline.antt) says what a run over a journal printed and keeps then:
+--
+--   status              here                                                       in `RunTells`
+--   Done                `OpenedEnds`: `ends.why` is Ended, no break; `MakesJournal`    done
+--   NoMemory            `Ends`, left; `EndsRefused` with NoMemory; `OpenedEnds`:       no_memory
+--                       `ends.why` is NoMemory, or no memory for the closing line
+--   Usage               `EndsBy None`                                                  -
+--   SourceFault         `OpenedEnds`: `ends.why` is Source                             source_fault
+--   SinkFault           `OpenedEnds`: `ends.why` is Sink; or the closing line,         sink_fault
+--                       `SinkFails`
+--   DiskFault           `EndsRefused` with Device; `OpenedEnds`: a break               disk_fault
+--   ScriptFault         `OpenedEnds`: `ends.why` is Fault                              script_fault
+--   NotInitialised      `EndsRefused` with NotInitialised                              -
+--   AlreadyInitialised  `MakingFails` with AlreadyInitialised                          -
+--   Damaged             `EndsRefused` with Damaged                                     -
 use Rattle.std.specs.Prelude.{◌≡◌, ◌⊎◌, ℕ, Bool, true, false, ◌<◌, ◌≤◌, List, [], ◌++◌, length, take, Some, None, IfSome, is_some}
 use Rattle.std.specs.declared.option.Option.{Option}
 use mathlib.Core.List.{IsPrefix}

@@ -4,10 +4,11 @@ use Rattle.std.specs.declared.option.Option.{Option}
 use Rattle.tl_types.specs.declared.commits.Entry.{Entry}
 use Rattle.tl_types.specs.Entries.{commits_of, has_break}
 use Rattle.tl_types.specs.Legality.{are_legal}
+use Rattle.tl_device.specs.declared.disk.Disk.{Ghosts as DiskGhosts}
 use Rattle.tl_script.specs.Script.{ScriptReading}
 use Rattle.tl_session.specs.Turns.{break_of}
 use Rattle.tl_journal.specs.Stands.{DiskStandsFor}
-use Rattle.tl_engine.specs.Standing.{IsCount, IsImageOf}
+use Rattle.tl_engine.specs.Standing.{IsCount, ImageStandsForEntries}
 use Rattle.tl_program.specs.declared.stops.Stop.{Stop}
 use Rattle.tl_program.specs.Ending.{Told}
 use Rattle.tl_program.specs.Outside.{Streams}
@@ -15,16 +16,16 @@ use Rattle.tl_program.specs.Stopping.{RunStops}
 
 -- The phases stopped for this, and their replies tell of the last entries, which the closed engine
 -- has: whether there is a break, and what the disk stands for, where it told its bytes before.
-pub record Finishes {D : Type 0} (reads : D → Option (List ℕ)) (may_leave : D → List ℕ → Type 0) (faults : D → ℕ) (begun : D) (opening : List Entry) (first_count : ℕ) (script : Bool → List ℕ → ScriptReading) (before after : Streams) (why : Stop) (broke : Bool) (disk : D) : Type 0 where
+pub record Finishes {D : Type 0} (disks : DiskGhosts D) (begun : D) (opening : List Entry) (first_count : ℕ) (script : Bool → List ℕ → ScriptReading) (before after : Streams) (why : Stop) (broke : Bool) (disk : D) : Type 0 where
   pub last : List Entry
   pub legal : IsTrue (are_legal last)
   pub stops : RunStops (Told (commits_of opening) (commits_of last) (break_of last)) script why
       before after
   pub broke_is : broke ≡ has_break last
-  pub count : IsCount (has_break last) first_count (faults disk)
-  pub whole : (b : List ℕ) → reads begun ≡ Some b → has_break last ≡ false
-      → (gate : ℕ) × DiskStandsFor reads may_leave disk (commits_of last) gate
-  pub leaves : (b : List ℕ) → reads begun ≡ Some b
-      → (image : List ℕ) → may_leave disk image → IsImageOf last image
-  pub stands : (b : List ℕ) → reads begun ≡ Some b
-      → (image : List ℕ) → reads disk ≡ Some image → IsImageOf last image
+  pub count : IsCount (has_break last) first_count (disks.faults disk)
+  pub whole : (b : List ℕ) → disks.reads begun ≡ Some b → has_break last ≡ false
+      → (gate : ℕ) × DiskStandsFor disks.reads disks.may_leave disk (commits_of last) gate
+  pub leaves : (b : List ℕ) → disks.reads begun ≡ Some b
+      → (image : List ℕ) → disks.may_leave disk image → ImageStandsForEntries last image
+  pub stands : (b : List ℕ) → disks.reads begun ≡ Some b
+      → (image : List ℕ) × (disks.reads disk ≡ Some image) × ImageStandsForEntries last image

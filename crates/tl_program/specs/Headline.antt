@@ -1,4 +1,19 @@
--- What is proved of a run as a whole: when it is done, and what it prints and keeps then.
+-- What is proved of a run as a whole: when it is done, and what it prints and keeps then. By status
+-- of a run over a journal, the field of `RunTells`, what it says, and where Ending.antt has why:
+--
+--   status        field         says                                     in `OpenedEnds`
+--   Done          done          `PrintsAll`                                `ends.why` Ended, no break
+--   NoMemory      no_memory     `CutsByMemory`: `StopsAtOnce`,             not opened, NoMemory, or no
+--                               `StopsInPhase`, `CutsClosing`,             memory for the closing line
+--                               `CutsClosed`
+--   SourceFault   source_fault  `PrintsClosed`                             Source
+--   SinkFault     sink_fault    `CutsBySink`: `CutsOpening`,               not opened, Sink, or the sink
+--                               `CutsReplies`, `CutsClosing`,              failed at the closing line
+--                               `CutsClosed`
+--   DiskFault     disk_fault    `FailsToOpen` or `PrintsBreak`             not opened, or Ended, a break
+--   ScriptFault   script_fault  `PrintsToFault`                            Fault
+--
+-- Of Usage, NotInitialised, AlreadyInitialised and Damaged `Ends` says all.
 use Rattle.std.specs.Prelude.{◌≡◌, ◌⊎◌, ℕ, ◌≤◌, Bool, true, false, List, [], ◌∷◌, ◌++◌, length, take, map, Some, None, is_some}
 use Rattle.std.specs.declared.option.Option.{Option}
 use mathlib.Core.List.{IsPrefix}

@@ -6,6 +6,9 @@ use Rattle.tl_types.specs.declared.commits.Commit.{Commit}
 use Rattle.tl_types.specs.Limits.{standard_limits}
 use Rattle.tl_device.specs.Known.{Rose}
 use Rattle.tl_device.specs.Disk.{Only}
+use Rattle.tl_device.specs.declared.disk.Disk.{Ghosts as DiskGhosts}
+use Rattle.tl_device.specs.declared.sink.Sink.{Ghosts as SinkGhosts}
+use Rattle.tl_device.specs.declared.source.Source.{Ghosts as SourceGhosts}
 use Rattle.tl_journal.specs.Image.{ImageStandsFor, ImageStandsOnlyFor, BeforeOrAfter}
 use Rattle.tl_journal.specs.Moments.{OldOr}
 use Rattle.tl_journal.specs.Stands.{SameOrTrimmed}
@@ -22,29 +25,26 @@ pub record Outside : Type 1 where
   pub may_leave : List ℕ → Type 0
   pub disk_faults : ℕ
 
--- the outside of a sink, a disk and a source that has so much left and so many faults, by what the
--- traits say of them
-abbrev pub outside_from : {K D : Type 0} → (K → Option (List ℕ)) → (K → ℕ)
-    → (D → Option (List ℕ)) → (D → List ℕ → Type 0) → (D → ℕ)
+-- the outside of a sink, a disk and a source that has so much left and so many faults, by what
+-- their traits show of them
+abbrev pub outside_from : {K D : Type 0} → SinkGhosts K → DiskGhosts D
     → Option (List ℕ) → ℕ → K → D → Outside
-outside_from written sink_faults reads may_leave disk_faults left faults sink disk =
+outside_from sinks disks left faults sink disk =
     record {
       left = left;
       source_faults = faults;
-      written = written sink;
-      sink_faults = sink_faults sink;
-      reads = reads disk;
-      may_leave = may_leave disk;
-      disk_faults = disk_faults disk;
+      written = sinks.written sink;
+      sink_faults = sinks.faults sink;
+      reads = disks.reads disk;
+      may_leave = disks.may_leave disk;
+      disk_faults = disks.faults disk;
     }
 
 -- the same of a source
-abbrev pub outside : {S K D : Type 0} → (S → Option (List ℕ)) → (S → ℕ)
-    → (K → Option (List ℕ)) → (K → ℕ) → (D → Option (List ℕ)) → (D → List ℕ → Type 0) → (D → ℕ)
+abbrev pub outside : {S K D : Type 0} → SourceGhosts S → SinkGhosts K → DiskGhosts D
     → S → K → D → Outside
-outside left source_faults written sink_faults reads may_leave disk_faults source sink disk =
-    outside_from written sink_faults reads may_leave disk_faults
-    (left source) (source_faults source) sink disk
+outside sources sinks disks source sink disk =
+    outside_from sinks disks (sources.left source) (sources.faults source) sink disk
 
 -- the source and the sink of it
 pub record Streams : Type 0 where
@@ -53,15 +53,14 @@ pub record Streams : Type 0 where
   pub written : Option (List ℕ)
   pub sink_faults : ℕ
 
--- a source and a sink, by what the traits say of them
-abbrev pub streams : {S K : Type 0} → (S → Option (List ℕ)) → (S → ℕ) → (K → Option (List ℕ))
-    → (K → ℕ) → S → K → Streams
-streams left source_faults written sink_faults source sink =
+-- a source and a sink, by what their traits show of them
+abbrev pub streams : {S K : Type 0} → SourceGhosts S → SinkGhosts K → S → K → Streams
+streams sources sinks source sink =
     record {
-      left = left source;
-      source_faults = source_faults source;
-      written = written sink;
-      sink_faults = sink_faults sink;
+      left = sources.left source;
+      source_faults = sources.faults source;
+      written = sinks.written sink;
+      sink_faults = sinks.faults sink;
     }
 
 -- the source and the sink of an outside
@@ -109,23 +108,23 @@ abbrev pub StandsWithBreak : List Commit → Option Commit → List ℕ → Type
 StandsWithBreak commits None image = ImageStandsFor commits image
 StandsWithBreak commits (Some c) image = BeforeOrAfter commits c image
 
--- without a break a crash leaves what a read gives and nothing else
-abbrev pub IsSettled : Option Commit → Outside → Type 0
-IsSettled None outside =
+-- a crash leaves what a read gives and nothing else
+abbrev pub IsSettled : Outside → Type 0
+IsSettled outside =
     (image : List ℕ) × (outside.reads ≡ Some image) × Only image outside.may_leave
-IsSettled (Some c) outside = Unit {0}
 
 -- a break comes only where the disk's count of faults rose
 abbrev pub CountsBreak : Option Commit → ℕ → ℕ → Type 0
 CountsBreak None before now = now ≡ before
 CountsBreak (Some c) before now = Rose before now
 
--- The disk holds the journal of the commits: where it told its bytes, what a read gives and what a
--- crash now leaves stand for them, or, with a break, for these and the break's.
+-- The disk holds the journal of the commits: where it told its bytes it tells them still, and what a
+-- read gives and what a crash now leaves stand for them, or, with a break, for these or these and
+-- the break's; without a break a crash leaves what a read gives.
 pub record HoldsJournal (commits : List Commit) (broke : Option Commit) (before after : Outside) : Type 0 where
   pub counts : CountsBreak broke before.disk_faults after.disk_faults
   pub leaves : (b : List ℕ) → before.reads ≡ Some b
       → (image : List ℕ) → after.may_leave image → StandsWithBreak commits broke image
   pub reads : (b : List ℕ) → before.reads ≡ Some b
-      → (image : List ℕ) → after.reads ≡ Some image → StandsWithBreak commits broke image
-  pub settled : (b : List ℕ) → before.reads ≡ Some b → IsSettled broke after
+      → (image : List ℕ) × (after.reads ≡ Some image) × StandsWithBreak commits broke image
+  pub settled : (b : List ℕ) → before.reads ≡ Some b → broke ≡ None → IsSettled after

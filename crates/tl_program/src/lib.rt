@@ -14,7 +14,9 @@ mod samples;
 mod statuses;
 mod stops;
 mod top;
+mod words;
 mod writing;
 
 pub use statuses::Status;
 pub use top::{Ending, timeline};
+pub use words::{EnvWords, Words, given_words, words_of};

@@ -137,9 +137,9 @@ fn run_next<
     requires parts { running.old.shared.parts ≡ 65536 }
     ensures more { (first : Coming) (opening : List Entry) (begun : Streams)
         → Progress first opening begun (P.coming running.old.phases) running.old.shared
-        (streams S.left S.faults K.written K.faults source.old sink.old)
+        (streams S.Source K.Sink source.old sink.old)
         → GoesOn first opening begun (P.coming running.new.phases) running.new.shared
-        (streams S.left S.faults K.written K.faults source.new sink.new) result }
+        (streams S.Source K.Sink source.new sink.new) result }
     ensures takes { TakesOnePhase (P.coming running.old.phases) (P.coming running.new.phases)
         (S.left source.old) (S.left source.new) result }
 {
@@ -167,8 +167,8 @@ pub(crate) fn run_phases<
     requires amount { running.old.shared.amount ≡ 0 }
     ensures stops { RunStops (λ turns. HaveRun running.old.shared.seen turns running.new.shared.seen
         running.new.shared.amount) (P.coming running.old.phases).reads result
-        (streams S.left S.faults K.written K.faults source.old sink.old)
-        (streams S.left S.faults K.written K.faults source.new sink.new) }
+        (streams S.Source K.Sink source.old sink.old)
+        (streams S.Source K.Sink source.new sink.new) }
     ensures parts { running.new.shared.parts ≡ 65536 }
 {
     'phases: for _ in rt.forever() {

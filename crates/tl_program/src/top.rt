@@ -48,10 +48,8 @@ fn put_text(alloc: Global, table: &str) -> Result<String, NoMemory>
 // Makes an empty journal.
 fn init<K: Sink, D: Disk>(alloc: Global, sink: &mut K, disk: D) -> Ending<D>
     ensures { (left : Option (List ℕ)) (faults : ℕ) → InitEnds
-        (outside_from K.written K.faults D.reads D.may_leave D.faults left faults sink.old disk)
-        (outside_from K.written K.faults D.reads D.may_leave D.faults left faults
-        sink.new result.disk)
-        result.status }
+        (outside_from K.Sink D.Disk left faults sink.old disk)
+        (outside_from K.Sink D.Disk left faults sink.new result.disk) result.status }
 {
     let InitRun { done, disk } = Journal::init(disk);
     match done {
@@ -77,11 +75,8 @@ fn run<
 >(rt: &R, phases: P, source: &mut S, sink: &mut K, disk: D, gate: &G) -> Ending<D>
     requires { HasNotBegun (P.coming phases) }
     ensures { RunEnds (P.coming phases).reads
-        (outside S.left S.faults K.written K.faults D.reads D.may_leave D.faults
-        source.old sink.old disk)
-        (outside S.left S.faults K.written K.faults D.reads D.may_leave D.faults
-        source.new sink.new result.disk)
-        result.status }
+        (outside S.Source K.Sink D.Disk source.old sink.old disk)
+        (outside S.Source K.Sink D.Disk source.new sink.new result.disk) result.status }
 {
     let alloc = rt.alloc();
     let begun = Snapshot::of(&disk);
@@ -113,11 +108,8 @@ fn run_script<R: AllocGlobal + Threads + Wait + Sync, S: Source, K: Sink, D: Dis
     gate: &G,
 ) -> Ending<D>
     ensures { RunEnds script_reads
-        (outside S.left S.faults K.written K.faults D.reads D.may_leave D.faults
-        source.old sink.old disk)
-        (outside S.left S.faults K.written K.faults D.reads D.may_leave D.faults
-        source.new sink.new result.disk)
-        result.status }
+        (outside S.Source K.Sink D.Disk source.old sink.old disk)
+        (outside S.Source K.Sink D.Disk source.new sink.new result.disk) result.status }
 {
     let script = Script::new(rt.alloc(), &Limits::standard());
     run::<R, S, K, D, Script, G>(rt, script, source, sink, disk, gate)
@@ -133,11 +125,8 @@ fn load<R: AllocGlobal + Threads + Wait + Sync, S: Source, K: Sink, D: Disk + Se
     gate: &G,
 ) -> Ending<D>
     ensures { RunEnds (block_reads (put_text table.now))
-        (outside S.left S.faults K.written K.faults D.reads D.may_leave D.faults
-        source.old sink.old disk)
-        (outside S.left S.faults K.written K.faults D.reads D.may_leave D.faults
-        source.new sink.new result.disk)
-        result.status }
+        (outside S.Source K.Sink D.Disk source.old sink.old disk)
+        (outside S.Source K.Sink D.Disk source.new sink.new result.disk) result.status }
 {
     let Ok(text) = put_text(rt.alloc(), table) else {
         return Ending {
@@ -190,11 +179,8 @@ fn do_command<R: AllocGlobal + Threads + Wait + Sync, S: Source, K: Sink, D: Dis
     gate: &G,
 ) -> Ending<D>
     ensures ends { EndsBy command
-        (outside S.left S.faults K.written K.faults D.reads D.may_leave D.faults
-        source.old sink.old disk)
-        (outside S.left S.faults K.written K.faults D.reads D.may_leave D.faults
-        source.new sink.new result.disk)
-        result.status }
+        (outside S.Source K.Sink D.Disk source.old sink.old disk)
+        (outside S.Source K.Sink D.Disk source.new sink.new result.disk) result.status }
     ensures unread { reads_source command ≡ false → source.new ≡ source.old }
     ensures unused { uses_disk command ≡ false → result.disk ≡ disk }
 {
@@ -264,23 +250,14 @@ pub fn timeline<
     G: Gate,
 >(rt: &R, words: &[String], source: &mut S, sink: &mut K, disk: D, gate: &G) -> Ending<D>
     ensures ends { Ends (texts_of words.now)
-        (outside S.left S.faults K.written K.faults D.reads D.may_leave D.faults
-        source.old sink.old disk)
-        (outside S.left S.faults K.written K.faults D.reads D.may_leave D.faults
-        source.new sink.new result.disk)
-        result.status }
+        (outside S.Source K.Sink D.Disk source.old sink.old disk)
+        (outside S.Source K.Sink D.Disk source.new sink.new result.disk) result.status }
     ensures headline { Headline (texts_of words.now)
-        (outside S.left S.faults K.written K.faults D.reads D.may_leave D.faults
-        source.old sink.old disk)
-        (outside S.left S.faults K.written K.faults D.reads D.may_leave D.faults
-        source.new sink.new result.disk)
-        result.status }
+        (outside S.Source K.Sink D.Disk source.old sink.old disk)
+        (outside S.Source K.Sink D.Disk source.new sink.new result.disk) result.status }
     ensures complete { Completes (texts_of words.now)
-        (outside S.left S.faults K.written K.faults D.reads D.may_leave D.faults
-        source.old sink.old disk)
-        (outside S.left S.faults K.written K.faults D.reads D.may_leave D.faults
-        source.new sink.new result.disk)
-        result.status }
+        (outside S.Source K.Sink D.Disk source.old sink.old disk)
+        (outside S.Source K.Sink D.Disk source.new sink.new result.disk) result.status }
     ensures unread { reads_source (command_of (texts_of words.now)) ≡ false
         → source.new ≡ source.old }
     ensures unused { uses_disk (command_of (texts_of words.now)) ≡ false

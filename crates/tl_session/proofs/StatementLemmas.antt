@@ -82,19 +82,18 @@ settled limits first batch x y (Err (fault.Device v count)) std same s = record 
   amount = s.3;
 }
 
--- the same of an access that is seen through its parts
-pub settles_lent : (limits : Limits) (first : ℕ) (batch : Batch) (x z y : plain.Access) (answer : Result ℕ CommitFault) (s : Settled) → x ≡ z → limits ≡ standard_limits → y.author ≡ x.author → y.table ≡ x.table → y.parts ≡ x.parts → CommitSays (becomes limits x.author batch) first x.seen y.seen x.amount y.amount answer → outcome_of answer ≡ Some s → Settles batch s.version s.body z y
-settles_lent limits first batch x z y answer s lent std author table parts says is =
-    subst (λ a. Settles batch s.version s.body a y) lent
-    (subst (λ o. IfSome o (λ (r : Settled). Settles batch r.version r.body x y)) is (settled limits first batch x y answer std (record { author = author; table = table; parts = parts }) says))
+-- the same of an outcome that is told
+pub settles_some : (limits : Limits) (first : ℕ) (batch : Batch) (x y : plain.Access) (answer : Result ℕ CommitFault) (s : Settled) → limits ≡ standard_limits → IsSame x y → CommitSays (becomes limits x.author batch) first x.seen y.seen x.amount y.amount answer → outcome_of answer ≡ Some s → Settles batch s.version s.body x y
+settles_some limits first batch x y answer s std same says is =
+    subst (λ o. IfSome o (λ (r : Settled). Settles batch r.version r.body x y)) is (settled limits first batch x y answer std same says)
 
 -- where it is not told, at most more was seen
-pub settles_none : (limits : Limits) (first : ℕ) (batch : Batch) (x y : plain.Access) (answer : Result ℕ CommitFault) → y.author ≡ x.author → y.table ≡ x.table → y.parts ≡ x.parts → CommitSays (becomes limits x.author batch) first x.seen y.seen x.amount y.amount answer → outcome_of answer ≡ None → SeesMore x y
-settles_none limits first batch x y (Ok v) author table parts says is = absurd (cc)
-settles_none limits first batch x y (Err (fault.Broken v)) author table parts says is = absurd (cc)
-settles_none limits first batch x y (Err (fault.Refused v f)) author table parts says is = absurd (cc)
-settles_none limits first batch x y (Err fault.NoMemory) author table parts says is = record { same = record { author = author; table = table; parts = parts }; later = says.0; amount = says.1 }
-settles_none limits first batch x y (Err (fault.Device v n)) author table parts says is = absurd (cc)
+pub settles_none : (limits : Limits) (first : ℕ) (batch : Batch) (x y : plain.Access) (answer : Result ℕ CommitFault) → IsSame x y → CommitSays (becomes limits x.author batch) first x.seen y.seen x.amount y.amount answer → outcome_of answer ≡ None → SeesMore x y
+settles_none limits first batch x y (Ok v) same says is = absurd (cc)
+settles_none limits first batch x y (Err (fault.Broken v)) same says is = absurd (cc)
+settles_none limits first batch x y (Err (fault.Refused v f)) same says is = absurd (cc)
+settles_none limits first batch x y (Err fault.NoMemory) same says is = record { same = same; later = says.0; amount = says.1 }
+settles_none limits first batch x y (Err (fault.Device v n)) same says is = absurd (cc)
 
 -- A JOB
 

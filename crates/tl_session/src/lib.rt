@@ -3,6 +3,7 @@
 //! transcript of any number of sessions, and the play: jobs done one after the other.
 #![tactic(auto)]
 
+mod access;
 mod jobs;
 pub mod laws;
 mod phases;
@@ -12,8 +13,9 @@ mod runs;
 mod sessions;
 mod statements;
 
+pub use access::AccessParts;
 pub use jobs::LentJob;
-pub use phases::{AccessParts, SharedAccess, run_phase};
+pub use phases::{SharedAccess, run_phase};
 pub use readings::{JobReading, read_job};
 pub use replies::{Refusal, Reply, ReplyBody, put_reply};
 pub use runs::run_all;

@@ -8,6 +8,7 @@ ghost use Rattle.tl_session.specs.Phases.{Runs, AllFresh, AllSeenIn, HaveReplies
 ghost use Rattle.tl_session.specs.Turns.{Turn};
 ghost use Rattle.tl_session.specs.Written.{jobs_of};
 
+use crate::access::AccessParts;
 use crate::jobs::LentJob;
 use crate::replies::Reply;
 use crate::runs::run_all;
@@ -47,14 +48,6 @@ impl<J: Named> Model for SharedAccess<J> {
     } };
 
     ghost invariant = { λ c. (c.pass.table ≡ J.table) × (c.count < c.share.parts) };
-}
-
-/// A pass and a share, with which an engine is closed, or further sessions are made.
-pub struct AccessParts<J: Named> {
-    /// The pass.
-    pub pass: Pass<Snapshot>,
-    /// The share.
-    pub share: Share<J>,
 }
 
 impl<J: Named> SharedAccess<J> {

@@ -26,7 +26,7 @@ pub(crate) fn run_session<D: Disk, J: Named, G: Gate, R: AllocGlobal + Wait>(
         session.old session.new }
 {
     for job in jobs {
-        if job.session != session.access.author {
+        if job.session != session.access.author() {
             continue;
         }
         let Ok(()) = run_statement(rt, engine, session, job, gate) else {

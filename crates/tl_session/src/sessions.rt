@@ -1,7 +1,7 @@
 //! A session.
 ghost use Rattle.std.specs.Prelude.{◌≡◌, ◌<◌, [], false};
 
-use crate::phases::AccessParts;
+use crate::access::{Access, AccessParts};
 use crate::replies::Reply;
 use std::alloc::Global;
 use std::marker::Model;
@@ -9,32 +9,6 @@ use std::sync::ledger::Share;
 use tl_engine::Named;
 use tl_head::Pass;
 use tl_index::Snapshot;
-
-/// What a session has of an engine: the author of its batches, a pass over the engine's head and a
-/// share of its ledger. Contracts see the entries that the pass has seen and what the share counts.
-#[derive(Drop)]
-pub(crate) struct Access<J: Named> {
-    pub author: u32,
-    pub pass: Pass<Snapshot>,
-    pub share: Share<J>,
-}
-
-impl<J: Named> Model for Access<J> {
-    ghost use Rattle.std.specs.Prelude.{◌≡◌, ◌<◌};
-    ghost use Rattle.tl_session.specs.Plain as plain;
-
-    ghost Value = { plain.Access };
-
-    ghost view = { λ a. record {
-      author = a.author;
-      table = a.pass.table;
-      seen = a.pass.seen;
-      parts = a.share.parts;
-      amount = a.share.amount;
-    } };
-
-    ghost invariant = { λ a. (a.pass.table ≡ J.table) × (0 < a.share.parts) };
-}
 
 /// A session of a phase: its access to the engine, its replies in the order of their jobs, and
 /// whether memory ran out before its last job.
@@ -71,13 +45,8 @@ impl<J: Named> Session<J> {
         ensures replies { result.replies ≡ [] }
         ensures whole { result.ran_out ≡ false }
     {
-        let access = Access {
-            author,
-            pass,
-            share,
-        };
         Session {
-            access,
+            access: Access::new(author, pass, share),
             replies: Vec::new(alloc),
             ran_out: false,
         }
@@ -105,11 +74,6 @@ impl<J: Named> Session<J> {
         ensures amount { result.share.amount ≡ self.access.amount }
     {
         let Session { access, .. } = self;
-        let Access {
-            author: _,
-            pass,
-            share,
-        } = access;
-        AccessParts { pass, share }
+        access.into_parts()
     }
 }

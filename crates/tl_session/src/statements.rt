@@ -9,13 +9,14 @@ ghost use Rattle.tl_session.specs.Jobs.{job_of};
 ghost use Rattle.tl_session.specs.Reading.{block_of, DoesMatch, IsKnown};
 ghost use Rattle.tl_session.specs.Statements.{Answers, IsLook, SeesMore, Settles, Stops, Tells, outcome_of};
 
+use crate::access::{Access, Admission};
 use crate::jobs::LentJob;
 use crate::readings::{JobReading, read_job};
 use crate::replies::{Refusal, Reply, ReplyBody};
-use crate::sessions::{Access, Session};
+use crate::sessions::Session;
 use std::alloc::AllocError;
 use std::sync::Wait;
-use tl_device::{Disk, Gate, Place};
+use tl_device::{Disk, Gate};
 use tl_engine::{CommitFault, Engine, Named};
 use tl_types::{Batch, NoMemory};
 
@@ -43,14 +44,16 @@ fn block_of<'a>(job: &LentJob<'a>) -> &'a [u8]
     }
 }
 
-// Reads the engine's head once, and what the job is over what has then been seen.
+// Looks at the engine's head, once, and what the job is over what has then been seen.
 fn look_at<D: Disk, J: Named, G: Gate, R: AllocGlobal + Wait>(
     rt: &R,
     engine: &Engine<D, J>,
     access: &mut Access<J>,
+    admission: Admission,
     job: &LentJob,
     gate: &G,
 ) -> Result<Look, NoMemory>
+    requires { admission.author ≡ access.old.author }
     ensures sees { SeesMore access.old access.new }
     ensures look { IfOk result (λ l. IsLook (job_of job.now) l.version l.reading access.new) }
     ensures known { IfOk result
@@ -58,7 +61,7 @@ fn look_at<D: Disk, J: Named, G: Gate, R: AllocGlobal + Wait>(
     ensures matching { IfOk result
         (λ l. DoesMatch (database_of (commits_of access.new.seen)) l.reading) }
 {
-    let snapshot = engine.read(rt, &mut access.pass)?;
+    let snapshot = access.look(rt, engine, admission)?;
     let version = snapshot.store().versions();
     let reading = read_job(rt.alloc(), &snapshot, job.text, block_of(job), gate)?;
     Ok(Look { version, reading })
@@ -94,9 +97,7 @@ fn settle<D: Disk, J: Named, R: AllocGlobal + Wait>(
     ensures ok { IfOk result (λ s. Settles batch s.version s.body access.old access.new) }
     ensures err { OnErr result (SeesMore access.old access.new) }
 {
-    let author = access.author;
-    let (pass, share) = (&mut access.pass, &mut access.share);
-    let answer = engine.commit(rt, pass, share, author, batch);
+    let answer = access.commit(rt, engine, batch);
     let Some(settled) = outcome_of(answer) else {
         return Err(AllocError);
     };
@@ -108,16 +109,18 @@ fn answer<D: Disk, J: Named, G: Gate, R: AllocGlobal + Wait>(
     rt: &R,
     engine: &Engine<D, J>,
     access: &mut Access<J>,
+    admission: Admission,
     job: &LentJob,
     gate: &G,
 ) -> Result<Settled, NoMemory>
     requires standard { J.limits ≡ standard_limits }
     requires own { job.now.session ≡ access.old.author }
+    requires admitted { admission.author ≡ access.old.author }
     ensures ok { IfOk result
         (λ s. Tells (job_of job.now) s.version s.body access.old access.new) }
     ensures err { OnErr result (SeesMore access.old access.new) }
 {
-    let Look { version, reading } = look_at(rt, engine, access, job, gate)?;
+    let Look { version, reading } = look_at(rt, engine, access, admission, job, gate)?;
     match reading {
         JobReading::Loads(batch) => {
             let settled = settle(rt, engine, access, batch)?;
@@ -151,9 +154,9 @@ pub fn run_statement<D: Disk, J: Named, G: Gate, R: AllocGlobal + Wait>(
     ensures ok { OnOk result (Answers (job_of job.now) session.old session.new) }
     ensures err { OnErr result (Stops session.old session.new) }
 {
-    gate.pass(Place::Statement(session.access.author));
+    let admission = Admission::at(gate, session.access.author());
     session.replies.reserve(1)?;
-    let settled = answer(rt, engine, &mut session.access, job, gate)?;
+    let settled = answer(rt, engine, &mut session.access, admission, job, gate)?;
     let reply = Reply {
         line: job.line,
         version: settled.version,

@@ -9,6 +9,6 @@ invariant-phases g l =
     let sink = g.K.Sink in
     let coming = g.P.Phases.coming in
     Progress (coming l.fn.running.phases) l.fn.running.shared.seen
-    (streams source.left source.faults sink.written sink.faults l.fn.source l.fn.sink)
+    (streams source sink l.fn.source l.fn.sink)
     (coming l.running.phases) l.running.shared
-    (streams source.left source.faults sink.written sink.faults l.source l.sink)
+    (streams source sink l.source l.sink)

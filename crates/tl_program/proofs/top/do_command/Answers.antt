@@ -12,8 +12,8 @@ returns-in-Some-Load-clause-ends g c =
     let source = g.S.Source in
     let sink = g.K.Sink in
     let disk = g.D.Disk in
-    let before = outside source.left source.faults sink.written sink.faults disk.reads disk.may_leave disk.faults c.args.source.now c.args.sink.now c.args.disk in
-    let after = outside source.left source.faults sink.written sink.faults disk.reads disk.may_leave disk.faults c.load.new.source c.load.new.sink c.load.result.disk in
+    let before = outside source sink disk c.args.source.now c.args.sink.now c.args.disk in
+    let after = outside source sink disk c.load.new.source c.load.new.sink c.load.result.disk in
     subst (λ (o : Option Command). EndsBy o before after c.load.result.status) (sym c.in-Some-Load.is)
     (subst (λ (x : Command). EndsBy (Some x) before after c.load.result.status) (sym c.in-Some-Load.field-0-is)
     (subst (λ (t : List ℕ). RunEnds (block_reads (put_text t)) before after c.load.result.status) c.as_str.ensures.bytes c.load.ensures))

@@ -16,8 +16,8 @@ pub returns-in-Err : goal.returns-in-Err
 returns-in-Err g c = λ left faults.
     let sink = g.K.Sink in
     let disk = g.D.Disk in
-    let before = outside_from sink.written sink.faults disk.reads disk.may_leave disk.faults left faults c.args.sink.now c.args.disk in
-    let after = outside_from sink.written sink.faults disk.reads disk.may_leave disk.faults left faults c.end_refused.new.sink c.init-done.result.disk in
+    let before = outside_from sink disk left faults c.args.sink.now c.args.disk in
+    let after = outside_from sink disk left faults c.end_refused.new.sink c.init-done.result.disk in
     inr (record {
       fault = c.in-Err.fault;
       refused = not_made c.in-Err.fault before after c.init-done.ensures.now

@@ -13,8 +13,8 @@ returns-in-Err g c =
     let source = g.S.Source in
     let sink = g.K.Sink in
     let disk = g.D.Disk in
-    let before = outside source.left source.faults sink.written sink.faults disk.reads disk.may_leave disk.faults c.args.source.now c.args.sink.now c.args.disk in
-    let after = outside source.left source.faults sink.written sink.faults disk.reads disk.may_leave disk.faults c.args.source.now c.end_refused.new.sink c.in-Err.field-0.disk in
+    let before = outside source sink disk c.args.source.now c.args.sink.now c.args.disk in
+    let after = outside source sink disk c.args.source.now c.end_refused.new.sink c.in-Err.field-0.disk in
     inl (record {
       fault = c.in-Err.field-0.fault;
       refused = refused_by c.in-Err.field-0.fault before after
@@ -43,7 +43,7 @@ returns-in-Ok g c =
     let disk = g.D.Disk in
     let opening = c.in-Ok.opening in
     let entries = opening.history.entries in
-    let before = outside source.left source.faults sink.written sink.faults disk.reads disk.may_leave disk.faults c.args.source.now c.args.sink.now c.args.disk in
+    let before = outside source sink disk c.args.source.now c.args.sink.now c.args.disk in
     let opens : OpensWith (commits_of entries) before =
     record {
       fitting = subst (λ (l : Limits). FitInTurn l (commits_of entries)) (c.in-Ok.ensures.opens.limits ∙ c.standard.ensures) c.in-Ok.ensures.opens.opened.fitting;
@@ -51,7 +51,7 @@ returns-in-Ok g c =
     } in
     inr (
       commits_of entries,
-      opened_ends disk.reads disk.may_leave disk.faults c.args.disk c.run_opened-stop.result.disk entries opening.history.first_count (g.P.Phases.coming c.args.phases).reads
+      opened_ends disk c.args.disk c.run_opened-stop.result.disk entries opening.history.first_count (g.P.Phases.coming c.args.phases).reads
           (source.left c.args.source.now) (source.left c.run_opened-stop.new.source) (source.faults c.args.source.now) (source.faults c.run_opened-stop.new.source) (sink.written c.args.sink.now) (sink.written c.run_opened-stop.new.sink) (sink.written c.close_run.new.sink) (sink.faults c.args.sink.now) (sink.faults c.run_opened-stop.new.sink) (sink.faults c.close_run.new.sink)
           c.run_opened-stop.result.stop c.run_opened-stop.result.broke c.faults-faults.result c.close_run.result c.in-Ok.ensures.opens.count.0 c.faults-faults.ensures opens (rw c.of-begun.ensures at c.run_opened-stop.ensures) c.close_run.ensures,
     )

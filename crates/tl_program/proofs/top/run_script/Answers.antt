@@ -16,6 +16,6 @@ returns g c =
     let source = g.S.Source in
     let sink = g.K.Sink in
     let disk = g.D.Disk in
-    let before = outside source.left source.faults sink.written sink.faults disk.reads disk.may_leave disk.faults c.args.source.now c.args.sink.now c.args.disk in
-    let after = outside source.left source.faults sink.written sink.faults disk.reads disk.may_leave disk.faults c.run.new.source c.run.new.sink c.run.result.disk in
+    let before = outside source sink disk c.args.source.now c.args.sink.now c.args.disk in
+    let after = outside source sink disk c.run.new.source c.run.new.sink c.run.result.disk in
     subst (λ (s : ScriptState). RunEnds (script_coming s).reads before after c.run.result.status) (c.new-script.ensures ∙ ap new_state c.standard.ensures) c.run.ensures

@@ -13,8 +13,8 @@ returns-in-Ok-clause-headline g c =
     let source = g.S.Source in
     let sink = g.K.Sink in
     let disk = g.D.Disk in
-    let before = outside source.left source.faults sink.written sink.faults disk.reads disk.may_leave disk.faults c.args.source.now c.args.sink.now c.args.disk in
-    let after = outside source.left source.faults sink.written sink.faults disk.reads disk.may_leave disk.faults c.do_command.new.source c.do_command.new.sink c.do_command.result.disk in
+    let before = outside source sink disk c.args.source.now c.args.sink.now c.args.disk in
+    let after = outside source sink disk c.do_command.new.source c.do_command.new.sink c.do_command.result.disk in
     subst (λ (o : Option Command). HeadlineBy o before after c.do_command.result.status) c.in-Ok.ensures (command_tells c.in-Ok.command before after c.do_command.result.status c.do_command.ensures.ends)
 
 pub returns-in-Ok-clause-complete : goal.returns-in-Ok-clause-complete
@@ -22,8 +22,8 @@ returns-in-Ok-clause-complete g c =
     let source = g.S.Source in
     let sink = g.K.Sink in
     let disk = g.D.Disk in
-    let before = outside source.left source.faults sink.written sink.faults disk.reads disk.may_leave disk.faults c.args.source.now c.args.sink.now c.args.disk in
-    let after = outside source.left source.faults sink.written sink.faults disk.reads disk.may_leave disk.faults c.do_command.new.source c.do_command.new.sink c.do_command.result.disk in
+    let before = outside source sink disk c.args.source.now c.args.sink.now c.args.disk in
+    let after = outside source sink disk c.do_command.new.source c.do_command.new.sink c.do_command.result.disk in
     subst (λ (o : Option Command). CompletesBy o before after c.do_command.result.status) c.in-Ok.ensures (command_completes c.in-Ok.command before after c.do_command.result.status c.do_command.ensures.ends)
 
 pub returns-in-Err-clause-headline : goal.returns-in-Err-clause-headline

@@ -3,6 +3,7 @@ use Rattle.std.proofs.Common.{◌≡◌, ℕ, inl, inr, List, [], ◌∷◌, ref
 use Rattle.tl_device.specs.Plain.{Kept}
 use Rattle.tl_device.specs.Kept.{fresh, after_write, after_torn, after_cut, after_no_cut, after_sync, after_no_sync}
 use Rattle.tl_device.specs.Replay.{Leaves}
+use Rattle.tl_device.specs.Crash.{crash_image}
 
 -- three bytes that a crash leaves
 abbrev opened : Kept
@@ -60,3 +61,32 @@ failed_sync = within_torn
 synced : Leaves (after_sync (after_write opened 1 (8 ∷ []))) (1 ∷ 5 ∷ 3 ∷ []) → ⊥
 synced (inl now) = cc
 synced (inr never) = never
+
+-- three bytes, of which the first was written over since the sync, and the last in a failed write that
+-- was to pass the end
+abbrev changed : Kept
+changed = after_torn (after_write (after_sync opened) 0 (8 ∷ [])) 2 2
+
+-- the image of the last sync, what a read gives, and 0 or 255 where the writes were to stand
+changed_synced : crash_image 0 changed ≡ 1 ∷ 2 ∷ 3 ∷ []
+changed_synced = refl
+
+changed_read : crash_image 1 changed ≡ 8 ∷ 2 ∷ 3 ∷ []
+changed_read = refl
+
+changed_zeros : crash_image 2 changed ≡ 0 ∷ 2 ∷ 0 ∷ []
+changed_zeros = refl
+
+changed_ones : crash_image 3 changed ≡ 255 ∷ 2 ∷ 255 ∷ []
+changed_ones = refl
+
+-- a cut since the sync has happened, and is undone in the image of the sync
+cut_read : crash_image 2 (after_cut changed 2) ≡ 0 ∷ 2 ∷ []
+cut_read = refl
+
+cut_synced : crash_image 0 (after_cut changed 2) ≡ 1 ∷ 2 ∷ 3 ∷ []
+cut_synced = refl
+
+-- what was written before the sync stays
+written_before : crash_image 3 (after_sync changed) ≡ 8 ∷ 2 ∷ 3 ∷ []
+written_before = refl

@@ -1,4 +1,5 @@
 pub mod Known
 pub mod Undo
+pub mod CrashImages
 pub mod Filling
 mod Examples

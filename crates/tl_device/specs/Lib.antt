@@ -4,3 +4,4 @@ pub mod Calls
 pub mod Disk
 pub mod Kept
 pub mod Replay
+pub mod Crash

@@ -1,9 +1,11 @@
 // Bytes in memory, a record of what changed them, and the room that was made for more.
-ghost use Rattle.std.specs.Prelude.{◌≡◌, ◌+◌, ◌-◌, ◌^◌, ◌<◌, ◌≤◌, ◌++◌, length, take, drop, min, OnOk, OnErr, vec_len, vec_capacity};
+ghost use Rattle.std.specs.Prelude.{◌≡◌, ◌+◌, ◌-◌, ◌^◌, ◌<◌, ◌≤◌, ◌++◌, length, take, drop, min, IfOk, OnOk, OnErr, vec_len, vec_capacity};
 ghost use Rattle.tl_device.specs.Disk.{Holds};
+ghost use Rattle.tl_device.specs.Crash.{crash_image};
 ghost use Rattle.tl_device.specs.Kept.{fresh, after_write, after_torn, after_cut, after_no_cut, after_sync, after_no_sync, with_room};
 
 use crate::call::Call;
+use crate::crash::{last_synced, put_ranges};
 use crate::failed::NoMemory;
 use std::alloc::Global;
 use std::marker::Model;
@@ -78,6 +80,25 @@ impl Kept {
         let number = behind.len().min(into.len());
         into[..number].copy_from_slice(&behind[..number]);
         number
+    }
+
+    /// The image of this choice among those that a crash now may leave.
+    pub fn crash_image(&self, alloc: Global, choice: u32) -> Result<Vec<u8>, NoMemory>
+        ensures { IfOk result (λ b. b.items ≡ crash_image choice self.now) }
+    {
+        let mut bytes = self.bytes.as_slice().to_vec(alloc)?;
+        if choice == 0 {
+            return last_synced(alloc, bytes, &self.log, &self.done);
+        }
+        if choice == 1 {
+            return Ok(bytes);
+        }
+        if choice == 2 {
+            put_ranges(&mut bytes, 0, &self.done);
+            return Ok(bytes);
+        }
+        put_ranges(&mut bytes, 255, &self.done);
+        Ok(bytes)
     }
 
     /// A write that succeeds.

@@ -6,6 +6,7 @@
 
 mod call;
 mod calls;
+mod crash;
 mod disk;
 mod failed;
 mod file_disk;

@@ -1,6 +1,8 @@
 // A disk in memory with a list of the calls that are to fail.
 ghost use Rattle.std.specs.Prelude.{◌≡◌, ◌+◌, ◌-◌, ◌^◌, ◌<◌, ◌≤◌, ◌++◌, length, take, drop, min, Some, IfOk, OnOk, OnErr, is_err};
 ghost use Rattle.tl_device.specs.Known.{Rose};
+ghost use Rattle.tl_device.specs.Crash.{crash_image, no_calls};
+ghost use Rattle.tl_device.specs.Disk.{Only};
 ghost use Rattle.tl_device.specs.Calls.{next_fails, after_call};
 ghost use Rattle.tl_device.specs.Kept.{fresh, after_write, after_torn, after_cut, after_no_cut, after_sync, after_no_sync, with_room};
 ghost use Rattle.tl_device.specs.Replay.{Leaves, LeftSince, HasRoomFor, since_now, since_then, as_told, fewer_ready};
@@ -23,10 +25,13 @@ pub struct MemoryDisk {
 
 impl Model for MemoryDisk {
     ghost use Rattle.tl_device.specs.Plain as plain;
+    ghost use Rattle.tl_device.specs.Crash.{IsRecorded};
 
     ghost Value = { plain.MemoryDisk };
 
     ghost view = { λ d. record { kept = d.kept; calls = d.calls } };
+
+    ghost invariant = { λ d. IsRecorded d.kept };
 }
 
 impl MemoryDisk {
@@ -50,6 +55,29 @@ impl MemoryDisk {
         ensures { result.now ≡ self.now.kept.bytes }
     {
         self.kept.bytes()
+    }
+
+    /// A disk that reads as one image which a crash now may leave, and as which every crash leaves
+    /// it until it is written. No call of it is to fail, and it is ready for none. `alloc` is the
+    /// memory that the image, and later `room`, will take.
+    ///
+    /// Choice 0 is the bytes of the last sync, or those that the disk was made with where there was
+    /// none; choice 1 is what a read gives; choices 2 and 3 are as long as that, and have 0 or 255
+    /// in each range, as far as the length goes, in which a write since the last sync was to stand,
+    /// also one that failed. There a cut since the last sync has happened where it answered Ok, and
+    /// has not where it failed. `NoMemory`: memory ran out.
+    pub fn crash(&self, alloc: Global, choice: u32) -> Result<MemoryDisk, NoMemory>
+        requires { choice < 4 }
+        ensures image { IfOk result (λ d. d.kept ≡ fresh (crash_image choice self.now.kept)) }
+        ensures left { Leaves self.now.kept (crash_image choice self.now.kept) }
+        ensures only { IfOk result (λ d.
+            Only (crash_image choice self.now.kept) (Leaves d.kept)) }
+        ensures length { 1 ≤ choice →
+            length (crash_image choice self.now.kept) ≡ length self.now.kept.bytes }
+        ensures calls { IfOk result (λ d. d.calls ≡ no_calls) }
+    {
+        let image = self.kept.crash_image(alloc, choice)?;
+        Ok(MemoryDisk::new(alloc, image, Vec::new(alloc)))
     }
 }
 

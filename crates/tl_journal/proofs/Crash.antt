@@ -60,12 +60,12 @@ pub gate_leaves : (front r : List ℕ) (at : ℕ) (old new : List ℕ → Type 0
 gate_leaves front r at old new is only follows c left =
     let from = follows c left in torn_gate front r at c is (subst (λ f. Torn at 1 f c) (only from.0 from.1) from.2)
 
-pub written_gate : (front r : List ℕ) (at : ℕ) (c : List ℕ) → at ≡ length front → Holds (front ++ 0 ∷ (r ++ 0 ∷ [])) at (1 ∷ []) c → c ≡ (front ++ 1 ∷ r) ++ 0 ∷ []
-written_gate front r at c is holds =
-    let split : front ++ 0 ∷ (r ++ 0 ∷ []) ≡ (front ++ 0 ∷ []) ++ (r ++ 0 ∷ []) = sym (append_assoc front (0 ∷ []) (r ++ 0 ∷ [])) in
-    let back : drop (at + 1) (front ++ 0 ∷ (r ++ 0 ∷ [])) ≡ r ++ 0 ∷ [] = ap (λ l. drop (at + 1) l) split ∙ drop_at (front ++ 0 ∷ []) (r ++ 0 ∷ []) (at + 1) (omega (arith, is, length_snoc front 0)) in
-    holds ∙ ap (λ l. l ++ (1 ∷ []) ++ drop (at + 1) (front ++ 0 ∷ (r ++ 0 ∷ []))) (length_front front (0 ∷ (r ++ 0 ∷ [])) at is)
-    ∙ ap (λ l. front ++ (1 ∷ []) ++ l) back ∙ append_assoc front (1 ∷ []) (r ++ 0 ∷ []) ∙ sym (append_assoc front (1 ∷ r) (0 ∷ []))
+pub written_gate : (front rest : List ℕ) (at : ℕ) (c : List ℕ) → at ≡ length front → Holds (front ++ 0 ∷ rest) at (1 ∷ []) c → c ≡ front ++ 1 ∷ rest
+written_gate front rest at c is holds =
+    let split : front ++ 0 ∷ rest ≡ (front ++ 0 ∷ []) ++ rest = sym (append_assoc front (0 ∷ []) rest) in
+    let back : drop (at + 1) (front ++ 0 ∷ rest) ≡ rest = ap (λ l. drop (at + 1) l) split ∙ drop_at (front ++ 0 ∷ []) rest (at + 1) (omega (arith, is, length_snoc front 0)) in
+    holds ∙ ap (λ l. l ++ (1 ∷ []) ++ drop (at + 1) (front ++ 0 ∷ rest)) (length_front front (0 ∷ rest) at is)
+    ∙ ap (λ l. front ++ (1 ∷ []) ++ l) back ∙ append_assoc front (1 ∷ []) rest
 
 pub gate_at_start : (front r : List ℕ) → EndsGated front r (front ++ 0 ∷ (r ++ 0 ∷ []))
 gate_at_start front r = (0, refl)

@@ -40,6 +40,10 @@ IsTooShort len image = (len ≡ length image) × (len < 17)
 abbrev pub IsTooLong : ℕ → List ℕ → Type 0
 IsTooLong len image = (len ≡ length image) × (17 < len)
 
+-- a fault that comes of the disk's calls alone
+abbrev pub IsDevice : JournalFault → Type 0
+IsDevice e = (faults : ℕ) × (e ≡ fault.Device faults)
+
 -- a fault that comes of the disk's calls or of memory alone
 abbrev pub IsDeviceOrMemory : JournalFault → Type 0
 IsDeviceOrMemory e = (e ≡ fault.NoMemory) ⊎ ((faults : ℕ) × (e ≡ fault.Device faults))

@@ -6,7 +6,7 @@ ghost use Rattle.tl_device.specs.Disk.{IsStored};
 ghost use Rattle.tl_journal.specs.Image.{Ends, BeforeOrAfter, IsBodyOf};
 ghost use Rattle.tl_journal.specs.Gates.{EndsGated};
 ghost use Rattle.tl_journal.specs.Stands.{DiskStandsFor};
-ghost use Rattle.tl_journal.specs.Moments.{EachMoment};
+ghost use Rattle.tl_journal.specs.Moments.{EachMoment, TellsStill};
 
 use tl_device::{Disk, Failed};
 
@@ -27,6 +27,7 @@ fn stage<D: Disk>(disk: &mut D, at: u64, body: &[u8]) -> Result<(), Failed>
         (c : List ℕ) → D.may_leave disk.new c → Ends front c }
     ensures longer { OnOk result (IfSome (D.reads disk.new) (λ b.
         at + length body.now ≤ length b)) }
+    ensures tells { TellsStill D.reads disk.old disk.new }
     ensures sure { OnOk result (D.faults disk.new ≡ D.faults disk.old) }
     ensures rose { OnErr result (Rose (D.faults disk.old) (D.faults disk.new)) }
 {
@@ -40,10 +41,9 @@ fn open_gate<D: Disk>(disk: &mut D, at: u64) -> Result<(), Failed>
     requires ready { D.ready disk.old 1 2 }
     ensures longer { (n : ℕ) → IfSome (D.reads disk.old) (λ b. n ≤ length b) →
         OnOk result (IfSome (D.reads disk.new) (λ b. n ≤ length b)) }
-    ensures stored { (front : List ℕ) (r : List ℕ) →
-        IsStored D.reads D.may_leave disk.old (front ++ 0 ∷ (r ++ 0 ∷ [])) →
-        at ≡ length front →
-        OnOk result (IsStored D.reads D.may_leave disk.new ((front ++ 1 ∷ r) ++ 0 ∷ [])) }
+    ensures stored { (front : List ℕ) (rest : List ℕ) →
+        IsStored D.reads D.may_leave disk.old (front ++ 0 ∷ rest) → at ≡ length front →
+        OnOk result (IsStored D.reads D.may_leave disk.new (front ++ 1 ∷ rest)) }
     ensures any_moment { (front : List ℕ) (r : List ℕ) →
         IsStored D.reads D.may_leave disk.old (front ++ 0 ∷ (r ++ 0 ∷ [])) →
         at ≡ length front →
@@ -51,6 +51,7 @@ fn open_gate<D: Disk>(disk: &mut D, at: u64) -> Result<(), Failed>
     ensures now { (front : List ℕ) (r : List ℕ) →
         IsStored D.reads D.may_leave disk.old (front ++ 0 ∷ (r ++ 0 ∷ [])) →
         at ≡ length front → (c : List ℕ) → D.may_leave disk.new c → EndsGated front r c }
+    ensures tells { TellsStill D.reads disk.old disk.new }
     ensures sure { OnOk result (D.faults disk.new ≡ D.faults disk.old) }
     ensures rose { OnErr result (Rose (D.faults disk.old) (D.faults disk.new)) }
 {
@@ -67,6 +68,9 @@ pub(crate) fn put<D: Disk>(disk: &mut D, gate: u64, body: &[u8]) -> Result<(), F
     ensures end { OnOk result (gate + 1 + length body.now < 2 ^ 64) }
     ensures longer { OnOk result (IfSome (D.reads disk.new) (λ b.
         gate + 1 + length body.now ≤ length b)) }
+    ensures written { (front : List ℕ) →
+        IsStored D.reads D.may_leave disk.old (front ++ 0 ∷ []) → gate ≡ length front →
+        OnOk result (IsStored D.reads D.may_leave disk.new (front ++ 1 ∷ body.now)) }
     ensures stored { (cs : List Commit) (c : Commit) → IsBodyOf c body.now →
         DiskStandsFor D.reads D.may_leave disk.old cs gate →
         OnOk result (DiskStandsFor D.reads D.may_leave disk.new (cs ++ c ∷ [])
@@ -77,6 +81,7 @@ pub(crate) fn put<D: Disk>(disk: &mut D, gate: u64, body: &[u8]) -> Result<(), F
     ensures now { (cs : List Commit) (c : Commit) → IsBodyOf c body.now →
         DiskStandsFor D.reads D.may_leave disk.old cs gate →
         (image : List ℕ) → D.may_leave disk.new image → BeforeOrAfter cs c image }
+    ensures tells { TellsStill D.reads disk.old disk.new }
     ensures sure { OnOk result (D.faults disk.new ≡ D.faults disk.old) }
     ensures rose { OnErr result (Rose (D.faults disk.old) (D.faults disk.new)) }
 {

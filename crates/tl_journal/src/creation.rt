@@ -2,7 +2,7 @@
 ghost use Rattle.std.specs.Prelude.{◌≡◌, ◌≤◌, ◌<◌, ℕ, List, length, Some, IfSome, IfErr, OnOk, OnErr, Err};
 ghost use Rattle.tl_device.specs.Known.{Rose};
 ghost use Rattle.tl_device.specs.Disk.{IsStored};
-ghost use Rattle.tl_journal.specs.Moments.{EachMoment, EachMomentBySync, IsUntouched, LosesNothing, IsShort, OldOr};
+ghost use Rattle.tl_journal.specs.Moments.{EachMoment, EachMomentBySync, IsUntouched, LosesNothing, IsAsBefore, TellsStill, IsShort, OldOr};
 ghost use Rattle.tl_journal.specs.Stands.{empty_journal};
 ghost use Rattle.tl_journal.specs.Answers.{CountsFaults, IsTooLong};
 ghost use Rattle.tl_journal.specs.declared.faults.JournalFault.TheVariants as fault;
@@ -29,6 +29,7 @@ fn write_empty<D: Disk>(disk: &mut D) -> Result<(), Failed>
         length b ≤ 17 → EachMoment D.moment D.left_since disk.old disk.new IsShort }
     ensures now { (b : List ℕ) → IsStored D.reads D.may_leave disk.old b → length b ≤ 17 →
         (c : List ℕ) → D.may_leave disk.new c → IsShort c }
+    ensures tells { TellsStill D.reads disk.old disk.new }
     ensures sure { OnOk result (D.faults disk.new ≡ D.faults disk.old) }
     ensures rose { OnErr result (Rose (D.faults disk.old) (D.faults disk.new)) }
 {
@@ -51,6 +52,9 @@ pub(crate) fn create<D: Disk>(disk: &mut D) -> Result<(), JournalFault>
         (17 < len) × IfSome (D.reads disk.old) (IsTooLong len) }
     ensures kept { (len : ℕ) → result ≡ Err (fault.AlreadyInitialised len) →
         IsUntouched D.reads D.may_leave disk.old disk.new }
+    ensures no_memory { result ≡ Err fault.NoMemory →
+        IsAsBefore D.reads D.may_leave disk.old disk.new }
+    ensures tells { TellsStill D.reads disk.old disk.new }
     ensures no_less { (len : ℕ) → result ≡ Err (fault.AlreadyInitialised len) →
         LosesNothing D.reads D.may_leave disk.old disk.new }
     ensures not_short { (len : ℕ) → result ≡ Err (fault.NotInitialised len) → ⊥ }

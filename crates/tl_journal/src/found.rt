@@ -7,7 +7,7 @@ ghost use Rattle.tl_journal.specs.Image.{ImageStandsFor, ImageStandsOnlyFor, IsD
 ghost use Rattle.tl_journal.specs.Moments.{EachMoment};
 ghost use Rattle.tl_journal.specs.Opening.{HasRead, IsAtClosedGate, IsOpening};
 ghost use Rattle.tl_journal.specs.Stands.{JournalStandsFor, SameOrTrimmed};
-ghost use Rattle.tl_journal.specs.Answers.{disk_opened, CountsFaults, IsDeviceOrMemory, IsDamagedOrMemory};
+ghost use Rattle.tl_journal.specs.Answers.{disk_opened, CountsFaults, IsDevice, IsDeviceOrMemory, IsDamagedOrMemory};
 ghost use Rattle.tl_journal.specs.declared.faults.JournalFault.TheVariants as fault;
 
 use crate::faults::JournalFault;
@@ -125,6 +125,7 @@ impl<D: Disk> FoundCommits<D> {
         ensures faults { IfErr result (λ r.
             CountsFaults r.fault (D.faults self.disk) (D.faults r.disk)) }
         ensures kinds { IfErr result (λ r. IsDeviceOrMemory r.fault) }
+        ensures device { IfErr result (λ r. IsDevice r.fault) }
     {
         let FoundCommits {
             mut disk,

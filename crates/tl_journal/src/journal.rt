@@ -4,7 +4,7 @@ ghost use Rattle.tl_types.specs.declared.commits.Commit.{Commit as CommitValue};
 ghost use Rattle.tl_device.specs.Known.{Rose};
 ghost use Rattle.tl_device.specs.Disk.{IsStored};
 ghost use Rattle.tl_journal.specs.Image.{ImageStandsFor, BeforeOrAfter, IsBodyOf, ImageStandsOnlyFor, IsDamagedOnlyAt};
-ghost use Rattle.tl_journal.specs.Moments.{EachMoment, EachMomentBySync, IsUntouched, LosesNothing, IsShort, OldOr};
+ghost use Rattle.tl_journal.specs.Moments.{EachMoment, EachMomentBySync, IsUntouched, LosesNothing, IsAsBefore, IsDurable, IsAsBeforeOrDurable, TellsStill, IsShort, OldOr};
 ghost use Rattle.tl_journal.specs.Opening.{HasRead, commits_found, HaveGatesFrom};
 ghost use Rattle.tl_journal.specs.Stands.{JournalStandsFor, IsReady, SameOrTrimmed, empty_journal};
 ghost use Rattle.tl_journal.specs.Answers.{disk_begun, disk_attached, CountsFaults, IsTooShort, IsTooLong};
@@ -59,7 +59,7 @@ impl<D: Disk> Journal<D> {
     /// before, and from then on at most 17 bytes, of which a journal can be made again.
     ///
     /// `AlreadyInitialised`: the disk has more than 17 bytes, and stays as it is. `Device`: the
-    /// disk failed in this call. `NoMemory`: memory ran out.
+    /// disk failed in this call. `NoMemory`: memory ran out, and the disk stays as it is.
     pub fn init(disk: D) -> InitRun<D>
         ensures stored { (b : List ℕ) → D.reads disk ≡ Some b →
             OnOk result.done (IsStored D.reads D.may_leave result.disk empty_journal) }
@@ -73,6 +73,9 @@ impl<D: Disk> Journal<D> {
             LosesNothing D.reads D.may_leave disk result.disk }
         ensures not_short { (len : ℕ) → result.done ≡ Err (fault.NotInitialised len) → ⊥ }
         ensures not_damaged { (at : ℕ) → result.done ≡ Err (fault.Damaged at) → ⊥ }
+        ensures no_memory { result.done ≡ Err fault.NoMemory →
+            IsAsBefore D.reads D.may_leave disk result.disk }
+        ensures tells { TellsStill D.reads disk result.disk }
         ensures any_moment { (b : List ℕ) → D.reads disk ≡ Some b →
             EachMomentBySync D.reads D.may_leave D.moment D.left_since disk result.disk IsShort }
         ensures now { (b : List ℕ) → D.reads disk ≡ Some b →
@@ -90,8 +93,9 @@ impl<D: Disk> Journal<D> {
     /// commits are then handed out one by one, and after them the journal.
     ///
     /// `NotInitialised`: the disk has fewer than 17 bytes. `Damaged`: its first 16 bytes are not a
-    /// journal's; `at` is 0. `Device`: the disk failed in this call. `NoMemory`: memory ran out. A
-    /// disk that is handed back reads as before.
+    /// journal's; `at` is 0, and what the disk reads as is then durable. `Device`: the disk failed in
+    /// this call. `NoMemory`: memory ran out, and the disk stays as it is. A disk that is handed back
+    /// reads as before.
     pub fn open(alloc: Global, disk: D) -> Result<FoundCommits<D>, Refused<D>>
         ensures image { (b : List ℕ) → D.reads disk ≡ Some b → IfOk result (λ o. o.image ≡ b) }
         ensures start { IfOk result (λ o. HasRead [] o) }
@@ -110,6 +114,10 @@ impl<D: Disk> Journal<D> {
             LosesNothing D.reads D.may_leave disk r.disk) }
         ensures damaged { (at : ℕ) → IfErr result (λ r. r.fault ≡ fault.Damaged at →
             (at ≡ 0) × IfSome (D.reads disk) (IsDamagedOnlyAt at)) }
+        ensures durable { (at : ℕ) → IfErr result (λ r. r.fault ≡ fault.Damaged at →
+            IsDurable D.reads D.may_leave disk r.disk) }
+        ensures no_memory { IfErr result (λ r. r.fault ≡ fault.NoMemory →
+            IsAsBefore D.reads D.may_leave disk r.disk) }
         ensures not_long { (len : ℕ) → IfErr result (λ r.
             r.fault ≡ fault.AlreadyInitialised len → ⊥) }
     {
@@ -125,9 +133,10 @@ impl<D: Disk> Journal<D> {
     /// gives is not broken, and has no room for an append.
     ///
     /// `NotInitialised`: the disk has fewer than 17 bytes. `Damaged`: its bytes are no journal;
-    /// `at` is the offset where they are damaged. Both leave the disk as it is. `Device`: the disk
-    /// failed in this call. `NoMemory`: memory ran out. After both a journal stands for the same
-    /// commits.
+    /// `at` is the offset where they are damaged, and what the disk reads as is then durable. Both
+    /// leave the disk as it reads. `Device`: the disk failed in this call; a journal stands for the
+    /// same commits. `NoMemory`: memory ran out; the disk stays as it is, or what it reads as is then
+    /// durable.
     pub fn attach(alloc: Global, disk: D) -> Result<Attached<D>, Refused<D>>
         ensures stands { (b : List ℕ) → D.reads disk ≡ Some b →
             IfOk result (λ a.
@@ -161,6 +170,10 @@ impl<D: Disk> Journal<D> {
         ensures damaged { (at : ℕ) → IfErr result (λ r. r.fault ≡ fault.Damaged at →
             IfSome (D.reads disk) (IsDamagedOnlyAt at)
             × IsUntouched D.reads D.may_leave disk r.disk) }
+        ensures durable { (at : ℕ) → IfErr result (λ r. r.fault ≡ fault.Damaged at →
+            IsDurable D.reads D.may_leave disk r.disk) }
+        ensures no_memory { IfErr result (λ r. r.fault ≡ fault.NoMemory →
+            IsAsBeforeOrDurable D.reads D.may_leave disk r.disk) }
         ensures not_long { (len : ℕ) → IfErr result (λ r.
             r.fault ≡ fault.AlreadyInitialised len → ⊥) }
     {
@@ -217,18 +230,21 @@ impl<D: Disk> Journal<D> {
     }
 
     /// Appends a commit. `body` is its record with a closed gate behind it, and no longer than the
-    /// spare that `reserve` made. It writes the body behind the journal's closed gate, syncs, opens
-    /// that gate and syncs. It takes no memory, and leaves no spare.
+    /// spare that `reserve` made. It writes the body behind the journal's closed gate, syncs, writes
+    /// 1 into that gate and syncs. It takes no memory, and leaves no spare.
     ///
     /// `Device`: the disk failed in this call. It then stands for the commits before, or for these
     /// and this one, and the journal is broken. `Broken`: an earlier append answered `Device`, with
-    /// this count; nothing has changed.
+    /// this count; nothing but the spare has changed.
     pub fn append(&mut self, body: &Bytes) -> Result<(), AppendFault>
         requires body { (c : CommitValue) × IsBodyOf c body.now }
         requires fits { length body.now ≤ self.old.spare }
         ensures stored { (cs : List CommitValue) (c : CommitValue) →
             JournalStandsFor D.reads D.may_leave self.old cs → IsBodyOf c body.now →
             OnOk result (JournalStandsFor D.reads D.may_leave self.new (cs ++ c ∷ [])) }
+        ensures written { (front : List ℕ) → self.old.gate ≡ length front →
+            IsStored D.reads D.may_leave self.old.disk (front ++ 0 ∷ []) →
+            OnOk result (IsStored D.reads D.may_leave self.new.disk (front ++ 1 ∷ body.now)) }
         ensures any_moment { (cs : List CommitValue) (c : CommitValue) →
             JournalStandsFor D.reads D.may_leave self.old cs → IsBodyOf c body.now →
             EachMoment D.moment D.left_since self.old.disk self.new.disk (BeforeOrAfter cs c) }
@@ -238,22 +254,23 @@ impl<D: Disk> Journal<D> {
         ensures reads { (cs : List CommitValue) (c : CommitValue) →
             JournalStandsFor D.reads D.may_leave self.old cs → IsBodyOf c body.now →
             (image : List ℕ) → D.reads self.new.disk ≡ Some image → BeforeOrAfter cs c image }
+        ensures tells { TellsStill D.reads self.old.disk self.new.disk }
         ensures sure { OnOk result (D.faults self.new.disk ≡ D.faults self.old.disk) }
         ensures whole { OnOk result ((self.old.broken ≡ None) × (self.new.broken ≡ None)) }
-        ensures spent { self.old.broken ≡ None → self.new.spare ≡ 0 }
+        ensures spent { self.new.spare ≡ 0 }
         ensures device { (faults : ℕ) → result ≡ Err (failure.Device faults) →
             (faults ≡ D.faults self.new.disk) × (self.old.broken ≡ None)
             × (self.new.broken ≡ Some faults)
             × Rose (D.faults self.old.disk) (D.faults self.new.disk) }
         ensures broken { (faults : ℕ) → result ≡ Err (failure.Broken faults) →
-            (self.old.broken ≡ Some faults) × (self.new ≡ self.old) }
+            (self.old.broken ≡ Some faults) × (self.new ≡ record self.old { spare = 0 }) }
         ensures from_broken { (faults : ℕ) → self.old.broken ≡ Some faults →
             result ≡ Err (failure.Broken faults) }
     {
+        self.spare = 0;
         if let Some(faults) = self.broken {
             return Err(AppendFault::Broken { faults });
         }
-        self.spare = 0;
         let Ok(()) = put(&mut self.disk, self.gate, body.as_slice()) else {
             let faults = self.disk.faults();
             self.broken = Some(faults);

@@ -2,12 +2,12 @@
 ghost use Rattle.std.specs.Prelude.{◌≡◌, ◌<◌, ℕ, List, Some, Err, IfSome, IfOk, IfErr, OnOk};
 ghost use Rattle.tl_device.specs.Disk.{IsStored};
 ghost use Rattle.tl_journal.specs.Image.{BeginsAsJournal, HasAnotherName};
-ghost use Rattle.tl_journal.specs.Moments.{EachMoment, IsUntouched, LosesNothing};
+ghost use Rattle.tl_journal.specs.Moments.{EachMoment, IsUntouched, LosesNothing, IsAsBefore, IsDurable};
 ghost use Rattle.tl_journal.specs.Answers.{CountsFaults, IsTooShort, IsNoJournal};
 ghost use Rattle.tl_journal.specs.declared.faults.JournalFault.TheVariants as fault;
 
 use crate::faults::JournalFault;
-use crate::reading::{length_of, read_all, settle};
+use crate::reading::{length_of, make_ready, read_settled};
 use crate::records::has_header;
 use std::alloc::Global;
 use tl_device::Disk;
@@ -57,14 +57,18 @@ pub(crate) fn image_of<D: Disk>(alloc: Global, disk: &mut D) -> Result<Vec<u8>, 
         LosesNothing D.reads D.may_leave disk.old disk.new }
     ensures damaged { (at : ℕ) → result ≡ Err (fault.Damaged at) →
         (at ≡ 0) × IfSome (D.reads disk.old) HasAnotherName }
+    ensures durable { (at : ℕ) → result ≡ Err (fault.Damaged at) →
+        IsDurable D.reads D.may_leave disk.old disk.new }
+    ensures no_memory { result ≡ Err fault.NoMemory →
+        IsAsBefore D.reads D.may_leave disk.old disk.new }
     ensures not_long { (len : ℕ) → result ≡ Err (fault.AlreadyInitialised len) → ⊥ }
 {
     let len = length_of(disk)?;
     if len < 17 {
         return Err(JournalFault::NotInitialised { len });
     }
-    settle(disk, 0, 2)?;
-    let bytes = read_all(alloc, disk, len)?;
+    let buffer = make_ready(alloc, disk, len, 3)?;
+    let bytes = read_settled(disk, buffer)?;
     check_begin(&bytes)?;
     Ok(bytes)
 }

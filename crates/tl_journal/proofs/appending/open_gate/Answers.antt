@@ -25,13 +25,13 @@ pub returns-clause-now : goal.returns-clause-now
 returns-clause-now g c front r stored at f left = gate_leaves front r c.args.at _ _ at stored.only c.write_at.ensures.crash f (c.sync.ensures.crash f left)
 
 pub returns-clause-stored : goal.returns-clause-stored
-returns-clause-stored g c front r stored at =
-    let staged : List ℕ = front ++ 0 ∷ (r ++ 0 ∷ []) in
+returns-clause-stored g c front rest stored at =
+    let staged : List ℕ = front ++ 0 ∷ rest in
     let new = c.write_at.new.self in
     let t = c.write_at.ensures.tells staged stored.reads_as in
     let w = subst (λ o. IfSome o (λ b. IfSome (g.D.Disk.reads new) (Holds b c.args.at (1 ∷ [])))) stored.reads_as c.in_ok-write_at.ensures.written in
     let h = subst (λ o. IfSome o (Holds staged c.args.at (1 ∷ []))) t.1 w in
-    let is = written_gate front r c.args.at t.0 at h in
+    let is = written_gate front rest c.args.at t.0 at h in
     let durable = subst (λ o. IfSome o (λ b. Only b (g.D.Disk.may_leave c.sync.new.self))) t.1 c.in_ok-sync.ensures.durable in
     record { reads_as = c.sync.ensures.reads ∙ (t.1 ∙ ap Some is); only = subst (λ b. Only b (g.D.Disk.may_leave c.sync.new.self)) is durable }
 

@@ -42,11 +42,15 @@ returns-in_err-open_gate-clause-now g c cs r is j d left =
     let staged = subst (λ b. IsStored g.D.Disk.reads g.D.Disk.may_leave c.stage.new.disk (front ++ 0 ∷ b)) is.1 (c.in_ok-stage.ensures.stored front j.stored (ap (λ n. n + 1) j.gate_is)) in
     gated cs r j.front d is.0 j.opens (c.open_gate.ensures.now front (spelling r) staged j.gate_is d left)
 
+pub returns-clause-written : goal.returns-clause-written
+returns-clause-written g c front stored at =
+    c.in_ok-open_gate.ensures.stored front c.args.body.now (c.in_ok-stage.ensures.stored front stored (ap (λ n. n + 1) at)) at
+
 pub returns-clause-stored : goal.returns-clause-stored
 returns-clause-stored g c cs r is j =
     let front : List ℕ = header ++ j.front in
-    let staged = subst (λ b. IsStored g.D.Disk.reads g.D.Disk.may_leave c.stage.new.disk (front ++ 0 ∷ b)) is.1 (c.in_ok-stage.ensures.stored front j.stored (ap (λ n. n + 1) j.gate_is)) in
-    one_more g.D.Disk.reads g.D.Disk.may_leave c.args.disk.now c.open_gate.new.disk cs r c.args.body.now c.args.gate j is.0 is.1 (c.in_ok-open_gate.ensures.stored front (spelling r) staged j.gate_is)
+    let staged = c.in_ok-stage.ensures.stored front j.stored (ap (λ n. n + 1) j.gate_is) in
+    one_more g.D.Disk.reads g.D.Disk.may_leave c.args.disk.now c.open_gate.new.disk cs r c.args.body.now c.args.gate j is.0 is.1 (c.in_ok-open_gate.ensures.stored front c.args.body.now staged j.gate_is)
 
 pub returns-clause-longer : goal.returns-clause-longer
 returns-clause-longer g c = c.in_ok-open_gate.ensures.longer (c.args.gate + 1 + length c.args.body.now) c.in_ok-stage.ensures.longer

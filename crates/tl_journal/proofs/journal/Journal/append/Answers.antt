@@ -18,3 +18,6 @@ returns-clause-now g c = rw (← c.self.view_is) (λ cs r s is. c.put.ensures.no
 
 pub returns-clause-reads : goal.returns-clause-reads
 returns-clause-reads g c = rw (← c.self.view_is) (λ cs r s is b reads. c.put.ensures.now cs r (is.0, c.as_slice.ensures ∙ is.1) s.on_disk b (g.met.D.Disk.an_image c.put.new.disk b reads))
+
+pub returns-in-Some-clause-tells : goal.returns-in-Some-clause-tells
+returns-in-Some-clause-tells g c = rw (← c.self.view_is) (λ b told. (b, told))

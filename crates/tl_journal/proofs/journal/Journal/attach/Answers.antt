@@ -1,4 +1,4 @@
-use Rattle.std.proofs.Common.{◌≡◌, ◌∙◌, ℕ, List, Some, refl, subst}
+use Rattle.std.proofs.Common.{◌≡◌, ◌∙◌, ℕ, List, Some, refl, subst, arith}
 use Rattle.tl_device.specs.Disk.{IsStored}
 use Rattle.tl_journal.specs.Image.{ImageStandsOnlyFor}
 use Rattle.tl_journal.specs.Opening.{commits_found}
@@ -20,7 +20,7 @@ returns-in-Ok-finish-clause-any_moment g c b names r s =
     let read = c.in-Ok-all_found.ensures.image ∙ c.in-Ok.ensures.image b r in
     let there = stored_there g.D.Disk.reads g.D.Disk.may_leave o.disk opened.disk b opened.image (stored b r) same read in
     let all = subst (λ l. ImageStandsOnlyFor cs l) (c.in-Ok.ensures.image b r) c.in-Ok-all_found.ensures.all in
-    opened_moments g.D.Disk.reads g.D.Disk.may_leave g.D.Disk.moment g.D.Disk.left_since c.args.disk o.disk opened.disk c.in-Ok-finish.journal.disk c.in-Ok-finish.journal.disk b cs names stored c.in-Ok.ensures.any_moment same refl (c.in-Ok-finish.ensures.any_moment cs c.in-Ok-all_found.ensures.found there) all s
+    opened_moments g.D.Disk.reads g.D.Disk.may_leave g.D.Disk.moment g.D.Disk.left_since c.args.disk o.disk opened.disk c.in-Ok-finish.journal.disk c.in-Ok-finish.journal.disk b cs names stored (λ d left. g.met.D.Disk.also_now o.disk (g.D.Disk.moment o.disk) d (omega arith) left) c.in-Ok.ensures.any_moment same refl (c.in-Ok-finish.ensures.any_moment cs c.in-Ok-all_found.ensures.found there) all s
 
 pub returns-in-Ok-finish-clause-no_journal : goal.returns-in-Ok-finish-clause-no_journal
 returns-in-Ok-finish-clause-no_journal g c b r none =
@@ -62,7 +62,7 @@ returns-in-Err-finish-clause-any_moment g c b names r s =
     let read = c.in-Ok-all_found.ensures.image ∙ c.in-Ok.ensures.image b r in
     let there = stored_there g.D.Disk.reads g.D.Disk.may_leave o.disk opened.disk b opened.image (stored b r) same read in
     let all = subst (λ l. ImageStandsOnlyFor cs l) (c.in-Ok.ensures.image b r) c.in-Ok-all_found.ensures.all in
-    opened_moments g.D.Disk.reads g.D.Disk.may_leave g.D.Disk.moment g.D.Disk.left_since c.args.disk o.disk opened.disk c.in-Err-finish.refused.disk c.in-Err-finish.refused.disk b cs names stored c.in-Ok.ensures.any_moment same refl (c.in-Err-finish.ensures.any_moment cs c.in-Ok-all_found.ensures.found there) all s
+    opened_moments g.D.Disk.reads g.D.Disk.may_leave g.D.Disk.moment g.D.Disk.left_since c.args.disk o.disk opened.disk c.in-Err-finish.refused.disk c.in-Err-finish.refused.disk b cs names stored (λ d left. g.met.D.Disk.also_now o.disk (g.D.Disk.moment o.disk) d (omega arith) left) c.in-Ok.ensures.any_moment same refl (c.in-Err-finish.ensures.any_moment cs c.in-Ok-all_found.ensures.found there) all s
 
 pub returns-in-Err-finish-clause-no_journal : goal.returns-in-Err-finish-clause-no_journal
 returns-in-Err-finish-clause-no_journal g c b r none =

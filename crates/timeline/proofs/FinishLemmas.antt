@@ -10,7 +10,7 @@ use Rattle.tl_session.specs.Phases.{HaveRun}
 use Rattle.tl_types.specs.Legality.{are_legal}
 use Rattle.tl_journal.specs.Stands.{DiskStandsFor}
 use Rattle.tl_engine.specs.Counting.{news}
-use Rattle.tl_engine.specs.Standing.{IsCount, IsImageOf}
+use Rattle.tl_engine.specs.Standing.{IsCount, ImageStandsForEntries}
 use Rattle.timeline.specs.declared.stops.Stop.{Stop}
 use Rattle.timeline.specs.Ending.{Told}
 use Rattle.timeline.specs.Finishing.{Finishes}
@@ -27,8 +27,8 @@ pub finished : {D : Type 0} (reads : D → Option (List ℕ)) (may_leave : D →
     → entries ≡ named → first ≡ count → tells ≡ is_some (reads begun) → has_break named ≡ false → MakesTranscript → MakesPlay → start ≡ named
     → IsPrefix seen last → IsPrefix named last → news named + amount ≡ news last → are_legal last ≡ true
     → (tells ≡ true → has_break last ≡ false → (gate : ℕ) × DiskStandsFor reads may_leave disk (commits_of last) gate)
-    → (tells ≡ true → (image : List ℕ) → may_leave disk image → IsImageOf last image)
-    → (tells ≡ true → (image : List ℕ) → reads disk ≡ Some image → IsImageOf last image)
+    → (tells ≡ true → (image : List ℕ) → may_leave disk image → ImageStandsForEntries last image)
+    → (tells ≡ true → (image : List ℕ) → reads disk ≡ Some image → ImageStandsForEntries last image)
     → IsCount (has_break last) count (faults disk) → broke ≡ has_break last
     → Stops (λ turns. HaveRun start turns seen amount) script why before after
     → Finishes reads may_leave faults begun entries first script before after why broke disk

@@ -9,7 +9,7 @@ use Rattle.tl_session.specs.Turns.{break_of}
 use Rattle.tl_journal.specs.Image.{header, ImageStandsFor, BeforeOrAfter}
 use Rattle.tl_journal.specs.Stands.{DiskStandsFor}
 use Rattle.tl_types.specs.Legality.{are_legal}
-use Rattle.tl_engine.specs.Standing.{IsCount, IsImageOf}
+use Rattle.tl_engine.specs.Standing.{IsCount, ImageStandsForEntries}
 use Rattle.timeline.specs.Outside.{Outside, StandsWithBreak, IsSettled, CountsBreak, HoldsJournal}
 use Rattle.timeline.proofs.EntryLemmas.{break_none, break_some, tried_none, tried_some}
 
@@ -28,15 +28,15 @@ either es = by_test (has_break es) refl where
   by_test false e = inl (e, break_none es e)
   by_test true e = inr (e, break_some es e)
 
-image : (es : List Entry) (bytes : List ℕ) → are_legal es ≡ true → IsImageOf es bytes → StandsWithBreak (commits_of es) (break_of es) bytes
+image : (es : List Entry) (bytes : List ℕ) → are_legal es ≡ true → ImageStandsForEntries es bytes → StandsWithBreak (commits_of es) (break_of es) bytes
 image es bytes legal h = by_break (either es) where
   by_break : ((has_break es ≡ false) × (break_of es ≡ None)) ⊎ ((has_break es ≡ true) × ((c : Commit) × (break_of es ≡ Some c))) → StandsWithBreak (commits_of es) (break_of es) bytes
   by_break (inl e) = subst (λ (o : Option Commit). StandsWithBreak (commits_of es) o bytes) (sym e.1) (both h) where
-    both : IsImageOf es bytes → ImageStandsFor (commits_of es) bytes
+    both : ImageStandsForEntries es bytes → ImageStandsFor (commits_of es) bytes
     both (inl own) = own
     both (inr own) = subst (λ (cs : List Commit). ImageStandsFor cs bytes) (tried_none es legal e.1) own
   by_break (inr e) = subst (λ (o : Option Commit). StandsWithBreak (commits_of es) o bytes) (sym e.1.1) (one h) where
-    one : IsImageOf es bytes → BeforeOrAfter (commits_of es) e.1.0 bytes
+    one : ImageStandsForEntries es bytes → BeforeOrAfter (commits_of es) e.1.0 bytes
     one (inl own) = inl own
     one (inr own) = inr (subst (λ (cs : List Commit). ImageStandsFor cs bytes) (tried_some es e.1.0 legal e.1.1) own)
 
@@ -48,8 +48,8 @@ settled es after h = by_break (either es) where
 
 -- what the closed history's disk holds
 pub holds : (es : List Entry) (before after : Outside) → are_legal es ≡ true → IsCount (has_break es) before.disk_faults after.disk_faults
-    → ((b : List ℕ) → before.reads ≡ Some b → (bytes : List ℕ) → after.may_leave bytes → IsImageOf es bytes)
-    → ((b : List ℕ) → before.reads ≡ Some b → (bytes : List ℕ) → after.reads ≡ Some bytes → IsImageOf es bytes)
+    → ((b : List ℕ) → before.reads ≡ Some b → (bytes : List ℕ) → after.may_leave bytes → ImageStandsForEntries es bytes)
+    → ((b : List ℕ) → before.reads ≡ Some b → (bytes : List ℕ) → after.reads ≡ Some bytes → ImageStandsForEntries es bytes)
     → ((b : List ℕ) → before.reads ≡ Some b → has_break es ≡ false → (bytes : List ℕ) × (after.reads ≡ Some bytes) × Only bytes after.may_leave)
     → HoldsJournal (commits_of es) (break_of es) before after
 holds es before after legal count leaves reads whole =

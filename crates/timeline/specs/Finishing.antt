@@ -7,7 +7,7 @@ use Rattle.tl_types.specs.Legality.{are_legal}
 use Rattle.tl_script.specs.Script.{Reading}
 use Rattle.tl_session.specs.Turns.{break_of}
 use Rattle.tl_journal.specs.Stands.{DiskStandsFor}
-use Rattle.tl_engine.specs.Standing.{IsCount, IsImageOf}
+use Rattle.tl_engine.specs.Standing.{IsCount, ImageStandsForEntries}
 use Rattle.timeline.specs.declared.stops.Stop.{Stop}
 use Rattle.timeline.specs.Ending.{Told}
 use Rattle.timeline.specs.Outside.{Streams}
@@ -25,6 +25,6 @@ pub record Finishes {D : Type 0} (reads : D → Option (List ℕ)) (may_leave : 
   pub whole : (b : List ℕ) → reads begun ≡ Some b → has_break last ≡ false
       → (gate : ℕ) × DiskStandsFor reads may_leave disk (commits_of last) gate
   pub leaves : (b : List ℕ) → reads begun ≡ Some b
-      → (image : List ℕ) → may_leave disk image → IsImageOf last image
+      → (image : List ℕ) → may_leave disk image → ImageStandsForEntries last image
   pub stands : (b : List ℕ) → reads begun ≡ Some b
-      → (image : List ℕ) → reads disk ≡ Some image → IsImageOf last image
+      → (image : List ℕ) → reads disk ≡ Some image → ImageStandsForEntries last image

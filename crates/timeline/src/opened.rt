@@ -4,7 +4,7 @@ ghost use Rattle.std.specs.Prelude.{◌≡◌, ℕ, List, Some, is_some, false};
 ghost use Rattle.tl_types.specs.Entries.{has_break};
 ghost use Rattle.tl_types.specs.Limits.{standard_limits};
 ghost use Rattle.tl_engine.specs.Naming.{IsNameOf};
-ghost use Rattle.tl_engine.specs.Standing.{StandsOnDisk};
+ghost use Rattle.tl_engine.specs.Standing.{DiskStandsForHistory};
 ghost use Rattle.timeline.specs.Finishing.{Finishes};
 ghost use Rattle.timeline.specs.Outside.{streams};
 ghost use Rattle.timeline.specs.Running.{HasNotBegun};
@@ -63,13 +63,13 @@ pub(crate) fn run_opened<
     G: Gate,
     R: AllocGlobal + Threads + Wait + Sync,
 >(rt: &R, attached: Attached<D>, phases: P, source: &mut S, sink: &mut K, gate: &G) -> Finished<D>
-    requires names { IsNameOf J.table J.opening J.first_count J.limits attached.opening }
+    requires names { IsNameOf J.table J.first_entries J.first_count J.limits attached.opening }
     requires ledger { (attached.opening.ledger ≡ J.name) × (attached.opening.parts ≡ J.parts) }
     requires told { J.told ≡ is_some (D.reads attached.begun.value) }
     requires stands { (b : List ℕ) → D.reads attached.begun.value ≡ Some b
-        → StandsOnDisk D.reads D.may_leave attached.opening.history }
+        → DiskStandsForHistory D.reads D.may_leave attached.opening.history }
     requires standard { J.limits ≡ standard_limits }
-    requires whole { has_break J.opening ≡ false }
+    requires whole { has_break J.first_entries ≡ false }
     requires fresh { HasNotBegun (P.coming phases) }
     ensures { Finishes D.reads D.may_leave D.faults attached.begun.value
         attached.opening.history.entries attached.opening.history.first_count

@@ -19,7 +19,7 @@ use Rattle.tl_engine.specs.Answers.{Opens, disk_opened}
 use Rattle.tl_engine.specs.Naming.{history_attached}
 use Rattle.tl_engine.specs.Opening.{HasImage}
 use Rattle.tl_engine.specs.Plain as plain
-use Rattle.tl_engine.specs.Standing.{IsCount, StandsOnDisk}
+use Rattle.tl_engine.specs.Standing.{IsCount, DiskStandsForHistory}
 use Rattle.tl_engine.proofs.StandingLemmas.{stands_alone}
 
 -- a count that stays
@@ -30,27 +30,27 @@ count_still b c first old new none still same count =
 
 module _ {D : Type 0} (reads : D → Option (List ℕ)) (may_leave : D → List ℕ → Type 0) where
   -- the history that is made of a journal
-  pub stands_over : (h : plain.History D) (entries : List Entry) (j : journal.Journal D) (first : ℕ) (limits : Limits) → h ≡ record { entries = entries; journal = j; first_count = first; limits = limits } → JournalStandsFor reads may_leave j (commits_of entries) → StandsOnDisk reads may_leave h
+  pub stands_over : (h : plain.History D) (entries : List Entry) (j : journal.Journal D) (first : ℕ) (limits : Limits) → h ≡ record { entries = entries; journal = j; first_count = first; limits = limits } → JournalStandsFor reads may_leave j (commits_of entries) → DiskStandsForHistory reads may_leave h
   stands_over h entries j first limits same stands =
       let made : plain.History D = record { entries = entries; journal = j; first_count = first; limits = limits } in
-      subst (λ x. StandsOnDisk reads may_leave x) (sym same) (stands_alone reads may_leave made stands)
+      subst (λ x. DiskStandsForHistory reads may_leave x) (sym same) (stands_alone reads may_leave made stands)
 
   -- what a read gives of an equal disk
   pub reads_same : (a b : D) (image : List ℕ) → a ≡ b → (c : List ℕ) × (reads b ≡ Some c) × SameOrTrimmed image c → (c : List ℕ) × (reads a ≡ Some c) × SameOrTrimmed image c
   reads_same a b image same told = subst (λ d. (c : List ℕ) × (reads d ≡ Some c) × SameOrTrimmed image c) (sym same) told
 
   -- the image of a disk that was read
-  pub stored_there : (opening : journal.FoundCommits D) (image : List ℕ) → HasImage reads may_leave image opening → IsStored reads may_leave opening.disk image
-  stored_there opening image has = subst (λ b. IsStored reads may_leave opening.disk b) has.same has.stored
+  pub stored_there : (found_commits : journal.FoundCommits D) (image : List ℕ) → HasImage reads may_leave image found_commits → IsStored reads may_leave found_commits.disk image
+  stored_there found_commits image has = subst (λ b. IsStored reads may_leave found_commits.disk b) has.same has.stored
 
   -- the commits that were read are those that the disk stood for
-  pub found_there : (opening : journal.FoundCommits D) (found cs : List Commit) (image : List ℕ) → ImageStandsOnlyFor found opening.image → HasImage reads may_leave image opening → ImageStandsFor cs image → found ≡ cs
-  found_there opening found cs image whole has stands =
+  pub found_there : (found_commits : journal.FoundCommits D) (found cs : List Commit) (image : List ℕ) → ImageStandsOnlyFor found found_commits.image → HasImage reads may_leave image found_commits → ImageStandsFor cs image → found ≡ cs
+  found_there found_commits found cs image whole has stands =
       sym (whole.only cs (subst (λ b. ImageStandsFor cs b) (sym has.same) stands))
 
   -- the disk stood for some
-  pub some_there : (opening : journal.FoundCommits D) (found : List Commit) (image : List ℕ) → ImageStandsOnlyFor found opening.image → HasImage reads may_leave image opening → ImageStandsFor found image
-  some_there opening found image whole has = subst (λ b. ImageStandsFor found b) has.same whole.stands
+  pub some_there : (found_commits : journal.FoundCommits D) (found : List Commit) (image : List ℕ) → ImageStandsOnlyFor found found_commits.image → HasImage reads may_leave image found_commits → ImageStandsFor found image
+  some_there found_commits found image whole has = subst (λ b. ImageStandsFor found b) has.same whole.stands
 
   pub now_there : (last : D) (found cs : List Commit) (old : List ℕ → Type 0) → found ≡ cs → ((c : List ℕ) → may_leave last c → ImageStandsFor found c) → (c : List ℕ) → may_leave last c → OldOr old (ImageStandsFor cs) c
   now_there last found cs old same leaves c left = inr (subst (λ l. ImageStandsFor l c) same (leaves c left))
@@ -61,13 +61,13 @@ module _ {D : Type 0} (reads : D → Option (List ℕ)) (may_leave : D → List 
   moments_same a b c P same moments = subst (λ d. EachMoment moment left_since a d P) (sym same) moments
 
   -- what each moment of an opening leaves
-  pub opened_moments : (disk last : D) (opening : journal.FoundCommits D) (found cs : List Commit) → ((b : List ℕ) → reads disk ≡ Some b → HasImage reads may_leave b opening) → found ≡ cs → EachMoment moment left_since disk opening.disk (may_leave disk) → EachMoment moment left_since opening.disk last (ImageStandsFor found) → EachMomentBySync reads may_leave moment left_since disk last (ImageStandsFor cs)
-  opened_moments disk last opening found cs image same first second =
+  pub opened_moments : (disk last : D) (found_commits : journal.FoundCommits D) (found cs : List Commit) → ((b : List ℕ) → reads disk ≡ Some b → HasImage reads may_leave b found_commits) → found ≡ cs → EachMoment moment left_since disk found_commits.disk (may_leave disk) → EachMoment moment left_since found_commits.disk last (ImageStandsFor found) → EachMomentBySync reads may_leave moment left_since disk last (ImageStandsFor cs)
+  opened_moments disk last found_commits found cs image same first second =
       inr (record {
-        synced = opening.disk;
-        stored = λ b told. stored_there reads may_leave opening b (image b told);
+        synced = found_commits.disk;
+        stored = λ b told. stored_there reads may_leave found_commits b (image b told);
         until_then = first;
-        from_then = subst (λ l. EachMoment moment left_since opening.disk last (ImageStandsFor l)) same second;
+        from_then = subst (λ l. EachMoment moment left_since found_commits.disk last (ImageStandsFor l)) same second;
       })
 
 -- a fault of the disk or of memory is none of these

@@ -22,7 +22,7 @@ use Rattle.tl_engine.specs.declared.faults.CommitFault.TheVariants as fault
 use Rattle.tl_types.specs.Legality.{FitInTurn}
 use Rattle.tl_engine.specs.Fitting.{IsDamaged}
 use Rattle.tl_engine.specs.Plain as plain
-use Rattle.tl_engine.specs.Standing.{HasRoomAlone, StandsOnDisk}
+use Rattle.tl_engine.specs.Standing.{HasRoomAlone, DiskStandsForHistory}
 
 -- the disk in the answer of an opening
 abbrev pub disk_opened : {D : Type 0} → Result (plain.History D) (Refused D) → D
@@ -45,7 +45,7 @@ pub record Opens {D : Type 0} (read : D → Option (List ℕ)) (may_leave : D �
   pub count : IfOk answer (λ h. (h.first_count ≡ fault_count disk)
       × (fault_count h.journal.disk ≡ fault_count disk))
   -- where the disk told its bytes, it stands for the history
-  pub stands : (b : List ℕ) → read disk ≡ Some b → IfOk answer (StandsOnDisk read may_leave)
+  pub stands : (b : List ℕ) → read disk ≡ Some b → IfOk answer (DiskStandsForHistory read may_leave)
   -- and these bytes are a journal of just the commits of the history
   pub image : (b : List ℕ) → read disk ≡ Some b
       → IfOk answer (λ h. ImageStandsOnlyFor (commits_of h.entries) b)

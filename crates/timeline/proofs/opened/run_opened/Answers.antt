@@ -17,8 +17,8 @@ returns g c =
     let before = streams source.left source.faults sink.written sink.faults c.args.source.now c.args.sink.now in
     let after = streams source.left source.faults sink.written sink.faults c.run_phases-stop.new.source c.run_phases-stop.new.sink in
     rw (c.finish.ensures.stop, c.finish.ensures.disk)
-    (finished disk.reads disk.may_leave disk.faults c.args.attached.begun.value c.close-closed.result.disk c.args.attached.opening.history.entries named.opening c.new.result.seen shared.seen last c.args.attached.opening.history.first_count named.first_count shared.amount named.told (g.P.Phases.coming c.args.phases).reads before after c.run_phases-stop.result c.finish.result.broke
+    (finished disk.reads disk.may_leave disk.faults c.args.attached.begun.value c.close-closed.result.disk c.args.attached.opening.history.entries named.first_entries c.new.result.seen shared.seen last c.args.attached.opening.history.first_count named.first_count shared.amount named.told (g.P.Phases.coming c.args.phases).reads before after c.run_phases-stop.result c.finish.result.broke
     c.requires.names.entries_are c.requires.names.count_is c.requires.told c.requires.whole c.sessions_make_a_transcript.ensures c.lone_sessions_play.ensures (c.new.ensures.seen ∙ c.start-engine.ensures.pass.1)
-    (subst (λ (es : List Entry). IsPrefix es last) c.into_parts-pass.ensures.seen c.close-closed.ensures.seen) c.close-closed.ensures.opening
-    (subst (λ (n : ℕ). news named.opening + n ≡ news last) c.into_parts-pass.ensures.amount c.close-closed.ensures.counted)
+    (subst (λ (es : List Entry). IsPrefix es last) c.into_parts-pass.ensures.seen c.close-closed.ensures.seen) c.close-closed.ensures.first_entries
+    (subst (λ (n : ℕ). news named.first_entries + n ≡ news last) c.into_parts-pass.ensures.amount c.close-closed.ensures.counted)
     c.close-closed.ensures.legal c.close-closed.ensures.whole c.close-closed.ensures.leaves c.close-closed.ensures.reads c.close-closed.ensures.count c.finish.ensures.broke c.run_phases-stop.ensures.stops)

@@ -10,7 +10,7 @@ abbrev pub ghosts-run_opened-J-Named : goal.ghosts-run_opened-J-Named
 ghosts-run_opened-J-Named g a =
     record {
       table = a.attached.opening.table;
-      opening = a.attached.opening.history.entries;
+      first_entries = a.attached.opening.history.entries;
       first_count = a.attached.opening.history.first_count;
       limits = a.attached.opening.history.limits;
       told = is_some (g.D.Disk.reads a.attached.begun.value);

@@ -19,7 +19,7 @@ returns-in-Ok g c =
     let fault_count = g.D.Disk.faults in
     let disk = c.args.disk in
     let answer = c.finish.result in
-    let opening = c.in-Ok.begun.opening in
+    let found_commits = c.in-Ok.begun.found_commits in
     let found = commits_of c.in-Ok.begun.replay in
     let begun = c.in-Ok.ensures in
     let made = c.finish.ensures in
@@ -28,15 +28,15 @@ returns-in-Ok g c =
       limits = made.limits;
       count = subst (λ n. IfOk answer (λ h. (h.first_count ≡ n) × (fault_count h.journal.disk ≡ n))) begun.sure made.count;
       stands = λ b told. made.stands (begun.image b told).stored;
-      image = λ b told. image_found read may_leave moment left_since fault_count answer c.in-Ok.begun.replay opening.image b made.entries begun.whole (begun.image b told).same;
+      image = λ b told. image_found read may_leave moment left_since fault_count answer c.in-Ok.begun.replay found_commits.image b made.entries begun.whole (begun.image b told).same;
       honest = λ b cs smaller told stands within fitting. made.kinds;
       any_moment = λ b cs told stands.
-          let same = found_there read may_leave opening found cs b begun.whole (begun.image b told) stands in
-          opened_moments read may_leave moment left_since disk (disk_opened answer) opening found cs begun.image same begun.any_moment (made.any_moment (begun.image b told).stored);
-      no_journal = λ b told none. absurd (none found (some_there read may_leave opening found b begun.whole (begun.image b told)));
-      no_journal_now = λ b told none. absurd (none found (some_there read may_leave opening found b begun.whole (begun.image b told)));
+          let same = found_there read may_leave found_commits found cs b begun.whole (begun.image b told) stands in
+          opened_moments read may_leave moment left_since disk (disk_opened answer) found_commits found cs begun.image same begun.any_moment (made.any_moment (begun.image b told).stored);
+      no_journal = λ b told none. absurd (none found (some_there read may_leave found_commits found b begun.whole (begun.image b told)));
+      no_journal_now = λ b told none. absurd (none found (some_there read may_leave found_commits found b begun.whole (begun.image b told)));
       now = λ b cs told stands image left.
-          let same = found_there read may_leave opening found cs b begun.whole (begun.image b told) stands in
+          let same = found_there read may_leave found_commits found cs b begun.whole (begun.image b told) stands in
           now_there read may_leave (disk_opened answer) found cs (may_leave disk) same (made.now (begun.image b told).stored) image left;
       reads = λ b told. made.reads b (begun.untouched.reads_same ∙ told);
       faults = subst (λ n. IfErr answer (λ r. CountsFaults r.fault n (fault_count r.disk))) begun.sure made.faults;

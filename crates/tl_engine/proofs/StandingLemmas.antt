@@ -1,12 +1,12 @@
 -- What the disk of a history stands for after a commit.
-use Rattle.std.proofs.Common.{◌≡◌, ℕ, true, false, List, [], ◌∷◌, ◌++◌, sym, ap, ◌∙◌, subst, inl, inr}
+use Rattle.std.proofs.Common.{◌≡◌, ℕ, true, false, List, [], ◌∷◌, ◌++◌, Some, refl, sym, ap, ◌∙◌, subst, inl, inr}
 use Rattle.std.specs.declared.option.Option.{Option}
 use Rattle.tl_types.specs.declared.commits.Commit.{Commit}
 use Rattle.tl_types.specs.declared.commits.Entry.{Entry}
 use Rattle.tl_types.specs.Entries.{commits_of, has_break}
 use Rattle.tl_index.specs.Snapshots.{commit_entry, break_entry}
-use Rattle.tl_journal.specs.Image.{ImageStandsFor, BeforeOrAfter}
-use Rattle.tl_journal.specs.Moments.{EachMoment}
+use Rattle.tl_journal.specs.Image.{header, ImageStandsFor, BeforeOrAfter}
+use Rattle.tl_journal.specs.Moments.{EachMoment, IsUntouched, TellsStill}
 use Rattle.tl_journal.specs.Stands.{JournalStandsFor}
 use Rattle.tl_journal.specs.Plain as journal
 use Rattle.tl_engine.specs.Lists.{tried_commits}
@@ -20,6 +20,24 @@ pub image_left : {D : Type 0} (reads : D → Option (List ℕ)) (may_leave : D �
 image_left reads may_leave j cs stands image left =
     (stands.on_disk.front, stands.on_disk.opens, ([], stands.on_disk.stored.only image left))
 
+-- and what a read gives of it
+pub image_read : {D : Type 0} (reads : D → Option (List ℕ)) (may_leave : D → List ℕ → Type 0) (j : journal.Journal D) (cs : List Commit) → JournalStandsFor reads may_leave j cs → (image : List ℕ) × (reads j.disk ≡ Some image) × ImageStandsFor cs image
+image_read reads may_leave j cs stands =
+    let front = stands.on_disk.front in
+    ((header ++ front) ++ 0 ∷ [], stands.on_disk.stored.reads_as, (front, stands.on_disk.opens, ([], refl)))
+
+-- after an append a disk that told its bytes tells an image
+pub image_told : {D : Type 0} (reads : D → Option (List ℕ)) (may_leave : D → List ℕ → Type 0) (old new : journal.Journal D) (cs : List Commit) (c : Commit) → JournalStandsFor reads may_leave old cs → TellsStill reads old.disk new.disk → ((image : List ℕ) → reads new.disk ≡ Some image → BeforeOrAfter cs c image) → (image : List ℕ) × (reads new.disk ≡ Some image) × BeforeOrAfter cs c image
+image_told reads may_leave old new cs c stands tells either =
+    let front = stands.on_disk.front in
+    let told = tells ((header ++ front) ++ 0 ∷ []) stands.on_disk.stored.reads_as in
+    (told.0, told.1, either told.0 told.1)
+
+-- the image before an append or after it stands for entries with a break
+either_of : (entries : List Entry) (cs : List Commit) (c : Commit) (image : List ℕ) → commits_of entries ≡ cs → tried_commits entries ≡ cs ++ c ∷ [] → BeforeOrAfter cs c image → ImageStandsForEntries entries image
+either_of entries cs c image same tried (inl s) = inl (subst (λ l. ImageStandsFor l image) (sym same) s)
+either_of entries cs c image same tried (inr s) = inr (subst (λ l. ImageStandsFor l image) (sym tried) s)
+
 module _ {D : Type 0} (reads : D → Option (List ℕ)) (may_leave : D → List ℕ → Type 0) where
   -- a journal of commits alone
   pub stands_alone : (h : plain.History D) → JournalStandsFor reads may_leave h.journal (commits_of h.entries) → DiskStandsForHistory reads may_leave h
@@ -27,6 +45,7 @@ module _ {D : Type 0} (reads : D → Option (List ℕ)) (may_leave : D → List 
       record {
         whole = λ w. stands;
         leaves = λ image left. inl (image_left reads may_leave h.journal (commits_of h.entries) stands image left);
+        reads_as = let told = image_read reads may_leave h.journal (commits_of h.entries) stands in (told.0, told.1, inl told.2);
       }
 
   -- with one commit more
@@ -36,28 +55,27 @@ module _ {D : Type 0} (reads : D → Option (List ℕ)) (may_leave : D → List 
       stands_alone h (subst (λ cs. JournalStandsFor reads may_leave h.journal cs) (sym e) stands)
 
   -- with the break of a commit
-  pub stands_broken : (old : List Entry) (h : plain.History D) (c : Commit) → has_break old ≡ false → h.entries ≡ old ++ break_entry c ∷ [] → ((image : List ℕ) → may_leave h.journal.disk image → BeforeOrAfter (commits_of old) c image) → DiskStandsForHistory reads may_leave h
-  stands_broken old h c none more now =
+  pub stands_broken : (old : List Entry) (h : plain.History D) (c : Commit) → has_break old ≡ false → h.entries ≡ old ++ break_entry c ∷ [] → ((image : List ℕ) → may_leave h.journal.disk image → BeforeOrAfter (commits_of old) c image) → (image : List ℕ) × (reads h.journal.disk ≡ Some image) × BeforeOrAfter (commits_of old) c image → DiskStandsForHistory reads may_leave h
+  stands_broken old h c none more now told =
       let there : has_break h.entries ≡ true = ap has_break more ∙ break_there old c in
       let same : commits_of h.entries ≡ commits_of old = ap commits_of more ∙ commits_at_break old c in
       let tried : tried_commits h.entries ≡ commits_of old ++ c ∷ [] = ap tried_commits more ∙ (tried_at_break old c ∙ ap (λ cs. cs ++ c ∷ []) (tried_whole old none)) in
       record {
         whole = λ w. absurd (let e : true ≡ false = sym there ∙ w in cc);
-        leaves = λ image left.
-            elim (now image left) as (λ _. ImageStandsForEntries h.entries image) [
-              | inl s ↦ inl (subst (λ cs. ImageStandsFor cs image) (sym same) s)
-              | inr s ↦ inr (subst (λ cs. ImageStandsFor cs image) (sym tried) s)
-            ];
+        leaves = λ image left. either_of h.entries (commits_of old) c image same tried (now image left);
+        reads_as = (told.0, told.1, either_of h.entries (commits_of old) c told.0 same tried told.2);
       }
 
   -- with nothing but room
-  pub stands_still : (old h : plain.History D) → h.entries ≡ old.entries → (JournalStandsFor reads may_leave old.journal (commits_of old.entries) → JournalStandsFor reads may_leave h.journal (commits_of old.entries)) → ((image : List ℕ) → may_leave h.journal.disk image → may_leave old.journal.disk image) → DiskStandsForHistory reads may_leave old → DiskStandsForHistory reads may_leave h
-  stands_still old h same as_before no_more stands =
+  pub stands_still : (old h : plain.History D) → h.entries ≡ old.entries → (JournalStandsFor reads may_leave old.journal (commits_of old.entries) → JournalStandsFor reads may_leave h.journal (commits_of old.entries)) → IsUntouched reads may_leave old.journal.disk h.journal.disk → DiskStandsForHistory reads may_leave old → DiskStandsForHistory reads may_leave h
+  stands_still old h same as_before untouched stands =
+      let told = stands.reads_as in
       record {
         whole = λ w.
             subst (λ es. JournalStandsFor reads may_leave h.journal (commits_of es)) (sym same)
             (as_before (stands.whole (ap has_break (sym same) ∙ w)));
-        leaves = λ image left. subst (λ es. ImageStandsForEntries es image) (sym same) (stands.leaves image (no_more image left));
+        leaves = λ image left. subst (λ es. ImageStandsForEntries es image) (sym same) (stands.leaves image (untouched.no_more image left));
+        reads_as = (told.0, untouched.reads_same ∙ told.1, subst (λ es. ImageStandsForEntries es told.0) (sym same) told.2);
       }
 
   -- what a crash leaves of a history is one of its old and new images

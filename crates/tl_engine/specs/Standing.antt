@@ -1,5 +1,5 @@
 -- What a history keeps, and what its disk stands for.
-use Rattle.std.specs.Prelude.{◌≡◌, ◌⊎◌, ℕ, Bool, true, false, List, None}
+use Rattle.std.specs.Prelude.{◌≡◌, ◌⊎◌, ℕ, Bool, true, false, List, Some, None}
 use Rattle.std.specs.declared.option.Option.{Option}
 use Rattle.tl_types.specs.declared.commits.Entry.{Entry}
 use Rattle.tl_types.specs.Entries.{commits_of, has_break}
@@ -39,13 +39,15 @@ ImageStandsForEntries entries image =
     ImageStandsFor (commits_of entries) image ⊎ ImageStandsFor (tried_commits entries) image
 
 -- the disk stands for the history: while there is no break it has just the journal of the commits,
--- also in a crash; once there is one, what a read gives and what a crash leaves stand for the
--- commits, or for these and the commit of the break
+-- also in a crash; once there is one, what a crash leaves and what a read gives, which it does
+-- tell, stand for the commits, or for these and the commit of the break
 pub record DiskStandsForHistory {D : Type 0} (reads : D → Option (List ℕ)) (may_leave : D → List ℕ → Type 0) (history : plain.History D) : Type 0 where
   pub whole : has_break history.entries ≡ false
       → JournalStandsFor reads may_leave history.journal (commits_of history.entries)
   pub leaves : (image : List ℕ) → may_leave history.journal.disk image
       → ImageStandsForEntries history.entries image
+  pub reads_as : (image : List ℕ) × (reads history.journal.disk ≡ Some image)
+      × ImageStandsForEntries history.entries image
 
 -- nothing has changed but the room that the disk has taken
 pub record HasRoomAlone {D : Type 0} (reads : D → Option (List ℕ)) (may_leave : D → List ℕ → Type 0) (faults : D → ℕ) (old new : plain.History D) : Type 0 where

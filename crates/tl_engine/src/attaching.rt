@@ -105,9 +105,10 @@ impl<D: Disk> Engine<D, Brand> {
     /// `NotInitialised`: the disk has fewer than 17 bytes. `Damaged`: its bytes are no journal, and
     /// `at` is the offset where they are damaged; or they are one, and `at` is the offset of the
     /// first gate whose commit does not fit those before it with the limits. Both leave the disk as
-    /// it is. `Device`: the disk failed in this call. `NoMemory`: memory ran out. After both a
-    /// journal stands for the same commits. A journal whose commits fit one after the other, with
-    /// these limits or smaller ones, meets no other refusal.
+    /// it reads, and after `Damaged` that is durable. `Device`: the disk failed in this call.
+    /// `NoMemory`: memory ran out; the disk stays as it is, or what it then reads as is durable.
+    /// After both a journal stands for the same commits. A journal whose commits fit one after the
+    /// other, with these limits or smaller ones, meets no other refusal.
     pub fn attach(alloc: Global, disk: D, limits: &Limits) -> Result<Opening<D>, Refused<D>>
         requires { AreWithin limits.now standard_limits }
         ensures opens { Opens D.reads D.may_leave D.moment D.left_since D.faults limits.now disk

@@ -109,8 +109,8 @@ impl<D: Disk, J: Named> Engine<D, J> {
             (commits_of result.snapshot) gate }
         ensures leaves { J.told ≡ true → (image : List ℕ) →
             D.may_leave result.disk image → ImageStandsForEntries result.snapshot image }
-        ensures reads { J.told ≡ true → (image : List ℕ) →
-            D.reads result.disk ≡ Some image → ImageStandsForEntries result.snapshot image }
+        ensures reads { J.told ≡ true → (image : List ℕ)
+            × (D.reads result.disk ≡ Some image) × ImageStandsForEntries result.snapshot image }
         ensures count { IsCount (has_break result.snapshot) J.first_count (D.faults result.disk) }
     {
         let Engine { head, lock } = self;

@@ -7,7 +7,7 @@ ghost use Rattle.tl_types.specs.Resolving.{resolved};
 ghost use Rattle.tl_batch.specs.Made.{AreWithin, batch_matches};
 ghost use Rattle.tl_index.specs.Snapshots.{commit_entry};
 ghost use Rattle.tl_types.specs.Legality.{are_legal};
-ghost use Rattle.tl_journal.specs.Answers.{CountsFaults, IsDeviceOrMemory};
+ghost use Rattle.tl_journal.specs.Answers.{CountsFaults, IsDevice};
 ghost use Rattle.tl_journal.specs.Image.{ImageStandsFor};
 ghost use Rattle.tl_device.specs.Disk.{IsStored};
 ghost use Rattle.tl_journal.specs.Opening.{HasRead, IsAtClosedGate};
@@ -84,9 +84,10 @@ impl<D: Disk> History<D> {
     /// `NotInitialised`: the disk has fewer than 17 bytes. `Damaged`: its bytes are no journal, and
     /// `at` is the offset where they are damaged; or they are one, and `at` is the offset of the
     /// first gate whose commit does not fit those before it with the limits. Both leave the disk as
-    /// it is. `Device`: the disk failed in this call. `NoMemory`: memory ran out. After both a
-    /// journal stands for the same commits. A journal whose commits fit one after the other, with
-    /// these limits or smaller ones, meets no other refusal.
+    /// it reads, and after `Damaged` that is durable. `Device`: the disk failed in this call.
+    /// `NoMemory`: memory ran out; the disk stays as it is, or what it then reads as is durable.
+    /// After both a journal stands for the same commits. A journal whose commits fit one after the
+    /// other, with these limits or smaller ones, meets no other refusal.
     pub fn open(alloc: Global, disk: D, limits: &Limits) -> Result<History<D>, Refused<D>>
         requires { AreWithin limits.now standard_limits }
         ensures { Opens D.reads D.may_leave D.moment D.left_since D.faults limits.now disk result }
@@ -265,8 +266,8 @@ impl<D: Disk> History<D> {
             (commits_of self.entries) self.journal.gate }
         ensures leaves { DiskStandsForHistory D.reads D.may_leave self → (image : List ℕ) →
             D.may_leave result.disk image → ImageStandsForEntries self.entries image }
-        ensures reads { DiskStandsForHistory D.reads D.may_leave self → (image : List ℕ) →
-            D.reads result.disk ≡ Some image → ImageStandsForEntries self.entries image }
+        ensures reads { DiskStandsForHistory D.reads D.may_leave self → (image : List ℕ)
+            × (D.reads result.disk ≡ Some image) × ImageStandsForEntries self.entries image }
         ensures count { IsCount
             (has_break self.entries) self.first_count (D.faults result.disk) }
     {
@@ -292,9 +293,10 @@ fn finish<D: Disk>(begun: Begun<D>, limits: Limits) -> Result<History<D>, Refuse
     ensures opened { IfOk result IsOpened }
     ensures entries { IfOk result (λ h. h.entries ≡ begun.replay) }
     ensures limits { IfOk result (λ h. h.limits ≡ limits) }
-    ensures stands { IsStored D.reads D.may_leave begun.found_commits.disk begun.found_commits.image →
-        IfOk result (DiskStandsForHistory D.reads D.may_leave) }
-    ensures any_moment { IsStored D.reads D.may_leave begun.found_commits.disk begun.found_commits.image →
+    ensures stands { IsStored D.reads D.may_leave begun.found_commits.disk
+        begun.found_commits.image → IfOk result (DiskStandsForHistory D.reads D.may_leave) }
+    ensures any_moment { IsStored D.reads D.may_leave begun.found_commits.disk
+        begun.found_commits.image →
         EachMoment D.moment D.left_since begun.found_commits.disk (disk_opened result)
         (ImageStandsFor (commits_of begun.replay)) }
     ensures now { IsStored D.reads D.may_leave begun.found_commits.disk begun.found_commits.image →
@@ -306,7 +308,7 @@ fn finish<D: Disk>(begun: Begun<D>, limits: Limits) -> Result<History<D>, Refuse
         × (D.faults h.journal.disk ≡ D.faults begun.found_commits.disk)) }
     ensures faults { IfErr result (λ r.
         CountsFaults r.fault (D.faults begun.found_commits.disk) (D.faults r.disk)) }
-    ensures kinds { IfErr result (λ r. IsDeviceOrMemory r.fault) }
+    ensures kinds { IfErr result (λ r. IsDevice r.fault) }
 {
     let Begun {
         found_commits,

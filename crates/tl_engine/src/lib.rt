@@ -13,7 +13,8 @@
 //! together count the commits and the breaks since the opening. `attach` opens a history, and
 //! `start` gives it the name that its passes and shares carry.
 //!
-//! The laws say that the calls of an engine are steps of the world of tl_core, by what they promise.
+//! The laws say that the calls of an engine are steps of the world of tl_core, by what they
+//! promise.
 #![tactic(auto)]
 
 mod attaching;

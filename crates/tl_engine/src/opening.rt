@@ -5,7 +5,7 @@ ghost use Rattle.tl_types.specs.Limits.{standard_limits};
 ghost use Rattle.tl_batch.specs.Made.{AreWithin};
 ghost use Rattle.tl_journal.specs.Answers.{CountsFaults, IsTooShort};
 ghost use Rattle.tl_journal.specs.Image.{ImageStandsOnlyFor};
-ghost use Rattle.tl_journal.specs.Moments.{EachMoment, IsUntouched, LosesNothing};
+ghost use Rattle.tl_journal.specs.Moments.{EachMoment, IsUntouched, LosesNothing, IsDurable, IsAsBeforeOrDurable};
 ghost use Rattle.tl_journal.specs.Opening.{HasRead, IsAtClosedGate};
 ghost use Rattle.tl_journal.specs.declared.faults.JournalFault.TheVariants as journal_fault;
 ghost use Rattle.tl_types.specs.Legality.{FitInTurn};
@@ -56,6 +56,10 @@ pub(crate) fn begin<D: Disk>(
         LosesNothing D.reads D.may_leave disk r.disk) }
     ensures damaged { (at : ℕ) → IfErr result (λ r. r.fault ≡ journal_fault.Damaged at →
         IfSome (D.reads disk) (IsDamaged limits.now at)) }
+    ensures durable { (at : ℕ) → IfErr result (λ r. r.fault ≡ journal_fault.Damaged at →
+        IsDurable D.reads D.may_leave disk r.disk) }
+    ensures no_memory { IfErr result (λ r. r.fault ≡ journal_fault.NoMemory →
+        IsAsBeforeOrDurable D.reads D.may_leave disk r.disk) }
     ensures not_long { (len : ℕ) → IfErr result (λ r.
         r.fault ≡ journal_fault.AlreadyInitialised len → ⊥) }
 {

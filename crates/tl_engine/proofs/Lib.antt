@@ -8,3 +8,5 @@ pub mod CountLemmas
 pub mod MatchLemmas
 pub mod SayLemmas
 pub mod WriteLemmas
+pub mod CallLemmas
+mod CallExamples

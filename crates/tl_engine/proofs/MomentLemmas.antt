@@ -9,6 +9,7 @@ no_moment moment left_since may_leave disk only_now =
       later = omega arith;
       each = only_now;
       before = λ t c le since. inl since;
+      nothing_lost = λ t c le past. past;
     }
 
 -- one call after another
@@ -27,6 +28,9 @@ next_moments moment left_since a b c P Q R first second from_p from_q =
             | inl past ↦ elim (first.before t x le past) as (λ _. left_since a t x ⊎ R x) [ inl p ↦ inl p | inr p ↦ inr (from_p x p) ]
             | inr q ↦ inr (from_q x q)
           ];
+      nothing_lost = λ t x le past.
+          let le_b : t ≤ moment b = (let l = first.later in omega arith) in
+          second.nothing_lost t x le_b (first.nothing_lost t x le past);
     }
 
 -- what is left may be said more loosely
@@ -37,4 +41,5 @@ looser_moments moment left_since a b P R first from_p =
       each = λ x since. from_p x (first.each x since);
       before = λ t x le since.
           elim (first.before t x le since) as (λ _. left_since a t x ⊎ R x) [ inl p ↦ inl p | inr p ↦ inr (from_p x p) ];
+      nothing_lost = first.nothing_lost;
     }

@@ -31,27 +31,27 @@ length_opens (c ∷ cs) front opens =
     omega (arith, e, more, length-append (spelling c) tail)
 
 -- the place of the next gate
-pub place_read : {D : Type 0} (found : List Commit) (opening : journal.FoundCommits D) → HasRead found opening → opening.at ≡ 16 + size_of found
-place_read found opening read =
+pub place_read : {D : Type 0} (found : List Commit) (found_commits : journal.FoundCommits D) → HasRead found found_commits → found_commits.at ≡ 16 + size_of found
+place_read found found_commits read =
     let n = length_opens found read.front read.opens in
     let e : length (header ++ read.front) ≡ 16 + length read.front = length-append header read.front in
     read.at_is ∙ (e ∙ ap (λ k. 16 + k) n)
 
 -- it lies within the image
-pub read_within : {D : Type 0} (found : List Commit) (opening : journal.FoundCommits D) → HasRead found opening → opening.at ≤ length opening.image
-read_within found opening read =
-    let e : length opening.image ≡ length ((header ++ read.front) ++ drop opening.at opening.image) = ap length read.image_is in
+pub read_within : {D : Type 0} (found : List Commit) (found_commits : journal.FoundCommits D) → HasRead found found_commits → found_commits.at ≤ length found_commits.image
+read_within found found_commits read =
+    let e : length found_commits.image ≡ length ((header ++ read.front) ++ drop found_commits.at found_commits.image) = ap length read.image_is in
     let at = read.at_is in
-    omega (arith, e, at, length-append (header ++ read.front) (drop opening.at opening.image))
+    omega (arith, e, at, length-append (header ++ read.front) (drop found_commits.at found_commits.image))
 
 -- the commits that are applied with one more
-pub applied_read : {D : Type 0} (limits : Limits) (opening : journal.FoundCommits D) (old new : List Entry) (c : Commit) → HasRead (commits_of old ++ c ∷ []) opening → new ≡ old ++ commit_entry c ∷ [] → HasRead (commits_of new) opening
-applied_read limits opening old new c read more =
-    subst (λ cs. HasRead cs opening) (sym (ap commits_of more ∙ commits_more old c)) read
+pub applied_read : {D : Type 0} (limits : Limits) (found_commits : journal.FoundCommits D) (old new : List Entry) (c : Commit) → HasRead (commits_of old ++ c ∷ []) found_commits → new ≡ old ++ commit_entry c ∷ [] → HasRead (commits_of new) found_commits
+applied_read limits found_commits old new c read more =
+    subst (λ cs. HasRead cs found_commits) (sym (ap commits_of more ∙ commits_more old c)) read
 
 -- where all is spelled well, the gate of the first unfit commit is where the journal is damaged
-pub unfit_read : {D : Type 0} (limits : Limits) (opening : journal.FoundCommits D) (before : List Commit) (at : ℕ) (image : List ℕ) → (first : IsFirstUnfit limits before opening at) → FitInTurn limits before → (later : List Commit) → ImageStandsOnlyFor ((before ++ first.commit ∷ []) ++ later) image → IsUnfitAt limits at image
-unfit_read limits opening before at image first fitting later whole =
+pub unfit_read : {D : Type 0} (limits : Limits) (found_commits : journal.FoundCommits D) (before : List Commit) (at : ℕ) (image : List ℕ) → (first : IsFirstUnfit limits before found_commits at) → FitInTurn limits before → (later : List Commit) → ImageStandsOnlyFor ((before ++ first.commit ∷ []) ++ later) image → IsUnfitAt limits at image
+unfit_read limits found_commits before at image first fitting later whole =
     record {
       before = before;
       commit = first.commit;
@@ -75,8 +75,8 @@ fit_undamaged limits at image cs stands fitting damaged =
 -- WHILE THE COMMITS ARE READ
 
 -- what was read goes on with nothing at first
-pub read_start : {D : Type 0} (opening : journal.FoundCommits D) (found : List Commit) → HasRead found opening → (later : List Commit) × HasRead (found ++ later) opening
-read_start opening found read = ([], subst (λ cs. HasRead cs opening) (sym (append-nil found)) read) where
+pub read_start : {D : Type 0} (found_commits : journal.FoundCommits D) (found : List Commit) → HasRead found found_commits → (later : List Commit) × HasRead (found ++ later) found_commits
+read_start found_commits found read = ([], subst (λ cs. HasRead cs found_commits) (sym (append-nil found)) read) where
   append-nil : (xs : List Commit) → xs ++ [] ≡ xs
   append-nil [] = refl
   append-nil (x ∷ xs) = ap (λ l. x ∷ l) (append-nil xs)
@@ -88,12 +88,12 @@ read_next new found later o f is read =
     (later ++ f.commit ∷ [], subst (λ cs. HasRead cs new) (append_assoc found later (f.commit ∷ [])) r)
 
 -- each commit leaves fewer bytes
-pub fewer_left : {D : Type 0} (opening new : journal.FoundCommits D) (found : List Commit) (o : Option Found) (f : Found) → o ≡ Some f → new.image ≡ opening.image → IfSome o (λ g. new.at ≡ opening.at + (1 + length (spelling g.commit))) → IfSome o (λ g. HasRead (found ++ g.commit ∷ []) new) → length new.image - new.at < length opening.image - opening.at
-fewer_left opening new found o f is same on read =
+pub fewer_left : {D : Type 0} (found_commits new : journal.FoundCommits D) (found : List Commit) (o : Option Found) (f : Found) → o ≡ Some f → new.image ≡ found_commits.image → IfSome o (λ g. new.at ≡ found_commits.at + (1 + length (spelling g.commit))) → IfSome o (λ g. HasRead (found ++ g.commit ∷ []) new) → length new.image - new.at < length found_commits.image - found_commits.at
+fewer_left found_commits new found o f is same on read =
     let r : HasRead (found ++ f.commit ∷ []) new = subst (λ p. IfSome p (λ g. HasRead (found ++ g.commit ∷ []) new)) is read in
-    let n : new.at ≡ opening.at + (1 + length (spelling f.commit)) = subst (λ p. IfSome p (λ g. new.at ≡ opening.at + (1 + length (spelling g.commit)))) is on in
+    let n : new.at ≡ found_commits.at + (1 + length (spelling f.commit)) = subst (λ p. IfSome p (λ g. new.at ≡ found_commits.at + (1 + length (spelling g.commit)))) is on in
     let within = read_within (found ++ f.commit ∷ []) new r in
-    let l : length new.image ≡ length opening.image = ap length same in
+    let l : length new.image ≡ length found_commits.image = ap length same in
     omega (arith, n, within, l)
 
 -- the commits that are applied, with one more that fits
@@ -103,16 +103,16 @@ applied_next limits new old applied o f is read fits =
     applied_read limits new old applied f.commit r fits.1
 
 -- the first commit that does not fit
-pub first_unfit : {D : Type 0} (limits : Limits) (opening new : journal.FoundCommits D) (old applied : List Entry) (o : Option Found) (f : Found) → o ≡ Some f → HasRead (commits_of old) opening → IfSome o (λ g. g.at ≡ opening.at) → IfSome o (λ g. HasRead (commits_of old ++ g.commit ∷ []) new) → IsApplied limits old applied f.commit false → IsFirstUnfit limits (commits_of applied) new f.at
-first_unfit limits opening new old applied o f is before gate read fits =
+pub first_unfit : {D : Type 0} (limits : Limits) (found_commits new : journal.FoundCommits D) (old applied : List Entry) (o : Option Found) (f : Found) → o ≡ Some f → HasRead (commits_of old) found_commits → IfSome o (λ g. g.at ≡ found_commits.at) → IfSome o (λ g. HasRead (commits_of old ++ g.commit ∷ []) new) → IsApplied limits old applied f.commit false → IsFirstUnfit limits (commits_of applied) new f.at
+first_unfit limits found_commits new old applied o f is before gate read fits =
     let r : HasRead (commits_of old ++ f.commit ∷ []) new = subst (λ p. IfSome p (λ g. HasRead (commits_of old ++ g.commit ∷ []) new)) is read in
-    let at : f.at ≡ opening.at = subst (λ p. IfSome p (λ g. g.at ≡ opening.at)) is gate in
+    let at : f.at ≡ found_commits.at = subst (λ p. IfSome p (λ g. g.at ≡ found_commits.at)) is gate in
     subst (λ es. IsFirstUnfit limits (commits_of es) new f.at) (sym fits.1)
     (record {
       commit = f.commit;
       read = r;
       unfit = fits.0;
-      at_is = at ∙ place_read (commits_of old) opening before;
+      at_is = at ∙ place_read (commits_of old) found_commits before;
     })
 
 -- a damage of the image that is read is one of the image at the start
@@ -138,11 +138,11 @@ pub place_of_err : {T : Type 0} (a b : ℕ) → ◌≡◌ {A = Result T JournalF
 place_of_err a b e = cc
 
 -- where all is spelled well, the journal is damaged at the gate of the first commit that does not fit
-pub unfit_there : {D : Type 0} (limits : Limits) (opening : journal.FoundCommits D) (before : List Commit) (o : Option ℕ) (at place : ℕ) (image : List ℕ) → o ≡ Some at → IfSome o (IsFirstUnfit limits before opening) → FitInTurn limits before → ((found : List Commit) → HasRead found opening → (later : List Commit) × ImageStandsOnlyFor (found ++ later) opening.image) → opening.image ≡ image → at ≡ place → IsDamaged limits place image
-unfit_there limits opening before o at place image is unfit fitting whole same there =
-    let first : IsFirstUnfit limits before opening at = subst (λ p. IfSome p (IsFirstUnfit limits before opening)) is unfit in
+pub unfit_there : {D : Type 0} (limits : Limits) (found_commits : journal.FoundCommits D) (before : List Commit) (o : Option ℕ) (at place : ℕ) (image : List ℕ) → o ≡ Some at → IfSome o (IsFirstUnfit limits before found_commits) → FitInTurn limits before → ((found : List Commit) → HasRead found found_commits → (later : List Commit) × ImageStandsOnlyFor (found ++ later) found_commits.image) → found_commits.image ≡ image → at ≡ place → IsDamaged limits place image
+unfit_there limits found_commits before o at place image is unfit fitting whole same there =
+    let first : IsFirstUnfit limits before found_commits at = subst (λ p. IfSome p (IsFirstUnfit limits before found_commits)) is unfit in
     let later = whole (before ++ first.commit ∷ []) first.read in
-    let u = unfit_read limits opening before at opening.image first fitting later.0 later.1 in
+    let u = unfit_read limits found_commits before at found_commits.image first fitting later.0 later.1 in
     subst (λ n. IsDamaged limits n image) there (subst (λ b. IsDamaged limits at b) same (inr u))
 
 -- a journal has 17 bytes at least

@@ -15,7 +15,7 @@ use Rattle.tl_engine.specs.Naming.{IsCommitting}
 use Rattle.tl_engine.specs.Plain as plain
 use Rattle.tl_engine.specs.Saying.{CommitSays, FailSays, becomes, version_after}
 use Rattle.tl_engine.specs.Writing.{DraftFails, WriteFails, shown_by}
-use Rattle.tl_engine.proofs.CountLemmas.{goes_on_commit, goes_on_break}
+use Rattle.tl_engine.proofs.CountLemmas.{continues_with_commit, continues_with_break}
 
 -- where no commit is ready
 pub draft_says : {D : Type 0} (reads : D → Option (List ℕ)) (may_leave : D → List ℕ → Type 0) (faults : D → ℕ) (author : ℕ) (b : Batch) (old new : plain.History D) (limits : Limits) (first_count : ℕ) (seen now : List Entry) (before after : ℕ) (f : CommitFault)
@@ -61,13 +61,13 @@ unwritten_says faults meaning first_count mid last c seen now next broken before
 unwritten_says faults meaning first_count mid last c seen now next broken before after (Err (fault.Device version count)) err chosen now_is begins same = absurd (cc)
 
 -- a committer that has published
-pub keeps_written : {D : Type 0} (faults : D → ℕ) (opening : List Entry) (count : ℕ) (limits : Limits) (written more : List Entry) (total next_total : ℕ) (old mid last : plain.History D) (c : Commit) (next broken shown : List Entry) (answer : Result ℕ CommitFault)
+pub keeps_written : {D : Type 0} (faults : D → ℕ) (first_entries : List Entry) (count : ℕ) (limits : Limits) (written more : List Entry) (total next_total : ℕ) (old mid last : plain.History D) (c : Commit) (next broken shown : List Entry) (answer : Result ℕ CommitFault)
     → IfOk answer (λ v. (last.entries ≡ mid.entries ++ commit_entry c ∷ []) × (v ≡ version_of mid + 1)) → IfErr answer (WriteFails faults c mid last)
     → next ≡ mid.entries ++ commit_entry c ∷ [] → broken ≡ mid.entries ++ break_entry c ∷ [] → Some shown ≡ shown_by answer next broken
     → more ≡ shown → next_total ≡ total + 1
-    → mid.entries ≡ old.entries → last.first_count ≡ old.first_count → last.limits ≡ old.limits → IsCommitting opening count limits written total old
-    → IsCommitting opening count limits more next_total last
-keeps_written faults opening count limits written more total next_total old mid last c next broken shown (Ok v) ok err next_is broken_is chosen more_is counted entries first same kept =
+    → mid.entries ≡ old.entries → last.first_count ≡ old.first_count → last.limits ≡ old.limits → IsCommitting first_entries count limits written total old
+    → IsCommitting first_entries count limits more next_total last
+keeps_written faults first_entries count limits written more total next_total old mid last c next broken shown (Ok v) ok err next_is broken_is chosen more_is counted entries first same kept =
     let e : shown ≡ next = cc in
     let at : mid.entries ≡ written = entries ∙ kept.entries_are in
     let all : more ≡ mid.entries ++ commit_entry c ∷ [] = more_is ∙ (e ∙ next_is) in
@@ -75,12 +75,12 @@ keeps_written faults opening count limits written more total next_total old mid 
       entries_are = ok.0 ∙ sym all;
       count_is = first ∙ kept.count_is;
       limits_are = same ∙ kept.limits_are;
-      goes_on = goes_on_commit opening written more total next_total c (all ∙ ap (λ es. es ++ commit_entry c ∷ []) at) counted kept.goes_on;
+      continues = continues_with_commit first_entries written more total next_total c (all ∙ ap (λ es. es ++ commit_entry c ∷ []) at) counted kept.continues;
     }
-keeps_written faults opening count limits written more total next_total old mid last c next broken shown (Err (fault.Broken version)) ok err next_is broken_is chosen more_is counted entries first same kept = absurd err
-keeps_written faults opening count limits written more total next_total old mid last c next broken shown (Err (fault.Refused version refusal)) ok err next_is broken_is chosen more_is counted entries first same kept = absurd err
-keeps_written faults opening count limits written more total next_total old mid last c next broken shown (Err fault.NoMemory) ok err next_is broken_is chosen more_is counted entries first same kept = absurd (cc)
-keeps_written faults opening count limits written more total next_total old mid last c next broken shown (Err (fault.Device version number)) ok err next_is broken_is chosen more_is counted entries first same kept =
+keeps_written faults first_entries count limits written more total next_total old mid last c next broken shown (Err (fault.Broken version)) ok err next_is broken_is chosen more_is counted entries first same kept = absurd err
+keeps_written faults first_entries count limits written more total next_total old mid last c next broken shown (Err (fault.Refused version refusal)) ok err next_is broken_is chosen more_is counted entries first same kept = absurd err
+keeps_written faults first_entries count limits written more total next_total old mid last c next broken shown (Err fault.NoMemory) ok err next_is broken_is chosen more_is counted entries first same kept = absurd (cc)
+keeps_written faults first_entries count limits written more total next_total old mid last c next broken shown (Err (fault.Device version number)) ok err next_is broken_is chosen more_is counted entries first same kept =
     let e : shown ≡ broken = cc in
     let at : mid.entries ≡ written = entries ∙ kept.entries_are in
     let all : more ≡ mid.entries ++ break_entry c ∷ [] = more_is ∙ (e ∙ broken_is) in
@@ -88,7 +88,7 @@ keeps_written faults opening count limits written more total next_total old mid 
       entries_are = err.0 ∙ sym all;
       count_is = first ∙ kept.count_is;
       limits_are = same ∙ kept.limits_are;
-      goes_on = goes_on_break opening written more total next_total c (all ∙ ap (λ es. es ++ break_entry c ∷ []) at) counted kept.goes_on;
+      continues = continues_with_break first_entries written more total next_total c (all ∙ ap (λ es. es ++ break_entry c ∷ []) at) counted kept.continues;
     }
 
 -- what is published is what was written and one entry more

@@ -14,7 +14,7 @@ use Rattle.tl_engine.specs.declared.faults.CommitFault.TheVariants as fault
 use Rattle.tl_engine.specs.Answers.{Appends, Fails, version_of}
 use Rattle.tl_engine.specs.Plain as plain
 use Rattle.tl_engine.specs.Saying.{version_after}
-use Rattle.tl_engine.specs.Standing.{HasRoomAlone, IsOneOf, StandsOnDisk}
+use Rattle.tl_engine.specs.Standing.{HasRoomAlone, ImageStandsForEither, DiskStandsForHistory}
 use Rattle.tl_engine.specs.Writing.{DraftFails, WriteFails}
 use Rattle.tl_engine.proofs.MomentLemmas.{next_moments}
 use Rattle.tl_engine.proofs.StandingLemmas.{one_of_old}
@@ -57,7 +57,7 @@ module _ {D : Type 0} (reads : D → Option (List ℕ)) (may_leave : D → List 
   commit_err mid new c (Err f) room first whole makes err = write_fails mid new c f room first whole makes err
 
 -- what each moment of the two steps leaves
-pub moments_of_two : {D : Type 0} (reads : D → Option (List ℕ)) (may_leave : D → List ℕ → Type 0) (moment : D → ℕ) (left_since : D → ℕ → List ℕ → Type 0) (old mid new : plain.History D) → mid.entries ≡ old.entries → has_break mid.entries ≡ false → StandsOnDisk reads may_leave old → EachMoment moment left_since old.journal.disk mid.journal.disk (may_leave old.journal.disk) → EachMoment moment left_since mid.journal.disk new.journal.disk (IsOneOf mid.entries new.entries) → EachMoment moment left_since old.journal.disk new.journal.disk (IsOneOf old.entries new.entries)
+pub moments_of_two : {D : Type 0} (reads : D → Option (List ℕ)) (may_leave : D → List ℕ → Type 0) (moment : D → ℕ) (left_since : D → ℕ → List ℕ → Type 0) (old mid new : plain.History D) → mid.entries ≡ old.entries → has_break mid.entries ≡ false → DiskStandsForHistory reads may_leave old → EachMoment moment left_since old.journal.disk mid.journal.disk (may_leave old.journal.disk) → EachMoment moment left_since mid.journal.disk new.journal.disk (ImageStandsForEither mid.entries new.entries) → EachMoment moment left_since old.journal.disk new.journal.disk (ImageStandsForEither old.entries new.entries)
 moments_of_two reads may_leave moment left_since old mid new same whole stands first second =
-    next_moments moment left_since old.journal.disk mid.journal.disk new.journal.disk (may_leave old.journal.disk) (IsOneOf mid.entries new.entries) (IsOneOf old.entries new.entries)
-    first second (one_of_old reads may_leave old new.entries (ap has_break (sym same) ∙ whole) stands) (λ image one. subst (λ es. IsOneOf es new.entries image) same one)
+    next_moments moment left_since old.journal.disk mid.journal.disk new.journal.disk (may_leave old.journal.disk) (ImageStandsForEither mid.entries new.entries) (ImageStandsForEither old.entries new.entries)
+    first second (one_of_old reads may_leave old new.entries (ap has_break (sym same) ∙ whole) stands) (λ image one. subst (λ es. ImageStandsForEither es new.entries image) same one)

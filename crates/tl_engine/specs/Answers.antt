@@ -1,5 +1,5 @@
 -- What the calls of a history answer.
-use Rattle.std.specs.Prelude.{◌≡◌, ℕ, ◌<◌, true, false, List, [], ◌∷◌, ◌++◌, length, map, Some, IfSome, Result, Ok, Err, IfOk, IfErr}
+use Rattle.std.specs.Prelude.{◌≡◌, ◌⊎◌, ℕ, ◌<◌, true, false, List, [], ◌∷◌, ◌++◌, length, map, Some, IfSome, Result, Ok, Err, IfOk, IfErr}
 use Rattle.std.specs.declared.option.Option.{Option}
 use Rattle.tl_types.specs.declared.batches.Batch.{Batch}
 use Rattle.tl_types.specs.declared.commits.Commit.{Commit}
@@ -9,11 +9,12 @@ use Rattle.tl_types.specs.Entries.{commits_of, has_break}
 use Rattle.tl_types.specs.History.{database_of}
 use Rattle.tl_types.specs.Resolving.{resolved}
 use Rattle.tl_batch.specs.Made.{AreWithin}
+use Rattle.tl_device.specs.Disk.{IsStored}
 use Rattle.tl_device.specs.Known.{Rose}
 use Rattle.tl_index.specs.Snapshots.{commit_entry, break_entry}
 use Rattle.tl_journal.specs.Answers.{CountsFaults, IsTooShort, IsDeviceOrMemory}
 use Rattle.tl_journal.specs.Image.{ImageStandsFor, ImageStandsOnlyFor}
-use Rattle.tl_journal.specs.Moments.{EachMoment, EachMomentBySync, IsUntouched, LosesNothing, OldOr}
+use Rattle.tl_journal.specs.Moments.{EachMoment, EachMomentBySync, IsUntouched, LosesNothing, IsAsBefore, IsDurable, OldOr}
 use Rattle.tl_journal.specs.Stands.{SameOrTrimmed}
 use Rattle.tl_journal.specs.declared.faults.JournalFault.TheVariants as journal_fault
 use Rattle.tl_journal.specs.declared.opening.Refused.{Refused}
@@ -22,12 +23,20 @@ use Rattle.tl_engine.specs.declared.faults.CommitFault.TheVariants as fault
 use Rattle.tl_types.specs.Legality.{FitInTurn}
 use Rattle.tl_engine.specs.Fitting.{IsDamaged}
 use Rattle.tl_engine.specs.Plain as plain
-use Rattle.tl_engine.specs.Standing.{HasRoomAlone, StandsOnDisk}
+use Rattle.tl_engine.specs.Standing.{HasRoomAlone, DiskStandsForHistory}
 
 -- the disk in the answer of an opening
 abbrev pub disk_opened : {D : Type 0} → Result (plain.History D) (Refused D) → D
 disk_opened (Ok history) = history.journal.disk
 disk_opened (Err refused) = refused.disk
+
+-- a disk that told its bytes now has just them, or them without what stood past the closed gate,
+-- also in a crash
+abbrev pub KeepsOrTrims : {D : Type 0} → (D → Option (List ℕ)) → (D → List ℕ → Type 0) → D → D
+    → Type 0
+KeepsOrTrims reads may_leave old new =
+    (b : List ℕ) → reads old ≡ Some b → (c : List ℕ) × SameOrTrimmed b c
+    × IsStored reads may_leave new c
 
 -- a history as it is opened: commits alone, which fit in turn
 pub record IsOpened {D : Type 0} (history : plain.History D) : Type 0 where
@@ -45,7 +54,7 @@ pub record Opens {D : Type 0} (read : D → Option (List ℕ)) (may_leave : D �
   pub count : IfOk answer (λ h. (h.first_count ≡ fault_count disk)
       × (fault_count h.journal.disk ≡ fault_count disk))
   -- where the disk told its bytes, it stands for the history
-  pub stands : (b : List ℕ) → read disk ≡ Some b → IfOk answer (StandsOnDisk read may_leave)
+  pub stands : (b : List ℕ) → read disk ≡ Some b → IfOk answer (DiskStandsForHistory read may_leave)
   -- and these bytes are a journal of just the commits of the history
   pub image : (b : List ℕ) → read disk ≡ Some b
       → IfOk answer (λ h. ImageStandsOnlyFor (commits_of h.entries) b)
@@ -85,6 +94,13 @@ pub record Opens {D : Type 0} (read : D → Option (List ℕ)) (may_leave : D �
   -- `Damaged` gives the place where the bytes are damaged or a commit does not fit, and leaves them
   pub damaged : (at : ℕ) → IfErr answer (λ r. r.fault ≡ journal_fault.Damaged at
       → IfSome (read disk) (IsDamaged given at) × IsUntouched read may_leave disk r.disk)
+  -- and a disk that told its bytes then has just them, also in a crash
+  pub durable : (at : ℕ) → IfErr answer (λ r. r.fault ≡ journal_fault.Damaged at
+      → IsDurable read may_leave disk r.disk)
+  -- `NoMemory` leaves the disk as before, neither more nor less; or, once a sync has answered Ok,
+  -- with just the same bytes, or with those without what stood past the closed gate
+  pub no_memory : IfErr answer (λ r. r.fault ≡ journal_fault.NoMemory
+      → IsAsBefore read may_leave disk r.disk ⊎ KeepsOrTrims read may_leave disk r.disk)
   -- `AlreadyInitialised` is not answered
   pub not_long : (len : ℕ) → IfErr answer (λ r.
       r.fault ≡ journal_fault.AlreadyInitialised len → ⊥)

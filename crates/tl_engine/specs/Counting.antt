@@ -11,7 +11,7 @@ news (entry.Commit c ∷ rest) = 1 + news rest
 news (entry.Mark n v ∷ rest) = news rest
 news (entry.Break c ∷ rest) = 1 + news rest
 
--- the list begins with the opening's entries, and has so many commits and breaks more
-pub record GoesOn (opening list : List Entry) (count : ℕ) : Type 0 where
-  pub begins : IsPrefix opening list
-  pub counted : news opening + count ≡ news list
+-- the list begins with the first_entries's entries, and has so many commits and breaks more
+pub record Continues (first_entries list : List Entry) (count : ℕ) : Type 0 where
+  pub begins : IsPrefix first_entries list
+  pub counted : news first_entries + count ≡ news list

@@ -1,7 +1,9 @@
 pub mod Answers
+pub mod Calls
 pub mod Committing
 pub mod Counting
 pub mod Fitting
+pub mod Heads
 pub mod Lists
 pub mod Naming
 pub mod Opening

@@ -4,7 +4,7 @@ use Rattle.atomic_table.specs.Seated.{TableId}
 use Rattle.tl_types.specs.declared.commits.Entry.{Entry}
 use Rattle.tl_types.specs.declared.limits.Limits.{Limits}
 use Rattle.tl_journal.specs.declared.opening.Refused.{Refused}
-use Rattle.tl_engine.specs.Counting.{GoesOn}
+use Rattle.tl_engine.specs.Counting.{Continues}
 use Rattle.tl_engine.specs.Plain as plain
 
 -- the answer of an opening that becomes an engine, by its history alone
@@ -22,8 +22,8 @@ pub record IsNameOf {D : Type 0} (table : TableId) (entries : List Entry) (count
 
 -- what a committer keeps: its history is what is written, it goes on from the named entries by as
 -- many commits and breaks as are counted, and count and limits are the named ones
-pub record IsCommitting {D : Type 0} (opening : List Entry) (count : ℕ) (limits : Limits) (written : List Entry) (total : ℕ) (history : plain.History D) : Type 0 where
+pub record IsCommitting {D : Type 0} (first_entries : List Entry) (count : ℕ) (limits : Limits) (written : List Entry) (total : ℕ) (history : plain.History D) : Type 0 where
   pub entries_are : history.entries ≡ written
   pub count_is : history.first_count ≡ count
   pub limits_are : history.limits ≡ limits
-  pub goes_on : GoesOn opening written total
+  pub continues : Continues first_entries written total

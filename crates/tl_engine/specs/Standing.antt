@@ -1,5 +1,5 @@
 -- What a history keeps, and what its disk stands for.
-use Rattle.std.specs.Prelude.{◌≡◌, ◌⊎◌, ℕ, Bool, true, false, List, None}
+use Rattle.std.specs.Prelude.{◌≡◌, ◌⊎◌, ℕ, Bool, true, false, List, Some, None}
 use Rattle.std.specs.declared.option.Option.{Option}
 use Rattle.tl_types.specs.declared.commits.Entry.{Entry}
 use Rattle.tl_types.specs.Entries.{commits_of, has_break}
@@ -34,18 +34,20 @@ pub record IsHistory {D : Type 0} (faults : D → ℕ) (keys : List IdsByKey) (h
   pub count : IsCount (has_break history.entries) history.first_count (faults history.journal.disk)
 
 -- the image is a journal of the commits, or of these and the commit of the break
-abbrev pub IsImageOf : List Entry → List ℕ → Type 0
-IsImageOf entries image =
+abbrev pub ImageStandsForEntries : List Entry → List ℕ → Type 0
+ImageStandsForEntries entries image =
     ImageStandsFor (commits_of entries) image ⊎ ImageStandsFor (tried_commits entries) image
 
 -- the disk stands for the history: while there is no break it has just the journal of the commits,
--- also in a crash; once there is one, what a read gives and what a crash leaves stand for the
--- commits, or for these and the commit of the break
-pub record StandsOnDisk {D : Type 0} (reads : D → Option (List ℕ)) (may_leave : D → List ℕ → Type 0) (history : plain.History D) : Type 0 where
+-- also in a crash; once there is one, what a crash leaves and what a read gives, which it does
+-- tell, stand for the commits, or for these and the commit of the break
+pub record DiskStandsForHistory {D : Type 0} (reads : D → Option (List ℕ)) (may_leave : D → List ℕ → Type 0) (history : plain.History D) : Type 0 where
   pub whole : has_break history.entries ≡ false
       → JournalStandsFor reads may_leave history.journal (commits_of history.entries)
   pub leaves : (image : List ℕ) → may_leave history.journal.disk image
-      → IsImageOf history.entries image
+      → ImageStandsForEntries history.entries image
+  pub reads_as : (image : List ℕ) × (reads history.journal.disk ≡ Some image)
+      × ImageStandsForEntries history.entries image
 
 -- nothing has changed but the room that the disk has taken
 pub record HasRoomAlone {D : Type 0} (reads : D → Option (List ℕ)) (may_leave : D → List ℕ → Type 0) (faults : D → ℕ) (old new : plain.History D) : Type 0 where
@@ -56,6 +58,6 @@ pub record HasRoomAlone {D : Type 0} (reads : D → Option (List ℕ)) (may_leav
   pub count_same : faults new.journal.disk ≡ faults old.journal.disk
 
 -- the image is a journal of the commits of the old entries, or of all that the new entries name
-abbrev pub IsOneOf : List Entry → List Entry → List ℕ → Type 0
-IsOneOf old new image =
+abbrev pub ImageStandsForEither : List Entry → List Entry → List ℕ → Type 0
+ImageStandsForEither old new image =
     ImageStandsFor (commits_of old) image ⊎ ImageStandsFor (tried_commits new) image

@@ -5,15 +5,15 @@ ghost use Rattle.tl_batch.specs.Made.{AreWithin};
 ghost use Rattle.tl_journal.specs.declared.faults.JournalFault.TheVariants as journal_fault;
 ghost use Rattle.tl_engine.specs.Answers.{disk_opened, Opens};
 ghost use Rattle.tl_engine.specs.Naming.{history_attached, IsNameOf};
-ghost use Rattle.tl_engine.specs.Standing.{StandsOnDisk};
+ghost use Rattle.tl_engine.specs.Standing.{DiskStandsForHistory};
 
 use crate::committer::{Committer, Publisher};
 use crate::engines::{Engine, Started};
 use crate::histories::{Closed, History};
+use crate::locks::CommitLock;
 use crate::names::Named;
 use std::alloc::Global;
 use std::marker::{Brand, Model};
-use std::sync::Mutex;
 use std::sync::ledger::Blank;
 use tl_device::Disk;
 use tl_head::{Head, NewHead, WriterPass};
@@ -105,9 +105,10 @@ impl<D: Disk> Engine<D, Brand> {
     /// `NotInitialised`: the disk has fewer than 17 bytes. `Damaged`: its bytes are no journal, and
     /// `at` is the offset where they are damaged; or they are one, and `at` is the offset of the
     /// first gate whose commit does not fit those before it with the limits. Both leave the disk as
-    /// it is. `Device`: the disk failed in this call. `NoMemory`: memory ran out. After both a
-    /// journal stands for the same commits. A journal whose commits fit one after the other, with
-    /// these limits or smaller ones, meets no other refusal.
+    /// it reads, and after `Damaged` that is durable. `Device`: the disk failed in this call.
+    /// `NoMemory`: memory ran out; the disk stays as it is, or what it then reads as is durable.
+    /// After both a journal stands for the same commits. A journal whose commits fit one after the
+    /// other, with these limits or smaller ones, meets no other refusal.
     pub fn attach(alloc: Global, disk: D, limits: &Limits) -> Result<Opening<D>, Refused<D>>
         requires { AreWithin limits.now standard_limits }
         ensures opens { Opens D.reads D.may_leave D.moment D.left_since D.faults limits.now disk
@@ -125,10 +126,10 @@ impl<D: Disk> Opening<D> {
     /// Starts the engine of this name, with a pass that has seen the opening's entries and the
     /// share that has all parts and counts nothing. It takes no memory.
     pub fn start<J: Named>(self) -> Started<D, J>
-        requires names { IsNameOf J.table J.opening J.first_count J.limits self }
+        requires names { IsNameOf J.table J.first_entries J.first_count J.limits self }
         requires ledger { (self.ledger ≡ J.name) × (self.parts ≡ J.parts) }
-        requires told { J.told ≡ true → StandsOnDisk D.reads D.may_leave self.history }
-        ensures pass { (result.pass.table ≡ J.table) × (result.pass.seen ≡ J.opening) }
+        requires told { J.told ≡ true → DiskStandsForHistory D.reads D.may_leave self.history }
+        ensures pass { (result.pass.table ≡ J.table) × (result.pass.seen ≡ J.first_entries) }
         ensures share { (result.share.parts ≡ 65536) × (result.share.amount ≡ 0) }
     {
         let Opening {
@@ -140,9 +141,9 @@ impl<D: Disk> Opening<D> {
         let pass = writer.reader(&head);
         let (book, share) = blank.open::<J>();
         let publisher = Publisher { writer, book };
-        let committer = Mutex::new(Committer { history, publisher });
+        let lock = CommitLock::new(Committer { history, publisher });
         Started {
-            engine: Engine::new(head, committer),
+            engine: Engine::new(head, lock),
             pass,
             share,
         }

@@ -4,7 +4,9 @@ ghost use mathlib.Core.List.{IsPrefix};
 ghost use Rattle.tl_types.specs.declared.commits.Entry.{Entry};
 ghost use Rattle.tl_types.specs.Entries.{commits_of};
 ghost use Rattle.tl_types.specs.History.{database_of};
+ghost use Rattle.tl_types.specs.Legality.{are_legal};
 ghost use Rattle.tl_batch.specs.Made.{batch_matches};
+ghost use Rattle.tl_engine.specs.Calls.{TakesEffect};
 ghost use Rattle.tl_engine.specs.Saying.{CommitSays, becomes, names_table};
 ghost use Rattle.tl_engine.specs.Writing.{shown_at, shown_by};
 
@@ -85,16 +87,16 @@ impl<D: Disk, J: Named> Model for Committer<D, J> {
     ghost use Rattle.std.specs.Prelude.{◌≡◌, List, true};
     ghost use Rattle.tl_types.specs.declared.commits.Entry.{Entry};
     ghost use Rattle.tl_engine.specs.Naming.{IsCommitting};
-    ghost use Rattle.tl_engine.specs.Standing.{StandsOnDisk};
+    ghost use Rattle.tl_engine.specs.Standing.{DiskStandsForHistory};
 
     ghost Value = { List Entry };
 
     ghost view = { λ c. c.publisher.writer.written };
 
     ghost invariant = { λ c. (c.publisher.writer.table ≡ J.table) × (J.parts ≡ 65536)
-        × IsCommitting J.opening J.first_count J.limits
+        × IsCommitting J.first_entries J.first_count J.limits
         c.publisher.writer.written c.publisher.book.total c.history
-        × (J.told ≡ true → StandsOnDisk D.reads D.may_leave c.history) };
+        × (J.told ≡ true → DiskStandsForHistory D.reads D.may_leave c.history) };
 }
 
 /// The snapshots of which one is published, made before the first byte is written.
@@ -164,6 +166,9 @@ impl<D: Disk, J: Named> Committer<D, J> {
             (batch_matches (database_of (commits_of pass.old.seen)) offer.batch) }
         ensures own { pass.new.table ≡ J.table }
         ensures written { pass.new.seen ≡ self.new }
+        ensures effect { TakesEffect (becomes J.limits offer.author offer.batch) J.first_count
+            self.old self.new pass.old.seen pass.new.seen result }
+        ensures legal { IsTrue (are_legal pass.new.seen) }
         ensures parts { share.new.parts ≡ share.old.parts }
         ensures says { CommitSays (becomes J.limits offer.author offer.batch) J.first_count
             pass.old.seen pass.new.seen share.old.amount share.new.amount result }
@@ -171,6 +176,7 @@ impl<D: Disk, J: Named> Committer<D, J> {
         let alloc = rt.alloc();
         let Committer { history, publisher } = self;
         publisher.show(head, pass);
+        let _legal = history.has_break();
         let Offer { author, batch } = offer;
         let draft = history.draft(alloc, author, batch)?;
         let Ok(copies) = copies_of(&draft) else {
@@ -180,6 +186,7 @@ impl<D: Disk, J: Named> Committer<D, J> {
         let Some(shown) = copies.shown_by(&answer) else {
             return answer;
         };
+        let _legal = shown.has_break();
         publisher.publish(rt, head, pass, share, shown);
         answer
     }

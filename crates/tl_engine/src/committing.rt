@@ -1,5 +1,5 @@
 //! The steps of a commit: what the batch becomes, all memory, and the append.
-ghost use Rattle.std.specs.Prelude.{◌≡◌, ◌≤◌, ◌++◌, ◌∷◌, [], ℕ, List, length, None, Ok, false, IsTrue, IfOk, IfErr, OnOk};
+ghost use Rattle.std.specs.Prelude.{◌≡◌, ◌≤◌, ◌++◌, ◌∷◌, [], ℕ, List, length, None, Ok, Some, false, IsTrue, IfOk, IfErr, OnOk};
 ghost use Rattle.tl_types.specs.declared.commits.Commit.{Commit as CommitValue};
 ghost use Rattle.tl_types.specs.Entries.{commits_of, has_break};
 ghost use Rattle.tl_types.specs.History.{database_of, fits};
@@ -122,6 +122,9 @@ pub(crate) fn append<D: Disk>(journal: &mut Journal<D>, body: &Bytes) -> Result<
     ensures now { (cs : List CommitValue) (c : CommitValue) →
         JournalStandsFor D.reads D.may_leave journal.old cs → IsBodyOf c body.now →
         (image : List ℕ) → D.may_leave journal.new.disk image → BeforeOrAfter cs c image }
+    ensures reads { (cs : List CommitValue) (c : CommitValue) →
+        JournalStandsFor D.reads D.may_leave journal.old cs → IsBodyOf c body.now →
+        (image : List ℕ) × (D.reads journal.new.disk ≡ Some image) × BeforeOrAfter cs c image }
     ensures ok { OnOk result ((journal.new.broken ≡ None)
         × (D.faults journal.new.disk ≡ D.faults journal.old.disk)) }
     ensures err { IfErr result

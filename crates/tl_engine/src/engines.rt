@@ -8,15 +8,16 @@ ghost use Rattle.tl_types.specs.Legality.{are_legal};
 ghost use Rattle.tl_journal.specs.Stands.{DiskStandsFor};
 ghost use Rattle.tl_engine.specs.Counting.{news};
 ghost use Rattle.tl_engine.specs.Saying.{CommitSays, becomes, names_table};
-ghost use Rattle.tl_engine.specs.Standing.{IsCount, IsImageOf};
+ghost use Rattle.tl_engine.specs.Standing.{IsCount, ImageStandsForEntries};
 
 use crate::committer::{Committer, Offer, Publisher};
 use crate::faults::CommitFault;
 use crate::histories::Closed;
+use crate::locks::CommitLock;
 use crate::names::Named;
 use std::alloc::Global;
+use std::sync::Wait;
 use std::sync::ledger::Share;
-use std::sync::{Mutex, Wait};
 use tl_device::Disk;
 use tl_head::{Head, Pass};
 use tl_index::Snapshot;
@@ -27,7 +28,7 @@ use tl_types::{Batch, NoMemory};
 pub struct Engine<D: Disk, J: Named> {
     /// The head, by which passes are copied and taken in.
     pub head: Head<Snapshot>,
-    committer: Mutex<Committer<D, J>>,
+    lock: CommitLock<D, J>,
     pub ghost named: { head ≡ J.table },
 }
 
@@ -43,14 +44,15 @@ pub struct Started<D: Disk, J: Named> {
 
 impl<D: Disk, J: Named> Engine<D, J> {
     // The engine of this head, which is the named one.
-    pub(crate) fn new(head: Head<Snapshot>, committer: Mutex<Committer<D, J>>) -> Engine<D, J>
+    pub(crate) fn new(head: Head<Snapshot>, lock: CommitLock<D, J>) -> Engine<D, J>
         requires { head ≡ J.table }
     {
-        Engine { head, committer }
+        Engine { head, lock }
     }
 
     /// A snapshot of what the pass has then seen; what it had seen is a prefix of that. It takes a
-    /// turn and no lock. The error is `NoMemory`, and the latter holds after it too.
+    /// turn, and has no share with which it could take the lock. The error is `NoMemory`, and the
+    /// latter holds after it too.
     pub fn read<R: Wait>(&self, rt: &R, pass: &mut Pass<Snapshot>) -> Result<Snapshot, NoMemory>
         requires own { pass.old.table ≡ J.table }
         ensures own { pass.new.table ≡ J.table }
@@ -62,7 +64,7 @@ impl<D: Disk, J: Named> Engine<D, J> {
 
     /// Commits a batch of an author over all that is written, and answers the version that it
     /// makes: the number of the commits with it. It takes the lock. In every answer but `NoMemory`
-    /// the pass has then seen all that is written.
+    /// the pass has then seen all that is written, which is legal.
     ///
     /// Rows that the batch puts match the schema of the table that it names, which is among those
     /// of what the pass has seen. The faults are tried in this order. `Broken`: there is a break.
@@ -84,13 +86,13 @@ impl<D: Disk, J: Named> Engine<D, J> {
         requires matching { IsTrue
             (batch_matches (database_of (commits_of pass.old.seen)) batch) }
         ensures own { pass.new.table ≡ J.table }
+        ensures legal { IsTrue (are_legal pass.new.seen) }
         ensures parts { share.new.parts ≡ share.old.parts }
         ensures says { CommitSays (becomes J.limits author batch) J.first_count
             pass.old.seen pass.new.seen share.old.amount share.new.amount result }
     {
         let offer = Offer { author, batch };
-        let mut committer = self.committer.lock(rt);
-        committer.commit(rt, &self.head, pass, share, offer)
+        self.lock.commit(rt, &self.head, pass, share, offer)
     }
 
     /// Ends with the engine: a snapshot of all that is written, and the disk. The share that has
@@ -99,20 +101,20 @@ impl<D: Disk, J: Named> Engine<D, J> {
         requires own { pass.table ≡ J.table }
         requires whole { share.parts ≡ 65536 }
         ensures seen { IsPrefix pass.seen result.snapshot }
-        ensures opening { IsPrefix J.opening result.snapshot }
-        ensures counted { news J.opening + share.amount ≡ news result.snapshot }
+        ensures first_entries { IsPrefix J.first_entries result.snapshot }
+        ensures counted { news J.first_entries + share.amount ≡ news result.snapshot }
         ensures legal { IsTrue (are_legal result.snapshot) }
         ensures whole { J.told ≡ true → has_break result.snapshot ≡ false →
             (gate : ℕ) × DiskStandsFor D.reads D.may_leave result.disk
             (commits_of result.snapshot) gate }
         ensures leaves { J.told ≡ true → (image : List ℕ) →
-            D.may_leave result.disk image → IsImageOf result.snapshot image }
-        ensures reads { J.told ≡ true → (image : List ℕ) →
-            D.reads result.disk ≡ Some image → IsImageOf result.snapshot image }
+            D.may_leave result.disk image → ImageStandsForEntries result.snapshot image }
+        ensures reads { J.told ≡ true → (image : List ℕ)
+            × (D.reads result.disk ≡ Some image) × ImageStandsForEntries result.snapshot image }
         ensures count { IsCount (has_break result.snapshot) J.first_count (D.faults result.disk) }
     {
-        let Engine { head, committer } = self;
-        let Committer { history, publisher } = committer.into_inner();
+        let Engine { head, lock } = self;
+        let Committer { history, publisher } = lock.into_committer();
         let Publisher { writer, mut book } = publisher;
         book.audit(&mut share);
         drop(head.close(rt, writer, pass));

@@ -7,7 +7,7 @@ ghost use Rattle.tl_types.specs.Resolving.{resolved};
 ghost use Rattle.tl_batch.specs.Made.{AreWithin, batch_matches};
 ghost use Rattle.tl_index.specs.Snapshots.{commit_entry};
 ghost use Rattle.tl_types.specs.Legality.{are_legal};
-ghost use Rattle.tl_journal.specs.Answers.{CountsFaults, IsDeviceOrMemory};
+ghost use Rattle.tl_journal.specs.Answers.{CountsFaults, IsDevice};
 ghost use Rattle.tl_journal.specs.Image.{ImageStandsFor};
 ghost use Rattle.tl_device.specs.Disk.{IsStored};
 ghost use Rattle.tl_journal.specs.Opening.{HasRead, IsAtClosedGate};
@@ -16,7 +16,7 @@ ghost use Rattle.tl_journal.specs.Stands.{DiskStandsFor, SameOrTrimmed};
 ghost use Rattle.tl_engine.specs.Answers.{disk_opened, IsOpened, Opens, Appends, Fails, version_of};
 ghost use Rattle.tl_engine.specs.Writing.{IsDraft, DraftFails, WriteFails};
 ghost use Rattle.tl_types.specs.Legality.{FitInTurn};
-ghost use Rattle.tl_engine.specs.Standing.{IsCount, IsImageOf, HasRoomAlone, IsOneOf, StandsOnDisk};
+ghost use Rattle.tl_engine.specs.Standing.{IsCount, ImageStandsForEntries, HasRoomAlone, ImageStandsForEither, DiskStandsForHistory};
 
 use crate::committing::{Draft, append, draft_of, resolve};
 use crate::faults::CommitFault;
@@ -84,9 +84,10 @@ impl<D: Disk> History<D> {
     /// `NotInitialised`: the disk has fewer than 17 bytes. `Damaged`: its bytes are no journal, and
     /// `at` is the offset where they are damaged; or they are one, and `at` is the offset of the
     /// first gate whose commit does not fit those before it with the limits. Both leave the disk as
-    /// it is. `Device`: the disk failed in this call. `NoMemory`: memory ran out. After both a
-    /// journal stands for the same commits. A journal whose commits fit one after the other, with
-    /// these limits or smaller ones, meets no other refusal.
+    /// it reads, and after `Damaged` that is durable. `Device`: the disk failed in this call.
+    /// `NoMemory`: memory ran out; the disk stays as it is, or what it then reads as is durable.
+    /// After both a journal stands for the same commits. A journal whose commits fit one after the
+    /// other, with these limits or smaller ones, meets no other refusal.
     pub fn open(alloc: Global, disk: D, limits: &Limits) -> Result<History<D>, Refused<D>>
         requires { AreWithin limits.now standard_limits }
         ensures { Opens D.reads D.may_leave D.moment D.left_since D.faults limits.now disk result }
@@ -140,11 +141,11 @@ impl<D: Disk> History<D> {
             (Fails D.reads D.may_leave D.faults author batch self.old self.new) }
         ensures settings { (self.new.limits ≡ self.old.limits)
             × (self.new.first_count ≡ self.old.first_count) }
-        ensures stands { StandsOnDisk D.reads D.may_leave self.old →
-            StandsOnDisk D.reads D.may_leave self.new }
-        ensures any_moment { StandsOnDisk D.reads D.may_leave self.old →
+        ensures stands { DiskStandsForHistory D.reads D.may_leave self.old →
+            DiskStandsForHistory D.reads D.may_leave self.new }
+        ensures any_moment { DiskStandsForHistory D.reads D.may_leave self.old →
             EachMoment D.moment D.left_since self.old.journal.disk self.new.journal.disk
-            (IsOneOf self.old.entries self.new.entries) }
+            (ImageStandsForEither self.old.entries self.new.entries) }
     {
         let draft = self.draft(alloc, author, batch)?;
         self.write(alloc, draft)
@@ -168,8 +169,8 @@ impl<D: Disk> History<D> {
         ensures room { HasRoomAlone D.reads D.may_leave D.faults self.old self.new }
         ensures settings { (self.new.limits ≡ self.old.limits)
             × (self.new.first_count ≡ self.old.first_count) }
-        ensures stands { StandsOnDisk D.reads D.may_leave self.old →
-            StandsOnDisk D.reads D.may_leave self.new }
+        ensures stands { DiskStandsForHistory D.reads D.may_leave self.old →
+            DiskStandsForHistory D.reads D.may_leave self.new }
         ensures any_moment { EachMoment D.moment D.left_since self.old.journal.disk
             self.new.journal.disk (D.may_leave self.old.journal.disk) }
     {
@@ -202,11 +203,11 @@ impl<D: Disk> History<D> {
         ensures err { IfErr result (WriteFails D.faults draft.commit self.old self.new) }
         ensures settings { (self.new.limits ≡ self.old.limits)
             × (self.new.first_count ≡ self.old.first_count) }
-        ensures stands { StandsOnDisk D.reads D.may_leave self.old →
-            StandsOnDisk D.reads D.may_leave self.new }
-        ensures any_moment { StandsOnDisk D.reads D.may_leave self.old →
+        ensures stands { DiskStandsForHistory D.reads D.may_leave self.old →
+            DiskStandsForHistory D.reads D.may_leave self.new }
+        ensures any_moment { DiskStandsForHistory D.reads D.may_leave self.old →
             EachMoment D.moment D.left_since self.old.journal.disk self.new.journal.disk
-            (IsOneOf self.old.entries self.new.entries) }
+            (ImageStandsForEither self.old.entries self.new.entries) }
     {
         let version = self.snapshot.store().versions();
         let History {
@@ -260,13 +261,13 @@ impl<D: Disk> History<D> {
     pub fn close(self) -> Closed<D>
         ensures snapshot { result.snapshot ≡ self.entries }
         ensures disk { result.disk ≡ self.journal.disk }
-        ensures whole { StandsOnDisk D.reads D.may_leave self → has_break self.entries ≡ false →
-            DiskStandsFor D.reads D.may_leave result.disk
+        ensures whole { DiskStandsForHistory D.reads D.may_leave self →
+            has_break self.entries ≡ false → DiskStandsFor D.reads D.may_leave result.disk
             (commits_of self.entries) self.journal.gate }
-        ensures leaves { StandsOnDisk D.reads D.may_leave self → (image : List ℕ) →
-            D.may_leave result.disk image → IsImageOf self.entries image }
-        ensures reads { StandsOnDisk D.reads D.may_leave self → (image : List ℕ) →
-            D.reads result.disk ≡ Some image → IsImageOf self.entries image }
+        ensures leaves { DiskStandsForHistory D.reads D.may_leave self → (image : List ℕ) →
+            D.may_leave result.disk image → ImageStandsForEntries self.entries image }
+        ensures reads { DiskStandsForHistory D.reads D.may_leave self → (image : List ℕ)
+            × (D.reads result.disk ≡ Some image) × ImageStandsForEntries self.entries image }
         ensures count { IsCount
             (has_break self.entries) self.first_count (D.faults result.disk) }
     {
@@ -286,30 +287,34 @@ impl<D: Disk> History<D> {
 // off the disk.
 fn finish<D: Disk>(begun: Begun<D>, limits: Limits) -> Result<History<D>, Refused<D>>
     requires within { AreWithin limits standard_limits }
-    requires read { HasRead (commits_of begun.replay) begun.opening }
-    requires end { IsAtClosedGate begun.opening }
+    requires read { HasRead (commits_of begun.replay) begun.found_commits }
+    requires end { IsAtClosedGate begun.found_commits }
     requires fitting { FitInTurn limits (commits_of begun.replay) }
     ensures opened { IfOk result IsOpened }
     ensures entries { IfOk result (λ h. h.entries ≡ begun.replay) }
     ensures limits { IfOk result (λ h. h.limits ≡ limits) }
-    ensures stands { IsStored D.reads D.may_leave begun.opening.disk begun.opening.image →
-        IfOk result (StandsOnDisk D.reads D.may_leave) }
-    ensures any_moment { IsStored D.reads D.may_leave begun.opening.disk begun.opening.image →
-        EachMoment D.moment D.left_since begun.opening.disk (disk_opened result)
+    ensures stands { IsStored D.reads D.may_leave begun.found_commits.disk
+        begun.found_commits.image → IfOk result (DiskStandsForHistory D.reads D.may_leave) }
+    ensures any_moment { IsStored D.reads D.may_leave begun.found_commits.disk
+        begun.found_commits.image →
+        EachMoment D.moment D.left_since begun.found_commits.disk (disk_opened result)
         (ImageStandsFor (commits_of begun.replay)) }
-    ensures now { IsStored D.reads D.may_leave begun.opening.disk begun.opening.image →
+    ensures now { IsStored D.reads D.may_leave begun.found_commits.disk begun.found_commits.image →
         (c : List ℕ) → D.may_leave (disk_opened result) c →
         ImageStandsFor (commits_of begun.replay) c }
-    ensures reads { (b : List ℕ) → D.reads begun.opening.disk ≡ Some b → (c : List ℕ)
+    ensures reads { (b : List ℕ) → D.reads begun.found_commits.disk ≡ Some b → (c : List ℕ)
         × (D.reads (disk_opened result) ≡ Some c) × SameOrTrimmed b c }
-    ensures count { IfOk result (λ h. (h.first_count ≡ D.faults begun.opening.disk)
-        × (D.faults h.journal.disk ≡ D.faults begun.opening.disk)) }
+    ensures count { IfOk result (λ h. (h.first_count ≡ D.faults begun.found_commits.disk)
+        × (D.faults h.journal.disk ≡ D.faults begun.found_commits.disk)) }
     ensures faults { IfErr result (λ r.
-        CountsFaults r.fault (D.faults begun.opening.disk) (D.faults r.disk)) }
-    ensures kinds { IfErr result (λ r. IsDeviceOrMemory r.fault) }
+        CountsFaults r.fault (D.faults begun.found_commits.disk) (D.faults r.disk)) }
+    ensures kinds { IfErr result (λ r. IsDevice r.fault) }
 {
-    let Begun { opening, replay } = begun;
-    match opening.finish() {
+    let Begun {
+        found_commits,
+        replay,
+    } = begun;
+    match found_commits.finish() {
         Ok(journal) => Ok(History::over(journal, replay, limits)),
         Err(refused) => Err(refused),
     }

@@ -12,6 +12,9 @@
 //! same entries, and counted in a ledger of which each thread has a share: so at the end all shares
 //! together count the commits and the breaks since the opening. `attach` opens a history, and
 //! `start` gives it the name that its passes and shares carry.
+//!
+//! The laws say that the calls of an engine are steps of the world of tl_core, by what they
+//! promise.
 #![tactic(auto)]
 
 mod attaching;
@@ -20,6 +23,8 @@ mod committing;
 mod engines;
 mod faults;
 mod histories;
+mod laws;
+mod locks;
 mod names;
 mod opening;
 mod replaying;
@@ -28,6 +33,10 @@ pub use attaching::Opening;
 pub use engines::{Engine, Started};
 pub use faults::CommitFault;
 pub use histories::{Closed, History};
+pub use laws::{
+    every_answer_is_of_a_call, every_call_is_allowed, every_door_shows_a_world,
+    every_locked_commit_is_allowed, every_run_is_of_the_world,
+};
 pub use names::Named;
 pub use std::sync::ledger::Share;
 pub use tl_head::Pass;

@@ -14,7 +14,7 @@ pub trait Named: Ledger {
     ghost table: { TableId };
 
     // The entries at its opening.
-    ghost opening: { List Entry };
+    ghost first_entries: { List Entry };
 
     // The disk's count of faults at its opening.
     ghost first_count: { ℕ };
@@ -41,7 +41,7 @@ impl Named for Brand {
       slot_names = [];
     } };
 
-    ghost opening = { [] };
+    ghost first_entries = { [] };
 
     ghost first_count = { 0 };
 

@@ -5,7 +5,7 @@ ghost use Rattle.tl_types.specs.Limits.{standard_limits};
 ghost use Rattle.tl_batch.specs.Made.{AreWithin};
 ghost use Rattle.tl_journal.specs.Answers.{CountsFaults, IsTooShort};
 ghost use Rattle.tl_journal.specs.Image.{ImageStandsOnlyFor};
-ghost use Rattle.tl_journal.specs.Moments.{EachMoment, IsUntouched, LosesNothing};
+ghost use Rattle.tl_journal.specs.Moments.{EachMoment, IsUntouched, LosesNothing, IsDurable, IsAsBeforeOrDurable};
 ghost use Rattle.tl_journal.specs.Opening.{HasRead, IsAtClosedGate};
 ghost use Rattle.tl_journal.specs.declared.faults.JournalFault.TheVariants as journal_fault;
 ghost use Rattle.tl_types.specs.Legality.{FitInTurn};
@@ -22,7 +22,7 @@ use tl_types::Limits;
 #[derive(Drop)]
 pub(crate) struct Begun<D: Disk> {
     /// The journal while it is opened.
-    pub opening: FoundCommits<D>,
+    pub found_commits: FoundCommits<D>,
     /// The snapshot of its commits, and the keys.
     pub replay: Replay,
 }
@@ -35,16 +35,17 @@ pub(crate) fn begin<D: Disk>(
     limits: &Limits,
 ) -> Result<Begun<D>, Refused<D>>
     requires { AreWithin limits.now standard_limits }
-    ensures read { IfOk result (λ o. HasRead (commits_of o.replay) o.opening) }
-    ensures end { IfOk result (λ o. IsAtClosedGate o.opening) }
+    ensures read { IfOk result (λ o. HasRead (commits_of o.replay) o.found_commits) }
+    ensures end { IfOk result (λ o. IsAtClosedGate o.found_commits) }
     ensures fitting { IfOk result (λ o. FitInTurn limits.now (commits_of o.replay)) }
-    ensures whole { IfOk result (λ o. ImageStandsOnlyFor (commits_of o.replay) o.opening.image) }
+    ensures whole { IfOk result (λ o.
+        ImageStandsOnlyFor (commits_of o.replay) o.found_commits.image) }
     ensures image { (b : List ℕ) → D.reads disk ≡ Some b →
-        IfOk result (λ o. HasImage D.reads D.may_leave b o.opening) }
+        IfOk result (λ o. HasImage D.reads D.may_leave b o.found_commits) }
     ensures untouched { IsUntouched D.reads D.may_leave disk (disk_begun result) }
     ensures any_moment { EachMoment D.moment D.left_since disk (disk_begun result)
         (D.may_leave disk) }
-    ensures sure { IfOk result (λ o. D.faults o.opening.disk ≡ D.faults disk) }
+    ensures sure { IfOk result (λ o. D.faults o.found_commits.disk ≡ D.faults disk) }
     ensures faults { IfErr result (λ r.
         CountsFaults r.fault (D.faults disk) (D.faults r.disk)) }
     ensures too_short { (len : ℕ) → IfErr result (λ r.
@@ -55,18 +56,25 @@ pub(crate) fn begin<D: Disk>(
         LosesNothing D.reads D.may_leave disk r.disk) }
     ensures damaged { (at : ℕ) → IfErr result (λ r. r.fault ≡ journal_fault.Damaged at →
         IfSome (D.reads disk) (IsDamaged limits.now at)) }
+    ensures durable { (at : ℕ) → IfErr result (λ r. r.fault ≡ journal_fault.Damaged at →
+        IsDurable D.reads D.may_leave disk r.disk) }
+    ensures no_memory { IfErr result (λ r. r.fault ≡ journal_fault.NoMemory →
+        IsAsBeforeOrDurable D.reads D.may_leave disk r.disk) }
     ensures not_long { (len : ℕ) → IfErr result (λ r.
         r.fault ≡ journal_fault.AlreadyInitialised len → ⊥) }
 {
-    let mut opening = match Journal::open(alloc, disk) {
-        Ok(opening) => opening,
+    let mut found_commits = match Journal::open(alloc, disk) {
+        Ok(found_commits) => found_commits,
         Err(refused) => return Err(refused),
     };
-    match replay_all(alloc, &mut opening, limits) {
-        Ok(replay) => Ok(Begun { opening, replay }),
+    match replay_all(alloc, &mut found_commits, limits) {
+        Ok(replay) => Ok(Begun {
+            found_commits,
+            replay,
+        }),
         Err(fault) => Err(Refused {
             fault,
-            disk: opening.into_disk(),
+            disk: found_commits.into_disk(),
         }),
     }
 }

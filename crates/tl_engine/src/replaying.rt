@@ -89,27 +89,27 @@ impl Replay {
 // of that one's gate, or `None` where all are applied.
 fn replay_fitting<D: Disk>(
     alloc: Global,
-    opening: &mut FoundCommits<D>,
+    found_commits: &mut FoundCommits<D>,
     replay: &mut Replay,
     limits: &Limits,
 ) -> Result<Option<u64>, JournalFault>
     requires within { AreWithin limits.now standard_limits }
-    requires read { HasRead (commits_of replay.old) opening.old }
+    requires read { HasRead (commits_of replay.old) found_commits.old }
     requires fitting { FitInTurn limits.now (commits_of replay.old) }
-    ensures disk { opening.new.disk ≡ opening.old.disk }
-    ensures image { opening.new.image ≡ opening.old.image }
+    ensures disk { found_commits.new.disk ≡ found_commits.old.disk }
+    ensures image { found_commits.new.image ≡ found_commits.old.image }
     ensures fitting { FitInTurn limits.now (commits_of replay.new) }
-    ensures read { result ≡ Ok None → HasRead (commits_of replay.new) opening.new }
-    ensures end { result ≡ Ok None → IsAtClosedGate opening.new }
+    ensures read { result ≡ Ok None → HasRead (commits_of replay.new) found_commits.new }
+    ensures end { result ≡ Ok None → IsAtClosedGate found_commits.new }
     ensures whole { result ≡ Ok None →
-        ImageStandsOnlyFor (commits_of replay.new) opening.old.image }
+        ImageStandsOnlyFor (commits_of replay.new) found_commits.old.image }
     ensures unfit { IfOk result (λ o. IfSome o
-        (IsFirstUnfit limits.now (commits_of replay.new) opening.new)) }
+        (IsFirstUnfit limits.now (commits_of replay.new) found_commits.new)) }
     ensures damaged { (at : ℕ) → result ≡ Err (journal_fault.Damaged at) →
-        IsDamagedOnlyAt at opening.old.image }
+        IsDamagedOnlyAt at found_commits.old.image }
     ensures kinds { IfErr result IsDamagedOrMemoryThere }
 {
-    'commits: while let Some(found) = opening.next(alloc)? {
+    'commits: while let Some(found) = found_commits.next(alloc)? {
         let Ok(fits) = replay.push_fitting(alloc, &found.commit, limits) else {
             return Err(JournalFault::NoMemory);
         };
@@ -121,18 +121,21 @@ fn replay_fitting<D: Disk>(
 }
 
 // Passes over the commits that are left, so that a gate that no record follows is found.
-fn pass_over<D: Disk>(alloc: Global, opening: &mut FoundCommits<D>) -> Result<(), JournalFault>
-    requires { (found : List CommitValue) × HasRead found opening.old }
-    ensures disk { opening.new.disk ≡ opening.old.disk }
-    ensures image { opening.new.image ≡ opening.old.image }
-    ensures whole { (found : List CommitValue) → HasRead found opening.old →
+fn pass_over<D: Disk>(
+    alloc: Global,
+    found_commits: &mut FoundCommits<D>,
+) -> Result<(), JournalFault>
+    requires { (found : List CommitValue) × HasRead found found_commits.old }
+    ensures disk { found_commits.new.disk ≡ found_commits.old.disk }
+    ensures image { found_commits.new.image ≡ found_commits.old.image }
+    ensures whole { (found : List CommitValue) → HasRead found found_commits.old →
         OnOk result ((later : List CommitValue)
-        × ImageStandsOnlyFor (found ++ later) opening.old.image) }
+        × ImageStandsOnlyFor (found ++ later) found_commits.old.image) }
     ensures damaged { (at : ℕ) → result ≡ Err (journal_fault.Damaged at) →
-        IsDamagedOnlyAt at opening.old.image }
+        IsDamagedOnlyAt at found_commits.old.image }
     ensures kinds { IfErr result IsDamagedOrMemoryThere }
 {
-    'commits: while let Some(found) = opening.next(alloc)? {
+    'commits: while let Some(found) = found_commits.next(alloc)? {
         let _at = found.at;
     }
     Ok(())
@@ -143,28 +146,28 @@ fn pass_over<D: Disk>(alloc: Global, opening: &mut FoundCommits<D>) -> Result<()
 /// `NoMemory`: memory ran out. The disk stays as it is.
 pub(crate) fn replay_all<D: Disk>(
     alloc: Global,
-    opening: &mut FoundCommits<D>,
+    found_commits: &mut FoundCommits<D>,
     limits: &Limits,
 ) -> Result<Replay, JournalFault>
     requires within { AreWithin limits.now standard_limits }
-    requires read { HasRead [] opening.old }
-    ensures disk { opening.new.disk ≡ opening.old.disk }
-    ensures image { opening.new.image ≡ opening.old.image }
-    ensures read { IfOk result (λ r. HasRead (commits_of r) opening.new) }
-    ensures end { OnOk result (IsAtClosedGate opening.new) }
-    ensures whole { IfOk result (λ r. ImageStandsOnlyFor (commits_of r) opening.old.image) }
+    requires read { HasRead [] found_commits.old }
+    ensures disk { found_commits.new.disk ≡ found_commits.old.disk }
+    ensures image { found_commits.new.image ≡ found_commits.old.image }
+    ensures read { IfOk result (λ r. HasRead (commits_of r) found_commits.new) }
+    ensures end { OnOk result (IsAtClosedGate found_commits.new) }
+    ensures whole { IfOk result (λ r. ImageStandsOnlyFor (commits_of r) found_commits.old.image) }
     ensures fitting { IfOk result (λ r. FitInTurn limits.now (commits_of r)) }
     ensures damaged { (at : ℕ) → result ≡ Err (journal_fault.Damaged at) →
-        IsDamaged limits.now at opening.old.image }
+        IsDamaged limits.now at found_commits.old.image }
     ensures kinds { IfErr result IsDamagedOrMemoryThere }
 {
     let Ok(mut replay) = Replay::new(alloc) else {
         return Err(JournalFault::NoMemory);
     };
-    match replay_fitting(alloc, opening, &mut replay, limits)? {
+    match replay_fitting(alloc, found_commits, &mut replay, limits)? {
         None => Ok(replay),
         Some(at) => {
-            pass_over(alloc, opening)?;
+            pass_over(alloc, found_commits)?;
             Err(JournalFault::Damaged { at })
         }
     }

@@ -7,7 +7,7 @@ ghost use Rattle.tl_types.specs.Limits.{standard_limits};
 ghost use Rattle.tl_batch.specs.Made.{AreWithin, batch_matches};
 ghost use Rattle.tl_engine.specs.Naming.{IsNameOf};
 ghost use Rattle.tl_engine.specs.Saying.{names_table};
-ghost use Rattle.tl_engine.specs.Standing.{StandsOnDisk};
+ghost use Rattle.tl_engine.specs.Standing.{DiskStandsForHistory};
 
 use crate::{Closed, CommitFault, Engine, History, Named, Opening, Share, Started};
 use std::alloc::Global;
@@ -191,9 +191,9 @@ fn commit_all<D: Disk + Send, J: Named + Send + Sync, R: AllocGlobal + Threads +
     opening: Opening<D>,
     plan: Plan,
 ) -> Outcome<D>
-    requires names { IsNameOf J.table J.opening J.first_count J.limits opening }
+    requires names { IsNameOf J.table J.first_entries J.first_count J.limits opening }
     requires ledger { (opening.ledger ≡ J.name) × (opening.parts ≡ J.parts) }
-    requires told { J.told ≡ true → StandsOnDisk D.reads D.may_leave opening.history }
+    requires told { J.told ≡ true → DiskStandsForHistory D.reads D.may_leave opening.history }
 {
     let Started {
         engine,

@@ -14,7 +14,7 @@ returns-in-Ok-clause-stands g c =
 pub returns-in-Ok-clause-any_moment : goal.returns-in-Ok-clause-any_moment
 returns-in-Ok-clause-any_moment g c =
     λ stored.
-    moments_same g.D.Disk.reads g.D.Disk.may_leave g.D.Disk.moment g.D.Disk.left_since c.args.begun.opening.disk c.in-Ok.journal.disk c.over.result.journal.disk
+    moments_same g.D.Disk.reads g.D.Disk.may_leave g.D.Disk.moment g.D.Disk.left_since c.args.begun.found_commits.disk c.in-Ok.journal.disk c.over.result.journal.disk
     (ImageStandsFor (commits_of c.args.begun.replay)) (ap (λ h. h.journal.disk) c.over.ensures.value)
     (c.in-Ok.ensures.any_moment (commits_of c.args.begun.replay) c.requires.read stored)
 

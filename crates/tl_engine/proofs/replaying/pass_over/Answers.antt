@@ -6,27 +6,27 @@ use Rattle.tl_engine.proofs.ReadLemmas.{read_start, read_next, fewer_left, damag
 use Rattle.tl_engine.proofs.replaying.pass_over.Goals as goal
 
 pub commits-init : goal.commits-init
-commits-init g c = record { disk = refl; image = refl; read = λ found r. read_start c.args.opening.now found r }
+commits-init g c = record { disk = refl; image = refl; read = λ found r. read_start c.args.found_commits.now found r }
 
 pub returns-in_err-found-clause-damaged : goal.returns-in_err-found-clause-damaged
 returns-in_err-found-clause-damaged g c =
     λ at e.
     let l = c.commits.invariant.read c.requires.0 c.requires.1 in
     let p = err_from_is_err_and c.from_residual.result c.from_residual.ensures.1 in
-    damaged_there at c.commits.opening.image c.args.opening.now.image c.commits.invariant.image
-    (damaged_by c.from_residual.result p.0 c.in_err-found.field-0.0 at (IsDamagedOnlyAt at c.commits.opening.image) p.1 p.2 e
+    damaged_there at c.commits.found_commits.image c.args.found_commits.now.image c.commits.invariant.image
+    (damaged_by c.from_residual.result p.0 c.in_err-found.field-0.0 at (IsDamagedOnlyAt at c.commits.found_commits.image) p.1 p.2 e
     (c.in_err-found.ensures.damaged (c.requires.0 ++ l.0) at l.1))
 
 pub commits-smaller-in-Some : goal.commits-smaller-in-Some
 commits-smaller-in-Some g c =
     let l = c.commits.invariant.read c.requires.0 c.requires.1 in
-    fewer_left c.commits.opening c.next.new.self (c.requires.0 ++ l.0) c.in_ok-found.field-0 c.in-Some.found c.in-Some.is
+    fewer_left c.commits.found_commits c.next.new.self (c.requires.0 ++ l.0) c.in_ok-found.field-0 c.in-Some.found c.in-Some.is
     c.next.ensures.image c.in_ok-found.ensures.on (c.in_ok-found.ensures.found (c.requires.0 ++ l.0) l.1)
 
 pub commits-smaller : goal.commits-smaller
 commits-smaller g c =
     let l = c.commits.invariant.read c.requires.0 c.requires.1 in
-    fewer_left c.commits.opening c.next.new.self (c.requires.0 ++ l.0) c.in_ok-found.field-0 c.in-Some.found c.in-Some.is
+    fewer_left c.commits.found_commits c.next.new.self (c.requires.0 ++ l.0) c.in_ok-found.field-0 c.in-Some.found c.in-Some.is
     c.next.ensures.image c.in_ok-found.ensures.on (c.in_ok-found.ensures.found (c.requires.0 ++ l.0) l.1)
 
 pub commits-preserved-in-Some : goal.commits-preserved-in-Some

@@ -6,11 +6,11 @@ use Rattle.tl_engine.proofs.replaying.pass_over.Given as goal
 
 abbrev pub invariant-commits : goal.invariant-commits
 invariant-commits g l = record {
-  disk : l.opening.disk ≡ l.fn.opening.disk;
-  image : l.opening.image ≡ l.fn.opening.image;
-  read : (found : List Commit) → HasRead found l.fn.opening
-      → (later : List Commit) × HasRead (found ++ later) l.opening;
+  disk : l.found_commits.disk ≡ l.fn.found_commits.disk;
+  image : l.found_commits.image ≡ l.fn.found_commits.image;
+  read : (found : List Commit) → HasRead found l.fn.found_commits
+      → (later : List Commit) × HasRead (found ++ later) l.found_commits;
 }
 
 abbrev pub decreases-commits : goal.decreases-commits
-decreases-commits g l = length l.opening.image - l.opening.at
+decreases-commits g l = length l.found_commits.image - l.found_commits.at

@@ -10,18 +10,18 @@ use Rattle.tl_engine.proofs.replaying.replay_fitting.Goals as goal
 
 pub returns-then-not-fits-clause-unfit : goal.returns-then-not-fits-clause-unfit
 returns-then-not-fits-clause-unfit g c =
-    first_unfit c.args.limits.now c.commits.opening c.next.new.self c.commits.replay c.push_fitting.new.self c.in_ok-found.field-0 c.in-Some.found c.in-Some.is
+    first_unfit c.args.limits.now c.commits.found_commits c.next.new.self c.commits.replay c.push_fitting.new.self c.in_ok-found.field-0 c.in-Some.found c.in-Some.is
     c.commits.invariant.read c.in_ok-found.ensures.gate (c.in_ok-found.ensures.found (commits_of c.commits.replay) c.commits.invariant.read)
     (subst (λ b. IsApplied c.args.limits.now c.commits.replay c.push_fitting.new.self c.in-Some.found.commit b) c.if-not-fits.true c.in-Ok.ensures.ok)
 
 pub commits-smaller-else-not-fits : goal.commits-smaller-else-not-fits
 commits-smaller-else-not-fits g c =
-    fewer_left c.commits.opening c.next.new.self (commits_of c.commits.replay) c.in_ok-found.field-0 c.in-Some.found c.in-Some.is
+    fewer_left c.commits.found_commits c.next.new.self (commits_of c.commits.replay) c.in_ok-found.field-0 c.in-Some.found c.in-Some.is
     c.next.ensures.image c.in_ok-found.ensures.on (c.in_ok-found.ensures.found (commits_of c.commits.replay) c.commits.invariant.read)
 
 pub commits-smaller : goal.commits-smaller
 commits-smaller g c =
-    fewer_left c.commits.opening c.next.new.self (commits_of c.commits.replay) c.in_ok-found.field-0 c.in-Some.found c.in-Some.is
+    fewer_left c.commits.found_commits c.next.new.self (commits_of c.commits.replay) c.in_ok-found.field-0 c.in-Some.found c.in-Some.is
     c.next.ensures.image c.in_ok-found.ensures.on (c.in_ok-found.ensures.found (commits_of c.commits.replay) c.commits.invariant.read)
 
 pub commits-preserved-else-not-fits : goal.commits-preserved-else-not-fits
@@ -50,8 +50,8 @@ pub returns-in_err-found-clause-damaged : goal.returns-in_err-found-clause-damag
 returns-in_err-found-clause-damaged g c =
     λ at e.
     let p = err_from_is_err_and c.from_residual.result c.from_residual.ensures.1 in
-    damaged_there at c.commits.opening.image c.args.opening.now.image c.commits.invariant.image
-    (damaged_by c.from_residual.result p.0 c.in_err-found.field-0.0 at (IsDamagedOnlyAt at c.commits.opening.image) p.1 p.2 e
+    damaged_there at c.commits.found_commits.image c.args.found_commits.now.image c.commits.invariant.image
+    (damaged_by c.from_residual.result p.0 c.in_err-found.field-0.0 at (IsDamagedOnlyAt at c.commits.found_commits.image) p.1 p.2 e
     (c.in_err-found.ensures.damaged (commits_of c.commits.replay) at c.commits.invariant.read))
 
 pub returns-clause-whole : goal.returns-clause-whole

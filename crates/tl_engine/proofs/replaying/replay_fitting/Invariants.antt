@@ -7,11 +7,11 @@ use Rattle.tl_engine.proofs.replaying.replay_fitting.Given as goal
 
 abbrev pub invariant-commits : goal.invariant-commits
 invariant-commits g l = record {
-  disk : l.opening.disk ≡ l.fn.opening.disk;
-  image : l.opening.image ≡ l.fn.opening.image;
-  read : HasRead (commits_of l.replay) l.opening;
+  disk : l.found_commits.disk ≡ l.fn.found_commits.disk;
+  image : l.found_commits.image ≡ l.fn.found_commits.image;
+  read : HasRead (commits_of l.replay) l.found_commits;
   fitting : FitInTurn l.limits (commits_of l.replay);
 }
 
 abbrev pub decreases-commits : goal.decreases-commits
-decreases-commits g l = length l.opening.image - l.opening.at
+decreases-commits g l = length l.found_commits.image - l.found_commits.at

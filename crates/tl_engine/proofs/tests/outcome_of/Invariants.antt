@@ -6,4 +6,4 @@ abbrev pub ghosts-commit_all-J-Ledger : goal.ghosts-commit_all-J-Ledger
 ghosts-commit_all-J-Ledger g a = record { name = a.opening.ledger; parts = a.opening.parts }
 
 abbrev pub ghosts-commit_all-J-Named : goal.ghosts-commit_all-J-Named
-ghosts-commit_all-J-Named g a = record { table = a.opening.table; opening = a.opening.history.entries; first_count = a.opening.history.first_count; limits = a.opening.history.limits; told = false }
+ghosts-commit_all-J-Named g a = record { table = a.opening.table; first_entries = a.opening.history.entries; first_count = a.opening.history.first_count; limits = a.opening.history.limits; told = false }

@@ -3,6 +3,7 @@ use Rattle.std.proofs.Common.{rules, ◌≡◌, ◌+◌, Ok, refl, sym, ap, ◌�
 use Rattle.std.proofs.lemmas.Result.{err_from_is_err_and}
 use Rattle.tl_engine.specs.Saying.{becomes}
 use Rattle.tl_engine.proofs.MatchLemmas.{matches_on}
+use Rattle.tl_engine.proofs.CallLemmas.{write_effect}
 use Rattle.tl_engine.proofs.SayLemmas.{draft_says, write_says, unwritten_says, keeps_written, one_more}
 use Rattle.tl_engine.proofs.committer.Committer.commit.Goals as goal
 
@@ -41,7 +42,7 @@ invariant_of-self-2 g c =
     let total : c.publish.new.self.book.total ≡ c.self.inside.publisher.book.total + 1 = c.publish.ensures.counted.0 ∙ ap (λ w. w.book.total + 1) c.show.ensures.same in (
       search rules,
       search rules,
-      keeps_written g.D.Disk.faults g.J.Named.opening g.J.Named.first_count g.J.Named.limits c.self.inside.publisher.writer.written c.publish.new.self.writer.written c.self.inside.publisher.book.total c.publish.new.self.book.total c.self.inside.history c.draft.new.self c.write-answer.new.self c.in_ok-draft.draft.commit c.in-Ok.copies.next c.in-Ok.copies.broken c.in-Some.shown c.write-answer.result
+      keeps_written g.D.Disk.faults g.J.Named.first_entries g.J.Named.first_count g.J.Named.limits c.self.inside.publisher.writer.written c.publish.new.self.writer.written c.self.inside.publisher.book.total c.publish.new.self.book.total c.self.inside.history c.draft.new.self c.write-answer.new.self c.in_ok-draft.draft.commit c.in-Ok.copies.next c.in-Ok.copies.broken c.in-Some.shown c.write-answer.result
           c.write-answer.ensures.ok c.write-answer.ensures.err (c.in-Ok.ensures.0 ∙ d.next) (c.in-Ok.ensures.1 ∙ d.broken) (sym c.in-Some.is ∙ c.shown_by.ensures)
           c.publish.ensures.written.0 total c.draft.ensures.room.entries_same (c.write-answer.ensures.settings.1 ∙ c.draft.ensures.settings.1) (c.write-answer.ensures.settings.0 ∙ c.draft.ensures.settings.0) kept,
       λ told. c.write-answer.ensures.stands (c.draft.ensures.stands (c.self.invariant.3 told)),
@@ -58,3 +59,15 @@ returns-clause-says g c =
     write_says g.D.Disk.faults c.args.offer.author c.args.offer.batch g.J.Named.limits g.J.Named.first_count c.draft.new.self c.write-answer.new.self c.in_ok-draft.draft.commit c.args.pass.now.seen c.publish.new.pass.seen c.in-Ok.copies.next c.in-Ok.copies.broken c.in-Some.shown c.args.share.now.amount c.publish.new.share.amount c.write-answer.result
     c.write-answer.ensures.ok c.write-answer.ensures.err (c.in-Ok.ensures.0 ∙ d.next) (c.in-Ok.ensures.1 ∙ d.broken) (sym c.in-Some.is ∙ c.shown_by.ensures) c.publish.ensures.written.1
     d.whole makes (c.draft.ensures.settings.1 ∙ kept.count_is) (rw mid c.show.ensures.begins) c.publish.ensures.counted.1
+
+pub returns-clause-effect : goal.returns-clause-effect
+returns-clause-effect g c =
+    let kept = c.self.invariant.2 in
+    let d = c.in_ok-draft.ensures.ok in
+    let mid : c.draft.new.self.entries ≡ c.self.inside.publisher.writer.written = c.draft.ensures.room.entries_same ∙ kept.entries_are in
+    let makes : becomes g.J.Named.limits c.args.offer.author c.args.offer.batch c.draft.new.self.entries ≡ Ok c.in_ok-draft.draft.commit =
+    ap (λ l. becomes l c.args.offer.author c.args.offer.batch c.draft.new.self.entries) (sym kept.limits_are)
+    ∙ (ap (becomes c.self.inside.history.limits c.args.offer.author c.args.offer.batch) c.draft.ensures.room.entries_same ∙ c.in_ok-draft.ensures.resolves) in
+    rw (← c.self.view_is) (write_effect g.D.Disk.faults (becomes g.J.Named.limits c.args.offer.author c.args.offer.batch) g.J.Named.first_count c.draft.new.self c.write-answer.new.self c.in_ok-draft.draft.commit c.self.inside.publisher.writer.written c.publish.new.self.writer.written c.args.pass.now.seen c.publish.new.pass.seen c.in-Ok.copies.next c.in-Ok.copies.broken c.in-Some.shown c.write-answer.result
+    c.write-answer.ensures.ok c.write-answer.ensures.err (c.in-Ok.ensures.0 ∙ d.next) (c.in-Ok.ensures.1 ∙ d.broken) (sym c.in-Some.is ∙ c.shown_by.ensures) c.publish.ensures.written.0 (c.publish.ensures.written.1 ∙ sym c.publish.ensures.written.0)
+    mid d.whole makes (c.draft.ensures.settings.1 ∙ kept.count_is) c.show.ensures.begins)

@@ -10,11 +10,11 @@ returns-in_default-clause-stands g c =
     let j = c.draft_of.ensures.journal in
     let old : plain.History g.row.D.Denot = record { entries = c.self.inside.snapshot; journal = c.self.inside.journal; first_count = c.self.inside.first_count; limits = c.self.inside.limits } in
     let new : plain.History g.row.D.Denot = record { entries = c.self.inside.snapshot; journal = c.draft_of.new.journal; first_count = c.self.inside.first_count; limits = c.self.inside.limits } in
-    rw (← c.self.view_is) (λ stands. stands_still g.D.Disk.reads g.D.Disk.may_leave old new refl (j.stands (commits_of c.self.inside.snapshot)) j.untouched.no_more stands)
+    rw (← c.self.view_is) (λ stands. stands_still g.D.Disk.reads g.D.Disk.may_leave old new refl (j.stands (commits_of c.self.inside.snapshot)) j.untouched stands)
 
 pub returns-clause-stands : goal.returns-clause-stands
 returns-clause-stands g c =
     let j = c.draft_of.ensures.journal in
     let old : plain.History g.row.D.Denot = record { entries = c.self.inside.snapshot; journal = c.self.inside.journal; first_count = c.self.inside.first_count; limits = c.self.inside.limits } in
     let new : plain.History g.row.D.Denot = record { entries = c.self.inside.snapshot; journal = c.draft_of.new.journal; first_count = c.self.inside.first_count; limits = c.self.inside.limits } in
-    rw (← c.self.view_is) (λ stands. stands_still g.D.Disk.reads g.D.Disk.may_leave old new refl (j.stands (commits_of c.self.inside.snapshot)) j.untouched.no_more stands)
+    rw (← c.self.view_is) (λ stands. stands_still g.D.Disk.reads g.D.Disk.may_leave old new refl (j.stands (commits_of c.self.inside.snapshot)) j.untouched stands)

@@ -22,7 +22,8 @@ returns-in-Err-clause-stands g c =
     let d : IsDraft c.self.inside.snapshot c.self.inside.journal.spare c.args.draft = subst (λ (h : plain.History g.row.D.Denot). IsDraft h.entries h.journal.spare c.args.draft) (sym c.self.view_is) c.requires in
     let new : plain.History g.row.D.Denot = record { entries = c.args.draft.broken; journal = c.append.new.journal; first_count = c.self.inside.first_count; limits = c.self.inside.limits } in
     rw (← c.self.view_is) (λ stands. stands_broken g.D.Disk.reads g.D.Disk.may_leave c.self.inside.snapshot new c.args.draft.commit d.whole d.broken
-    (c.append.ensures.now (commits_of c.self.inside.snapshot) c.args.draft.commit (stands.whole d.whole) d.body))
+    (c.append.ensures.now (commits_of c.self.inside.snapshot) c.args.draft.commit (stands.whole d.whole) d.body)
+    (c.append.ensures.reads (commits_of c.self.inside.snapshot) c.args.draft.commit (stands.whole d.whole) d.body))
 
 pub returns-in-Err-clause-any_moment : goal.returns-in-Err-clause-any_moment
 returns-in-Err-clause-any_moment g c =

@@ -1,0 +1,95 @@
+-- Calls of two passes over an empty history: one creates a table, the other reads, and is refused the same name.
+use Rattle.std.proofs.Common.{◌≡◌, ◌+◌, List, [], ◌∷◌, Some, None, Ok, Err, false, true, inl, inr, refl, arith}
+use mathlib.Core.List.{IsPrefix}
+use Rattle.tl_types.specs.Plain as plain
+use Rattle.tl_types.specs.Limits.{standard_limits}
+use Rattle.tl_types.specs.Legality.{are_legal}
+use Rattle.tl_types.specs.declared.batches.Batch.TheVariants as batch
+use Rattle.tl_types.specs.declared.batches.BatchFault.TheVariants as refusal
+use Rattle.tl_types.specs.declared.cells.ColumnKind.TheVariants.{IntKind}
+use Rattle.tl_types.specs.declared.commits.Commit.{Commit}
+use Rattle.tl_types.specs.declared.commits.Body.TheVariants as body
+use Rattle.tl_types.specs.declared.commits.Entry.{Entry}
+use Rattle.tl_types.specs.declared.commits.Entry.TheVariants as entry
+use Rattle.tl_core.specs.declared.steps.Step.TheVariants as step
+use Rattle.tl_core.specs.World.{World}
+use Rattle.tl_engine.specs.declared.faults.CommitFault.TheVariants as fault
+use Rattle.tl_engine.specs.Calls.{Call, IsRun, after_calls, steps_of_calls}
+use Rattle.tl_engine.specs.Counting.{news}
+use Rattle.tl_engine.specs.Heads.{HeadState, LeadTo, world_of}
+use Rattle.tl_engine.specs.Saying.{CommitSays, becomes}
+
+abbrev table : plain.Schema
+table = record { name = 101 ∷ []; columns = record { name = 105 ∷ []; kind = IntKind } ∷ []; key = 0; valid = false }
+
+abbrev create : Commit
+create = record { author = 1; body = body.Create table }
+
+abbrev all : List Entry
+all = entry.Commit create ∷ []
+
+abbrev start : HeadState
+start = record { written = []; seen = [] ∷ [] ∷ [] }
+
+abbrev creates : Call
+creates = record { pass = 1; old = []; base = []; entry = Some (entry.Commit create) }
+
+abbrev reads : Call
+reads = record { pass = 0; old = []; base = all; entry = None }
+
+abbrev is_refused : Call
+is_refused = record { pass = 0; old = all; base = all; entry = None }
+
+run : IsRun standard_limits 0 all start (creates ∷ reads ∷ is_refused ∷ [])
+run = (
+  record { pass = refl; count = refl },
+  (([], refl), inr (record { author = 1; batch = batch.Create table; answer = Ok 1; answers = (record { commit = create; whole = refl; makes = refl; entry_is = refl }, refl) })),
+  ([], refl),
+  (
+    record { pass = refl; count = refl },
+    ((all, refl), inl refl),
+    ([], refl),
+    (
+      record { pass = refl; count = refl },
+      (([], refl), inr (record { author = 1; batch = batch.Create table; answer = Err (fault.Refused 1 refusal.TableExists); answers = (refl, refl, refl, refl) })),
+      ([], refl),
+      tt,
+    ),
+  ),
+)
+
+steps : steps_of_calls (creates ∷ reads ∷ is_refused ∷ []) ≡ step.Read 1 ∷ step.Publish create ∷ step.Read 1 ∷ step.Read 0 ∷ step.Read 0 ∷ []
+steps = refl
+
+ends : after_calls start (creates ∷ reads ∷ is_refused ∷ []) ≡ record { written = all; seen = all ∷ all ∷ [] }
+ends = refl
+
+-- the same commit twice is no steps of the world
+not_twice : (w : World) → LeadTo (world_of start) (step.Publish create ∷ step.Publish create ∷ []) w → ⊥
+not_twice w h = let n = h.1.0 in absurd (cc)
+
+-- and two calls that both publish over the same list are no run
+not_both : (last : List Entry) → IsRun standard_limits 0 last start (creates ∷ record { pass = 0; old = []; base = []; entry = Some (entry.Commit create) } ∷ []) → ⊥
+not_both last r = let n = r.3.0.count in absurd (omega (arith, n))
+
+-- THE PROMISES ALONE
+
+-- what a commit promises does not name its base: two passes may both claim the first of two entries,
+-- and the count of both is right; it is the lock that gives each its own base
+claims : CommitSays (becomes standard_limits 1 (batch.Create table)) 0 [] all 0 1 (Ok 1)
+claims = (record { base = []; commit = create; begins = ([], refl); whole = refl; makes = refl; entries_are = refl }, refl, refl)
+
+abbrev change : Commit
+change = record { author = 1; body = body.Change (record { table = 0; closes = []; opens = [] }) }
+
+abbrev two : List Entry
+two = entry.Commit create ∷ entry.Commit change ∷ []
+
+two_are_legal : are_legal two ≡ true
+two_are_legal = refl
+
+two_are_counted : news two ≡ 1 + 1
+two_are_counted = refl
+
+two_begin : IsPrefix all two
+two_begin = (entry.Commit change ∷ [], refl)

@@ -1,0 +1,11 @@
+use Rattle.tl_engine.proofs.CallLemmas.{base_of, commit_call, read_call}
+use Rattle.tl_engine.proofs.laws.every_answer_is_of_a_call.Goals as goal
+
+pub returns-clause-base : goal.returns-clause-base
+returns-clause-base c = base_of
+
+pub returns-clause-commit : goal.returns-clause-commit
+returns-clause-commit c = commit_call
+
+pub returns-clause-read : goal.returns-clause-read
+returns-clause-read c = read_call

@@ -1,0 +1,181 @@
+-- The calls of an engine as steps of a world.
+use Rattle.std.specs.Prelude.{◌≡◌, ◌⊎◌, ℕ, ◌+◌, true, false, IsTrue, List, [], ◌∷◌, ◌++◌, length, Some, None, Result, Ok, Err, slice_get}
+use Rattle.std.specs.List.{fold, flat_map}
+use Rattle.std.specs.declared.option.Option.{Option}
+use mathlib.Core.List.{IsPrefix}
+use Rattle.tl_types.specs.declared.batches.Batch.{Batch}
+use Rattle.tl_types.specs.declared.batches.BatchFault.{BatchFault}
+use Rattle.tl_types.specs.declared.commits.Commit.{Commit}
+use Rattle.tl_types.specs.declared.commits.Entry.{Entry}
+use Rattle.tl_types.specs.declared.commits.Entry.TheVariants as variant
+use Rattle.tl_types.specs.declared.limits.Limits.{Limits}
+use Rattle.tl_types.specs.Entries.{has_break}
+use Rattle.tl_types.specs.Legality.{are_legal}
+use Rattle.tl_device.specs.Known.{Rose}
+use Rattle.tl_index.specs.Snapshots.{commit_entry, break_entry}
+use Rattle.tl_core.specs.declared.steps.Step.{Step}
+use Rattle.tl_core.specs.declared.steps.Step.TheVariants as step
+use Rattle.tl_core.specs.Law.{GoesOn}
+use Rattle.tl_engine.specs.declared.faults.CommitFault.{CommitFault}
+use Rattle.tl_engine.specs.declared.faults.CommitFault.TheVariants as fault
+use Rattle.tl_engine.specs.Counting.{news}
+use Rattle.tl_engine.specs.Heads.{HeadState, IsLegalState, LeadTo, with_written, world_of}
+use Rattle.tl_engine.specs.Saying.{becomes, version_after}
+
+-- CALLS
+
+-- a call: the number of its pass, what this had seen, all that was written when the call took
+-- effect, and the entry that the call published then, if it did
+pub record Call : Type 0 where
+  pub pass : ℕ
+  pub old : List Entry
+  pub base : List Entry
+  pub entry : Option Entry
+
+-- the entry as a list
+abbrev pub as_list : Option Entry → List Entry
+as_list None = []
+as_list (Some e) = e ∷ []
+
+-- what the pass has seen after the call
+abbrev pub seen_after : Call → List Entry
+seen_after call = call.base ++ as_list call.entry
+
+-- without a break in the base, the entry is made of what the batch becomes over it
+pub record Publishes (meaning : List Entry → Result Commit BatchFault) (of_commit : Commit → Entry) (base : List Entry) (entry : Option Entry) : Type 0 where
+  pub commit : Commit
+  pub whole : has_break base ≡ false
+  pub makes : meaning base ≡ Ok commit
+  pub entry_is : entry ≡ Some (of_commit commit)
+
+-- a commit that fails says what is so of the base, and publishes no entry but the break where the
+-- disk failed
+abbrev pub FailsOver : (List Entry → Result Commit BatchFault) → ℕ → List Entry → Option Entry
+    → CommitFault → Type 0
+FailsOver meaning first_count base entry (fault.Broken version) =
+    (has_break base ≡ true) × (version ≡ version_after base) × (entry ≡ None)
+FailsOver meaning first_count base entry (fault.Refused version refusal) =
+    (has_break base ≡ false) × (version ≡ version_after base) × (entry ≡ None)
+    × (meaning base ≡ Err refusal)
+FailsOver meaning first_count base entry fault.NoMemory = entry ≡ None
+FailsOver meaning first_count base entry (fault.Device version count) =
+    Publishes meaning break_entry base entry × (version ≡ version_after base)
+    × Rose first_count count
+
+-- a commit is answered so over the base, and publishes the entry
+abbrev pub AnswersOver : (List Entry → Result Commit BatchFault) → ℕ → List Entry → Option Entry
+    → Result ℕ CommitFault → Type 0
+AnswersOver meaning first_count base entry (Ok version) =
+    Publishes meaning commit_entry base entry × (version ≡ version_after base + 1)
+AnswersOver meaning first_count base entry (Err f) = FailsOver meaning first_count base entry f
+
+-- a commit over all that is written when it has the lock: what its pass had seen begins that; it is
+-- answered over that; what is written then, and seen, is that and the entry which it publishes
+pub record TakesEffect (meaning : List Entry → Result Commit BatchFault) (first_count : ℕ) (written more old new : List Entry) (answer : Result ℕ CommitFault) : Type 0 where
+  pub entry : Option Entry
+  pub begins : IsPrefix old written
+  pub more_is : more ≡ written ++ as_list entry
+  pub new_is : new ≡ more
+  pub answers : AnswersOver meaning first_count written entry answer
+
+-- a commit has a base, which what its pass had seen begins: it is answered over that; its pass has
+-- seen then that and the entry which it publishes; and its share counts the entry
+pub record HasBase (meaning : List Entry → Result Commit BatchFault) (first_count : ℕ) (old new : List Entry) (before after : ℕ) (answer : Result ℕ CommitFault) : Type 0 where
+  pub base : List Entry
+  pub entry : Option Entry
+  pub begins : IsPrefix old base
+  pub new_is : new ≡ base ++ as_list entry
+  pub answers : AnswersOver meaning first_count base entry answer
+  pub counted : after ≡ before + length (as_list entry)
+
+-- the call is a commit of some author and batch, which is answered over its base
+pub record IsCommitCall (limits : Limits) (first_count : ℕ) (call : Call) : Type 0 where
+  pub author : ℕ
+  pub batch : Batch
+  pub answer : Result ℕ CommitFault
+  pub answers : AnswersOver (becomes limits author batch) first_count call.base call.entry answer
+
+-- what every call promises: what its pass had seen begins its base; and it publishes nothing, as a
+-- read, a pass that learns and one that is copied, or it is a commit
+abbrev pub KeepsPromise : Limits → ℕ → Call → Type 0
+KeepsPromise limits first_count call =
+    IsPrefix call.old call.base × ((call.entry ≡ None) ⊎ IsCommitCall limits first_count call)
+
+-- a call of the pass, which had seen the one list and then has seen the other, and published so
+-- many entries
+pub record IsCallOf (limits : Limits) (first_count pass : ℕ) (old new : List Entry) (count : ℕ) : Type 0 where
+  pub call : Call
+  pub pass_is : call.pass ≡ pass
+  pub old_is : call.old ≡ old
+  pub new_is : seen_after call ≡ new
+  pub count_is : length (as_list call.entry) ≡ count
+  pub promise : KeepsPromise limits first_count call
+
+-- THEIR STEPS
+
+-- an entry is published, and the pass sees it
+abbrev pub publishing : ℕ → Option Entry → List Step
+publishing pass None = []
+publishing pass (Some (variant.Commit c)) = step.Publish c ∷ step.Read pass ∷ []
+publishing pass (Some (variant.Mark table version)) = []
+publishing pass (Some (variant.Break c)) = step.Break c ∷ step.Read pass ∷ []
+
+-- the pass sees what is written, and then the entry that it publishes
+abbrev pub steps_of : Call → List Step
+steps_of call = step.Read call.pass ∷ publishing call.pass call.entry
+
+-- the state after a call
+abbrev pub after_call : HeadState → Call → HeadState
+after_call state call = with_written state (seen_after call) call.pass (seen_after call)
+
+-- the call takes effect in this state: its pass had seen what it says, its base is all that is
+-- written, it keeps its promise, and what its pass then has seen is legal
+pub record IsCallIn (limits : Limits) (first_count : ℕ) (state : HeadState) (call : Call) : Type 0 where
+  pub pass : slice_get state.seen call.pass ≡ Some call.old
+  pub base : call.base ≡ state.written
+  pub promise : KeepsPromise limits first_count call
+  pub legal : IsTrue (are_legal (seen_after call))
+
+-- the call is allowed steps from the world of the one state to the world of the other, which is
+-- legal
+pub record IsAllowed (state : HeadState) (call : Call) (end : HeadState) : Type 0 where
+  pub legal : IsLegalState end
+  pub leads : LeadTo (world_of state) (steps_of call) (world_of end)
+
+-- RUNS
+
+-- the call comes next: its pass had seen what it says, and its base is as long as what is written
+pub record ComesNext (state : HeadState) (call : Call) : Type 0 where
+  pub pass : slice_get state.seen call.pass ≡ Some call.old
+  pub count : length call.base ≡ length state.written
+
+-- these calls come one after the other, each keeps its promise, and all that their passes have seen
+-- begins the last list
+abbrev pub IsRun : Limits → ℕ → List Entry → HeadState → List Call → Type 0
+IsRun limits first_count last state [] = Unit {0}
+IsRun limits first_count last state (call ∷ calls) =
+    ComesNext state call × KeepsPromise limits first_count call × IsPrefix (seen_after call) last
+    × IsRun limits first_count last (after_call state call) calls
+
+-- the state after these calls
+abbrev pub after_calls : HeadState → List Call → HeadState
+after_calls state calls = fold after_call state calls
+
+-- their steps, one after the other
+abbrev pub steps_of_calls : List Call → List Step
+steps_of_calls calls = flat_map steps_of calls
+
+-- how many entries these calls published
+abbrev pub entry_count : List Call → ℕ
+entry_count [] = 0
+entry_count (call ∷ calls) = length (as_list call.entry) + entry_count calls
+
+-- the calls are a run of the world: allowed steps from the world of the first state to the world of
+-- the last, which is legal and goes on from the first; they published all commits and breaks that
+-- came; and what is written then begins the last list
+pub record IsRunOfWorld (last : List Entry) (old : HeadState) (calls : List Call) : Type 0 where
+  pub legal : IsLegalState (after_calls old calls)
+  pub begins : IsPrefix (after_calls old calls).written last
+  pub leads : LeadTo (world_of old) (steps_of_calls calls) (world_of (after_calls old calls))
+  pub goes_on : GoesOn (world_of old) (world_of (after_calls old calls))
+  pub counted : news (after_calls old calls).written ≡ news old.written + entry_count calls

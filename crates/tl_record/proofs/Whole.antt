@@ -1,16 +1,16 @@
 -- Numbers of which all bytes are there are read at once.
 use Rattle.std.proofs.Common.{◌≡◌, ℕ, zero, suc, ◌^◌, ◌<◌, ◌≤◌, Bool, true, false, ◌&&◌, nat_le, List, [], ◌∷◌, ◌++◌, length, get_or, take, drop, refl, sym, ap, ◌∙◌, subst, arith, Result, Ok, Err, ℤ, ◌≤ℤ◌, int_le}
-use Rattle.std.specs.Int.{w32, w64, from_be_bytes, to_be_bytes, cast_signed}
-use Rattle.std.proofs.lemmas.Nat.{be_bytes_4, be_bytes_8}
+use Rattle.std.specs.Int.{w16, w32, w64, from_be_bytes, to_be_bytes, cast_signed}
+use Rattle.std.proofs.lemmas.Nat.{be_bytes_2, be_bytes_4, be_bytes_8}
 use Rattle.std.proofs.lemmas.Int.{ints, of_z-to_z}
 use Rattle.std.proofs.lemmas.List.{length-append, length-take, take-append-drop}
 use Rattle.tl_record.specs.declared.faults.Fault.{Fault}
 use Rattle.tl_record.specs.declared.faults.Fault.TheVariants.{Short, Bad}
-use Rattle.tl_record.specs.Spelling.{number, signed_number, IsSigned}
-use Rattle.tl_record.specs.Reading.{between, judged, max_4, any_4, signed_between, least, greatest, IsBetween}
+use Rattle.tl_record.specs.Spelling.{short_number, number, signed_number, IsSigned}
+use Rattle.tl_record.specs.Reading.{between, judged, max_4, any_2, any_4, signed_between, least, greatest, IsBetween}
 use Rattle.tl_record.proofs.Exact.{Reads}
 use Rattle.tl_record.proofs.Parts.{same_value}
-use Rattle.tl_record.proofs.Fields.{bounded_reads, any_4_reads, signed_reads, IsWithin}
+use Rattle.tl_record.proofs.Fields.{bounded_reads, any_2_reads, any_4_reads, signed_reads, IsWithin}
 use Rattle.tl_record.proofs.Letters.{both}
 use Rattle.tl_record.proofs.Bounds.{inside, between_of}
 
@@ -35,10 +35,7 @@ module _ {A : Type 0} (read : List ℕ → Result (A × List ℕ) Fault) (s : A 
   pub refused : (F x → ⊥) → read (s x ++ rest) ≡ Err Bad
   refused not = refused_if (read (s x ++ rest)) refl not
 
--- NUMBERS OF FOUR BYTES
-
-abbrev four_of : List ℕ → ℕ
-four_of bytes = from_be_bytes w32 (take 4 bytes)
+-- NUMBERS OF TWO BYTES
 
 small_take : (n : ℕ) (bytes : List ℕ) → ((i : ℕ) → get_or bytes i 0 < 256) → (i : ℕ)
     → get_or (take n bytes) i 0 < 256
@@ -46,6 +43,26 @@ small_take zero bytes h i = omega arith
 small_take (suc n) [] h i = omega arith
 small_take (suc n) (b ∷ bytes) h zero = h 0
 small_take (suc n) (b ∷ bytes) h (suc i) = small_take n bytes (λ j. h (suc j)) i
+
+abbrev two_of : List ℕ → ℕ
+two_of bytes = from_be_bytes w16 (take 2 bytes)
+
+module _ (bytes : List ℕ) (bound : (i : ℕ) → get_or bytes i 0 < 256) (long : 2 ≤ length bytes) where
+  two_is : short_number (two_of bytes) ≡ take 2 bytes
+  two_is =
+      be_bytes_2 (take 2 bytes) (two_of bytes) (omega (arith, length-take 2 bytes, long))
+      (small_take 2 bytes bound) refl
+
+  two_whole : bytes ≡ short_number (two_of bytes) ++ drop 2 bytes
+  two_whole = sym (take-append-drop 2 bytes) ∙ ap (λ l. l ++ drop 2 bytes) (sym two_is)
+
+  pub two_read : two_of bytes < 2 ^ 16 → between 2 0 65535 bytes ≡ Ok (two_of bytes, drop 2 bytes)
+  two_read small = ap any_2 two_whole ∙ any_2_reads.again (two_of bytes) (drop 2 bytes) small
+
+-- NUMBERS OF FOUR BYTES
+
+abbrev four_of : List ℕ → ℕ
+four_of bytes = from_be_bytes w32 (take 4 bytes)
 
 module _ (bytes : List ℕ) (bound : (i : ℕ) → get_or bytes i 0 < 256) (long : 4 ≤ length bytes) where
   four_is : number (four_of bytes) ≡ take 4 bytes

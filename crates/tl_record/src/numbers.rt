@@ -98,10 +98,23 @@ pub fn number(lo: u32, hi: u32, bytes: &[u8]) -> Result<(u32, &[u8]), ReadError>
     Ok((n as u32, rest))
 }
 
+#[tactic(auto, using(crate::proofs::Whole::two_read))]
+fn whole_short_number(bytes: &[u8]) -> Result<(u16, &[u8]), ReadError>
+    requires { 2 ≤ length bytes.now }
+    ensures { Gives (λ x. (x.0, x.1.now)) result (between 2 0 65535 bytes.now) }
+{
+    let (front, rest) = bytes.split_at(2);
+    let n = u16::from_be_bytes([front[0], front[1]]);
+    Ok((n, rest))
+}
+
 /// A number of 2 bytes, and what follows it.
 pub fn short_number(bytes: &[u8]) -> Result<(u16, &[u8]), ReadError>
     ensures { Gives (λ x. (x.0, x.1.now)) result (between 2 0 65535 bytes.now) }
 {
+    if bytes.len() >= 2 {
+        return whole_short_number(bytes);
+    }
     let (n, rest) = between(2, 0, 65535, bytes)?;
     Ok((n as u16, rest))
 }

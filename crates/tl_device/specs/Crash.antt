@@ -41,8 +41,8 @@ with_ranges value (call ∷ calls) bytes =
     if is_sync call then bytes
     else with_ranges value calls (with_range value (range_of call).0 (range_of call).1 bytes)
 
--- the bytes of the last sync; the bytes as they read; these with 0, or with 255, in each range where
--- a call since the last sync may have written
+-- the bytes of the last sync; the bytes as they read; these with 0, or with 255, in each range
+-- where a call since the last sync may have written
 abbrev pub crash_image : ℕ → Kept → List ℕ
 crash_image choice kept =
     if choice == 0 then synced_bytes kept.done (kept.bytes, kept.log)

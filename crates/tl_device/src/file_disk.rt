@@ -9,11 +9,11 @@ use crate::named_file::NamedFile;
 use std::rt::Files;
 
 /// A disk over a file of the system. It opens its file at its first call other than `room`, an
-/// empty one where it is missing, keeps what is there, and takes the file's lock, which it has until
-/// it is dropped: where another has it the file is not opened, and nothing is read or written. It is
-/// always ready, and tells nothing of content: a crash may leave anything. A call is answered
-/// `Failed` exactly where the system answers it by an error, the opening and the lock included, or
-/// where the end of a write passes 2^64; the count of faults then rose.
+/// empty one where it is missing, keeps what is there, and takes the file's lock, which it has
+/// until it is dropped: where another has it the file is not opened, and nothing is read or
+/// written. It is always ready, and tells nothing of content: a crash may leave anything. A call is
+/// answered `Failed` exactly where the system answers it by an error, the opening and the lock
+/// included, or where the end of a write passes 2^64; the count of faults then rose.
 #[derive(Drop)]
 pub struct FileDisk<'a, R: Files> {
     file: NamedFile<'a, R>,

@@ -26,7 +26,8 @@ IsAsBefore reads may_leave old new =
 
 -- of a disk that told its bytes a read gives them, and a crash now leaves just them
 abbrev pub IsDurable : {D : Type 0} → (D → Option (List ℕ)) → (D → List ℕ → Type 0) → D → D → Type 0
-IsDurable reads may_leave old new = (b : List ℕ) → reads old ≡ Some b → IsStored reads may_leave new b
+IsDurable reads may_leave old new =
+    (b : List ℕ) → reads old ≡ Some b → IsStored reads may_leave new b
 
 -- as before, or, once a sync has answered Ok, as it read before and durable
 abbrev pub IsAsBeforeOrDurable : {D : Type 0} → (D → Option (List ℕ)) → (D → List ℕ → Type 0) → D → D → Type 0
@@ -47,8 +48,8 @@ OldOr old P c = old c ⊎ P c
 abbrev pub IsShort : List ℕ → Type 0
 IsShort image = length image ≤ 17
 
--- at some moment of the run between, a sync left just what a read gave before; up to it a crash leaves
--- what it could before, and from then on what has P
+-- at some moment of the run between, a sync left just what a read gave before; up to it a crash
+-- leaves what it could before, and from then on what has P
 pub record SyncsFirst {D : Type 0} (reads : D → Option (List ℕ)) (may_leave : D → List ℕ → Type 0) (moment : D → ℕ) (left_since : D → ℕ → List ℕ → Type 0) (old new : D) (P : List ℕ → Type 0) : Type 0 where
   pub synced : D
   pub stored : (b : List ℕ) → reads old ≡ Some b → IsStored reads may_leave synced b

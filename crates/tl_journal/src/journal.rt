@@ -93,9 +93,9 @@ impl<D: Disk> Journal<D> {
     /// commits are then handed out one by one, and after them the journal.
     ///
     /// `NotInitialised`: the disk has fewer than 17 bytes. `Damaged`: its first 16 bytes are not a
-    /// journal's; `at` is 0, and what the disk reads as is then durable. `Device`: the disk failed in
-    /// this call. `NoMemory`: memory ran out, and the disk stays as it is. A disk that is handed back
-    /// reads as before.
+    /// journal's; `at` is 0, and what the disk reads as is then durable. `Device`: the disk failed
+    /// in this call. `NoMemory`: memory ran out, and the disk stays as it is. A disk that is handed
+    /// back reads as before.
     pub fn open(alloc: Global, disk: D) -> Result<FoundCommits<D>, Refused<D>>
         ensures image { (b : List ℕ) → D.reads disk ≡ Some b → IfOk result (λ o. o.image ≡ b) }
         ensures start { IfOk result (λ o. HasRead [] o) }
@@ -135,8 +135,8 @@ impl<D: Disk> Journal<D> {
     /// `NotInitialised`: the disk has fewer than 17 bytes. `Damaged`: its bytes are no journal;
     /// `at` is the offset where they are damaged, and what the disk reads as is then durable. Both
     /// leave the disk as it reads. `Device`: the disk failed in this call; a journal stands for the
-    /// same commits. `NoMemory`: memory ran out; the disk stays as it is, or what it reads as is then
-    /// durable.
+    /// same commits. `NoMemory`: memory ran out; the disk stays as it is, or what it reads as is
+    /// then durable.
     pub fn attach(alloc: Global, disk: D) -> Result<Attached<D>, Refused<D>>
         ensures stands { (b : List ℕ) → D.reads disk ≡ Some b →
             IfOk result (λ a.
@@ -230,8 +230,8 @@ impl<D: Disk> Journal<D> {
     }
 
     /// Appends a commit. `body` is its record with a closed gate behind it, and no longer than the
-    /// spare that `reserve` made. It writes the body behind the journal's closed gate, syncs, writes
-    /// 1 into that gate and syncs. It takes no memory, and leaves no spare.
+    /// spare that `reserve` made. It writes the body behind the journal's closed gate, syncs,
+    /// writes 1 into that gate and syncs. It takes no memory, and leaves no spare.
     ///
     /// `Device`: the disk failed in this call. It then stands for the commits before, or for these
     /// and this one, and the journal is broken. `Broken`: an earlier append answered `Device`, with

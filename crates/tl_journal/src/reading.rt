@@ -120,7 +120,7 @@ pub(crate) fn make_ready<D: Disk>(
 }
 
 // Reads all that the disk has, where these bytes are as many.
-fn read_into<D: Disk>(disk: &mut D, bytes: Vec<u8>) -> Result<Vec<u8>, JournalFault>
+pub(crate) fn read_into<D: Disk>(disk: &mut D, bytes: Vec<u8>) -> Result<Vec<u8>, JournalFault>
     ensures bytes { (b : List ℕ) → D.reads disk.old ≡ Some b → length b ≡ length bytes.items →
         IfOk result (λ v. v.items ≡ b) }
     ensures as_before { IsAsBefore D.reads D.may_leave disk.old disk.new }

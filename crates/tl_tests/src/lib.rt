@@ -14,6 +14,8 @@ mod devices;
 #[cfg(test)]
 mod events;
 #[cfg(test)]
+mod files;
+#[cfg(test)]
 mod lanes;
 #[cfg(test)]
 mod lists;

@@ -17,6 +17,3 @@ pub use legality::is_legal;
 pub use passes::{Build, PassState};
 pub use steps::Step;
 pub use worlds::World;
-
-#[cfg(test)]
-mod tests;

@@ -40,6 +40,3 @@ pub use laws::{
 pub use names::Named;
 pub use std::sync::ledger::Share;
 pub use tl_head::Pass;
-
-#[cfg(test)]
-mod tests;

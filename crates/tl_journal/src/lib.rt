@@ -31,6 +31,3 @@ pub use faults::{AppendFault, JournalFault};
 pub use found::{Found, FoundCommits};
 pub use journal::Journal;
 pub use opening::Refused;
-
-#[cfg(test)]
-mod tests;

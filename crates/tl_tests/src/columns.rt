@@ -5,7 +5,7 @@ use std::alloc::Global;
 use std::test::Fail;
 use tl_column::{IntColumn, TextColumn};
 use tl_shared::Shareable;
-use tl_types::{NoMemory, Text};
+use tl_types::{Cmp, NoMemory, Text};
 
 // Whether a column of two numbers stays as it was when a third follows.
 fn is_longer(older: &IntColumn, newer: &IntColumn) -> bool {
@@ -14,6 +14,8 @@ fn is_longer(older: &IntColumn, newer: &IntColumn) -> bool {
         && older.at(1) == -4
         && newer.at(1) == -4
         && newer.at(2) == 5
+        && newer.ints_from(1) == [-4, 5].as_slice()
+        && newer.mask_word(0, Cmp::Lt, 5) == 0b11
 }
 
 // The same, where the longer column is shared.
@@ -116,10 +118,19 @@ fn are_coded(older: &TextColumn, newer: &TextColumn) -> bool {
         && newer.code_of("moon").is_none()
 }
 
+// Whether the words of the rows that are a text, or have another code than one, are these.
+fn are_masked(newer: &TextColumn) -> bool {
+    newer.len() == 9
+        && newer.mask_word(0, true, "sea") == 0b1_0000_0101
+        && newer.mask_word(0, true, "moon") == 0
+        && newer.mask_word_of(0, false, 1) == 0b1_1110_1101
+        && newer.codes_from(7) == [5, 0].as_slice()
+}
+
 // Whether the codes of a column of three cells, and of the one after six more, are so.
 fn codes_stay(alloc: Global, older: &TextColumn) -> bool {
     match six_more(alloc, older) {
-        Some(newer) => are_coded(older, &newer),
+        Some(newer) => are_coded(older, &newer) && are_masked(&newer),
         None => false,
     }
 }

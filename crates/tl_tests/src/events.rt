@@ -5,7 +5,7 @@ use std::alloc::Global;
 use std::marker::Brand;
 use std::sync::ledger::{Blank, Ledger};
 use std::test::Fail;
-use tl_events::{EventList, VersionMap};
+use tl_events::{EventList, PackedEvent, VersionEnd, VersionMap};
 use tl_types::{Event, Seq, Steps};
 
 // Whether the event at a place is of this row, and begins or ends it.
@@ -22,13 +22,33 @@ fn is_event<L: Ledger>(
     list.event_at(at, steps) == Event { row, opens }
 }
 
+// Whether the events that are lent end and begin a row.
+fn are_events(events: &[PackedEvent], ended: u32, begun: u32) -> bool {
+    match events {
+        [end, begin] => {
+            end.event()
+                == Event {
+                    row: ended,
+                    opens: false,
+                }
+                && begin.event()
+                    == Event {
+                        row: begun,
+                        opens: true,
+                    }
+        }
+        _ => false,
+    }
+}
+
 // Whether the list has the events of both versions: what ends comes before what begins.
 fn has_both<L: Ledger>(list: &EventList, steps: &mut Steps<L>) -> bool {
-    list.len() == 4
-        && is_event(list, 0, 0, true, steps)
+    if list.len() != 4 {
+        return false;
+    }
+    is_event(list, 0, 0, true, steps)
         && is_event(list, 1, 1, true, steps)
-        && is_event(list, 2, 0, false, steps)
-        && is_event(list, 3, 2, true, steps)
+        && are_events(list.run(2, 4, steps), 0, 2)
 }
 
 // Whether a list of the first version, with row 0 closed and row 2 begun, has the events of both.
@@ -56,7 +76,14 @@ fn begins<L: Ledger>(alloc: Global, closes: &Seq<u32>, steps: &mut Steps<L>) -> 
 
 // Whether the places of versions in a map of two are where their events end.
 fn has_places<L: Ledger>(map: &VersionMap, steps: &mut Steps<L>) -> bool {
-    map.end_of(1, steps) == 0 && map.end_of(2, steps) == 2 && map.end_of(9, steps) == 4
+    if map.len() != 2 {
+        return false;
+    }
+    map.end_of(1, steps) == 0
+        && map.end_of(2, steps) == 2
+        && map.end_of(9, steps) == 4
+        && map.entries_to(2, steps) == 1
+        && map.entry_at(1, steps) == VersionEnd { version: 3, end: 4 }
 }
 
 fn map_goes_on<L: Ledger>(alloc: Global, steps: &mut Steps<L>) -> bool {

@@ -10,6 +10,8 @@ mod bits;
 #[cfg(test)]
 mod columns;
 #[cfg(test)]
+mod crashes;
+#[cfg(test)]
 mod devices;
 #[cfg(test)]
 mod events;
@@ -18,11 +20,17 @@ mod files;
 #[cfg(test)]
 mod lanes;
 #[cfg(test)]
+mod limits;
+#[cfg(test)]
 mod lists;
 #[cfg(test)]
 mod plain;
 #[cfg(test)]
 mod records;
+#[cfg(test)]
+mod runs;
+#[cfg(test)]
+mod sessions;
 #[cfg(test)]
 mod statements;
 #[cfg(test)]
@@ -31,3 +39,5 @@ mod tables;
 mod values;
 #[cfg(test)]
 mod worked;
+#[cfg(test)]
+mod worlds;

@@ -37,6 +37,6 @@ abbrev pub IsClear : ℤ → ℤ → ℤ → Type 0
 IsClear at next change = (change ≤ℤ at) ⊎ (next ≤ℤ change)
 
 -- the row is there at each moment from the first on and before the second, or at none
-abbrev pub IsQuiet : Span → ℤ → ℤ → plain.Row → Type 0
-IsQuiet span at next row =
+abbrev pub IsSteady : Span → ℤ → ℤ → plain.Row → Type 0
+IsSteady span at next row =
     (moment : ℤ) → at ≤ℤ moment → moment <ℤ next → is_there span moment row ≡ is_there span at row

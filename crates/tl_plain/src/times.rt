@@ -2,7 +2,7 @@
 ghost use Rattle.std.specs.Prelude.{◌≡◌, ◌<ℤ◌, ◌≤ℤ◌, None, All, if◌then◌else◌};
 ghost use Rattle.tl_types.specs.History.{is_visible};
 ghost use Rattle.tl_query.specs.Joins.{times_of};
-ghost use Rattle.tl_plain.specs.Choosing.{lent, is_there, IsClear, IsQuiet};
+ghost use Rattle.tl_plain.specs.Choosing.{lent, is_there, IsClear, IsSteady};
 
 use crate::rows::Row;
 use std::marker::Model;
@@ -103,7 +103,7 @@ fn quiet_until(span: Span, row: &Row, at: i64, next: i64) -> i64
     requires { at <ℤ next }
     ensures after { at <ℤ result }
     ensures within { result ≤ℤ next }
-    ensures quiet { IsQuiet span at result row.now }
+    ensures quiet { IsSteady span at result row.now }
 {
     match times_of(span, row) {
         Some(times) => nearer(at, nearer(at, next, times.from()), times.to()),
@@ -116,7 +116,7 @@ pub(crate) fn next_change(span: Span, rows: &[&Row], at: i64, end: i64) -> i64
     requires { at <ℤ end }
     ensures after { at <ℤ result }
     ensures within { result ≤ℤ end }
-    ensures quiet { All (IsQuiet span at result) (lent rows.now) }
+    ensures quiet { All (IsSteady span at result) (lent rows.now) }
 {
     let mut next = end;
     for row in rows {

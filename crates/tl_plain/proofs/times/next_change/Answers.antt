@@ -4,7 +4,7 @@ use Rattle.std.proofs.lemmas.Int.{ints, to_z-of_z}
 use Rattle.std.proofs.lemmas.List.Elements.{All-same}
 use Rattle.std.specs.Borrow.{Bor}
 use Rattle.tl_types.specs.Plain as plain
-use Rattle.tl_plain.specs.Choosing.{IsQuiet, lent}
+use Rattle.tl_plain.specs.Choosing.{IsSteady, lent}
 use Rattle.tl_plain.proofs.CollectLemmas.{behind_item, behind_within, lent_all}
 use Rattle.tl_plain.proofs.TimeLemmas.{more_quiet}
 use Rattle.tl_plain.proofs.times.next_change.Goals as goal
@@ -32,5 +32,5 @@ returns-clause-quiet c =
     let next = to_z w64 c.loop-row.next-bits in
     let at_is = to_z-of_z w64 c.args.at c.ranges.at in
     let all = lent_all c.args.rows.now c.loop-row.row-index c.loop-row-test.false in
-    let quiet : All (IsQuiet c.args.span at next) (lent c.args.rows.now) = All-same (IsQuiet c.args.span at next) (lent c.args.rows.now) (take c.loop-row.row-index (lent c.args.rows.now)) (sym all) c.loop-row.invariant.quiet in
+    let quiet : All (IsSteady c.args.span at next) (lent c.args.rows.now) = All-same (IsSteady c.args.span at next) (lent c.args.rows.now) (take c.loop-row.row-index (lent c.args.rows.now)) (sym all) c.loop-row.invariant.quiet in
     rw at_is at quiet

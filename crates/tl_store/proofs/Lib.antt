@@ -2,3 +2,4 @@ pub mod PeriodLemmas
 pub mod RowLemmas
 pub mod ChangeLemmas
 pub mod LogLemmas
+pub mod MaskLemmas

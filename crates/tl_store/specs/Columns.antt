@@ -27,6 +27,11 @@ abbrev pub cell_in : ℕ → ColumnData → Cell
 cell_in row (held.Ints numbers) = cell.Int (slice_index_or numbers row (pos 0))
 cell_in row (held.Texts texts) = cell.Text (slice_index_or texts row [])
 
+-- the cells of a column
+abbrev pub cells_in : ColumnData → List Cell
+cells_in (held.Ints numbers) = map cell.Int numbers
+cells_in (held.Texts texts) = map cell.Text texts
+
 -- the number of a cell, 0 where it is none
 abbrev pub number_in : Option Cell → ℤ
 number_in None = pos 0

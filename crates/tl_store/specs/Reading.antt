@@ -1,12 +1,15 @@
 -- What the readers of a store show of its tables.
-use Rattle.std.specs.Prelude.{ℕ, ◌+◌, ◌≤◌, Bool, false, List, [], length, Option, Some, None, slice_get}
+use Rattle.std.specs.Prelude.{◌≡◌, ℕ, ℤ, ◌+◌, ◌≤◌, Bool, false, List, [], length, map, Option, Some, None, option_map, slice_get}
 use Rattle.tl_types.specs.declared.cells.Cell.{Cell}
 use Rattle.tl_types.specs.declared.cells.Cell.TheVariants as cell
 use Rattle.tl_types.specs.declared.schemas.Column.{Column}
+use Rattle.tl_types.specs.declared.cells.ColumnKind.TheVariants.{IntKind}
 use Rattle.tl_types.specs.declared.commits.Body.{Body}
 use Rattle.tl_types.specs.declared.commits.Body.TheVariants as body
 use Rattle.tl_types.specs.History.{rows_of, cell_at}
 use Rattle.tl_types.specs.Plain as plain
+use Rattle.tl_query.specs.declared.typed_queries.TypedTest.{TypedTest}
+use Rattle.tl_query.specs.Passing.{cell_passes}
 use Rattle.tl_store.specs.declared.shown.CellRef.{CellRef}
 use Rattle.tl_store.specs.declared.shown.CellRef.TheVariants as shown
 use Rattle.tl_store.specs.declared.shown.SystemPeriod.{SystemPeriod}
@@ -41,6 +44,22 @@ cell_of_row place (Some row) = cell_at row.cells place
 -- the cell of a column of a row of a table, where there is one
 abbrev pub cell_of : plain.Database → ℕ → ℕ → ℕ → Option Cell
 cell_of db table row column = cell_of_row column (row_of db table row)
+
+-- what each row has in a column
+abbrev pub column_cells : List plain.Row → ℕ → List (Option Cell)
+column_cells rows column = map (λ row. cell_at row.cells column) rows
+
+-- which rows have in a column what passes a test
+abbrev pub rows_passing : List plain.Row → ℕ → TypedTest → List Bool
+rows_passing rows column test = map (λ row. cell_passes test (cell_at row.cells column)) rows
+
+-- the column holds numbers
+abbrev pub IsIntColumn : List Column → ℕ → Type 0
+IsIntColumn columns place = option_map (λ c. c.kind) (slice_get columns place) ≡ Some IntKind
+
+-- a number as what a row has
+abbrev pub some_int : ℤ → Option Cell
+some_int number = Some (cell.Int number)
 
 -- the versions at which a row stands
 abbrev pub system_period : plain.Row → SystemPeriod

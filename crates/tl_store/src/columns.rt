@@ -1,12 +1,15 @@
 //! The cells of a column.
-ghost use Rattle.std.specs.Prelude.{◌≡◌, ◌+◌, ◌<◌, ◌^◌, [], length, map, All, IfOk};
+ghost use Rattle.std.specs.Prelude.{◌≡◌, ◌+◌, ◌-◌, ◌%◌, ◌<◌, ◌^◌, [], length, map, take, drop, All, IfOk};
 ghost use Rattle.tl_column.specs.Dictionary.{lent_texts};
-ghost use Rattle.tl_store.specs.Columns.{empty_column, column_length, cell_in, number_at, text_at, longer, longer_from};
+ghost use Rattle.tl_store.specs.Columns.{empty_column, column_length, cell_in, cells_in, number_at, text_at, longer, longer_from, HoldsKind};
+ghost use Rattle.tl_types.specs.declared.cells.Cell.TheVariants as cell;
+ghost use Rattle.tl_types.specs.declared.cells.ColumnKind.TheVariants.{IntKind};
 ghost use Rattle.tl_store.specs.Reading.{cell_shown, IsShort};
 
 use crate::shown::CellRef;
 use std::alloc::Global;
 use tl_column::{IntColumn, TextColumn};
+use tl_shared::CHUNK;
 use tl_types::{Cell, ColumnKind, NoMemory, Opened, Text};
 
 /// A column of a table, by what its cells are.
@@ -61,6 +64,20 @@ impl ColumnData {
         match self {
             ColumnData::Ints(column) => CellRef::Int(column.at(row)),
             ColumnData::Texts(column) => CellRef::Text(column.at(row)),
+        }
+    }
+
+    /// The numbers from a row on, as far as they stand in one piece.
+    pub fn ints_from(&self, row: u32) -> &[i64]
+        requires row { row < column_length self.now }
+        requires kind { HoldsKind IntKind self.now }
+        ensures cells { map cell.Int result.now
+            ≡ take (CHUNK - row % CHUNK) (drop row (cells_in self.now)) }
+        ensures some { 0 < length result.now }
+    {
+        match self {
+            ColumnData::Ints(column) => column.ints_from(row),
+            ColumnData::Texts(_) => &[],
         }
     }
 }

@@ -11,9 +11,11 @@
 mod columns;
 mod log;
 mod periods;
+mod ready;
 mod shown;
 mod store;
 mod table;
 
+pub use ready::ReadyTest;
 pub use shown::{CellRef, SystemPeriod};
 pub use store::Store;

@@ -33,4 +33,13 @@ impl Shareable for LogEntry {
     fn share(&self, _alloc: Global) -> Result<LogEntry, NoMemory> {
         Ok(*self)
     }
+
+    fn share_onto(
+        _alloc: Global,
+        items: &[LogEntry],
+        values: &mut Vec<LogEntry>,
+    ) -> Result<(), NoMemory> {
+        values.extend_from_slice(items)?;
+        Ok(())
+    }
 }

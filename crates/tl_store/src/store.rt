@@ -1,22 +1,25 @@
 //! The store.
-ghost use Rattle.std.specs.Prelude.{◌≡◌, ℕ, ◌+◌, ◌-◌, ◌<◌, ◌≤◌, ◌++◌, ◌∷◌, [], IsTrue, IfOk, IfSome, Some, length, map, option_map, slice_get};
+ghost use Rattle.std.specs.Prelude.{◌≡◌, ℕ, ◌+◌, ◌-◌, ◌%◌, ◌<◌, ◌≤◌, ◌++◌, ◌∷◌, [], IsTrue, IfOk, IfSome, Some, length, map, take, drop, option_map, slice_get};
 ghost use Rattle.std.specs.List.{list_any, position_from};
 ghost use Rattle.tl_types.specs.declared.commits.Body.TheVariants as body;
 ghost use Rattle.tl_types.specs.History.{database_of, database_at, fits, fits_body, has_name, rows_of};
 ghost use Rattle.tl_types.specs.Resolving.{find_table};
 ghost use Rattle.tl_types.specs.Limits.{standard_limits};
 ghost use Rattle.tl_types.specs.Facts.{IsChange};
+ghost use Rattle.tl_lanes.specs.Masks.{IsWordOf};
 ghost use Rattle.tl_store.specs.Kept.{table_of};
 ghost use Rattle.tl_store.specs.Log.{deed_of};
-ghost use Rattle.tl_store.specs.Reading.{columns_of, has_periods, row_of, cell_of, cell_shown, IsShort, system_period, rows_changed};
+ghost use Rattle.tl_store.specs.Reading.{columns_of, has_periods, row_of, cell_of, cell_shown, IsShort, system_period, rows_changed, column_cells, rows_passing, IsIntColumn, some_int};
 
 use crate::log::{Deed, LogEntry};
+use crate::ready::ReadyTest;
 use crate::shown::{CellRef, SystemPeriod};
 use crate::table::TableData;
 use std::alloc::Global;
 use std::marker::Model;
 use std::sync::ledger::Ledger;
-use tl_shared::{Shared, SharedList, share_all};
+use tl_query::TypedTest;
+use tl_shared::{CHUNK, Shared, SharedList, share_all};
 use tl_types::{Body, Cell, Change, Commit, Limits, NoMemory, Period, Schema, Seq, Steps};
 
 /// The commits that were applied, in order, and the tables that they make. Contracts see the list
@@ -189,6 +192,61 @@ impl Store {
     {
         steps.tick();
         self.tables[table as usize].get().cell(row, column)
+    }
+
+    /// A test of a column of a table, made ready for `ReadyTest::mask_word`: its text is looked up
+    /// here, and not for each word.
+    pub fn ready_test(&self, table: u16, test: &TypedTest) -> ReadyTest<'_>
+        requires { test.now.column < length (columns_of (database_of self.now) table) }
+        ensures { result
+            ≡ rows_passing (rows_of (database_of self.now) table) test.now.column test.now }
+    {
+        self.tables[table as usize]
+            .get()
+            .ready_test(test.column, test)
+    }
+
+    /// Word `i` of the mask of the rows of a table that have in the column at a place, from 0, what
+    /// passes the test: bit j tells of the row with id 64 i + j. Bits past the rows are 0. It ticks
+    /// once.
+    pub fn mask_word<L: Ledger>(
+        &self,
+        table: u16,
+        column: u8,
+        i: u32,
+        test: &TypedTest,
+        steps: &mut Steps<L>,
+    ) -> u64
+        requires { column < length (columns_of (database_of self.now) table) }
+        ensures bits { IsWordOf
+            (rows_passing (rows_of (database_of self.now) table) column test.now) i result }
+        ensures ticks { steps.new ≡ steps.old + 1 }
+    {
+        self.tables[table as usize]
+            .get()
+            .ready_test(column, test)
+            .mask_word(i, steps)
+    }
+
+    /// The numbers of the column of a table at a place, from 0, from a row on, as far as they stand
+    /// in one piece: at least one, and up to the next row whose id 1,024 divides. A scan asks for
+    /// those behind them next. It ticks once.
+    pub fn ints_from<L: Ledger>(
+        &self,
+        table: u16,
+        row: u32,
+        column: u8,
+        steps: &mut Steps<L>,
+    ) -> &[i64]
+        requires row { row < length (rows_of (database_of self.now) table) }
+        requires kind { IsIntColumn (columns_of (database_of self.now) table) column }
+        ensures cells { map some_int result.now ≡ take (CHUNK - row % CHUNK)
+            (drop row (column_cells (rows_of (database_of self.now) table) column)) }
+        ensures some { 0 < length result.now }
+        ensures ticks { steps.new ≡ steps.old + 1 }
+    {
+        steps.tick();
+        self.tables[table as usize].get().ints_from(row, column)
     }
 
     /// The cells of a row of a table, each as a value of its own. The error is `NoMemory`.

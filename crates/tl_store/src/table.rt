@@ -1,22 +1,24 @@
 //! One table, kept by columns.
-ghost use Rattle.std.specs.Prelude.{◌≡◌, ◌+◌, ◌<◌, ◌≤◌, IsTrue, IfOk, Some, length, map, slice_get, All, option_map, replicate};
+ghost use Rattle.std.specs.Prelude.{◌≡◌, ◌+◌, ◌-◌, ◌%◌, ◌<◌, ◌≤◌, IsTrue, IfOk, Some, length, map, take, drop, slice_get, All, option_map, replicate};
 ghost use Rattle.std.specs.List.{list_all};
 ghost use Rattle.tl_types.specs.History.{fits_table, has_name, is_open_at, cell_at};
 ghost use Rattle.tl_types.specs.Limits.{standard_limits};
 ghost use Rattle.tl_store.specs.Columns.{empty_column, column_length, cell_in};
 ghost use Rattle.tl_store.specs.Kept.{table_of, kept_new, kept_after};
 ghost use Rattle.tl_store.specs.Log.{IsDeed, body_of, part, opened_of};
-ghost use Rattle.tl_store.specs.Reading.{cell_shown, IsShort, cell_of_row, system_period, rows_changed};
+ghost use Rattle.tl_store.specs.Reading.{cell_shown, IsShort, cell_of_row, system_period, rows_changed, column_cells, rows_passing, IsIntColumn, some_int};
 
 use crate::columns::{self, ColumnData};
 use crate::log::Deed;
 use crate::periods::PeriodList;
+use crate::ready::ReadyTest;
 use crate::shown::{CellRef, SystemPeriod};
 use std::alloc::Global;
 use std::marker::Model;
 use std::sync::Arc;
 use std::sync::ledger::Ledger;
-use tl_shared::{Shareable, SharedList};
+use tl_query::TypedTest;
+use tl_shared::{CHUNK, FineList, Shareable, SharedList};
 use tl_types::{
     Body, Cell, Change, Column, Limits, NoMemory, OPEN, Opened, Period, Schema, Seq, Steps, Text,
     all_match,
@@ -31,7 +33,7 @@ pub(crate) struct TableData {
     columns: Vec<ColumnData>,
     periods: PeriodList,
     from: SharedList<u32>,
-    to: SharedList<u32>,
+    to: FineList<u32>,
     closed: SharedList<u32>,
 }
 
@@ -62,7 +64,7 @@ impl TableData {
             schema: Arc::new(alloc, schema.clone()?)?,
             periods: PeriodList::none(alloc),
             from: SharedList::none(alloc),
-            to: SharedList::none(alloc),
+            to: FineList::none(alloc),
             closed: SharedList::none(alloc),
         })
     }
@@ -167,6 +169,27 @@ impl TableData {
     {
         let column = &self.columns[column as usize];
         column.cell(row)
+    }
+
+    /// The test of the column at a place, made ready.
+    pub fn ready_test(&self, column: u8, test: &TypedTest) -> ReadyTest<'_>
+        requires { column < length self.now.schema.columns }
+        ensures { result ≡ rows_passing self.now.rows column test.now }
+    {
+        let column = &self.columns[column as usize];
+        ReadyTest::new(column, test)
+    }
+
+    /// The numbers of the column at a place, from a row on, as far as they stand in one piece.
+    pub fn ints_from(&self, row: u32, column: u8) -> &[i64]
+        requires row { row < length self.now.rows }
+        requires kind { IsIntColumn self.now.schema.columns column }
+        ensures cells { map some_int result.now
+            ≡ take (CHUNK - row % CHUNK) (drop row (column_cells self.now.rows column)) }
+        ensures some { 0 < length result.now }
+    {
+        let column = &self.columns[column as usize];
+        column.ints_from(row)
     }
 
     /// The valid period of a row.

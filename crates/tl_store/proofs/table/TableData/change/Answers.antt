@@ -8,9 +8,11 @@ use Rattle.tl_store.proofs.table.TableData.change.Goals as goal
 
 pub with_each-requires : goal.with_each-requires
 with_each-requires c =
-    let t = c.self.inside in
-    subst (λ ids. All (λ id. id < length t.to) ids) (sym c.closes-closes.ensures.value)
-    (closes_there t.schema.value t.columns.items t.periods t.from t.to t.closed c.args.self.now c.args.change.now c.self.invariant c.self.view_is c.requires)
+    let t = c.self.inside in (
+      omega arith,
+      subst (λ ids. All (λ id. id < length t.to) ids) (sym c.closes-closes.ensures.value)
+          (closes_there t.schema.value t.columns.items t.periods t.from t.to t.closed c.args.self.now c.args.change.now c.self.invariant c.self.view_is c.requires),
+    )
 
 pub all_followed_by-requires : goal.all_followed_by-requires
 all_followed_by-requires c =

@@ -2,7 +2,8 @@
 ghost use Rattle.std.specs.Prelude.{◌≡◌, ◌<◌, false, IsTrue};
 ghost use Rattle.std.specs.Bool.{OnTrue};
 ghost use Rattle.tl_types.specs.History.{database_of};
-ghost use Rattle.tl_batch.specs.Made.{batch_matches};
+ghost use Rattle.tl_types.specs.Limits.{standard_limits};
+ghost use Rattle.tl_batch.specs.Made.{AreWithin, batch_matches};
 ghost use Rattle.tl_engine.specs.Naming.{IsNameOf};
 ghost use Rattle.tl_engine.specs.Saying.{names_table};
 
@@ -143,6 +144,28 @@ fn holds<J: Named, R: AllocGlobal + Wait>(
     }
 }
 
+// Whether each case holds, one after the other.
+fn each_holds<J: Named, R: AllocGlobal + Wait>(
+    rt: &R,
+    engine: &Engine<SureDisk, J>,
+    pass: &mut Pass<Snapshot>,
+    share: &mut Share<J>,
+    cases: &[Case],
+) -> bool
+    requires own { pass.old.table ≡ J.table }
+    requires part { 0 < share.old.parts }
+    ensures own { pass.new.table ≡ J.table }
+    ensures parts { share.new.parts ≡ share.old.parts }
+{
+    for case in cases {
+        if !holds(rt, engine, pass, share, case) {
+            return false;
+        }
+    }
+    true
+}
+
+// The same over an opening.
 fn all_hold<J: Named, R: AllocGlobal + Wait>(
     rt: &R,
     opening: Opening<SureDisk>,
@@ -157,13 +180,9 @@ fn all_hold<J: Named, R: AllocGlobal + Wait>(
         mut pass,
         mut share,
     } = opening.start::<J>();
-    let mut all = true;
-    for case in cases {
-        let is_so = holds(rt, &engine, &mut pass, &mut share, case);
-        all = all & is_so;
-    }
+    let all = each_holds(rt, &engine, &mut pass, &mut share, cases);
     let Closed { snapshot, .. } = engine.close(rt, pass, share);
-    all && snapshot.store().versions() == 3
+    all & (snapshot.store().versions() == 3)
 }
 
 // The same of an opening whose names are picked here.
@@ -174,7 +193,9 @@ fn all_hold_over<R: AllocGlobal + Wait>(rt: &R, opening: Opening<SureDisk>, case
 }
 
 // At most 3 commits, 1 table and 2 rows.
-fn low_limits() -> Limits {
+fn low_limits() -> Limits
+    ensures { AreWithin result standard_limits }
+{
     Limits {
         versions: 3,
         tables: 1,

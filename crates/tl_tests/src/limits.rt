@@ -171,7 +171,7 @@ fn all_hold<J: Named, R: AllocGlobal + Wait>(
     opening: Opening<SureDisk>,
     cases: &[Case],
 ) -> bool
-    requires names { IsNameOf J.table J.opening J.first_count J.limits opening }
+    requires names { IsNameOf J.table J.first_entries J.first_count J.limits opening }
     requires ledger { (opening.ledger ≡ J.name) × (opening.parts ≡ J.parts) }
     requires untold { J.told ≡ false }
 {

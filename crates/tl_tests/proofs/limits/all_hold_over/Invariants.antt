@@ -6,4 +6,4 @@ abbrev pub ghosts-all_hold-J-Ledger : goal.ghosts-all_hold-J-Ledger
 ghosts-all_hold-J-Ledger g a = record { name = a.opening.ledger; parts = a.opening.parts }
 
 abbrev pub ghosts-all_hold-J-Named : goal.ghosts-all_hold-J-Named
-ghosts-all_hold-J-Named g a = record { table = a.opening.table; opening = a.opening.history.entries; first_count = a.opening.history.first_count; limits = a.opening.history.limits; told = false }
+ghosts-all_hold-J-Named g a = record { table = a.opening.table; first_entries = a.opening.history.entries; first_count = a.opening.history.first_count; limits = a.opening.history.limits; told = false }

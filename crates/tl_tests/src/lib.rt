@@ -24,6 +24,8 @@ mod limits;
 #[cfg(test)]
 mod lists;
 #[cfg(test)]
+mod masks;
+#[cfg(test)]
 mod plain;
 #[cfg(test)]
 mod records;

@@ -15,9 +15,9 @@ ghost use Rattle.tl_query.specs.Checking.{
 ghost use Rattle.tl_query.specs.Parsed.{IsNewTable};
 
 use crate::first_fault::earlier;
-use std::alloc::{AllocError, Global};
+use std::alloc::Global;
 use tl_query::{CheckFault, ColumnForm, CreateForm};
-use tl_types::{Column, Schema, Seq, Text};
+use tl_types::{Column, NoMemory, Schema, Seq, Text};
 
 fn is_named_so(columns: &[ColumnForm], name: &Text) -> bool
     ensures { result ≡ list_any (λ e. same_bytes e.name.text name.now) columns.now }
@@ -55,7 +55,7 @@ fn key_place(form: &CreateForm) -> Option<usize>
         .position(|column| column.name.text == form.key.text)
 }
 
-fn columns_of(alloc: Global, forms: &[ColumnForm]) -> Result<Seq<Column>, AllocError>
+fn columns_of(alloc: Global, forms: &[ColumnForm]) -> Result<Seq<Column>, NoMemory>
     ensures { IfOk result (λ columns. columns ≡ columns_of forms.now) }
 {
     let mut columns = Vec::with_capacity(alloc, forms.len())?;
@@ -90,7 +90,7 @@ fn schema_with(name: Text, columns: Seq<Column>, key: u8, valid: bool) -> Schema
     Schema::new(name, columns, key, valid).unwrap()
 }
 
-fn schema_of(alloc: Global, form: &CreateForm) -> Result<Schema, AllocError>
+fn schema_of(alloc: Global, form: &CreateForm) -> Result<Schema, NoMemory>
     requires named { IsNewTable form.now }
     requires right { create_fault form.now ≡ None }
     ensures { IfOk result (λ schema. checked_create form.now ≡ Ok schema) }

@@ -17,9 +17,9 @@ ghost use Rattle.tl_check.specs.Known.{known};
 
 use crate::columns::{column_fault, column_place, kind_of};
 use crate::first_fault::{earlier, first_of};
-use std::alloc::{AllocError, Global};
+use std::alloc::Global;
 use tl_query::{CheckFault, Pred, Test, TypedPred, TypedTest};
-use tl_types::{Cell, Cmp, ColumnKind, Schema, Seq};
+use tl_types::{Cell, Cmp, ColumnKind, NoMemory, Schema, Seq};
 
 fn is_ordered(comparison: Cmp) -> bool
     ensures { result ≡ is_ordered comparison }
@@ -113,7 +113,7 @@ pub(crate) fn pred_fault(table: Option<(u16, &Schema)>, pred: &Pred) -> Option<C
     }
 }
 
-fn typed_test(schema: &Schema, test: &Test) -> Result<TypedTest, AllocError>
+fn typed_test(schema: &Schema, test: &Test) -> Result<TypedTest, NoMemory>
     ensures { IfOk result (λ typed. typed ≡ typed_test_of schema.now test.now) }
 {
     Ok(TypedTest {
@@ -123,7 +123,7 @@ fn typed_test(schema: &Schema, test: &Test) -> Result<TypedTest, AllocError>
     })
 }
 
-fn typed_tests(alloc: Global, schema: &Schema, tests: &[Test]) -> Result<Seq<TypedTest>, AllocError>
+fn typed_tests(alloc: Global, schema: &Schema, tests: &[Test]) -> Result<Seq<TypedTest>, NoMemory>
     ensures { IfOk result (λ typed. typed ≡ map (typed_test_of schema.now) tests.now) }
 {
     let mut typed = Vec::with_capacity(alloc, tests.len())?;
@@ -134,11 +134,7 @@ fn typed_tests(alloc: Global, schema: &Schema, tests: &[Test]) -> Result<Seq<Typ
 }
 
 /// A predicate with its columns by their places. The error is that memory ran out.
-pub(crate) fn typed_pred(
-    alloc: Global,
-    schema: &Schema,
-    pred: &Pred,
-) -> Result<TypedPred, AllocError>
+pub(crate) fn typed_pred(alloc: Global, schema: &Schema, pred: &Pred) -> Result<TypedPred, NoMemory>
     ensures { IfOk result (λ typed. typed ≡ typed_pred_of schema.now pred.now) }
 {
     let mut any = Vec::with_capacity(alloc, pred.any.len())?;

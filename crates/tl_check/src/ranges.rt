@@ -50,7 +50,7 @@ pub(crate) fn version_of(now: u32, asked: Option<Stamp>) -> u32
     }
 }
 
-/// `NotValidTable` at `VALID`, where the rows of a known table have no valid period.
+// `NotValidTable` at `VALID`, where the rows of a known table have no valid period.
 fn valid_fault(timeless: bool, at: u32) -> Option<CheckFault>
     ensures { result ≡ fault_if timeless (fault.NotValidTable at) }
 {

@@ -19,9 +19,9 @@ use crate::columns::{column_fault, column_place, is_timeless, table_fault};
 use crate::first_fault::{earlier, first_of};
 use crate::predicates::{pred_fault, typed_pred};
 use crate::ranges::{point_fault, version_fault, version_of};
-use std::alloc::{AllocError, Global};
+use std::alloc::Global;
 use tl_query::{CheckFault, Item, SelectForm, Typed, TypedItem};
-use tl_types::{Column, Schema, Seq};
+use tl_types::{Column, NoMemory, Schema, Seq};
 
 fn item_fault(schema: &Schema, item: &Item) -> Option<CheckFault>
     ensures { result ≡ item_fault schema.now item.now }
@@ -82,7 +82,7 @@ fn typed_item(schema: &Schema, item: &Item) -> TypedItem
     }
 }
 
-fn typed_items(alloc: Global, schema: &Schema, items: &[Item]) -> Result<Seq<TypedItem>, AllocError>
+fn typed_items(alloc: Global, schema: &Schema, items: &[Item]) -> Result<Seq<TypedItem>, NoMemory>
     ensures { IfOk result (λ typed. typed ≡ map (typed_item_of schema.now) items.now) }
 {
     let mut typed = Vec::with_capacity(alloc, items.len())?;
@@ -93,7 +93,7 @@ fn typed_items(alloc: Global, schema: &Schema, items: &[Item]) -> Result<Seq<Typ
 }
 
 // Each column by its place.
-fn column_items(alloc: Global, columns: &[Column]) -> Result<Vec<TypedItem>, AllocError>
+fn column_items(alloc: Global, columns: &[Column]) -> Result<Vec<TypedItem>, NoMemory>
     requires { length columns.now ≤ 16 }
     ensures { IfOk result (λ typed. typed.items
         ≡ map (λ c. typed_item.Column c.0) (enumerate_from 0 columns.now)) }
@@ -106,7 +106,7 @@ fn column_items(alloc: Global, columns: &[Column]) -> Result<Vec<TypedItem>, All
 }
 
 // What `*` stands for.
-fn all_items(alloc: Global, schema: &Schema) -> Result<Seq<TypedItem>, AllocError>
+fn all_items(alloc: Global, schema: &Schema) -> Result<Seq<TypedItem>, NoMemory>
     ensures { IfOk result (λ typed. typed ≡ all_items schema.now) }
 {
     let mut typed = column_items(alloc, schema.columns())?;
@@ -122,7 +122,7 @@ fn typed_items_of(
     alloc: Global,
     schema: &Schema,
     form: &SelectForm,
-) -> Result<Seq<TypedItem>, AllocError>
+) -> Result<Seq<TypedItem>, NoMemory>
     ensures { IfOk result (λ typed. typed ≡ typed_items_of schema.now form.now) }
 {
     if form.all {

@@ -1,8 +1,7 @@
 //! The steps of a world.
 ghost use Rattle.std.specs.Prelude.{◌≡◌};
 
-use std::alloc::AllocError;
-use tl_types::Commit;
+use tl_types::{Commit, NoMemory};
 
 /// A step of a world.
 #[derive(Debug, Drop, PartialEq, Eq)]
@@ -40,7 +39,7 @@ pub enum Step {
 impl Clone for Step {
     ghost is_clone = { λ v w. w ≡ v };
 
-    fn clone(&self) -> Result<Self, AllocError> {
+    fn clone(&self) -> Result<Self, NoMemory> {
         match self {
             Step::Read { pass } => Ok(Step::Read { pass: *pass }),
             Step::Publish { commit } => Ok(Step::Publish {

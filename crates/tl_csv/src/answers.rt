@@ -10,7 +10,7 @@ use csv::{ByteRecord, Writer, WriterBuilder};
 use std::alloc::{AllocError, Global};
 use tl_types::{Answer, Bytes, Field, NoMemory};
 
-fn field_text(alloc: Global, field: &Field) -> Result<String, AllocError>
+fn field_text(alloc: Global, field: &Field) -> Result<String, NoMemory>
     ensures { IfOk result (λ text. string_bytes text ≡ field_text field.now) }
 {
     match field {
@@ -22,7 +22,7 @@ fn field_text(alloc: Global, field: &Field) -> Result<String, AllocError>
     }
 }
 
-fn put_field(alloc: Global, row: &mut ByteRecord, field: &Field) -> Result<(), AllocError>
+fn put_field(alloc: Global, row: &mut ByteRecord, field: &Field) -> Result<(), NoMemory>
     requires { partial_of row.old ≡ [] }
     ensures fields { OnOk result
         (fields_of row.new ≡ fields_of row.old ++ field_text field.now ∷ []) }
@@ -34,7 +34,7 @@ fn put_field(alloc: Global, row: &mut ByteRecord, field: &Field) -> Result<(), A
 }
 
 // Makes `row` the record of these fields.
-fn put_fields(alloc: Global, row: &mut ByteRecord, fields: &[Field]) -> Result<(), AllocError>
+fn put_fields(alloc: Global, row: &mut ByteRecord, fields: &[Field]) -> Result<(), NoMemory>
     ensures { OnOk result (fields_of row.new ≡ map field_text fields.now) }
 {
     row.clear();
@@ -54,7 +54,7 @@ fn writer_of(alloc: Global) -> Writer<Vec<u8>>
         .from_writer(Vec::new(alloc))
 }
 
-fn write_row(writer: &mut Writer<Vec<u8>>, row: &ByteRecord) -> Result<(), AllocError>
+fn write_row(writer: &mut Writer<Vec<u8>>, row: &ByteRecord) -> Result<(), NoMemory>
     requires { IsWriting writer.old }
     ensures row { OnOk result (bytes_written writer.new
         ≡ bytes_written writer.old ++ row_text default_writer (fields_of row.now)) }
@@ -66,7 +66,7 @@ fn write_row(writer: &mut Writer<Vec<u8>>, row: &ByteRecord) -> Result<(), Alloc
     Ok(())
 }
 
-fn bytes_of(writer: Writer<Vec<u8>>) -> Result<Bytes, AllocError>
+fn bytes_of(writer: Writer<Vec<u8>>) -> Result<Bytes, NoMemory>
     ensures { IfOk result (λ bytes. bytes ≡ bytes_written writer) }
 {
     match writer.into_inner() {

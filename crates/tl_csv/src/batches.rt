@@ -17,8 +17,8 @@ use crate::needs::BatchKind;
 use crate::reading::{next_record, reader_of};
 use crate::rows::row_of;
 use csv::{ByteRecord, Reader};
-use std::alloc::{AllocError, Global};
-use tl_types::{Batch, Cell, KeyLine, Limits, Opened, Schema, Seq};
+use std::alloc::Global;
+use tl_types::{Batch, Cell, KeyLine, Limits, NoMemory, Opened, Schema, Seq};
 
 // The number of LFs of a block.
 fn lines_in(block: &[u8]) -> usize
@@ -35,7 +35,7 @@ fn lines_in(block: &[u8]) -> usize
 
 // A list without rows, with room for as many as the block has lines, and for no more than the limit
 // of records.
-fn room_for(alloc: Global, limits: &Limits, block: &[u8]) -> Result<Seq<Opened>, AllocError>
+fn room_for(alloc: Global, limits: &Limits, block: &[u8]) -> Result<Seq<Opened>, NoMemory>
     requires { limits.now.batch ≤ 1000000 }
     ensures { IfOk result (λ rows. rows ≡ []) }
 {
@@ -115,7 +115,7 @@ fn rows_of(
     lines_of(alloc, limits, &layout, &mut reader, room)
 }
 
-fn key_line(row: &Opened) -> Result<KeyLine, AllocError>
+fn key_line(row: &Opened) -> Result<KeyLine, NoMemory>
     ensures { IfOk result (λ line. line ≡ key_line row.now) }
 {
     match row.cells() {
@@ -130,7 +130,7 @@ fn key_line(row: &Opened) -> Result<KeyLine, AllocError>
     }
 }
 
-fn key_lines(alloc: Global, rows: &[Opened]) -> Result<Seq<KeyLine>, AllocError>
+fn key_lines(alloc: Global, rows: &[Opened]) -> Result<Seq<KeyLine>, NoMemory>
     ensures { IfOk result (λ lines. lines ≡ map key_line rows.now) }
 {
     let mut lines = Vec::with_capacity(alloc, rows.len())?;
@@ -145,7 +145,7 @@ fn batch_with(
     schema: &Schema,
     kind: BatchKind,
     rows: Seq<Opened>,
-) -> Result<Batch, AllocError>
+) -> Result<Batch, NoMemory>
     ensures { IfOk result (λ batch. batch ≡ batch_with schema.now kind rows) }
 {
     let table = schema.name().clone()?;

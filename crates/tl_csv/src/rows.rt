@@ -13,9 +13,9 @@ use crate::layouts::{Layout, PeriodPlaces};
 use crate::needs::FieldKind;
 use crate::records::next_field;
 use csv::ByteRecord;
-use std::alloc::{AllocError, Global};
+use std::alloc::Global;
 use std::mem;
-use tl_types::{Cell, Limits, Opened, Period, Seq};
+use tl_types::{Cell, Limits, NoMemory, Opened, Period, Seq};
 
 // Puts the cells of the record's fields, which are of these kinds, into `cells`, in the order of
 // the record.
@@ -66,11 +66,7 @@ fn take_cell(cells: &mut [Cell], place: usize) -> Cell
 // Takes the cells at these places out of the record's cells and puts them, in the order of the
 // places, into a list that is empty.
 #[tactic(auto, using(crate::proofs::RowLemmas::one_within))]
-fn take_into(
-    cells: &mut [Cell],
-    places: &[usize],
-    empty: Seq<Cell>,
-) -> Result<Seq<Cell>, AllocError>
+fn take_into(cells: &mut [Cell], places: &[usize], empty: Seq<Cell>) -> Result<Seq<Cell>, NoMemory>
     requires empty { empty ≡ [] }
     requires distinct { are_distinct_places places.now ≡ true }
     requires within { are_within (length cells.old) places.now ≡ true }
@@ -84,7 +80,7 @@ fn take_into(
 }
 
 // Takes the cells at these places out of the record's cells, in the order of the places.
-fn take_cells(alloc: Global, cells: &mut [Cell], places: &[usize]) -> Result<Seq<Cell>, AllocError>
+fn take_cells(alloc: Global, cells: &mut [Cell], places: &[usize]) -> Result<Seq<Cell>, NoMemory>
     requires distinct { are_distinct_places places.now ≡ true }
     requires within { are_within (length cells.old) places.now ≡ true }
     ensures { IfOk result (λ taken. taken ≡ map (cell_in cells.old) places.now) }

@@ -4,7 +4,7 @@ ghost use Rattle.std.specs.Prelude.{◌≡◌, ◌≤◌, ◌<◌, ◌+◌, ◌-
 ghost use Rattle.tl_csv.specs.Sample.{block_end, block_of, nth_number, id_of, line_text};
 ghost use Rattle.tl_csv.specs.Sample.{lines_from};
 
-use std::alloc::{AllocError, Global};
+use std::alloc::Global;
 use std::marker::Model;
 use tl_types::{Bytes, NoMemory};
 
@@ -54,7 +54,7 @@ fn id_of(line: u32) -> u32
     5_000 * (line / LINES_OF_A_BLOCK) + line % LINES_OF_A_BLOCK
 }
 
-fn put_line(alloc: Global, out: &mut Vec<u8>, id: u32, value: u32) -> Result<(), AllocError>
+fn put_line(alloc: Global, out: &mut Vec<u8>, id: u32, value: u32) -> Result<(), NoMemory>
     ensures { OnOk result (out.new.items ≡ out.old.items ++ line_text id value) }
 {
     let group = value % 8;
@@ -65,7 +65,7 @@ fn put_line(alloc: Global, out: &mut Vec<u8>, id: u32, value: u32) -> Result<(),
 
 // Appends the lines up to line `to`, which is not one of them.
 #[tactic(auto, using(crate::proofs::SampleLemmas::one_line, crate::proofs::SampleLemmas::no_line))]
-fn put_lines(alloc: Global, out: &mut Vec<u8>, draw: &mut Draw, to: u32) -> Result<(), AllocError>
+fn put_lines(alloc: Global, out: &mut Vec<u8>, draw: &mut Draw, to: u32) -> Result<(), NoMemory>
     requires { draw.old.count ≤ to }
     ensures lines { OnOk result (out.new.items
         ≡ out.old.items ++ lines_from draw.old.start draw.old.count (to - draw.old.count)) }

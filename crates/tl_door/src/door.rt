@@ -51,7 +51,7 @@ struct NewTable<V: Published> {
 }
 
 impl<V: Published> Door<V> {
-    /// A table with the value in its slot, and a history as long as the value's list.
+    // A table with the value in its slot, and a history as long as the value's list.
     fn open(alloc: Global, value: V) -> Result<NewTable<V>, NoMemory>
         ensures { IfOk result (λ n.
             (n.seat.table_id ≡ n.door) × (n.seat.me ≡ (writer_view (V.entries value), []))) }

@@ -32,7 +32,7 @@ const SLOT: usize = 0;
 pub(crate) type TableSeat<V> = Seat<Option<V>, View>;
 
 impl<V: Published> Door<V> {
-    /// Draws a ticket: the number that was found in the ticket word.
+    // Draws a ticket: the number that was found in the ticket word.
     fn draw<R: Wait>(&self, rt: &R, seat: &mut TableSeat<V>) -> u64
         requires own { seat.old.table_id ≡ self.now }
         requires idle { seat.old.me.0.stage ≡ Idle }

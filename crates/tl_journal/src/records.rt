@@ -10,6 +10,7 @@ ghost use Rattle.tl_journal.specs.declared.faults.JournalFault.TheVariants as fa
 use crate::faults::JournalFault;
 use std::alloc::{AllocError, Global};
 use tl_record::{Decoded, RecordFault, decode};
+use tl_types::NoMemory;
 
 // Whether the bytes begin as a journal.
 pub(crate) fn has_header(bytes: &[u8]) -> bool
@@ -24,7 +25,7 @@ pub(crate) fn has_header(bytes: &[u8]) -> bool
 }
 
 // The record at a place, with its end, where a further byte stands behind it.
-fn record_at(alloc: Global, bytes: &[u8], at: usize) -> Result<Option<Decoded>, AllocError>
+fn record_at(alloc: Global, bytes: &[u8], at: usize) -> Result<Option<Decoded>, NoMemory>
     requires { at ≤ length bytes.now }
     ensures some { IfOk result (λ o. IfSome o (λ d.
         BeginsWith (drop at bytes.now) d.commit (drop d.end bytes.now))) }

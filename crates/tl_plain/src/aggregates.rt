@@ -42,7 +42,7 @@ fn group_fields(alloc: Global, group: Option<Cell>) -> Result<Vec<Field>, NoMemo
     Ok(fields)
 }
 
-/// A run as a row: its group where it has one, its bounds, its value.
+// A run as a row: its group where it has one, its bounds, its value.
 fn run_fields(alloc: Global, run: Run) -> Result<Seq<Field>, NoMemory>
     ensures { IfOk result (λ fields. fields ≡ run_fields run) }
 {
@@ -86,7 +86,7 @@ fn in_group(value: &Cell, run: Run) -> Result<Run, NoMemory>
     })
 }
 
-/// Appends the runs of a group that have a row. The error is out of memory.
+// Appends the runs of a group that have a row. The error is out of memory.
 fn add_runs(
     alloc: Global,
     answer: &mut Vec<Seq<Field>>,
@@ -107,8 +107,8 @@ fn add_runs(
     Ok(())
 }
 
-/// Appends the answer for one value of the grouping column, over the rows of its group. The error
-/// is out of memory.
+// Appends the answer for one value of the grouping column, over the rows of its group. The error
+// is out of memory.
 fn add_group(
     alloc: Global,
     answer: &mut Vec<Seq<Field>>,
@@ -126,7 +126,7 @@ fn add_group(
     add_runs(alloc, answer, runs, value, span, rows)
 }
 
-/// The rows that have the value and pass, in order. The error is out of memory.
+// The rows that have the value and pass, in order. The error is out of memory.
 fn group_rows<'a>(
     alloc: Global,
     pred: &TypedPred,
@@ -141,7 +141,7 @@ fn group_rows<'a>(
     Ok(group)
 }
 
-/// The answer for each value of a column, in order. The error is out of memory.
+// The answer for each value of a column, in order. The error is out of memory.
 fn groups(
     alloc: Global,
     plan: AggPlan,
@@ -165,7 +165,7 @@ fn groups(
     Ok(answer)
 }
 
-/// The answer over all rows. The error is out of memory.
+// The answer over all rows. The error is out of memory.
 fn ungrouped(
     alloc: Global,
     plan: AggPlan,

@@ -35,7 +35,7 @@ fn side_of<'a>(tables: &'a Tables, table: u16, pred: &'a TypedPred, on: u8) -> S
     Side { rows, pred, on }
 }
 
-/// The rows of the answer to a query. The error is out of memory.
+// The rows of the answer to a query. The error is out of memory.
 fn answer_rows(alloc: Global, tables: &Tables, query: &Typed) -> Result<Vec<Seq<Field>>, NoMemory>
     ensures { IfOk result (λ rows. rows.items ≡ answer_of tables.now query.now) }
 {

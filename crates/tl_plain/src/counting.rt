@@ -62,7 +62,7 @@ fn number_there(span: Span, moment: i64, column: Option<u8>, row: &Row) -> Optio
     }
 }
 
-/// The numbers of the rows that are there at a moment. The error is out of memory.
+// The numbers of the rows that are there at a moment. The error is out of memory.
 fn numbers(
     alloc: Global,
     span: Span,

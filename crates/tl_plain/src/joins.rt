@@ -112,7 +112,7 @@ fn pair_of(sides: &Sides, left_id: u32, left: &Row, right_id: u32, right: &Row) 
     }
 }
 
-/// The right rows that have the left row's cell, in order of id.
+// The right rows that have the left row's cell, in order of id.
 fn matching_rows<'a, 'b>(
     sides: &Sides,
     left: &Row,
@@ -129,7 +129,7 @@ fn matching_rows<'a, 'b>(
     }
 }
 
-/// Appends the pairs of one left row. The error is out of memory.
+// Appends the pairs of one left row. The error is out of memory.
 fn add_pairs(
     pairs: &mut Vec<Pair>,
     sides: &Sides,
@@ -148,7 +148,7 @@ fn add_pairs(
     Ok(())
 }
 
-/// The pairs of all rows, left row by left row. The error is out of memory.
+// The pairs of all rows, left row by left row. The error is out of memory.
 fn pairs_by_row(alloc: Global, sides: &Sides) -> Result<Vec<Pair>, NoMemory>
     requires lefts { length sides.now.left.rows.now < 2 ^ 32 }
     requires rights { length sides.now.right.rows.now < 2 ^ 32 }
@@ -163,7 +163,7 @@ fn pairs_by_row(alloc: Global, sides: &Sides) -> Result<Vec<Pair>, NoMemory>
     Ok(pairs)
 }
 
-/// The pairs of all rows, in order. The error is out of memory.
+// The pairs of all rows, in order. The error is out of memory.
 fn joined_pairs(alloc: Global, sides: &Sides) -> Result<Vec<Pair>, NoMemory>
     requires lefts { length sides.now.left.rows.now < 2 ^ 32 }
     requires rights { length sides.now.right.rows.now < 2 ^ 32 }
@@ -174,7 +174,7 @@ fn joined_pairs(alloc: Global, sides: &Sides) -> Result<Vec<Pair>, NoMemory>
     Ok(pairs)
 }
 
-/// Appends the cells of the row with an id. The error is out of memory.
+// Appends the cells of the row with an id. The error is out of memory.
 fn add_row(fields: &mut Vec<Field>, rows: &[Row], id: u32) -> Result<(), NoMemory>
     ensures { OnOk result (fields.new.items ≡ fields.old.items ++
         map cell_field (cells_with rows.now id)) }

@@ -53,7 +53,7 @@ fn keyed_row<'a>(column: u8, id: u32, row: &'a Row) -> Option<KeyedRow<'a>>
     }
 }
 
-/// The rows that have a cell in the column, in order of id. The error is out of memory.
+// The rows that have a cell in the column, in order of id. The error is out of memory.
 fn all_keyed<'a>(alloc: Global, column: u8, rows: &'a [Row]) -> Result<Vec<KeyedRow<'a>>, NoMemory>
     requires { length rows.now < 2 ^ 32 }
     ensures { IfOk result (λ all. map row_with_key all.items ≡ keyed_rows column rows.now) }

@@ -80,7 +80,7 @@ impl Row {
     }
 }
 
-/// The row that begins at a version as a commit opens it. The error is out of memory.
+// The row that begins at a version as a commit opens it. The error is out of memory.
 fn begin(alloc: Global, version: u32, opened: &Opened) -> Result<Row, NoMemory>
     ensures { IfOk result (λ r. r ≡ new_row version opened.now) }
 {
@@ -92,7 +92,7 @@ fn begin(alloc: Global, version: u32, opened: &Opened) -> Result<Row, NoMemory>
     })
 }
 
-/// The rows that begin at a version, in order. The error is out of memory.
+// The rows that begin at a version, in order. The error is out of memory.
 fn begin_all(alloc: Global, version: u32, opens: &[Opened]) -> Result<Vec<Row>, NoMemory>
     ensures { IfOk result (λ rows. rows.items ≡ map (new_row version) opens.now) }
 {
@@ -103,7 +103,7 @@ fn begin_all(alloc: Global, version: u32, opens: &[Opened]) -> Result<Vec<Row>, 
     Ok(rows)
 }
 
-/// Ends the rows with these ids at a version.
+// Ends the rows with these ids at a version.
 fn end_all(rows: &mut Vec<Row>, version: u32, ids: &[u32])
     requires { All (λ id. id < length rows.old.items) ids.now }
     ensures { rows.new.items ≡ map (row_after version ids.now) (with_ids rows.old.items) }

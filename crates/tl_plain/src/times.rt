@@ -84,7 +84,7 @@ pub(crate) fn is_there(span: Span, moment: i64, row: &Row) -> bool
     }
 }
 
-/// The moment `next`, or the change if it comes before it and after `at`.
+// The moment `next`, or the change if it comes before it and after `at`.
 fn nearer(at: i64, next: i64, change: i64) -> i64
     requires { at <ℤ next }
     ensures after { at <ℤ result }
@@ -98,7 +98,7 @@ fn nearer(at: i64, next: i64, change: i64) -> i64
     }
 }
 
-/// The moment `next`, or one before it and after `at` up to which a row changes nothing.
+// The moment `next`, or one before it and after `at` up to which a row changes nothing.
 fn quiet_until(span: Span, row: &Row, at: i64, next: i64) -> i64
     requires { at <ℤ next }
     ensures after { at <ℤ result }

@@ -16,7 +16,7 @@ pub(crate) fn cell_in(column: u8, row: &Row) -> Option<&Cell>
     row.cells().get(column as usize)
 }
 
-/// The cells of rows in a column, where they have one. The error is out of memory.
+// The cells of rows in a column, where they have one. The error is out of memory.
 fn cells_of<'a>(alloc: Global, column: u8, rows: &'a [Row]) -> Result<Vec<&'a Cell>, NoMemory>
     ensures { IfOk result (λ cells. map (λ c. c.now) cells.items ≡
         filter_map (λ row. cell_at row.cells column) rows.now) }

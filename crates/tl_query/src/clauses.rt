@@ -31,7 +31,7 @@ fn test_at(tokens: &[Placed]) -> Result<(Test, &[Placed]), Stop>
     Ok((test, rest))
 }
 
-/// Tests, separated by `AND`.
+// Tests, separated by `AND`.
 fn conj_at(alloc: Global, tokens: &[Placed]) -> Result<(Seq<Test>, &[Placed]), Stop>
     ensures { Gives (λ x. (x.0, x.1.now)) result (conj_at tokens.now) }
 {
@@ -46,7 +46,7 @@ fn conj_at(alloc: Global, tokens: &[Placed]) -> Result<(Seq<Test>, &[Placed]), S
     Ok((Seq::from_vec(tests), rest))
 }
 
-/// Lists of tests, separated by `OR`.
+// Lists of tests, separated by `OR`.
 fn any_at(alloc: Global, tokens: &[Placed]) -> Result<(Seq<Seq<Test>>, &[Placed]), Stop>
     ensures { Gives (λ x. (x.0, x.1.now)) result
         (several (terminals.Keyword words.Or) conj_at tokens.now) }

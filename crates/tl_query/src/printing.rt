@@ -14,7 +14,7 @@ use crate::ast::{
     Stamp, Statement, Test, ValidPoint,
 };
 use crate::terminals::{Terminal, same_terminal, spelling};
-use std::alloc::{AllocError, Global};
+use std::alloc::Global;
 use std::marker::Model;
 use tl_types::{Bytes, Cell, Cmp, ColumnKind, Keyword, NoMemory, Seq};
 
@@ -34,8 +34,8 @@ impl Model for Printer {
     ghost view = { λ p. record { bytes = p.bytes.items; tight = p.tight } };
 }
 
-/// A text constant of these bytes.
-fn text_constant(alloc: Global, text: &[u8]) -> Result<Vec<u8>, AllocError>
+// A text constant of these bytes.
+fn text_constant(alloc: Global, text: &[u8]) -> Result<Vec<u8>, NoMemory>
     ensures { IfOk result (λ bytes. bytes.items ≡ text_constant text.now) }
 {
     let mut bytes = Vec::new(alloc);
@@ -95,8 +95,8 @@ impl Printer {
         }
     }
 
-    /// A space, where the next part does not follow with none.
-    fn space(&mut self, tight: bool) -> Result<(), AllocError>
+    // A space, where the next part does not follow with none.
+    fn space(&mut self, tight: bool) -> Result<(), NoMemory>
         ensures { OnOk result (self.new ≡ record self.old {
           bytes = self.old.bytes ++ gap (self.old.tight || tight);
         }) }
@@ -107,16 +107,16 @@ impl Printer {
         Ok(())
     }
 
-    fn text(&mut self, text: &[u8]) -> Result<(), AllocError>
+    fn text(&mut self, text: &[u8]) -> Result<(), NoMemory>
         ensures { OnOk result (self.new ≡ record self.old { bytes = self.old.bytes ++ text.now }) }
     {
         self.bytes.extend_from_slice(text)?;
         Ok(())
     }
 
-    /// A keyword or a symbol.
+    // A keyword or a symbol.
     #[tactic(auto, unfolding(crate::specs::Printing::put))]
-    fn terminal(&mut self, terminal: Terminal) -> Result<(), AllocError>
+    fn terminal(&mut self, terminal: Terminal) -> Result<(), NoMemory>
         ensures { OnOk result (self.new ≡ put self.old (terminal_word terminal)) }
     {
         let closes = same_terminal(terminal, Terminal::Close)
@@ -127,17 +127,17 @@ impl Printer {
         Ok(())
     }
 
-    /// A keyword.
-    fn keyword(&mut self, keyword: Keyword) -> Result<(), AllocError>
+    // A keyword.
+    fn keyword(&mut self, keyword: Keyword) -> Result<(), NoMemory>
         ensures { OnOk result (self.new
             ≡ put self.old (terminal_word (terminals.Keyword keyword))) }
     {
         self.terminal(Terminal::Keyword(keyword))
     }
 
-    /// What is no keyword and no symbol.
+    // What is no keyword and no symbol.
     #[tactic(auto, unfolding(crate::specs::Printing::put))]
-    fn word(&mut self, text: &[u8]) -> Result<(), AllocError>
+    fn word(&mut self, text: &[u8]) -> Result<(), NoMemory>
         ensures { OnOk result (self.new ≡ put self.old (plain_word text.now)) }
     {
         self.space(false)?;
@@ -146,26 +146,26 @@ impl Printer {
         Ok(())
     }
 
-    fn name(&mut self, name: &Name) -> Result<(), AllocError>
+    fn name(&mut self, name: &Name) -> Result<(), NoMemory>
         ensures { OnOk result (self.new ≡ put self.old (plain_word name.now.text)) }
     {
         self.word(name.text.as_bytes())
     }
 
-    fn number(&mut self, value: i64) -> Result<(), AllocError>
+    fn number(&mut self, value: i64) -> Result<(), NoMemory>
         ensures { OnOk result (self.new ≡ put self.old (plain_word (signed_decimal value))) }
     {
         let text = format!(in self.alloc; "{value}")?;
         self.word(text.as_bytes())
     }
 
-    fn version(&mut self, stamp: Stamp) -> Result<(), AllocError>
+    fn version(&mut self, stamp: Stamp) -> Result<(), NoMemory>
         ensures { OnOk result (self.new ≡ put self.old (plain_word (signed_decimal stamp.value))) }
     {
         self.number(stamp.value)
     }
 
-    fn bound(&mut self, stamp: Stamp) -> Result<(), AllocError>
+    fn bound(&mut self, stamp: Stamp) -> Result<(), NoMemory>
         ensures { OnOk result (self.new ≡ put self.old (bound_word stamp.value)) }
     {
         if stamp.value == i64::MAX {
@@ -175,7 +175,7 @@ impl Printer {
         }
     }
 
-    fn constant(&mut self, cell: &Cell) -> Result<(), AllocError>
+    fn constant(&mut self, cell: &Cell) -> Result<(), NoMemory>
         ensures { OnOk result (self.new ≡ put self.old (plain_word (cell_text cell.now))) }
     {
         match cell {
@@ -187,7 +187,7 @@ impl Printer {
         }
     }
 
-    fn column(&mut self, column: &ColumnForm) -> Result<(), AllocError>
+    fn column(&mut self, column: &ColumnForm) -> Result<(), NoMemory>
         ensures { OnOk result (self.new ≡ write self.old (column_parts column.now)) }
     {
         self.name(&column.name)?;
@@ -195,7 +195,7 @@ impl Printer {
         Ok(())
     }
 
-    fn further_columns(&mut self, columns: &[ColumnForm]) -> Result<(), AllocError>
+    fn further_columns(&mut self, columns: &[ColumnForm]) -> Result<(), NoMemory>
         ensures { OnOk result (self.new
             ≡ write self.old (each_after terminals.Comma column_parts columns.now)) }
     {
@@ -207,7 +207,7 @@ impl Printer {
     }
 
     #[tactic(auto, using(crate::proofs::Writing::write_append))]
-    fn columns(&mut self, columns: &[ColumnForm]) -> Result<(), AllocError>
+    fn columns(&mut self, columns: &[ColumnForm]) -> Result<(), NoMemory>
         ensures { OnOk result (self.new
             ≡ write self.old (separated terminals.Comma column_parts columns.now)) }
     {
@@ -218,7 +218,7 @@ impl Printer {
         Ok(())
     }
 
-    fn valid(&mut self, valid: bool) -> Result<(), AllocError>
+    fn valid(&mut self, valid: bool) -> Result<(), NoMemory>
         ensures { OnOk result (self.new ≡ write self.old (valid_parts valid)) }
     {
         if valid {
@@ -228,7 +228,7 @@ impl Printer {
     }
 
     #[tactic(auto, using(crate::proofs::Writing::write_append))]
-    fn create(&mut self, form: &CreateForm) -> Result<(), AllocError>
+    fn create(&mut self, form: &CreateForm) -> Result<(), NoMemory>
         ensures { OnOk result (self.new ≡ write self.old (create_parts form.now)) }
     {
         self.keyword(Keyword::Create)?;
@@ -243,7 +243,7 @@ impl Printer {
         Ok(())
     }
 
-    fn item(&mut self, item: &Item) -> Result<(), AllocError>
+    fn item(&mut self, item: &Item) -> Result<(), NoMemory>
         ensures { OnOk result (self.new ≡ write self.old (item_parts item.now)) }
     {
         match item {
@@ -254,7 +254,7 @@ impl Printer {
         Ok(())
     }
 
-    fn further_items(&mut self, items: &[Item]) -> Result<(), AllocError>
+    fn further_items(&mut self, items: &[Item]) -> Result<(), NoMemory>
         ensures { OnOk result (self.new
             ≡ write self.old (each_after terminals.Comma item_parts items.now)) }
     {
@@ -266,7 +266,7 @@ impl Printer {
     }
 
     #[tactic(auto, using(crate::proofs::Writing::write_append))]
-    fn items(&mut self, items: &[Item]) -> Result<(), AllocError>
+    fn items(&mut self, items: &[Item]) -> Result<(), NoMemory>
         ensures { OnOk result (self.new
             ≡ write self.old (separated terminals.Comma item_parts items.now)) }
     {
@@ -277,7 +277,7 @@ impl Printer {
         Ok(())
     }
 
-    fn asked(&mut self, all: bool, items: &[Item]) -> Result<(), AllocError>
+    fn asked(&mut self, all: bool, items: &[Item]) -> Result<(), NoMemory>
         ensures { OnOk result (self.new ≡ write self.old (asked_parts all items.now)) }
     {
         if all {
@@ -288,7 +288,7 @@ impl Printer {
         Ok(())
     }
 
-    fn test(&mut self, test: &Test) -> Result<(), AllocError>
+    fn test(&mut self, test: &Test) -> Result<(), NoMemory>
         ensures { OnOk result (self.new ≡ write self.old (test_parts test.now)) }
     {
         self.name(&test.column)?;
@@ -297,7 +297,7 @@ impl Printer {
         Ok(())
     }
 
-    fn further_tests(&mut self, tests: &[Test]) -> Result<(), AllocError>
+    fn further_tests(&mut self, tests: &[Test]) -> Result<(), NoMemory>
         ensures { OnOk result (self.new
             ≡ write self.old (each_after (terminals.Keyword words.And) test_parts tests.now)) }
     {
@@ -309,7 +309,7 @@ impl Printer {
     }
 
     #[tactic(auto, using(crate::proofs::Writing::write_append))]
-    fn tests(&mut self, tests: &[Test]) -> Result<(), AllocError>
+    fn tests(&mut self, tests: &[Test]) -> Result<(), NoMemory>
         ensures { OnOk result (self.new
             ≡ write self.old (separated (terminals.Keyword words.And) test_parts tests.now)) }
     {
@@ -320,7 +320,7 @@ impl Printer {
         Ok(())
     }
 
-    fn further_any(&mut self, any: &[Seq<Test>]) -> Result<(), AllocError>
+    fn further_any(&mut self, any: &[Seq<Test>]) -> Result<(), NoMemory>
         ensures { OnOk result (self.new
             ≡ write self.old (each_after (terminals.Keyword words.Or) conj_parts any.now)) }
     {
@@ -331,7 +331,7 @@ impl Printer {
         Ok(())
     }
 
-    fn any(&mut self, any: &[Seq<Test>]) -> Result<(), AllocError>
+    fn any(&mut self, any: &[Seq<Test>]) -> Result<(), NoMemory>
         ensures { OnOk result (self.new
             ≡ write self.old (separated (terminals.Keyword words.Or) conj_parts any.now)) }
     {
@@ -343,7 +343,7 @@ impl Printer {
         Ok(())
     }
 
-    fn where_tests(&mut self, pred: &Pred) -> Result<(), AllocError>
+    fn where_tests(&mut self, pred: &Pred) -> Result<(), NoMemory>
         ensures { OnOk result (self.new ≡ write self.old (where_parts pred.now)) }
     {
         if !pred.any.is_empty() {
@@ -353,7 +353,7 @@ impl Printer {
         Ok(())
     }
 
-    fn valid_at(&mut self, point: Option<ValidPoint>) -> Result<(), AllocError>
+    fn valid_at(&mut self, point: Option<ValidPoint>) -> Result<(), NoMemory>
         ensures { OnOk result (self.new ≡ write self.old (valid_at_parts point)) }
     {
         if let Some(point) = point {
@@ -364,7 +364,7 @@ impl Printer {
         Ok(())
     }
 
-    fn as_of(&mut self, stamp: Option<Stamp>) -> Result<(), AllocError>
+    fn as_of(&mut self, stamp: Option<Stamp>) -> Result<(), NoMemory>
         ensures { OnOk result (self.new ≡ write self.old (as_of_parts stamp)) }
     {
         if let Some(stamp) = stamp {
@@ -376,7 +376,7 @@ impl Printer {
     }
 
     #[tactic(auto, using(crate::proofs::Writing::write_append))]
-    fn select(&mut self, form: &SelectForm) -> Result<(), AllocError>
+    fn select(&mut self, form: &SelectForm) -> Result<(), NoMemory>
         ensures { OnOk result (self.new ≡ write self.old (select_parts form.now)) }
     {
         self.keyword(Keyword::Select)?;
@@ -389,7 +389,7 @@ impl Printer {
         Ok(())
     }
 
-    fn column_name(&mut self, column: &Option<Name>) -> Result<(), AllocError>
+    fn column_name(&mut self, column: &Option<Name>) -> Result<(), NoMemory>
         ensures { OnOk result (self.new ≡ write self.old (column_name_parts column.now)) }
     {
         if let Some(name) = column {
@@ -398,7 +398,7 @@ impl Printer {
         Ok(())
     }
 
-    fn by(&mut self, column: &Option<Name>) -> Result<(), AllocError>
+    fn by(&mut self, column: &Option<Name>) -> Result<(), NoMemory>
         ensures { OnOk result (self.new ≡ write self.old (by_parts column.now)) }
     {
         if let Some(name) = column {
@@ -408,7 +408,7 @@ impl Printer {
         Ok(())
     }
 
-    fn over(&mut self, over: Over) -> Result<(), AllocError>
+    fn over(&mut self, over: Over) -> Result<(), NoMemory>
         ensures { OnOk result (self.new ≡ write self.old (over_parts over)) }
     {
         self.keyword(Keyword::Over)?;
@@ -440,7 +440,7 @@ impl Printer {
     }
 
     #[tactic(auto, using(crate::proofs::Writing::write_append))]
-    fn agg(&mut self, form: &AggForm) -> Result<(), AllocError>
+    fn agg(&mut self, form: &AggForm) -> Result<(), NoMemory>
         ensures { OnOk result (self.new ≡ write self.old (agg_parts form.now)) }
     {
         self.keyword(agg_keyword(form.kind))?;
@@ -454,7 +454,7 @@ impl Printer {
     }
 
     #[tactic(auto, using(crate::proofs::Writing::write_append))]
-    fn join(&mut self, form: &JoinForm) -> Result<(), AllocError>
+    fn join(&mut self, form: &JoinForm) -> Result<(), NoMemory>
         ensures { OnOk result (self.new ≡ write self.old (join_parts form.now)) }
     {
         self.keyword(Keyword::Join)?;
@@ -471,7 +471,7 @@ impl Printer {
         Ok(())
     }
 
-    fn statement(&mut self, statement: &Statement) -> Result<(), AllocError>
+    fn statement(&mut self, statement: &Statement) -> Result<(), NoMemory>
         ensures { OnOk result (self.new ≡ write self.old (statement_parts statement.now)) }
     {
         match statement {

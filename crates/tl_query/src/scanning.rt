@@ -28,8 +28,8 @@ ghost use Rattle.tl_query.specs.Scanning.{
 use crate::faults::TextFault;
 use crate::terminals::Terminal;
 use crate::tokens::{Placed, Token};
-use std::alloc::{AllocError, Global};
-use tl_types::{Keyword, Text, begins_word, continues_word, is_name};
+use std::alloc::Global;
+use tl_types::{Keyword, NoMemory, Text, begins_word, continues_word, is_name};
 
 /// How many bytes a text constant can have.
 const MOST_TEXT_BYTES: usize = 65535;
@@ -72,7 +72,7 @@ fn digit_count(bytes: &[u8]) -> usize
     bytes.iter().take_while(|byte| is_digit(**byte)).count()
 }
 
-/// The number that the digits spell, or the greatest u64 where it is greater.
+// The number that the digits spell, or the greatest u64 where it is greater.
 fn digits_value(digits: &[u8]) -> u64
     ensures { result ≡ min (digits_value digits.now) (2 ^ 64 - 1) }
 {
@@ -86,7 +86,7 @@ fn digits_value(digits: &[u8]) -> u64
 }
 
 #[tactic(auto, unfolding(crate::specs::Scanning::other_token))]
-fn other_token(alloc: Global, word: &str) -> Result<Token, AllocError>
+fn other_token(alloc: Global, word: &str) -> Result<Token, NoMemory>
     ensures { IfOk result (λ token. token ≡ other_token word.now) }
 {
     if !is_name(word) {
@@ -96,7 +96,7 @@ fn other_token(alloc: Global, word: &str) -> Result<Token, AllocError>
 }
 
 #[tactic(auto, unfolding(crate::specs::Scanning::word_token))]
-fn word_token(alloc: Global, word: &str) -> Result<Token, AllocError>
+fn word_token(alloc: Global, word: &str) -> Result<Token, NoMemory>
     ensures { IfOk result (λ token. token ≡ word_token word.now) }
 {
     match Keyword::of(word) {
@@ -105,7 +105,7 @@ fn word_token(alloc: Global, word: &str) -> Result<Token, AllocError>
     }
 }
 
-/// The text that bytes of UTF-8 are.
+// The text that bytes of UTF-8 are.
 fn as_text(bytes: &[u8]) -> &str
     requires { IsUtf8 bytes.now }
     ensures { result.now ≡ bytes.now }
@@ -117,7 +117,7 @@ fn as_text(bytes: &[u8]) -> &str
 }
 
 #[tactic(auto, unfolding(crate::specs::Scanning::word_piece))]
-fn word_piece(alloc: Global, bytes: &[u8]) -> Result<Piece, AllocError>
+fn word_piece(alloc: Global, bytes: &[u8]) -> Result<Piece, NoMemory>
     ensures { IfOk result (λ piece. piece ≡ word_piece bytes.now) }
 {
     let len = word_len(bytes);
@@ -143,7 +143,7 @@ fn number_piece(at: u32, bytes: &[u8]) -> Result<Piece, TextFault>
     Ok(Piece { token, len, joins })
 }
 
-/// The number, below 0.
+// The number, below 0.
 fn negative(number: u64) -> i64
     requires { number ≤ 2 ^ 63 }
     ensures { result ≡ neg_ℤ (pos number) }
@@ -174,7 +174,7 @@ fn negative_piece(at: u32, bytes: &[u8]) -> Result<Piece, TextFault>
     Ok(Piece { token, len, joins })
 }
 
-/// How many bytes of a text constant follow its opening quote, with the quote that closes it.
+// How many bytes of a text constant follow its opening quote, with the quote that closes it.
 fn closing_len(bytes: &[u8]) -> Option<usize>
     ensures { result ≡ closing_len false bytes.now }
 {
@@ -189,9 +189,9 @@ fn closing_len(bytes: &[u8]) -> Option<usize>
     if quoted { Some(bytes.len()) } else { None }
 }
 
-/// The bytes between the quotes of a text constant, with one quote for two.
+// The bytes between the quotes of a text constant, with one quote for two.
 #[tactic(auto, unfolding(crate::specs::Scanning::single_quotes))]
-fn single_quotes(alloc: Global, bytes: &[u8]) -> Result<Vec<u8>, AllocError>
+fn single_quotes(alloc: Global, bytes: &[u8]) -> Result<Vec<u8>, NoMemory>
     ensures { IfOk result (λ text. text.items ≡ single_quotes false bytes.now) }
 {
     let mut text = Vec::new(alloc);
@@ -208,7 +208,7 @@ fn single_quotes(alloc: Global, bytes: &[u8]) -> Result<Vec<u8>, AllocError>
 }
 
 #[tactic(auto, unfolding(crate::specs::Scanning::text_token))]
-fn text_token(alloc: Global, bytes: &[u8]) -> Result<Token, AllocError>
+fn text_token(alloc: Global, bytes: &[u8]) -> Result<Token, NoMemory>
     requires { IsUtf8 bytes.now }
     ensures { IfOk result (λ token. token ≡ text_token bytes.now) }
 {
@@ -220,11 +220,7 @@ fn text_token(alloc: Global, bytes: &[u8]) -> Result<Token, AllocError>
 }
 
 #[tactic(auto, unfolding(crate::specs::Scanning::quoted_piece))]
-fn quoted_piece(
-    alloc: Global,
-    at: u32,
-    bytes: &[u8],
-) -> Result<Result<Piece, TextFault>, AllocError>
+fn quoted_piece(alloc: Global, at: u32, bytes: &[u8]) -> Result<Result<Piece, TextFault>, NoMemory>
     requires short { length bytes.now < 2 ^ 32 }
     requires utf8 { IsUtf8 bytes.now }
     ensures { IfOk result (λ piece. piece ≡ quoted_piece at bytes.now) }
@@ -284,9 +280,9 @@ fn symbol_piece(at: u32, first: u8, bytes: &[u8]) -> Result<Piece, TextFault>
     }
 }
 
-/// The token that a text of at most 65,536 bytes begins with, or its fault.
+// The token that a text of at most 65,536 bytes begins with, or its fault.
 #[tactic(auto, unfolding(crate::specs::Scanning::piece_at))]
-fn piece_of(alloc: Global, at: u32, bytes: &[u8]) -> Result<Result<Piece, TextFault>, AllocError>
+fn piece_of(alloc: Global, at: u32, bytes: &[u8]) -> Result<Result<Piece, TextFault>, NoMemory>
     requires short { length bytes.now < 2 ^ 32 }
     requires utf8 { IsUtf8 bytes.now }
     ensures { IfOk result (λ piece. piece ≡ piece_of at bytes.now) }
@@ -336,7 +332,7 @@ pub(crate) struct Scanned {
 }
 
 /// The tokens of a text of at most 65,536 bytes. The error is that memory ran out.
-pub(crate) fn scan(alloc: Global, bytes: &[u8]) -> Result<Scanned, AllocError>
+pub(crate) fn scan(alloc: Global, bytes: &[u8]) -> Result<Scanned, NoMemory>
     requires short { length bytes.now ≤ 65536 }
     requires utf8 { IsUtf8 bytes.now }
     ensures { IfOk result (λ read. tokens_seen read ≡ scan 0 false 0 bytes.now) }

@@ -28,8 +28,8 @@ ghost use Rattle.tl_query.specs.Reading.{
 use crate::ast::{AggKind, Item, Name, Stamp, Statement};
 use crate::terminals::{Terminal, same_terminal};
 use crate::tokens::{Placed, Token};
-use std::alloc::{AllocError, AllocFailed};
-use tl_types::{Cell, Cmp, ColumnKind, Keyword};
+use std::alloc::AllocFailed;
+use tl_types::{Cell, Cmp, ColumnKind, Keyword, NoMemory};
 
 /// Where reading stops.
 #[derive(Clone, Copy)]
@@ -42,12 +42,12 @@ pub(crate) enum Stop {
     NoMemory,
 }
 
-impl From<AllocError> for Stop {
+impl From<NoMemory> for Stop {
     ghost use Rattle.tl_query.specs.declared.token_parsers.Stop.TheVariants as stops;
 
     ghost from_gives = { λ _ e. e ≡ stops.NoMemory };
 
-    fn from(_error: AllocError) -> Self {
+    fn from(_error: NoMemory) -> Self {
         Stop::NoMemory
     }
 }
@@ -126,7 +126,7 @@ pub(crate) fn expect_keyword(tokens: &[Placed], keyword: Keyword) -> Result<&[Pl
     expect(tokens, Terminal::Keyword(keyword))
 }
 
-/// The first token, which has to be there, and the tokens after it.
+// The first token, which has to be there, and the tokens after it.
 fn first_token(tokens: &[Placed]) -> Result<(&Placed, &[Placed]), Stop>
     ensures { Gives (λ x. (x.0.now, x.1.now)) result (first_token tokens.now) }
 {

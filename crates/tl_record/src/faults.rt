@@ -2,7 +2,8 @@
 ghost use Rattle.std.specs.Prelude.{◌≡◌};
 ghost use Rattle.tl_record.specs.declared.faults.ReadError.TheVariants.{Memory};
 
-use std::alloc::{AllocError, AllocFailed};
+use std::alloc::AllocFailed;
+use tl_types::NoMemory;
 
 /// Why no record was read.
 #[derive(Clone, Copy, Debug, PartialEq, Eq)]
@@ -39,10 +40,10 @@ pub enum ReadError {
     Fault(Fault),
 }
 
-impl From<AllocError> for ReadError {
+impl From<NoMemory> for ReadError {
     ghost from_gives = { λ _ e. e ≡ Memory };
 
-    fn from(_error: AllocError) -> ReadError {
+    fn from(_error: NoMemory) -> ReadError {
         ReadError::Memory
     }
 }

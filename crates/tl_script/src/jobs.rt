@@ -1,7 +1,8 @@
 //! Why the jobs of a script are not handed out.
 ghost use Rattle.std.specs.Prelude.{◌≡◌};
 
-use std::alloc::{AllocError, AllocFailed};
+use std::alloc::AllocFailed;
+use tl_types::NoMemory;
 
 /// Why the rest of a script is not run. `line` is the number of a line, from 1.
 #[derive(Clone, Copy, Debug, PartialEq, Eq)]
@@ -51,12 +52,12 @@ pub(crate) enum ScriptError {
     Fault(ScriptFault),
 }
 
-impl From<AllocError> for ScriptError {
+impl From<NoMemory> for ScriptError {
     ghost use Rattle.tl_script.specs.declared.jobs.ScriptError.TheVariants.{NoMemory};
 
     ghost from_gives = { λ _ e. e ≡ NoMemory };
 
-    fn from(_error: AllocError) -> ScriptError {
+    fn from(_error: NoMemory) -> ScriptError {
         ScriptError::NoMemory
     }
 }

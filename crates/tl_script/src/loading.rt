@@ -6,9 +6,9 @@ ghost use Rattle.tl_script.specs.Script.{job_with};
 use crate::jobs::ScriptFault;
 use crate::pending::Pending;
 use crate::phases::{Job, NextError, Phase};
-use std::alloc::{AllocError, Global};
+use std::alloc::Global;
 use tl_device::Source;
-use tl_types::{Bytes, Limits, Line};
+use tl_types::{Bytes, Limits, Line, NoMemory};
 
 // Takes what a source has left, or a prefix of it of more than `most` bytes, where none is in hand.
 fn take_block<S: Source>(
@@ -49,7 +49,7 @@ fn load_job(text: Line, block: Bytes) -> Job
 }
 
 // The phase of the job that puts a block.
-fn load_jobs(alloc: Global, text: &str, pending: Pending) -> Result<Phase, AllocError>
+fn load_jobs(alloc: Global, text: &str, pending: Pending) -> Result<Phase, NoMemory>
     ensures { IfOk result (λ phase. phase.jobs.items
         ≡ job_with 1 text.now (Some pending) ∷ []) }
 {

@@ -8,7 +8,7 @@ use crate::session_names::SessionNames;
 use crate::texts::{
     as_text, ends_block, has_block, is_passed_over, is_utf8, statement_of, text_of, without_last,
 };
-use std::alloc::{AllocError, Global};
+use std::alloc::Global;
 use std::mem;
 use tl_types::{Bytes, Limits, Line};
 

@@ -4,9 +4,10 @@ ghost use Rattle.tl_script.specs.InHand.{Refills};
 ghost use Rattle.tl_script.specs.Reader.{NextFaults};
 
 use crate::phases::NextError;
-use std::alloc::{AllocError, Global};
+use std::alloc::Global;
 use std::marker::Model;
 use tl_device::{Failed, Source};
+use tl_types::NoMemory;
 
 // How many bytes one read asks for.
 const PIECE: usize = 65536;
@@ -29,7 +30,7 @@ impl Model for Pending {
 }
 
 // As many zeros as one read asks for.
-fn zeros(alloc: Global, number: usize) -> Result<Vec<u8>, AllocError>
+fn zeros(alloc: Global, number: usize) -> Result<Vec<u8>, NoMemory>
     ensures { IfOk result (λ v. vec_len v ≡ number) }
 {
     Ok(vec![in alloc; 0u8; number]?)
@@ -77,7 +78,7 @@ impl Pending {
     }
 
     /// The bytes as a `Vec`.
-    pub fn into_vec(self) -> Result<Vec<u8>, AllocError>
+    pub fn into_vec(self) -> Result<Vec<u8>, NoMemory>
         ensures { IfOk result (λ bytes. bytes.items ≡ self) }
     {
         let place = self.place;
@@ -89,7 +90,7 @@ impl Pending {
     }
 
     // Gives back the room of the bytes that are read.
-    fn tidy(&mut self) -> Result<(), AllocError>
+    fn tidy(&mut self) -> Result<(), NoMemory>
         ensures { self.new ≡ self.old }
     {
         if self.place == 0 {
@@ -100,7 +101,7 @@ impl Pending {
         Ok(())
     }
 
-    fn push_all(&mut self, bytes: &[u8]) -> Result<(), AllocError>
+    fn push_all(&mut self, bytes: &[u8]) -> Result<(), NoMemory>
         ensures { OnOk result (self.new ≡ self.old ++ bytes.now) }
     {
         self.bytes.extend_from_slice(bytes)

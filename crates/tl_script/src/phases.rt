@@ -1,8 +1,8 @@
 //! What a script is: phases of jobs, each a statement with its block.
 use crate::jobs::{ScriptError, ScriptFault};
-use std::alloc::{AllocError, AllocFailed};
+use std::alloc::AllocFailed;
 use std::marker::Model;
-use tl_types::{Bytes, Line};
+use tl_types::{Bytes, Line, NoMemory};
 
 /// One statement of a script.
 #[derive(Drop)]
@@ -51,13 +51,13 @@ pub enum NextError {
     Fault(ScriptFault),
 }
 
-impl From<AllocError> for NextError {
+impl From<NoMemory> for NextError {
     ghost use Rattle.std.specs.Prelude.{◌≡◌};
     ghost use Rattle.tl_script.specs.declared.phases.NextError.TheVariants.{NoMemory};
 
     ghost from_gives = { λ _ e. e ≡ NoMemory };
 
-    fn from(_error: AllocError) -> NextError {
+    fn from(_error: NoMemory) -> NextError {
         NextError::NoMemory
     }
 }

@@ -98,14 +98,14 @@ impl TableData {
         self.schema.name().as_str() == name
     }
 
-    /// Whether the row with an id is there and is current.
+    // Whether the row with an id is there and is current.
     fn is_open_at(&self, id: u32) -> bool
         ensures { result ≡ is_open_at self.now.rows id }
     {
         (id as u64) < self.to.len() && *self.to.at(id as u64) == OPEN
     }
 
-    /// Whether each id is that of a current row.
+    // Whether each id is that of a current row.
     fn all_open(&self, ids: &[u32]) -> bool
         ensures { result ≡ list_all (is_open_at self.now.rows) ids.now }
     {
@@ -211,7 +211,7 @@ impl TableData {
         Ok(cells)
     }
 
-    /// The row as its commit opened it.
+    // The row as its commit opened it.
     fn opened_at(&self, alloc: Global, row: u32) -> Result<Opened, NoMemory>
         requires { row < length self.now.rows }
         ensures { IfOk result
@@ -221,7 +221,7 @@ impl TableData {
         Ok(Opened::new(Seq::from_vec(cells), self.periods.get(row)))
     }
 
-    /// A part of the closed ids. It ticks once for each.
+    // A part of the closed ids. It ticks once for each.
     fn closes<L: Ledger>(
         &self,
         alloc: Global,
@@ -242,7 +242,7 @@ impl TableData {
         Ok(Seq::from_vec(closes))
     }
 
-    /// A part of the rows, as their commits opened them. It ticks once for each.
+    // A part of the rows, as their commits opened them. It ticks once for each.
     fn opens<L: Ledger>(
         &self,
         alloc: Global,

@@ -16,6 +16,8 @@ import time
 
 HERE = os.path.dirname(os.path.abspath(__file__))
 TIMELINE = os.path.join(os.path.dirname(HERE), "timeline")
+# The folder for journals: a file system in memory, where there is one.
+JOURNALS = "/dev/shm" if os.access("/dev/shm", os.W_OK) else None
 HINT = "timeline: see ./timeline --help\n"
 HELD = "timeline: another program has this journal"
 
@@ -133,7 +135,7 @@ def files_are_opened():
     with open(f"{HERE}/first.expected") as expected:
         wanted = expected.read()
     judge("try FILE", run(["try", f"{HERE}/first.tl"]) == (0, wanted, ""), wanted)
-    with tempfile.TemporaryDirectory() as room:
+    with tempfile.TemporaryDirectory(dir=JOURNALS) as room:
         make_journal(room)
         judge("run FILE", run(["run", f"{HERE}/first.tl"], room=room) == (0, wanted, ""), wanted)
         with open(f"{room}/more.csv", "w") as more:
@@ -143,7 +145,7 @@ def files_are_opened():
 
 def refusals_are_told():
     """A refused load says so; `--strict` ends with 20 where a statement was refused, and else as the program does."""
-    with tempfile.TemporaryDirectory() as room:
+    with tempfile.TemporaryDirectory(dir=JOURNALS) as room:
         make_journal(room, "a> CREATE TABLE t (k INT) KEY k\n")
         told = "timeline: 1 of 1 statements was refused: nothing was loaded\n"
         refused = "load @1 ! NotInt 2 1\n"
@@ -169,7 +171,7 @@ def refusals_are_told():
 
 def explanations_come_from_a_pipe():
     """A script from a pipe is explained as one from a file, and so is a load."""
-    with tempfile.TemporaryDirectory() as room:
+    with tempfile.TemporaryDirectory(dir=JOURNALS) as room:
         make_journal(room, "a> CREATE TABLE t (k INT, x INT) KEY k\n")
         status, printed, said = run(["--explain", "run"], "# first\na> SELECT k from t\n", room)
         wanted = "timeline: line 2 was refused: Unexpected 9\n    SELECT k from t\n             ^\n"
@@ -181,7 +183,7 @@ def explanations_come_from_a_pipe():
 
 def a_terminal_is_told():
     """On a pseudo-terminal the replies come phase by phase, and a refusal is explained where it stands."""
-    with tempfile.TemporaryDirectory() as room:
+    with tempfile.TemporaryDirectory(dir=JOURNALS) as room:
         make_journal(room, "a> CREATE TABLE t (k INT) KEY k\n")
         number, terminal = pty.fork()
         if number == 0:
@@ -213,7 +215,7 @@ def a_terminal_is_told():
 def two_loaders_at_once():
     """Two loaders, 40 loads each, with and without --wait: what was answered `ok` is there, and nothing else."""
     for words in (["--wait", "load", "t"], ["load", "t"]):
-        with tempfile.TemporaryDirectory() as room:
+        with tempfile.TemporaryDirectory(dir=JOURNALS) as room:
             make_journal(room, "a> CREATE TABLE t (k INT) KEY k\n")
             loads = [(first + number) for number in range(40) for first in (1000, 2000)]
             running, answered, refused = [], [], 0
@@ -242,7 +244,7 @@ def two_loaders_at_once():
 
 def another_program_has_the_journal():
     """While another program has the lock of the journal, a run ends as one whose disk fails, and says why."""
-    with tempfile.TemporaryDirectory() as room:
+    with tempfile.TemporaryDirectory(dir=JOURNALS) as room:
         make_journal(room, "a> CREATE TABLE t (k INT) KEY k\n")
         with open(f"{room}/timeline.tlj", "rb") as journal:
             before = journal.read()
@@ -267,14 +269,14 @@ def another_program_has_the_journal():
 
 def refused_folder():
     """What `--wait` makes of a journal that cannot be opened for another reason: it does not wait."""
-    with tempfile.TemporaryDirectory() as room:
+    with tempfile.TemporaryDirectory(dir=JOURNALS) as room:
         os.mkdir(f"{room}/timeline.tlj")
         return run(["--wait", "run"], "", room)
 
 
 def a_long_load_goes_on():
     """A load of 1,500 batches that is killed three times goes on each time, and leaves no row out and none twice."""
-    with tempfile.TemporaryDirectory() as room:
+    with tempfile.TemporaryDirectory(dir=JOURNALS) as room:
         make_journal(room, "a> CREATE TABLE t (k INT, x INT) KEY k\n")
         with open(f"{room}/rows.csv", "w") as rows:
             rows.write("k,x\n" + "".join(f"{key},{key % 7}\n" for key in range(3000)))

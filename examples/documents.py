@@ -5,12 +5,13 @@ runs the recipes of docs/RECIPES.md and the tour of README.md. Ends with 1 where
 import glob
 import os
 import re
-import shutil
 import subprocess
 import sys
 import tempfile
 
 ROOT = os.path.dirname(os.path.dirname(os.path.abspath(__file__)))
+# The folder for journals: a file system in memory, where there is one.
+JOURNALS = "/dev/shm" if os.access("/dev/shm", os.W_OK) else None
 # The types whose variants are the words of a fault, and those that stand behind `! script` and `! journal`.
 FAULTS = {"TextFault": "", "CheckFault": "", "CsvFault": "", "BatchFault": "", "ScriptFault": "script ", "JournalFault": "journal "}
 # What is no word of a fault: want of memory ends a run, and a fault of the source or the disk is a line of its own.
@@ -109,9 +110,9 @@ def run_blocks(name, blocks, wanted):
         if part in commands and not is_there(words):
             print(f"{name}: not tried, since {words[0] if words[0] != 'python3' else 'pandas'} is not here")
             return
-    with tempfile.TemporaryDirectory() as room:
+    with tempfile.TemporaryDirectory(dir=JOURNALS) as room:
         os.symlink(f"{ROOT}/timeline", f"{room}/timeline")
-        shutil.copytree(f"{ROOT}/examples", f"{room}/examples")
+        os.symlink(f"{ROOT}/examples", f"{room}/examples")
         run = subprocess.run(["bash", "-c", commands], cwd=room, capture_output=True, text=True, timeout=60,
                              stdin=subprocess.DEVNULL)
     judge(name, run.stdout == wanted, f"it printed\n{run.stdout}\nand not\n{wanted}\nand said {run.stderr}")

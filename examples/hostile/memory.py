@@ -12,6 +12,9 @@ import tempfile
 PROGRAM = os.path.abspath(sys.argv[1])
 SOURCE = os.path.join(os.path.dirname(os.path.abspath(__file__)), "refuse.c")
 
+# The folder for journals: a file system in memory, where there is one.
+JOURNALS = "/dev/shm" if os.access("/dev/shm", os.W_OK) else None
+
 # Each phase with its replies.
 WORKED = [
     ("a> CREATE TABLE emp (id INT, dept TEXT, pay INT) KEY id\n", "a @1 ok\n"),
@@ -44,34 +47,45 @@ def journal_stands(room, printed):
     return again.returncode == 0 and found is not None and version(printed) <= int(found.group(1)) <= 5
 
 
-def trial(words, phases, library, **refusal):
-    """Runs once with some memory refused, and says what is wrong with it, or how many allocations it came to."""
+def is_made(path):
+    return os.path.exists(path)
+
+
+def trial(words, phases, library, refusal):
+    """Runs once with some memory refused: what is wrong with it, and whether memory was refused at all."""
     whole = "".join(replies for _, replies in phases)
     fronts = ["".join(replies for _, replies in phases[:it]) for it in range(len(phases) + 1)]
     given = "GO\n".join(script for script, _ in phases) if words == ["run"] else ""
-    with tempfile.TemporaryDirectory() as room:
+    with tempfile.TemporaryDirectory(dir=JOURNALS) as room:
         if words[0] == "run":
             subprocess.run([PROGRAM, "init"], cwd=room, stdin=subprocess.DEVNULL, check=True)
-        done = called(words, given, room, library, ALLOCATIONS=f"{room}/allocations", **refusal)
+        done = called(words, given, room, library, REFUSED=f"{room}/refused", **refusal)
+        was_refused = is_made(f"{room}/refused")
         is_usual = (done.returncode, done.stdout) == (0, whole)
-        is_cut = done.returncode == 1 and done.stdout in fronts
+        is_cut = was_refused and done.returncode == 1 and done.stdout in fronts
         if not is_usual and not is_cut:
-            return f"status {done.returncode}, {done.stdout!r}, {done.stderr!r}", 0
+            return f"status {done.returncode}, {done.stdout!r}, {done.stderr!r}", was_refused
         if words[0] == "run" and not journal_stands(room, done.stdout):
-            return "the journal does not open, or lacks a commit that was answered", 0
-        with open(f"{room}/allocations") as allocations:
-            return None, int(allocations.read())
+            return "the journal does not open, or lacks a commit that was answered", was_refused
+        return None, was_refused
 
 
-def initialise(library, **refusal):
-    """Makes a journal with some memory refused: it is made, or nothing is."""
-    with tempfile.TemporaryDirectory() as room:
-        done = called(["init"], "", room, library, ALLOCATIONS=f"{room}/allocations", **refusal)
-        size = os.path.getsize(f"{room}/timeline.tlj") if os.path.exists(f"{room}/timeline.tlj") else 0
-        if (done.returncode, done.stdout, size) not in ((0, "", 17), (1, "", 0)):
-            return f"status {done.returncode}, {done.stdout!r}, {size} bytes", 0
-        with open(f"{room}/allocations") as allocations:
-            return None, int(allocations.read())
+def initialise(library, refusal):
+    """Makes a journal with some memory refused: it is made, or the file is empty or not there."""
+    with tempfile.TemporaryDirectory(dir=JOURNALS) as room:
+        done = called(["init"], "", room, library, REFUSED=f"{room}/refused", **refusal)
+        size = os.path.getsize(f"{room}/timeline.tlj") if is_made(f"{room}/timeline.tlj") else 0
+        if (done.returncode, done.stdout, size) in ((0, "", 17), (1, "", 0)):
+            return None, is_made(f"{room}/refused")
+        return f"status {done.returncode}, {done.stdout!r}, {size} bytes", is_made(f"{room}/refused")
+
+
+def refusals():
+    """None, and then each allocation by its number, alone and with all behind it."""
+    yield "no memory", {}
+    for number in range(1, 1_000_000):
+        yield f"allocation {number}", {"REFUSE": str(number)}
+        yield f"allocation {number} and all behind it", {"REFUSE": str(number), "REFUSE_ON": "1"}
 
 
 def main():
@@ -79,24 +93,21 @@ def main():
         library = f"{room}/refuse.so"
         subprocess.run(["cc", "-shared", "-fPIC", "-O1", "-o", library, SOURCE], check=True)
         runs = {
-            "init": lambda **refusal: initialise(library, **refusal),
-            "the worked script": lambda **refusal: trial(["run"], WORKED, library, **refusal),
-            "sample 2 7": lambda **refusal: trial(["sample", "2", "7"], SAMPLE, library, **refusal),
+            "init": lambda refusal: initialise(library, refusal),
+            "the worked script": lambda refusal: trial(["run"], WORKED, library, refusal),
+            "sample 2 7": lambda refusal: trial(["sample", "2", "7"], SAMPLE, library, refusal),
         }
         for name, attempt in runs.items():
-            what, count = attempt()
-            tried, wrong = 1, 0
-            if what:
-                wrong = 1
-                print(f"{name}, with no memory refused: {what}", file=sys.stderr)
-            for number in range(1, count + 1):
-                for on in ({}, {"REFUSE_ON": "1"}):
-                    tried += 1
-                    what, _ = attempt(REFUSE=str(number), **on)
-                    if what:
-                        wrong += 1
-                        print(f"{name}, allocation {number} refused{' and all behind it' if on else ''}: {what}", file=sys.stderr)
-            print(f"memory refused to {name}\t{tried}\t{wrong}")
+            tried = wrong = 0
+            for refused, refusal in refusals():
+                what, was_refused = attempt(refusal)
+                if refusal and not was_refused:
+                    break
+                tried += 1
+                if what:
+                    wrong += 1
+                    print(f"{name}, {refused} refused: {what}", file=sys.stderr)
+            print(f"memory refused to {name}\t{tried}\t{wrong}", flush=True)
 
 
 main()

@@ -44,7 +44,7 @@ use Rattle.tl_program.specs.Commands.{command_of, put_text}
 use Rattle.tl_program.specs.Coming.{script_reads, block_reads}
 use Rattle.tl_program.specs.Sample.{sample_reading}
 use Rattle.tl_program.specs.Stopping.{RunStops}
-use Rattle.tl_program.specs.Outside.{Outside, Streams, streams_of, IsUnread, IsSameDisk, LeavesNoLess, KeepsJournal, OpensWith, HoldsJournal}
+use Rattle.tl_program.specs.Outside.{Outside, Streams, streams_of, IsUnread, IsSameDisk, LeavesNoLess, DiskAsBefore, DiskDurable, DiskTrimmed, KeepsJournal, OpensWith, HoldsJournal}
 
 -- THE SINK
 
@@ -111,7 +111,7 @@ EndsFor (journal.Damaged at) old new before after ended =
 
 -- why a journal is not opened
 abbrev pub RefusedBy : JournalFault → Outside → Outside → Type 0
-RefusedBy journal.NoMemory before after = Unit {0}
+RefusedBy journal.NoMemory before after = DiskAsBefore before after ⊎ DiskTrimmed before after
 RefusedBy (journal.Device faults) before after = Unit {0}
 RefusedBy (journal.NotInitialised len) before after =
     (len < 17) × IfSome before.reads (IsTooShort len) × IsSameDisk before after
@@ -119,6 +119,7 @@ RefusedBy (journal.NotInitialised len) before after =
 RefusedBy (journal.AlreadyInitialised len) before after = ⊥
 RefusedBy (journal.Damaged at) before after =
     IfSome before.reads (IsDamaged standard_limits at) × IsSameDisk before after
+    × DiskDurable before after
 
 -- the journal was not opened, for this fault; the source is unread
 pub record EndsRefused (before after : Outside) (ended : Status) : Type 0 where
@@ -140,7 +141,7 @@ MayBeShort before after =
 
 -- why a journal is not made
 abbrev pub NotMadeBy : JournalFault → Outside → Outside → Type 0
-NotMadeBy journal.NoMemory before after = MayBeShort before after
+NotMadeBy journal.NoMemory before after = DiskAsBefore before after
 NotMadeBy (journal.Device faults) before after = MayBeShort before after
 NotMadeBy (journal.NotInitialised len) before after = ⊥
 NotMadeBy (journal.AlreadyInitialised len) before after =

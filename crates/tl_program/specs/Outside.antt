@@ -89,6 +89,22 @@ abbrev pub LeavesNoLess : Outside → Outside → Type 0
 LeavesNoLess before after =
     (b : List ℕ) → before.reads ≡ Some b → (c : List ℕ) → before.may_leave c → after.may_leave c
 
+-- a read gives what it gave, and a crash leaves just what it could leave before
+abbrev pub DiskAsBefore : Outside → Outside → Type 0
+DiskAsBefore before after = IsSameDisk before after × LeavesNoLess before after
+
+-- where the disk told its bytes, a crash leaves just these
+abbrev pub DiskDurable : Outside → Outside → Type 0
+DiskDurable before after =
+    (b : List ℕ) → before.reads ≡ Some b → (after.reads ≡ Some b) × Only b after.may_leave
+
+-- where the disk told its bytes, a crash leaves just these, or these without what stood past the
+-- closed gate
+abbrev pub DiskTrimmed : Outside → Outside → Type 0
+DiskTrimmed before after =
+    (b : List ℕ) → before.reads ≡ Some b
+    → (c : List ℕ) × SameOrTrimmed b c × (after.reads ≡ Some c) × Only c after.may_leave
+
 -- a journal that the disk was stays one of the same commits: it is read as before, or without what
 -- stood past its closed gate
 pub record KeepsJournal (before after : Outside) : Type 0 where

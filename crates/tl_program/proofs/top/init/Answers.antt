@@ -21,6 +21,9 @@ returns-in-Err g c = λ left faults.
     inr (record {
       fault = c.in-Err.fault;
       refused = not_made c.in-Err.fault before after c.init-done.ensures.now
+          (λ e.
+          let kept = c.init-done.ensures.no_memory (c.in-Err.is ∙ ap Err e) in
+          (record { reads_same = kept.0.reads_same; no_more = kept.0.no_more }, kept.1))
           (λ len e. c.init-done.ensures.not_short len (c.in-Err.is ∙ ap Err e))
           (λ at e. c.init-done.ensures.not_damaged at (c.in-Err.is ∙ ap Err e))
           (λ len e. (

@@ -5,7 +5,7 @@ use Rattle.tl_types.specs.Legality.{FitInTurn}
 use Rattle.tl_engine.specs.Fitting.{IsDamaged}
 use Rattle.tl_program.specs.Outside.{outside, OpensWith}
 use Rattle.tl_program.proofs.EndLemmas.{opened_ends}
-use Rattle.tl_program.proofs.OpeningLemmas.{refused_by}
+use Rattle.tl_program.proofs.OpeningLemmas.{either_of, refused_by}
 use Rattle.tl_program.proofs.top.run.Goals as goal
 
 pub returns-in-Err : goal.returns-in-Err
@@ -18,12 +18,16 @@ returns-in-Err g c =
     inl (record {
       fault = c.in-Err.field-0.fault;
       refused = refused_by c.in-Err.field-0.fault before after
+          (λ e. either_of (c.in-Err.ensures.opens.no_memory e)
+          (λ h. (record { reads_same = h.0.reads_same; no_more = h.0.no_more }, h.1))
+          (λ h b told. let k = h b told in (k.0, k.1, k.2.reads_as, k.2.only)))
           (λ len e. let h = c.in-Err.ensures.opens.too_short len e in (h.0, h.1, record { reads_same = h.2.reads_same; no_more = h.2.no_more }, c.in-Err.ensures.opens.no_less len e))
           (λ len e. c.in-Err.ensures.opens.not_long len e)
           (λ at e.
           let h = c.in-Err.ensures.opens.damaged at e in (
             subst (λ (l : Limits). IfSome (disk.reads c.args.disk) (IsDamaged l at)) c.standard.ensures h.0,
             record { reads_same = h.1.reads_same; no_more = h.1.no_more },
+            λ b told. let s = c.in-Err.ensures.opens.durable at e b told in (s.reads_as, s.only),
           ));
       counts = c.in-Err.ensures.opens.faults;
       unread = (refl, refl);

@@ -294,7 +294,9 @@ fn worked_opening_fails<R: AllocGlobal + Threads + Wait + Sync>(
     disk: MemoryDisk,
 ) -> bool {
     let (is_done, disk) = run(rt, run_words, WORKED, disk, ALL);
-    is_done && each_opening_fails(rt, run_words, &disk)
+    is_done
+        && leaves_each(rt, run_words, &disk, &[FIVE, FIVE, FIVE, FIVE])
+        && each_opening_fails(rt, run_words, &disk)
 }
 
 #[test]

@@ -181,6 +181,18 @@ def explanations_come_from_a_pipe():
         judge("--explain load", (status, printed) == (0, "load @1 ! NotInt 3 2\n") and said.startswith(wanted), said)
 
 
+def what_is_not_open_fails():
+    """An output or an input that is not open is one that fails; the journal's file does not take its place."""
+    with tempfile.TemporaryDirectory(dir=JOURNALS) as room:
+        make_journal(room)
+        create = "echo 'a> CREATE TABLE t (k INT) KEY k' | "
+        for words, wanted in (("run >&-", 4), ("--strict run >&-", 4), ("run <&-", 3), ("run 2>&-", 0), ("--explain run 2>&-", 0)):
+            done = subprocess.run(["bash", "-c", f'{create}"$0" {words}', TIMELINE], cwd=room, capture_output=True, timeout=60)
+            judge(f"the command with {words}", done.returncode == wanted, done)
+        printed = run(["run"], "a> SELECT k FROM t\n", room)[1]
+        judge("the journal afterwards", printed == "a @1 rows 0\n", printed)
+
+
 def a_terminal_is_told():
     """On a pseudo-terminal the replies come phase by phase, and a refusal is explained where it stands."""
     with tempfile.TemporaryDirectory(dir=JOURNALS) as room:
@@ -303,6 +315,7 @@ try_without_a_program()
 files_are_opened()
 refusals_are_told()
 explanations_come_from_a_pipe()
+what_is_not_open_fails()
 a_terminal_is_told()
 two_loaders_at_once()
 another_program_has_the_journal()

@@ -1,11 +1,12 @@
 #!/usr/bin/env bash
 # Runs the program on a full disk, on files that it may not read or write, on a folder in the journal's place, with an
 # output that is closed, and with an input that stops: each has its status and closing line, and what was answered before
-# has to stand. `bash disk.sh PROGRAM`; it prints a row for each, `name, tried, wrong`. It makes a small file system of
+# has to stand. `bash disk.sh PROGRAM COMMAND`; it prints a row for each, `name, tried, wrong`. It makes a small file system of
 # its own where it may (`unshare`), and says so where it may not.
 set -uo pipefail
 
 program=$(readlink -f "$1")
+command=$(readlink -f "$2")
 
 # Compares, and prints a row: wanted NAME WANTED GOT
 wanted() {
@@ -89,8 +90,8 @@ sleep 0.5
 wanted "an output that is closed" 'status 4' "$(cat ended)"
 wanted "its commit" $'a @1 rows 0\nstatus 0' "$(echo 'a> SELECT k FROM t' | "$program" run; echo "status $?")"
 wanted "an output that is full" 'status 4' "$(echo 'a> SELECT k FROM t' | "$program" run >/dev/full; echo "status $?")"
-wanted "an output that is not open" 'status 4' "$(echo 'a> SELECT k FROM t' | "$program" run >&-; echo "status $?")"
-wanted "an input that is not open" $'! source\nstatus 3' "$("$program" run <&-; echo "status $?")"
+wanted "an output that is not open" 'status 4' "$(echo 'a> SELECT k FROM t' | "$command" run >&-; echo "status $?")"
+wanted "an input that is not open" $'! source\nstatus 3' "$("$command" run <&-; echo "status $?")"
 wanted "an input that is a folder" $'! source\nstatus 3' "$("$program" run <.; echo "status $?")"
 wanted "an input that stops in a block" $'! script BlockOpen 1\nstatus 6' \
     "$(printf 'a> PUT t\nk\n1' | "$program" run; echo "status $?")"

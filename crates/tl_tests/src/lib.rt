@@ -10,8 +10,6 @@ mod bits;
 #[cfg(test)]
 mod columns;
 #[cfg(test)]
-mod crashes;
-#[cfg(test)]
 mod devices;
 #[cfg(test)]
 mod events;
@@ -20,8 +18,6 @@ mod files;
 #[cfg(test)]
 mod lanes;
 #[cfg(test)]
-mod limits;
-#[cfg(test)]
 mod lists;
 #[cfg(test)]
 mod masks;
@@ -29,10 +25,6 @@ mod masks;
 mod plain;
 #[cfg(test)]
 mod records;
-#[cfg(test)]
-mod runs;
-#[cfg(test)]
-mod sessions;
 #[cfg(test)]
 mod statements;
 #[cfg(test)]

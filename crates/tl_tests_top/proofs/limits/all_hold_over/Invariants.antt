@@ -1,5 +1,5 @@
 use Rattle.std.proofs.Common.{false}
-use Rattle.tl_tests.proofs.limits.all_hold_over.Given as goal
+use Rattle.tl_tests_top.proofs.limits.all_hold_over.Given as goal
 
 -- the names are those of the opening
 abbrev pub ghosts-all_hold-J-Ledger : goal.ghosts-all_hold-J-Ledger

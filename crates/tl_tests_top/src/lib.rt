@@ -1,0 +1,12 @@
+//! Tests that wait or start threads: an engine with low limits, and runs of the top call over a disk
+//! in memory. The tests of the crates below the engine stand in tl_tests.
+#![tactic(auto)]
+
+#[cfg(test)]
+mod crashes;
+#[cfg(test)]
+mod limits;
+#[cfg(test)]
+mod runs;
+#[cfg(test)]
+mod sessions;

@@ -308,7 +308,7 @@ def a_long_load_goes_on():
 
 
 # A command that does not end is not as it should be either.
-signal.alarm(200)
+signal.alarm(550)
 words_are_answered_at_once()
 the_build_says_how_far_it_is()
 try_without_a_program()

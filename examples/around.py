@@ -307,6 +307,21 @@ def a_long_load_goes_on():
         judge("a long load", loader.returncode == 0 and printed == wanted, (loader.returncode, printed[:200]))
 
 
+def a_long_load_names_what_is_refused():
+    """A load with a batch that is refused loads the others, names it, and does not begin again over it."""
+    with tempfile.TemporaryDirectory(dir=JOURNALS) as room:
+        make_journal(room, "a> CREATE TABLE t (k INT, x INT) KEY k\n")
+        with open(f"{room}/rows.csv", "w") as rows:
+            rows.write("k,x\n1,1\n2,2\n3,x\n4,4\n5,5\n")
+        for turn in range(2):
+            load = subprocess.run(["bash", f"{HERE}/long_load.sh", "rows.csv", "t", "2"], cwd=room, text=True,
+                                  capture_output=True)
+            named = load.stderr.startswith("batch 2, lines 4 to 5: load @2 ! NotInt 2 2\n")
+            printed = run(["run"], "a> SELECT k FROM t\n", room)[1]
+            judge("a long load with a batch that is refused",
+                  load.returncode == 20 and named and printed == "a @3 rows 3\n1\n2\n5\n", (load, printed))
+
+
 # A command that does not end is not as it should be either.
 signal.alarm(550)
 words_are_answered_at_once()
@@ -320,4 +335,5 @@ a_terminal_is_told()
 two_loaders_at_once()
 another_program_has_the_journal()
 a_long_load_goes_on()
+a_long_load_names_what_is_refused()
 sys.exit(failed)

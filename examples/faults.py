@@ -1,16 +1,13 @@
 #!/usr/bin/env python3
 """Runs the program where a script alone does not reach: an input, an output and a journal that fail in a phase or
-between two, and a phase of two sessions, which have to run at once. `faults.py PROGRAM`; ends with 1 where one run is
-not as it should be."""
+between two. `faults.py PROGRAM`; ends with 1 where one run is not as it should be."""
 import os
-import re
 import resource
 import signal
 import socket
 import subprocess
 import sys
 import tempfile
-import time
 
 PROGRAM = os.path.abspath(sys.argv[1])
 
@@ -90,42 +87,6 @@ def journal_fails(room_for, outputs):
         judge(f"a journal of at most {room_for} bytes", found in [(5, it) for it in outputs], found)
 
 
-def times(number):
-    """The processor time of each thread of a process, by its number, in ticks."""
-    found = {}
-    try:
-        for thread in os.listdir(f"/proc/{number}/task"):
-            with open(f"/proc/{number}/task/{thread}/stat") as stat:
-                words = stat.read().rpartition(")")[2].split()
-                found[thread] = int(words[11]) + int(words[12])
-    except OSError:
-        pass
-    return found
-
-
-def sessions_run_at_once():
-    """Two sessions of a phase ask a query of about a second: both have to take processor time meanwhile."""
-    rows = "".join(f"{key},0,{2 * key},{2 * key + 1}\n" for key in range(8000))
-    join = "JOIN t WITH t ON x = x OVER VALID 0 TO FOREVER"
-    script = f"a> CREATE TABLE t (k INT, x INT) KEY k VALID\na> PUT t\nk,x,valid_from,valid_to\n{rows}\\.\nGO\n"
-    with tempfile.TemporaryDirectory() as room, open(f"{room}/replies", "w+") as replies:
-        init(room)
-        run = subprocess.Popen([PROGRAM, "run"], cwd=room, stdin=subprocess.PIPE, stdout=replies, text=True)
-        run.stdin.write(f"{script}b> {join}\nc> {join}\n")
-        run.stdin.close()
-        together, before = 0, times(run.pid)
-        while run.poll() is None:
-            time.sleep(0.05)
-            now = times(run.pid)
-            together += sum(now[it] > before.get(it, now[it]) for it in now) >= 2
-            before = now
-        replies.seek(0)
-        heads = re.findall(r"^[a-z] @.*$", replies.read(), re.M)
-        wanted = ["a @1 ok", "a @2 ok", "b @2 rows 8000", "c @2 rows 8000"]
-        found = run.returncode, heads, together
-        judge("two sessions at once", run.returncode == 0 and heads == wanted and together >= 5, found)
-
-
 # A run that does not end is not as it should be either.
 signal.alarm(300)
 input_fails("a> CREATE TABLE emp", "! source\n", "a @0 ! UnknownTable 14\n")
@@ -136,5 +97,4 @@ broken = "a @1 ok\nb @1 ! {}\nc @1 ! {}\na @1 rows 0\n! device\na @1 rows 0\n"
 journal_fails(50, [broken.format("device", "broken"), broken.format("broken", "device")])
 full = "a @1 ok\nb @2 {}\nc @2 {}\na @2 rows 1\n{}\n! device\na @2 rows 1\n{}\n"
 journal_fails(70, [full.format("ok", "! device", 1, 1), full.format("! device", "ok", 2, 2)])
-sessions_run_at_once()
 sys.exit(failed)

@@ -2,14 +2,17 @@
 -- `RunTells` (Headline.antt) says what a run over a journal printed and keeps then:
 --
 --   status              here                                                       in `RunTells`
---   Done                `OpenedEnds`: `ends.why` is Ended, no break; `MakesJournal`    done
---   NoMemory            `Ends`, left; `EndsRefused` with NoMemory; `OpenedEnds`:       no_memory
---                       `ends.why` is NoMemory, or no memory for the closing line
+--   Done                `OpenedEnds`: `ends.why` is Ended, no break; `MakesJournal`;   done
+--                       `SampleEnds`
+--   NoMemory            `Ends`, left; `EndsRefused` and `MakingFails` with NoMemory;   no_memory
+--                       `OpenedEnds`: `ends.why` is NoMemory; `SampleEnds`; or no
+--                       memory for a closing line
 --   Usage               `EndsBy None`                                                  -
 --   SourceFault         `OpenedEnds`: `ends.why` is Source                             source_fault
 --   SinkFault           `OpenedEnds`: `ends.why` is Sink; or the closing line,         sink_fault
 --                       `SinkFails`
---   DiskFault           `EndsRefused` with Device; `OpenedEnds`: a break               disk_fault
+--   DiskFault           `EndsRefused` and `MakingFails` with Device; `OpenedEnds`:     disk_fault
+--                       a break
 --   ScriptFault         `OpenedEnds`: `ends.why` is Fault                              script_fault
 --   NotInitialised      `EndsRefused` with NotInitialised                              -
 --   AlreadyInitialised  `MakingFails` with AlreadyInitialised                          -
@@ -262,5 +265,5 @@ EndsBy (Some (command.Sample lines start)) before after ended =
 abbrev pub Ends : List (List ℕ) → Outside → Outside → Status → Type 0
 Ends words before after ended =
     (EndsSilent status.NoMemory before after ended × IsUnread before after
-    × IsSameDisk before after)
+    × DiskAsBefore before after)
     ⊎ EndsBy (command_of words) before after ended

@@ -237,7 +237,7 @@ fn do_command<R: AllocGlobal + Threads + Wait + Sync, S: Source, K: Sink, D: Dis
 ///   are those of the phases before it.
 /// - `NotInitialised`, `Damaged`: where the disk's bytes are no journal, or one whose commits do
 ///   not fit one after the other. `AlreadyInitialised`: where `init` finds more than 17 bytes. The
-///   closing line alone is written, the source is unread, and the disk is as it was.
+///   closing line alone is written, the source is unread, and the disk reads as it did.
 ///
 /// With the words of a command, a disk whose bytes are a journal of commits that fit one after the
 /// other (for `init` at most 17 bytes), a script without a fault and no count that rises, the status

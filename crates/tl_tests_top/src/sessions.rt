@@ -3,17 +3,18 @@
 use crate::runs::{EMPTY, Wanted, disk_of, run_by, words};
 use std::hint;
 use std::sync::Wait;
-use std::sync::atomic::{AtomicBool, Ordering};
+use std::sync::atomic::{AtomicBool, AtomicU32, Ordering};
 use std::test::Fail;
 use std::thread::Threads;
 use tl_device::{Gate, MemoryDisk, Place};
 
 // A gate that holds a session at its statement until another has come, for at most 100,000,000
-// turns, and remembers what came and whether the turns ran out.
+// turns, and remembers what came, how often it was passed and whether the turns ran out.
 #[derive(Drop)]
 struct Meeting {
     held: u32,
     other: u32,
+    passes: AtomicU32,
     has_passed: AtomicBool,
     has_come: AtomicBool,
     ran_out: AtomicBool,
@@ -24,6 +25,7 @@ impl Meeting {
         Meeting {
             held,
             other,
+            passes: AtomicU32::new(0),
             has_passed: AtomicBool::new(false),
             has_come: AtomicBool::new(false),
             ran_out: AtomicBool::new(false),
@@ -41,13 +43,17 @@ impl Meeting {
         self.ran_out.store(true, Ordering::SeqCst);
     }
 
+    // Whether the two met, and the gate was passed once for each of two statements.
     fn has_met(&self) -> bool {
-        self.has_passed.load(Ordering::SeqCst) && !self.ran_out.load(Ordering::SeqCst)
+        self.has_passed.load(Ordering::SeqCst)
+            && !self.ran_out.load(Ordering::SeqCst)
+            && self.passes.load(Ordering::SeqCst) == 2
     }
 }
 
 impl Gate for Meeting {
     fn pass(&self, place: Place) {
+        let _before = self.passes.fetch_add(1, Ordering::SeqCst);
         match place {
             Place::Statement(session) if session == self.held => self.hold(),
             Place::Statement(session) if session == self.other => {

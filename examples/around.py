@@ -272,10 +272,12 @@ def another_program_has_the_journal():
                                       stdout=subprocess.PIPE, stderr=subprocess.PIPE, text=True)
             waiter.stdin.write("k\n1\n")
             waiter.stdin.close()
-            time.sleep(1)
-            judge("--wait", waiter.poll() is None, waiter.returncode)
+            said = waiter.stderr.readline()
+            judge("--wait", said.startswith(HELD), said)
+            time.sleep(0.5)
+            judge("--wait, while it is held", waiter.poll() is None, waiter.returncode)
         printed, said = waiter.stdout.read(), waiter.stderr.read()
-        judge("--wait, once it is free", (waiter.wait(), printed) == (0, "load @2 ok\n") and HELD in said, (printed, said))
+        judge("--wait, once it is free", (waiter.wait(), printed, said) == (0, "load @2 ok\n", ""), (printed, said))
         judge("a folder in the journal's place", refused_folder() == (5, "! device\n", ""), "")
 
 

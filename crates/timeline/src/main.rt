@@ -2,6 +2,7 @@
 //! output and the file of its journal are handed to the call `timeline`, which does all.
 #![tactic(auto)]
 
+use std::fs;
 use std::process::ExitCode;
 use std::rt::Env;
 use tl_device::{FileDisk, OpenGate, RealSink, RealSource};
@@ -11,6 +12,10 @@ use tl_types::NoMemory;
 // The file of the journal, in the folder where the program is run.
 const JOURNAL: &str = "timeline.tlj";
 
+// What stands in the place of a standard input or output that is not open: the root folder, which can
+// be neither read nor written, so that these fail.
+const NOTHING: &str = "/";
+
 // The words that the program goes by.
 fn own_words(rt: &(impl Env + AllocGlobal)) -> Result<Vec<String>, NoMemory> {
     let alloc = rt.alloc();
@@ -18,6 +23,10 @@ fn own_words(rt: &(impl Env + AllocGlobal)) -> Result<Vec<String>, NoMemory> {
 }
 
 fn main(rt: HostRuntime) -> ExitCode {
+    // Kept to the end: otherwise the journal, which is opened later, would take such a place.
+    let _input = fs::open(&rt, NOTHING);
+    let _output = fs::open(&rt, NOTHING);
+    let _errors = fs::open(&rt, NOTHING);
     let alloc = rt.alloc();
     let Ok(words) = own_words(&rt) else {
         return ExitCode::from(Status::NoMemory.number());

@@ -318,7 +318,7 @@ def a_long_load_names_what_is_refused():
         for turn in range(2):
             load = subprocess.run(["bash", f"{HERE}/long_load.sh", "rows.csv", "t", "2"], cwd=room, text=True,
                                   capture_output=True)
-            named = load.stderr.startswith("batch 2, lines 4 to 5: load @2 ! NotInt 2 2\n")
+            named = "batch 2, lines 4 to 5: load @2 ! NotInt 2 2\n" in load.stderr
             printed = run(["run"], "a> SELECT k FROM t\n", room)[1]
             judge("a long load with a batch that is refused",
                   load.returncode == 20 and named and printed == "a @3 rows 3\n1\n2\n5\n", (load, printed))

@@ -87,6 +87,22 @@ def journal_fails(room_for, outputs):
         judge(f"a journal of at most {room_for} bytes", found in [(5, it) for it in outputs], found)
 
 
+def streams_not_open():
+    """A run whose output or input is not open fails, and the journal does not take its place."""
+    for number, status, said in [(1, 4, ""), (0, 3, "! source\n")]:
+        with tempfile.TemporaryDirectory() as room, open(f"{room}/replies", "w+") as replies:
+            init(room)
+            with open(f"{room}/script", "w+") as script:
+                script.write(TABLE)
+                script.seek(0)
+                done = subprocess.run([PROGRAM, "run"], cwd=room, stdin=script, stdout=replies,
+                                      preexec_fn=lambda: os.close(number))
+            replies.seek(0)
+            again = subprocess.run([PROGRAM, "run"], cwd=room, input="", capture_output=True, text=True)
+            found = done.returncode, replies.read(), again.returncode, again.stdout
+            judge(f"descriptor {number} is not open", found == (status, said, 0, ""), found)
+
+
 # A run that does not end is not as it should be either.
 signal.alarm(300)
 input_fails("a> CREATE TABLE emp", "! source\n", "a @0 ! UnknownTable 14\n")
@@ -97,4 +113,5 @@ broken = "a @1 ok\nb @1 ! {}\nc @1 ! {}\na @1 rows 0\n! device\na @1 rows 0\n"
 journal_fails(50, [broken.format("device", "broken"), broken.format("broken", "device")])
 full = "a @1 ok\nb @2 {}\nc @2 {}\na @2 rows 1\n{}\n! device\na @2 rows 1\n{}\n"
 journal_fails(70, [full.format("ok", "! device", 1, 1), full.format("! device", "ok", 2, 2)])
+streams_not_open()
 sys.exit(failed)

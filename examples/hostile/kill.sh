@@ -36,6 +36,8 @@ for ((round = 1; round <= rounds; round++)); do
     # The loader and the program that it runs are one process group.
     kill -KILL -- "-$loader"
     wait "$loader" 2>/dev/null
+    # A killed program may still be ending: it has the journal's lock until it has ended.
+    flock -w 10 timeline.tlj true
     last=$(grep -E '^load @[0-9]+ ok$' answers | tail -n 1)
     [[ -n $last ]] && answered=$(version "$last")
     if ! reply=$(printf 'a> SELECT k FROM t\n' | "$program" run); then

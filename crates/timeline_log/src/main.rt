@@ -1,0 +1,39 @@
+//! Lists what the journal of this folder has. It opens the file for reading alone, under the lock
+//! that readers share, and hands it to the call `list`, which does the rest.
+#![tactic(auto)]
+
+use std::fs;
+use std::process::ExitCode;
+use std::rt::Env;
+use tl_device::{RealSink, RealSource};
+use tl_log::{list, listing_of};
+use tl_program::{EnvWords, Status, given_words, words_of};
+use tl_types::NoMemory;
+
+// The file of the journal, in the folder where the program is run.
+const JOURNAL: &str = "timeline.tlj";
+
+// The words that the program goes by.
+fn own_words(rt: &(impl Env + AllocGlobal)) -> Result<Vec<String>, NoMemory> {
+    let alloc = rt.alloc();
+    words_of(alloc, &given_words(alloc, &EnvWords { rt })?)
+}
+
+fn main(rt: HostRuntime) -> ExitCode {
+    let alloc = rt.alloc();
+    let Ok(words) = own_words(&rt) else {
+        return ExitCode::from(Status::NoMemory.number());
+    };
+    let Some(listing) = listing_of(&words) else {
+        return ExitCode::from(Status::Usage.number());
+    };
+    let Ok(file) = fs::open(&rt, JOURNAL) else {
+        return ExitCode::from(Status::NotInitialised { len: 0 }.number());
+    };
+    if file.try_lock_shared().is_err() {
+        return ExitCode::from(Status::DiskFault { faults: 1 }.number());
+    }
+    let mut source = RealSource::new(file);
+    let mut sink = RealSink::new(rt.stdout());
+    ExitCode::from(list(alloc, listing, &mut source, &mut sink).number())
+}

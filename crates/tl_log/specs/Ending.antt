@@ -1,0 +1,74 @@
+-- Which words name a listing, and how a listing ends.
+use Rattle.std.specs.Prelude.{◌≡◌, ◌⊎◌, ◌≤◌, ℕ, List, [], ◌∷◌, length, take, codes, Option, Some, None, if◌then◌else◌, string_bytes, String, map}
+use Rattle.tl_types.specs.Names.{same_bytes}
+use Rattle.tl_device.specs.Known.{append_known, Rose}
+use Rattle.tl_log.specs.declared.listings.Listing.{Listing}
+use Rattle.tl_log.specs.declared.listings.Listing.TheVariants as listing
+use Rattle.tl_log.specs.declared.reports.ListFault.{ListFault}
+use Rattle.tl_log.specs.declared.reports.ListFault.TheVariants as fault
+use Rattle.tl_log.specs.declared.top.ListStatus.{ListStatus}
+use Rattle.tl_log.specs.declared.top.ListStatus.TheVariants as status
+use Rattle.tl_log.specs.Reading.{IsListing, IsRefusedFor, refusal_line}
+
+-- the bytes of each word
+abbrev pub texts_of : {A : Type 0} → List (String A) → List (List ℕ)
+texts_of words = map (λ w. string_bytes w) words
+
+-- the listing that a word names
+abbrev pub listing_by : List ℕ → Option Listing
+listing_by word =
+    if same_bytes word (codes "log") then Some listing.Commits
+    else (if same_bytes word (codes "tables") then Some listing.Tables else None)
+
+-- the listing that words name: one word, `log` or `tables`
+abbrev pub listing_of : List (List ℕ) → Option Listing
+listing_of [] = None
+listing_of (word ∷ []) = listing_by word
+listing_of (word ∷ more ∷ words) = None
+
+-- some first part of a text was written
+abbrev pub WritesPart : List ℕ → Option (List ℕ) → Option (List ℕ) → Type 0
+WritesPart text old new =
+    (some : ℕ) × (some ≤ length text) × (new ≡ append_known old (take some text))
+
+-- the source's bytes, where it tells them, are a journal whose listing was written
+abbrev pub Lists : Listing → Option (List ℕ) → Option (List ℕ) → Option (List ℕ) → Type 0
+Lists listing told old new = (image : List ℕ) → told ≡ Some image → (text : List ℕ)
+    × IsListing listing image text × (new ≡ append_known old text)
+
+-- they are refused, and the line that says so was written
+abbrev pub Refuses : ListFault → Option (List ℕ) → Option (List ℕ) → Option (List ℕ) → Type 0
+Refuses fault told old new =
+    ((image : List ℕ) → told ≡ Some image → IsRefusedFor image fault)
+    × (new ≡ append_known old (refusal_line fault))
+
+-- the exit status of a refusal
+abbrev pub fault_status : ListFault → ℕ
+fault_status (fault.NotInitialised len) = 7
+fault_status (fault.Damaged at) = 9
+fault_status fault.NoMemory = 1
+
+-- the exit status
+abbrev pub exit_status : ListStatus → ℕ
+exit_status status.Done = 0
+exit_status status.NoMemory = 1
+exit_status (status.SourceFault faults) = 3
+exit_status (status.SinkFault faults) = 4
+exit_status (status.Refused f) = fault_status f
+
+-- a text is written whole, or the sink failed behind a part of it, or memory ran out before it
+abbrev pub WritesAll : List ℕ → ListStatus → Option (List ℕ) → Option (List ℕ) → ℕ → ℕ → ListStatus → Type 0
+WritesAll text wanted old new before after ended =
+    ((ended ≡ wanted) × (new ≡ append_known old text))
+    ⊎ ((ended ≡ status.NoMemory) × (new ≡ old))
+    ⊎ ((ended ≡ status.SinkFault after) × Rose before after × WritesPart text old new)
+
+-- how a listing ends of a source that had these bytes left, where it tells them, by what is written
+-- and the sink's count of faults, before and after
+abbrev pub EndsListing : Listing → Option (List ℕ) → Option (List ℕ) → Option (List ℕ) → ℕ → ℕ → ListStatus → Type 0
+EndsListing listing told old new before after status.Done = Lists listing told old new
+EndsListing listing told old new before after status.NoMemory = new ≡ old
+EndsListing listing told old new before after (status.SourceFault faults) = new ≡ old
+EndsListing listing told old new before after (status.SinkFault faults) =
+    (faults ≡ after) × Rose before after
+EndsListing listing told old new before after (status.Refused f) = Refuses f told old new

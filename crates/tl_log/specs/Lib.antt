@@ -1,0 +1,4 @@
+pub mod Ending
+pub mod Listing
+pub mod Reading
+pub mod Taking

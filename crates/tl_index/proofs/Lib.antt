@@ -1,1 +1,12 @@
 pub mod EntryLemmas
+pub mod TimelineLemmas
+pub mod ApplyLemmas
+pub mod ReadLemmas
+pub mod Marking
+pub mod DueLemmas
+pub mod WalkLemmas
+pub mod ChangeLemmas
+pub mod LapseLemmas
+pub mod ValidLemmas
+pub mod NearestLemmas
+pub mod BuildLemmas

@@ -1,0 +1,5 @@
+pub mod Members
+pub mod Merging
+pub mod RunLemmas
+pub mod Sorted
+pub mod MarkLemmas

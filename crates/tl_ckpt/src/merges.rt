@@ -1,0 +1,109 @@
+//! Merges of events of valid time and changes.
+ghost use Rattle.std.specs.Prelude.{◌≡◌, ℕ, ◌≤◌, ◌<◌, ◌++◌, true, false, take, length, IfOk};
+ghost use Rattle.tl_ckpt.specs.Valid.{Rises, passed, left_of, merged, lead, stop, beyond};
+
+use std::alloc::Global;
+use tl_types::{NoMemory, ValidEvent};
+
+// Whether there are more events than so many, and the last of so many comes before the change.
+fn is_short(events: &[ValidEvent], change: &ValidEvent, count: usize) -> bool
+    requires { 0 < count }
+    ensures short { result ≡ true → count < length events.now }
+    ensures enough { result ≡ false
+        → lead change.now (take count events.now) ≡ lead change.now events.now }
+{
+    count < events.len() && events[count - 1].comes_before(change)
+}
+
+// So many first events that there are no more before the change; a power of two, or all.
+fn reach(events: &[ValidEvent], change: &ValidEvent) -> usize
+    ensures { lead change.now (take result events.now) ≡ lead change.now events.now }
+{
+    let mut count = 1;
+    'doubling: while is_short(events, change, count) {
+        count *= 2;
+    }
+    count
+}
+
+// First events behind which none comes before the change.
+fn front<'a>(events: &'a [ValidEvent], change: &ValidEvent) -> &'a [ValidEvent]
+    requires { Rises events.now }
+    ensures rises { Rises result.now }
+    ensures count { lead change.now result.now ≡ lead change.now events.now }
+    ensures within { length result.now ≤ length events.now }
+{
+    let count = reach(events, change).min(events.len());
+    &events[..count]
+}
+
+// How many of the first events come before the change.
+fn lead(events: &[ValidEvent], change: &ValidEvent) -> usize
+    requires { Rises events.now }
+    ensures count { result ≡ lead change.now events.now }
+    ensures within { result ≤ length events.now }
+{
+    let near = front(events, change);
+    near.partition_point(|event| event.comes_before(change))
+}
+
+// Puts the change behind the events that are out, where it is not the first of those that do not
+// come before it; gives those behind it.
+fn settle<'a>(
+    out: &mut Vec<ValidEvent>,
+    behind: &'a [ValidEvent],
+    change: &ValidEvent,
+) -> Result<&'a [ValidEvent], NoMemory>
+    ensures { IfOk result (λ left. (out.new.items ≡ out.old.items ++ stop change.now behind.now)
+        × (left.now ≡ beyond change.now behind.now)) }
+{
+    match behind {
+        [] => {
+            out.push(*change)?;
+            Ok(behind)
+        }
+        [first, later @ ..] => {
+            if change.comes_before(first) {
+                out.push(*change)?;
+                Ok(behind)
+            } else {
+                Ok(later)
+            }
+        }
+    }
+}
+
+// Goes on behind the change.
+fn pass<'a>(
+    out: &mut Vec<ValidEvent>,
+    rest: &'a [ValidEvent],
+    change: &ValidEvent,
+) -> Result<&'a [ValidEvent], NoMemory>
+    requires { Rises rest.now }
+    ensures { IfOk result (λ left. (out.new.items ≡ out.old.items ++ passed change.now rest.now)
+        × (left.now ≡ left_of change.now rest.now)) }
+{
+    let count = lead(rest, change);
+    let (front, behind) = rest.split_at(count);
+    out.extend_from_slice(front)?;
+    let left = settle(out, behind, change)?;
+    Ok(left)
+}
+
+// The events with the changes.
+pub(crate) fn merged(
+    alloc: Global,
+    events: &[ValidEvent],
+    changes: &[ValidEvent],
+) -> Result<Vec<ValidEvent>, NoMemory>
+    requires { Rises events.now }
+    ensures { IfOk result (λ out. out.items ≡ merged events.now changes.now) }
+{
+    let mut out = Vec::with_capacity(alloc, events.len() + changes.len())?;
+    let mut rest = events;
+    for change in changes {
+        rest = pass(&mut out, rest, change)?;
+    }
+    out.extend_from_slice(rest)?;
+    Ok(out)
+}

@@ -1,0 +1,10 @@
+use Rattle.std.proofs.Common.{◌≡◌, ℕ, ◌<◌, ◌≤◌, ◌||◌, length, get_or}
+use Rattle.tl_lanes.specs.Masks.{is_bit}
+use Rattle.tl_filter.proofs.words.join.Given as goal
+
+abbrev pub invariant-loop-i : goal.invariant-loop-i
+invariant-loop-i l = record {
+  long : length l.words ≡ length l.initial.words;
+  each : (j : ℕ) → j < l.i → (k : ℕ) → k < 64 → is_bit (get_or l.words j 0) k ≡ (is_bit (get_or l.initial.words j 0) k || is_bit (get_or l.more j 0) k);
+  kept : (j : ℕ) → l.i ≤ j → get_or l.words j 0 ≡ get_or l.initial.words j 0;
+}

@@ -1,0 +1,50 @@
+-- Some words of a mask.
+use Rattle.std.specs.Prelude.{◌≡◌, ℕ, ◌+◌, ◌-◌, ◌*◌, ◌^◌, ◌<◌, Bool, ◌&&◌, ◌||◌, not, nat_lt, List, length, slice_index, slice_index_or, false}
+use Rattle.std.specs.List.{All}
+use Rattle.tl_types.specs.Plain as plain
+use Rattle.tl_query.specs.declared.typed_queries.TypedTest.{TypedTest}
+use Rattle.tl_store.specs.Reading.{columns_of}
+use Rattle.tl_lanes.specs.Masks.{is_bit, IsWordOf}
+
+-- the words are those of the mask with these bits, from a word on
+abbrev pub AreWordsFrom : List Bool → ℕ → List ℕ → Type 0
+AreWordsFrom bits first words =
+    (i : ℕ) → i < length words → IsWordOf bits (first + i) (slice_index words i)
+
+-- the bits of a word that it has in common with some of these, from word `at` on
+abbrev pub IsNarrowed : List Bool → ℕ → ℕ → ℕ → Type 0
+IsNarrowed bits at old new =
+    (k : ℕ) → k < 64 → is_bit new k ≡ (is_bit old k && slice_index_or bits (64 * at + k) false)
+
+-- each word is narrowed so
+pub record AreNarrowed (bits : List Bool) (first : ℕ) (old new : List ℕ) : Type 0 where
+  pub long : length new ≡ length old
+  pub each : (i : ℕ) → i < length old
+      → IsNarrowed bits (first + i) (slice_index old i) (slice_index new i)
+
+-- the words have the bits of all of so many rows but for those that are done
+pub record AreLeft (rows first : ℕ) (done left : List ℕ) : Type 0 where
+  pub long : length left ≡ length done
+  pub each : (i : ℕ) → i < length done → (k : ℕ) → k < 64
+      → is_bit (slice_index left i) k
+      ≡ (nat_lt (64 * (first + i) + k) rows && not (is_bit (slice_index done i) k))
+
+-- the words have the bits that one of two had
+pub record AreJoined (one two joined : List ℕ) : Type 0 where
+  pub long : length joined ≡ length one
+  pub each : (i : ℕ) → i < length one → (k : ℕ) → k < 64
+      → is_bit (slice_index joined i) k
+      ≡ (is_bit (slice_index one i) k || is_bit (slice_index two i) k)
+
+-- no bit of the words is past so many rows
+abbrev pub AreWithin : ℕ → ℕ → List ℕ → Type 0
+AreWithin rows first words =
+    (i : ℕ) → i < length words → slice_index words i < 2 ^ (rows - 64 * (first + i))
+
+-- the tests name columns that are there
+abbrev pub HaveColumns : plain.Database → ℕ → List TypedTest → Type 0
+HaveColumns db table tests = All (λ test. test.column < length (columns_of db table)) tests
+
+-- no word has a bit
+abbrev pub AreZero : List ℕ → Type 0
+AreZero words = (i : ℕ) → slice_index words i ≡ 0

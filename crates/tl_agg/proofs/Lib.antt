@@ -1,0 +1,10 @@
+pub mod NumberLemmas
+pub mod KeptLemmas
+pub mod GroupLemmas
+pub mod CellLemmas
+pub mod StepLemmas
+pub mod StartLemmas
+pub mod PieceLemmas
+pub mod ByLemmas
+pub mod JoinLemmas
+pub mod PassLemmas

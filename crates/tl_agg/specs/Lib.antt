@@ -1,0 +1,6 @@
+pub mod Tables
+pub mod Kept
+pub mod Groups
+pub mod Scans
+pub mod Runs
+pub mod Values

@@ -1,0 +1,113 @@
+//! The group of rows of one aggregate, while a scan goes on.
+ghost use Rattle.std.specs.Prelude.{◌≡◌, pos, true, false, OnOk};
+ghost use Rattle.tl_types.specs.Runs.{stretch_of};
+ghost use Rattle.tl_running.specs.Standing.{CanChange};
+ghost use Rattle.tl_agg.specs.Groups.{State, put_stretch, IsNone, Advances, Moves};
+
+use std::alloc::Global;
+use std::marker::Model;
+use tl_query::AggKind;
+use tl_running::{Running, add_touching};
+use tl_types::{Field, NoMemory, Run, add_stretch};
+
+/// What is kept of the rows of a group that stand, the version since which they are the same, and
+/// the runs before it. Where the runs have gaps, a stretch without a row makes none.
+#[derive(Drop)]
+pub(crate) struct Group {
+    running: Running,
+    since: u32,
+    runs: Vec<Run>,
+    gaps: bool,
+}
+
+impl Model for Group {
+    ghost use Rattle.tl_agg.specs.Groups.{State};
+
+    ghost Value = { State };
+
+    ghost view = { λ g. record {
+      running = g.running;
+      since = g.since;
+      runs = g.runs.items;
+      gaps = g.gaps;
+    } };
+}
+
+// A stretch of versions with one value.
+fn stretch_of(from: u32, to: u32, value: Field) -> Run
+    ensures { result ≡ stretch_of (pos from) (pos to) value }
+{
+    Run {
+        group: None,
+        from: i64::from(from),
+        to: i64::from(to),
+        value,
+    }
+}
+
+// Puts a stretch of so many rows behind runs that have gaps.
+fn put_touching(runs: &mut Vec<Run>, count: u32, stretch: Run) -> Result<(), NoMemory>
+    ensures { OnOk result
+        (runs.new.items ≡ put_stretch true count runs.old.items stretch) }
+{
+    if count == 0 {
+        return Ok(());
+    }
+    add_touching(runs, stretch)
+}
+
+// Puts a stretch of so many rows behind runs.
+fn put_stretch(runs: &mut Vec<Run>, gaps: bool, count: u32, stretch: Run) -> Result<(), NoMemory>
+    ensures { OnOk result
+        (runs.new.items ≡ put_stretch gaps count runs.old.items stretch) }
+{
+    if gaps {
+        return put_touching(runs, count, stretch);
+    }
+    add_stretch(runs, stretch)
+}
+
+impl Group {
+    /// A group of no rows since a version, without runs before it.
+    pub(crate) fn none(alloc: Global, kind: AggKind, gaps: bool, since: u32) -> Group
+        ensures { IsNone result kind gaps since }
+    {
+        Group {
+            running: Running::none(alloc, kind),
+            since,
+            runs: Vec::new(alloc),
+            gaps,
+        }
+    }
+
+    /// Makes the runs reach up to a version, which is not before those of the last change. The
+    /// error is `NoMemory`.
+    pub(crate) fn advance(&mut self, to: u32) -> Result<(), NoMemory>
+        ensures { OnOk result (Advances self.old self.new to) }
+    {
+        if self.since >= to {
+            return Ok(());
+        }
+        let stretch = stretch_of(self.since, to, self.running.value());
+        put_stretch(&mut self.runs, self.gaps, self.running.count(), stretch)?;
+        self.since = to;
+        Ok(())
+    }
+
+    /// A number comes into the group at a version where `opens`, else it goes. The error is
+    /// `NoMemory`.
+    pub(crate) fn change(&mut self, at: u32, opens: bool, number: i64) -> Result<(), NoMemory>
+        requires { CanChange opens self.old.running number }
+        ensures { OnOk result (Moves self.old self.new at opens number) }
+    {
+        self.advance(at)?;
+        self.running.change(opens, number)
+    }
+
+    /// The runs.
+    pub(crate) fn into_runs(self) -> Vec<Run>
+        ensures { result.items ≡ self.runs }
+    {
+        self.runs
+    }
+}

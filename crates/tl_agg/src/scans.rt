@@ -1,0 +1,347 @@
+//! The walk along the events of a table.
+ghost use Rattle.std.specs.Prelude.{◌≡◌, None, Some, ◌+◌, ◌-◌, ◌*◌, ◌<◌, ◌≤◌, true, length, take, drop, OnOk, IfOk, IfSome, IfNone};
+ghost use Rattle.tl_types.specs.Events.{events_of, place_of};
+ghost use Rattle.tl_types.specs.Walks.{IsQuiet, standing};
+ghost use Rattle.tl_events.specs.Timeline.{Follow};
+ghost use Rattle.tl_bits.specs.Sets.{is_member};
+ghost use Rattle.tl_lanes.specs.Masks.{words_for};
+ghost use Rattle.tl_running.specs.Standing.{IsShort};
+ghost use Rattle.tl_agg.specs.Kept.{below, size, IsWithin};
+ghost use Rattle.tl_agg.specs.Runs.{system_runs, start_set};
+ghost use Rattle.tl_agg.specs.Tables.{rows_in, ends_in, search_steps, TellsNumber, IsNextEntry};
+ghost use Rattle.tl_agg.specs.Scans.{IsScan, scan_of, AllTrack, IsReady, TakesEvent, set_after};
+
+use crate::all_groups::Groups;
+use crate::tables::TimedTable;
+use std::alloc::Global;
+use std::marker::Model;
+use std::sync::ledger::Ledger;
+use tl_bits::RowSet;
+use tl_events::{PackedEvent, VersionEnd};
+use tl_query::AggPlan;
+use tl_types::{Event, NoMemory, Piece, Run, Steps};
+
+/// A scan of a table by a plan, for the rows that are kept, over a piece of the versions.
+#[derive(Drop)]
+pub(crate) struct Scan<'a> {
+    alloc: Global,
+    table: TimedTable<'a>,
+    plan: AggPlan,
+    keep: &'a RowSet,
+    piece: Piece,
+}
+
+impl<'a> Model for Scan<'a> {
+    ghost use Rattle.tl_agg.specs.Scans.{ScanOf, IsScan, scan_of};
+
+    ghost Value = { ScanOf };
+
+    ghost view = { λ s. scan_of s.table s.plan s.keep.now s.piece.from s.piece.to };
+
+    ghost invariant = { λ s. IsScan (scan_of s.table s.plan s.keep.now s.piece.from s.piece.to) };
+}
+
+impl<'a> Scan<'a> {
+    /// The scan of a table by a plan for it, for the rows of a set, over a piece.
+    pub(crate) fn new(
+        alloc: Global,
+        table: TimedTable<'a>,
+        plan: AggPlan,
+        keep: &'a RowSet,
+        piece: Piece,
+    ) -> Scan<'a>
+        requires { IsScan (scan_of table plan keep.now piece.from piece.to) }
+        ensures { result ≡ scan_of table.entry plan keep.now piece.from piece.to }
+    {
+        Scan {
+            alloc,
+            table,
+            plan,
+            keep,
+            piece,
+        }
+    }
+
+    // The number of a row, 0 where no column is asked for. It takes at most one step.
+    fn number_in<L: Ledger>(&self, row: u32, steps: &mut Steps<L>) -> i64
+        requires { row < length (rows_in self.now.table) }
+        ensures number { TellsNumber self.now.plan.kind self.now.plan.column
+            (rows_in self.now.table) row result }
+        ensures short { IsShort result }
+        ensures steps { steps.new ≤ steps.old + 1 }
+    {
+        match self.plan.column {
+            Some(column) => self.table.number(column, row, steps),
+            None => 0,
+        }
+    }
+
+    // A kept row comes into the group of all rows at a version, or goes. It takes at most one step.
+    fn move_all<L: Ledger>(
+        &self,
+        groups: &mut Groups,
+        at: u32,
+        event: Event,
+        steps: &mut Steps<L>,
+    ) -> Result<(), NoMemory>
+        requires single { self.now.plan.by ≡ None }
+        requires kept { is_member self.now.keep event.row ≡ true }
+        requires ready { IsReady self.now at event groups.old }
+        ensures takes { OnOk result (TakesEvent self.now at event groups.old groups.new) }
+        ensures steps { steps.new ≤ steps.old + 1 }
+    {
+        let _ = self.table.rows();
+        let number = self.number_in(event.row, steps);
+        groups.change(at, event.opens, number)?;
+        Ok(())
+    }
+
+    // A kept row comes into the group of its value in a column at a version, or goes. It takes at
+    // most two steps.
+    fn move_in<L: Ledger>(
+        &self,
+        groups: &mut Groups,
+        by: u8,
+        at: u32,
+        event: Event,
+        steps: &mut Steps<L>,
+    ) -> Result<(), NoMemory>
+        requires by { self.now.plan.by ≡ Some by }
+        requires kept { is_member self.now.keep event.row ≡ true }
+        requires ready { IsReady self.now at event groups.old }
+        ensures takes { OnOk result (TakesEvent self.now at event groups.old groups.new) }
+        ensures steps { steps.new ≤ steps.old + 2 }
+    {
+        let _ = self.table.rows();
+        let number = self.number_in(event.row, steps);
+        let key = self.table.cell(self.alloc, by, event.row, steps)?;
+        let mut group = groups.take(self.alloc, &key, self.plan.kind, self.piece.from);
+        group.change(at, event.opens, number)?;
+        groups.put(key, group)?;
+        Ok(())
+    }
+
+    // A kept row comes into its group at a version, or goes. It takes at most two steps.
+    fn move_row<L: Ledger>(
+        &self,
+        groups: &mut Groups,
+        at: u32,
+        event: Event,
+        steps: &mut Steps<L>,
+    ) -> Result<(), NoMemory>
+        requires kept { is_member self.now.keep event.row ≡ true }
+        requires ready { IsReady self.now at event groups.old }
+        ensures takes { OnOk result (TakesEvent self.now at event groups.old groups.new) }
+        ensures steps { steps.new ≤ steps.old + 2 }
+    {
+        match self.plan.by {
+            None => self.move_all(groups, at, event, steps),
+            Some(by) => self.move_in(groups, by, at, event, steps),
+        }
+    }
+
+    // An event of a version, which changes a group where its row is kept. It takes at most three
+    // steps.
+    fn fold_event<L: Ledger>(
+        &self,
+        groups: &mut Groups,
+        at: u32,
+        event: Event,
+        steps: &mut Steps<L>,
+    ) -> Result<(), NoMemory>
+        requires { IsReady self.now at event groups.old }
+        ensures takes { OnOk result (TakesEvent self.now at event groups.old groups.new) }
+        ensures steps { steps.new ≤ steps.old + 3 }
+    {
+        if self.keep.test(event.row, steps) {
+            return self.move_row(groups, at, event, steps);
+        }
+        Ok(())
+    }
+
+    // Some events of a version, which begin at a place among those of the table. It takes at most
+    // three steps for each.
+    fn fold_run<L: Ledger>(
+        &self,
+        groups: &mut Groups,
+        at: u32,
+        place: u32,
+        events: &[PackedEvent],
+        steps: &mut Steps<L>,
+    ) -> Result<(), NoMemory>
+        requires events { events.now ≡ take (length events.now)
+            (drop place (events_of (rows_in self.now.table) self.now.table.db.version)) }
+        requires tracks { AllTrack self.now (set_after self.now.table place) at groups.old }
+        ensures tracks { OnOk result (AllTrack self.now
+            (set_after self.now.table (place + length events.now)) at groups.new) }
+        ensures steps { steps.new ≤ steps.old + 3 * length events.now }
+    {
+        let _ = self.table.rows();
+        for packed in events {
+            self.fold_event(groups, at, packed.event(), steps)?;
+        }
+        Ok(())
+    }
+
+    // The events of a version, from one place up to another. It takes at most four steps for each.
+    fn fold_version<L: Ledger>(
+        &self,
+        groups: &mut Groups,
+        at: u32,
+        from: u32,
+        to: u32,
+        steps: &mut Steps<L>,
+    ) -> Result<(), NoMemory>
+        requires ordered { from ≤ to }
+        requires within { to ≤ place_of (rows_in self.now.table) self.now.table.db.version }
+        requires tracks { AllTrack self.now (set_after self.now.table from) at groups.old }
+        ensures tracks { OnOk result
+            (AllTrack self.now (set_after self.now.table to) at groups.new) }
+        ensures steps { steps.new ≤ steps.old + 4 * (to - from) }
+    {
+        let mut i = from;
+        'runs: while i < to {
+            let run = self.table.run(i, to, steps);
+            self.fold_run(groups, at, i, run, steps)?;
+            i += run.len() as u32;
+        }
+        Ok(())
+    }
+
+    // The next version behind one that has events, where it is in the piece. It takes at most one
+    // step.
+    fn next_entry<L: Ledger>(&self, i: u64, at: u32, steps: &mut Steps<L>) -> Option<VersionEnd>
+        requires follow { Follow (rows_in self.now.table) self.now.table.db.version at
+            (drop i (ends_in self.now.table)) }
+        requires later { at < self.now.to }
+        ensures some { IfSome result (λ entry. IsNextEntry (rows_in self.now.table)
+            self.now.table.db.version at self.now.to entry (drop (i + 1) (ends_in self.now.table))) }
+        ensures few { IfSome result (λ entry. i < length (ends_in self.now.table)) }
+        ensures room { IfSome result (λ entry. i < 18446744073709551615) }
+        ensures none { IfNone result (IsQuiet (rows_in self.now.table) at self.now.to) }
+        ensures steps { steps.new ≤ steps.old + 1 }
+    {
+        let _at = at;
+        let entry = self.table.entry(i, steps)?;
+        if entry.version >= self.piece.to {
+            return None;
+        }
+        Some(entry)
+    }
+
+    /// Takes the events of the versions of the piece behind its first one. `first` is the number of
+    /// the versions up to that one that have events, and `from` the place where these end. It takes
+    /// at most five steps for each event, and one more.
+    pub(crate) fn walk<L: Ledger>(
+        &self,
+        groups: &mut Groups,
+        first: u64,
+        from: u32,
+        steps: &mut Steps<L>,
+    ) -> Result<(), NoMemory>
+        requires follow { Follow (rows_in self.now.table) self.now.table.db.version self.now.from
+            (drop first (ends_in self.now.table)) }
+        requires from { from ≡ place_of (rows_in self.now.table) self.now.from }
+        requires tracks { AllTrack self.now (standing (rows_in self.now.table) self.now.from)
+            self.now.from groups.old }
+        ensures tracks { OnOk result (AllTrack self.now
+            (standing (rows_in self.now.table) (self.now.to - 1)) self.now.to groups.new) }
+        ensures steps { steps.new ≤ steps.old
+            + (5 * (place_of (rows_in self.now.table) (self.now.to - 1) - from) + 1) }
+    {
+        let _ = self.table.rows();
+        let mut at = self.piece.from;
+        let mut place = from;
+        let mut i = first;
+        'versions: while let Some(entry) = self.next_entry(i, at, steps) {
+            self.fold_version(groups, entry.version, place, entry.end, steps)?;
+            at = entry.version;
+            place = entry.end;
+            i += 1;
+        }
+        Ok(())
+    }
+
+    // Takes the members of the start set as rows that come at the first version. It takes at most
+    // three steps for each, and one for each begun 64 rows.
+    fn enter_all<L: Ledger>(
+        &self,
+        groups: &mut Groups,
+        start: &RowSet,
+        steps: &mut Steps<L>,
+    ) -> Result<(), NoMemory>
+        requires members { IsWithin start.now self.now.keep }
+        requires tracks { AllTrack self.now (below 0 start.now) self.now.from groups.old }
+        ensures tracks { OnOk result (AllTrack self.now start.now self.now.from groups.new) }
+        ensures steps { steps.new
+            ≤ steps.old + (3 * size start.now + words_for (length start.now)) }
+    {
+        let _ = self.table.rows();
+        let mut from = 0;
+        'members: while let Some(row) = start.next(from, steps) {
+            let event = Event { row, opens: true };
+            self.move_row(groups, self.piece.from, event, steps)?;
+            from = row + 1;
+        }
+        Ok(())
+    }
+
+    // The groups when all events of the piece are taken.
+    fn groups<L: Ledger>(&self, start: &RowSet, steps: &mut Steps<L>) -> Result<Groups, NoMemory>
+        requires { start.now ≡ start_set (rows_in self.now.table) self.now.keep self.now.from }
+        ensures tracks { IfOk result (λ groups. AllTrack self.now
+            (standing (rows_in self.now.table) (self.now.to - 1)) self.now.to groups) }
+        ensures steps { let rows = rows_in self.now.table in
+            let e = place_of rows (self.now.to - 1) - place_of rows self.now.from in
+            steps.new ≤ steps.old + (5 * e + 3 * size start.now + words_for (length start.now)
+            + 2 * search_steps self.now.table + 1) }
+    {
+        let gaps = self.plan.by.is_some();
+        let mut groups = Groups::none(self.alloc, self.plan.kind, gaps, self.piece.from);
+        self.enter_all(&mut groups, start, steps)?;
+        let place = self.table.place(self.piece.from, steps);
+        let first = self.table.entries_to(self.piece.from, steps);
+        self.walk(&mut groups, first, place, steps)?;
+        Ok(groups)
+    }
+
+    // The runs of the groups when all events of the piece are taken.
+    fn runs_of(&self, groups: Groups) -> Result<Vec<Run>, NoMemory>
+        requires { AllTrack self.now (standing (rows_in self.now.table) (self.now.to - 1))
+            self.now.to groups }
+        ensures { IfOk result (λ runs. runs.items ≡ system_runs self.now.plan
+            (rows_in self.now.table) self.now.keep self.now.from self.now.to) }
+    {
+        let _ = &self.table;
+        match self.plan.by {
+            None => {
+                let runs = groups.into_runs(self.piece.to)?;
+                Ok(runs)
+            }
+            Some(_) => {
+                let runs = groups.into_runs_by(self.alloc, self.piece.to)?;
+                Ok(runs)
+            }
+        }
+    }
+
+    /// The runs over the piece. `start` is the set of the kept rows that stand at its first
+    /// version. The error is `NoMemory`.
+    pub(crate) fn runs<L: Ledger>(
+        &self,
+        start: &RowSet,
+        steps: &mut Steps<L>,
+    ) -> Result<Vec<Run>, NoMemory>
+        requires { start.now ≡ start_set (rows_in self.now.table) self.now.keep self.now.from }
+        ensures runs { IfOk result (λ runs. runs.items ≡ system_runs self.now.plan
+            (rows_in self.now.table) self.now.keep self.now.from self.now.to) }
+        ensures steps { let rows = rows_in self.now.table in
+            let e = place_of rows (self.now.to - 1) - place_of rows self.now.from in
+            steps.new ≤ steps.old + (5 * e + 3 * size start.now + words_for (length start.now)
+            + 2 * search_steps self.now.table + 1) }
+    {
+        let groups = self.groups(start, steps)?;
+        let runs = self.runs_of(groups)?;
+        Ok(runs)
+    }
+}

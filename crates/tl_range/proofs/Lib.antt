@@ -1,0 +1,3 @@
+pub mod ForkLemmas
+pub mod DivideLemmas
+pub mod CountLemmas

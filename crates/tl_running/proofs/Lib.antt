@@ -1,0 +1,4 @@
+pub mod SumLemmas
+pub mod OrderLemmas
+pub mod StandingLemmas
+pub mod TouchLemmas

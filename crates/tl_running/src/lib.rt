@@ -1,0 +1,12 @@
+//! The running value of an aggregate: what is kept of rows while they come and go one by one, so
+//! that their count, sum, average, least or greatest number is known at each moment without looking
+//! at them again. It knows neither versions nor valid times: who goes over time, in whatever way,
+//! tells it which number comes and which goes.
+#![tactic(auto)]
+
+pub mod laws;
+mod running;
+mod touching;
+
+pub use running::Running;
+pub use touching::add_touching;

@@ -1,0 +1,184 @@
+//! An aggregate that is kept while rows come and go.
+ghost use Rattle.std.specs.Prelude.{◌≡◌, ◌<◌, ℕ, ℤ, true, Option, List, [], length, OnOk};
+ghost use Rattle.std.specs.List.{count_by};
+ghost use Rattle.std.specs.Ordering.{int_eq};
+ghost use Rattle.tl_types.specs.declared.answers.Field.TheVariants as field;
+ghost use Rattle.tl_types.specs.Plain as plain;
+ghost use Rattle.tl_bits.specs.Bags.{times, AddsOne};
+ghost use Rattle.tl_query.specs.Aggregates.{total_of, sum_field, average_field, least_field, greatest_field, aggregate_of};
+ghost use Rattle.tl_running.specs.Standing.{is_ordered, Suits, Counts, StandsFor, HasRoom, CanLeave, Enters, Changes, CanChange};
+
+use std::alloc::Global;
+use std::marker::Model;
+use tl_bits::Bag;
+use tl_query::AggKind;
+use tl_types::{Field, NoMemory};
+
+/// What is kept of the numbers of rows for an aggregate of one kind: how many there are, their sum,
+/// and for a least or greatest one all of them by size. A contract sees these.
+#[derive(Drop)]
+pub struct Running {
+    kind: AggKind,
+    count: u32,
+    sum: i128,
+    bag: Bag,
+}
+
+impl Model for Running {
+    ghost use Rattle.tl_running.specs.Standing.{Kept};
+
+    ghost Value = { Kept };
+
+    ghost view = { λ r. record { kind = r.kind; count = r.count; sum = r.sum; bag = r.bag } };
+}
+
+// Whether the kind asks for the order of the numbers.
+fn is_ordered(kind: AggKind) -> bool
+    ensures { result ≡ is_ordered kind }
+{
+    match kind {
+        AggKind::Min | AggKind::Max => true,
+        _ => false,
+    }
+}
+
+// The sum of so many numbers.
+fn sum_field(count: u32, sum: i128) -> Field
+    ensures { (ns : List ℤ) → count ≡ length ns → sum ≡ total_of ns → result ≡ sum_field ns }
+{
+    if count == 0 {
+        return Field::Empty;
+    }
+    Field::Number(sum)
+}
+
+// The sum of so many numbers, over their count.
+fn average_field(count: u32, sum: i128) -> Field
+    ensures { (ns : List ℤ) → count ≡ length ns → sum ≡ total_of ns → result ≡ average_field ns }
+{
+    if count == 0 {
+        return Field::Empty;
+    }
+    Field::Ratio { sum, count }
+}
+
+// A number as a field.
+fn number_field(number: i64) -> Field
+    ensures { result ≡ field.Number number }
+{
+    Field::Number(i128::from(number))
+}
+
+// The least number of a bag.
+fn least_field(bag: &Bag) -> Field
+    ensures { (ns : List ℤ) → ((v : ℤ) → times bag.now v ≡ count_by (int_eq v) ns)
+        → result ≡ least_field ns }
+{
+    match bag.least() {
+        Some(number) => number_field(number),
+        None => Field::Empty,
+    }
+}
+
+// The greatest number of a bag.
+fn greatest_field(bag: &Bag) -> Field
+    ensures { (ns : List ℤ) → ((v : ℤ) → times bag.now v ≡ count_by (int_eq v) ns)
+        → result ≡ greatest_field ns }
+{
+    match bag.greatest() {
+        Some(number) => number_field(number),
+        None => Field::Empty,
+    }
+}
+
+// Puts the number into the bag, where its order is asked for.
+fn put_in(bag: &mut Bag, kind: AggKind, number: i64) -> Result<(), NoMemory>
+    ensures { OnOk result (is_ordered kind ≡ true → AddsOne bag.old bag.new number) }
+{
+    if is_ordered(kind) {
+        return bag.add(number);
+    }
+    Ok(())
+}
+
+// Takes the number out of the bag, where its order is asked for.
+fn take_out(bag: &mut Bag, kind: AggKind, number: i64)
+    requires { is_ordered kind ≡ true → 0 < times bag.old number }
+    ensures { is_ordered kind ≡ true → AddsOne bag.new bag.old number }
+{
+    if is_ordered(kind) {
+        bag.remove(number);
+        return;
+    }
+}
+
+impl Running {
+    /// What is kept of no number for this kind. It takes no memory.
+    pub fn none(alloc: Global, kind: AggKind) -> Running
+        ensures kind { result.kind ≡ kind }
+        ensures stands { (column : Option ℕ) → StandsFor result column [] }
+    {
+        Running {
+            kind,
+            count: 0,
+            sum: 0,
+            bag: Bag::none(alloc),
+        }
+    }
+
+    /// The number of a row comes. Where this stood for rows, it then stands for them and that row.
+    /// The error is `NoMemory`.
+    pub fn enter(&mut self, number: i64) -> Result<(), NoMemory>
+        requires { HasRoom self.old }
+        ensures { OnOk result (Enters self.old self.new number) }
+    {
+        put_in(&mut self.bag, self.kind, number)?;
+        self.count += 1;
+        self.sum += i128::from(number);
+        Ok(())
+    }
+
+    /// The number of a row goes, which is there. Where this stood for rows, it then stands for them
+    /// without that row.
+    pub fn leave(&mut self, number: i64)
+        requires { CanLeave self.old number }
+        ensures { Enters self.new self.old number }
+    {
+        take_out(&mut self.bag, self.kind, number);
+        self.count -= 1;
+        self.sum -= i128::from(number);
+    }
+
+    /// The number of a row comes where `opens`, else it goes. The error is `NoMemory`.
+    pub fn change(&mut self, opens: bool, number: i64) -> Result<(), NoMemory>
+        requires { CanChange opens self.old number }
+        ensures { OnOk result (Changes opens self.old self.new number) }
+    {
+        if opens {
+            return self.enter(number);
+        }
+        self.leave(number);
+        Ok(())
+    }
+
+    /// How many rows there are.
+    pub fn count(&self) -> u32
+        ensures { result ≡ self.now.count }
+    {
+        self.count
+    }
+
+    /// The value of the aggregate over the rows for which this stands.
+    pub fn value(&self) -> Field
+        ensures { (column : Option ℕ) (rows : List plain.Row) → StandsFor self.now column rows
+            → Suits self.now.kind column rows → result ≡ aggregate_of self.now.kind column rows }
+    {
+        match self.kind {
+            AggKind::Count => Field::Number(i128::from(self.count)),
+            AggKind::Sum => sum_field(self.count, self.sum),
+            AggKind::Avg => average_field(self.count, self.sum),
+            AggKind::Min => least_field(&self.bag),
+            AggKind::Max => greatest_field(&self.bag),
+        }
+    }
+}

@@ -1,0 +1,8 @@
+pub mod EntryLemmas
+pub mod IdLemmas
+pub mod JoinLemmas
+pub mod LawLemmas
+pub mod PartLemmas
+pub mod PieceLemmas
+pub mod SideLemmas
+pub mod ThereLemmas

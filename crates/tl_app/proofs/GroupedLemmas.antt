@@ -1,0 +1,142 @@
+-- The runs of all groups are those of the definition.
+use Rattle.std.proofs.Common.{◌≡◌, ℕ, zero, suc, ℤ, Bool, true, false, ◌&&◌, ◌||◌, not, cond, List, [], ◌∷◌, length, map, fold, Option, Some, None, refl, sym, ap, ◌∙◌, subst, slice_get}
+use Rattle.std.specs.Prelude.{◌==◌}
+use Rattle.std.specs.List.{filter, filter_map, flat_map}
+use Rattle.std.proofs.Math.Path.{fun_ext}
+use Rattle.tl_types.specs.declared.cells.Cell.{Cell}
+use Rattle.tl_types.specs.declared.cells.Cell.TheVariants as cell
+use Rattle.tl_types.specs.declared.cells.Cmp.TheVariants as cmp
+use Rattle.tl_types.specs.declared.events.ValidEvent.{ValidEvent}
+use Rattle.tl_types.specs.declared.runs.Run.{Run}
+use Rattle.tl_types.specs.Plain as plain
+use Rattle.tl_types.specs.Checkpoints.{valid_events_in}
+use Rattle.tl_types.specs.History.{rows_of, same_cell, cell_at}
+use Rattle.tl_types.specs.Runs.{runs_of}
+use Rattle.tl_query.specs.Aggregates.{in_group, has_value, group_at, group_runs, aggregate_runs}
+use Rattle.tl_query.specs.Ordered.{values_of, with_value}
+use Rattle.tl_query.specs.Passing.{passes, compare_cells}
+use Rattle.tl_query.specs.declared.typed_queries.AggPlan.{AggPlan}
+use Rattle.tl_query.specs.declared.typed_queries.Span.TheVariants as span
+use Rattle.tl_query.specs.declared.typed_queries.TypedPred.{TypedPred}
+use Rattle.tl_store.specs.Reading.{cell_of_row}
+use Rattle.tl_bits.specs.Sets.{is_member}
+use Rattle.tl_plain.proofs.CellLemmas.{cell_symm}
+use Rattle.tl_app.specs.declared.keyed.KeyedEvent.{KeyedEvent}
+use Rattle.tl_app.specs.Groups.{is_value, has_cell, group_of, has_key, events_with, AreByKey, AreGroups, grouped_runs, runs_of_keys}
+use Rattle.tl_app.specs.Opening.{open_rows, up_to, Alternate}
+use Rattle.tl_app.specs.Parts.{kept_events, part_of, IsPart, planned_runs}
+use Rattle.tl_app.specs.Scans.{value_at}
+use Rattle.tl_app.proofs.HoldLemmas.{none_open}
+use Rattle.tl_app.proofs.PartLemmas.{alternate_part, open_is, member_is}
+use Rattle.tl_app.proofs.ValueLemmas.{has, given_by_some}
+
+filter_twice : {X : Type 0} (P Q : X → Bool) (xs : List X) → filter P (filter Q xs) ≡ filter (λ x. Q x && P x) xs
+filter_twice P Q [] = refl
+filter_twice P Q (x ∷ xs) = by_test (Q x) (filter_twice P Q xs) where
+  by_test : (b : Bool) → filter P (filter Q xs) ≡ filter (λ x. Q x && P x) xs → filter P (cond b (x ∷ filter Q xs) (filter Q xs)) ≡ cond (b && P x) (x ∷ filter (λ x. Q x && P x) xs) (filter (λ x. Q x && P x) xs)
+  by_test true h = ap (λ ys. cond (P x) (x ∷ ys) ys) h
+  by_test false h = h
+
+-- THE EVENTS OF A GROUP
+
+group_part : (rows : List plain.Row) (column : ℕ) (value : Cell) (chooses : ℕ → Bool) (version : ℕ) → group_of rows column value (part_of chooses rows version) ≡ part_of (λ id. chooses id && has_cell rows column value id) rows version
+group_part rows column value chooses version = filter_twice (λ (e : ValidEvent). has_cell rows column value e.row) (λ (e : ValidEvent). chooses e.row) (valid_events_in rows version)
+
+pub are_groups : (rows : List plain.Row) (column : ℕ) (events : List ValidEvent) (by_key : List KeyedEvent) → IsPart rows events → AreByKey rows column events by_key → AreGroups rows by_key
+are_groups rows column events by_key part are = record {
+  ascend = are.ascend;
+  alternate = λ value. subst (Alternate rows) (sym (are.found value ∙ ap (group_of rows column value) part.are ∙ group_part rows column value part.chooses part.version)) (alternate_part (λ id. part.chooses id && has_cell rows column value id) rows part.version);
+}
+
+-- THE ROWS OF A GROUP
+
+equal_is : (x y : Cell) → same_cell y x ≡ compare_cells cmp.Eq x y
+equal_is (cell.Int i) (cell.Int j) = cell_symm (cell.Int j) (cell.Int i)
+equal_is (cell.Int i) (cell.Text t) = refl
+equal_is (cell.Text s) (cell.Int j) = refl
+equal_is (cell.Text s) (cell.Text t) = cell_symm (cell.Text t) (cell.Text s)
+
+value_told : (by : ℕ) (value : Cell) (r : plain.Row) → is_value value (cell_at r.cells by) ≡ has_value by value r
+value_told by value r = by_cell (cell_at r.cells by) refl where
+  by_cell : (o : Option Cell) → cell_at r.cells by ≡ o → is_value value (cell_at r.cells by) ≡ has_value by value r
+  by_cell None e = rw e refl
+  by_cell (Some x) e = rw e (equal_is x value)
+
+module _ (db : plain.Database) (plan : AggPlan) (pred : TypedPred) (version by : ℕ) (from to : ℤ) (keep : List Bool) (keep_is : keep ≡ map (passes pred) (rows_of db plan.table)) where
+  chosen_is : (value : Cell) (i : ℕ) (r : plain.Row) → slice_get (rows_of db plan.table) i ≡ Some r → (is_member keep i && has_cell (rows_of db plan.table) by value i) ≡ (passes pred r && has_value by value r)
+  chosen_is value i r is =
+      ap (λ b. b && has_cell (rows_of db plan.table) by value i) (ap (λ k. is_member k i) keep_is ∙ member_is (passes pred) (rows_of db plan.table) i r is)
+      ∙ ap (λ o. passes pred r && is_value value (cell_of_row by o)) is ∙ ap (λ b. passes pred r && b) (value_told by value r)
+
+  rows_at_moment : (value : Cell) (m : ℤ) → open_rows (rows_of db plan.table) (up_to (group_of (rows_of db plan.table) by value (kept_events keep (valid_events_in (rows_of db plan.table) version))) m) ≡ group_at db plan.table pred (span.Valid version from to) by value m
+  rows_at_moment value m =
+      ap (λ es. open_rows (rows_of db plan.table) (up_to es m)) (group_part (rows_of db plan.table) by value (is_member keep) version)
+      ∙ open_is (λ id. is_member keep id && has_cell (rows_of db plan.table) by value id) (rows_of db plan.table) version (λ r. passes pred r && has_value by value r) m (chosen_is value)
+      ∙ sym (filter_twice (has_value by value) (passes pred) _)
+
+  group_told : (value : Cell) → grouped_runs (rows_of db plan.table) plan from to value (group_of (rows_of db plan.table) by value (kept_events keep (valid_events_in (rows_of db plan.table) version)))
+      ≡ group_runs plan.kind plan.column (span.Valid version from to) (group_at db plan.table pred (span.Valid version from to) by value) value
+  group_told value = ap (λ (f : ℤ → List plain.Row). group_runs plan.kind plan.column (span.Valid version from to) f value) (fun_ext (rows_at_moment value))
+
+-- A GROUP WITHOUT EVENTS
+
+none_with : (value : Cell) (runs : List Run) → map (in_group value) (filter (λ (run : Run). false) runs) ≡ []
+none_with value [] = refl
+none_with value (run ∷ runs) = none_with value runs
+
+pub nothing_given : (rows : List plain.Row) (plan : AggPlan) (from to : ℤ) (value : Cell) (events : List ValidEvent) → events ≡ [] → grouped_runs rows plan from to value events ≡ []
+nothing_given rows plan from to value events is =
+    ap (grouped_runs rows plan from to value) is
+    ∙ ap (λ (p : Run → Bool). map (in_group value) (filter p (runs_of (value_at rows plan []) from to))) (fun_ext (λ run. ap (λ rs. not (length rs == 0)) (none_open rows)))
+    ∙ none_with value (runs_of (value_at rows plan []) from to)
+
+none_found : (value : Cell) (by_key : List KeyedEvent) → has (map (λ (k : KeyedEvent). k.key) by_key) value ≡ false → events_with value by_key ≡ []
+none_found value [] h = refl
+none_found value (k ∷ by_key) h = by_tests (same_cell k.key value) refl h (none_found value by_key) where
+  by_tests : (b : Bool) → same_cell k.key value ≡ b → (b || has (map (λ (k : KeyedEvent). k.key) by_key) value) ≡ false → (has (map (λ (k : KeyedEvent). k.key) by_key) value ≡ false → events_with value by_key ≡ []) → events_with value (k ∷ by_key) ≡ []
+  by_tests true e g later = absurd (cc)
+  by_tests false e g later = let f : same_cell value k.key ≡ false = cell_symm value k.key ∙ e in rw f (later g)
+
+-- EACH KEY IS A VALUE OF THE COLUMN
+
+some_found : (value : Cell) (by_key : List KeyedEvent) → has (map (λ (k : KeyedEvent). k.key) by_key) value ≡ true → events_with value by_key ≡ [] → ⊥
+some_found value [] h none = absurd (cc)
+some_found value (k ∷ by_key) h none = by_tests (same_cell value k.key) refl none (some_found value by_key) where
+  by_tests : (b : Bool) → same_cell value k.key ≡ b → map (λ (e : KeyedEvent). e.event) (cond b (k ∷ filter (has_key value) by_key) (filter (has_key value) by_key)) ≡ [] → (has (map (λ (k : KeyedEvent). k.key) by_key) value ≡ true → events_with value by_key ≡ [] → ⊥) → ⊥
+  by_tests true e g later = absurd (cc)
+  by_tests false e g later = later (ap (λ b. b || has (map (λ (k : KeyedEvent). k.key) by_key) value) (sym (cell_symm k.key value ∙ e)) ∙ h) g
+
+value_in : (column i : ℕ) (value : Cell) (rows : List plain.Row) → has_cell rows column value i ≡ true → has (filter_map (λ (row : plain.Row). cell_at row.cells column) rows) value ≡ true
+value_in column i value [] h = absurd (cc)
+value_in column zero value (r ∷ rows) h = by_cell (cell_at r.cells column) refl h where
+  by_cell : (o : Option Cell) → cell_at r.cells column ≡ o → is_value value o ≡ true → has (filter_map (λ (row : plain.Row). cell_at row.cells column) (r ∷ rows)) value ≡ true
+  by_cell None e g = absurd (cc)
+  by_cell (Some x) e g = rw e (ap (λ b. b || has (filter_map (λ (row : plain.Row). cell_at row.cells column) rows) value) (cell_symm x value ∙ g))
+value_in column (suc i) value (r ∷ rows) h = by_cell (cell_at r.cells column) refl (value_in column i value rows h) where
+  or_true : (b : Bool) → (b || true) ≡ true
+  or_true true = refl
+  or_true false = refl
+
+  by_cell : (o : Option Cell) → cell_at r.cells column ≡ o → has (filter_map (λ (row : plain.Row). cell_at row.cells column) rows) value ≡ true → has (filter_map (λ (row : plain.Row). cell_at row.cells column) (r ∷ rows)) value ≡ true
+  by_cell None e g = rw e g
+  by_cell (Some x) e g = rw e (ap (λ b. same_cell x value || b) g ∙ or_true (same_cell x value))
+
+group_in : (rows : List plain.Row) (column : ℕ) (value : Cell) (events : List ValidEvent) → (group_of rows column value events ≡ [] → ⊥) → has (filter_map (λ (row : plain.Row). cell_at row.cells column) rows) value ≡ true
+group_in rows column value [] some = absurd (some refl)
+group_in rows column value (e ∷ events) some = by_test (has_cell rows column value e.row) refl some (group_in rows column value events) where
+  by_test : (b : Bool) → has_cell rows column value e.row ≡ b → (cond b (e ∷ group_of rows column value events) (group_of rows column value events) ≡ [] → ⊥) → ((group_of rows column value events ≡ [] → ⊥) → has (filter_map (λ (row : plain.Row). cell_at row.cells column) rows) value ≡ true) → has (filter_map (λ (row : plain.Row). cell_at row.cells column) rows) value ≡ true
+  by_test true is s later = value_in column e.row value rows is
+  by_test false is s later = later s
+
+-- ALL GROUPS
+
+pub groups_told : (db : plain.Database) (plan : AggPlan) (pred : TypedPred) (version by : ℕ) (from to : ℤ) (keep : List Bool) (events : List ValidEvent) (by_key : List KeyedEvent) → plan.by ≡ Some by → keep ≡ map (passes pred) (rows_of db plan.table)
+    → events ≡ kept_events keep (valid_events_in (rows_of db plan.table) version) → AreByKey (rows_of db plan.table) by events by_key
+    → runs_of_keys (rows_of db plan.table) plan from to by_key (fold with_value [] (map (λ (k : KeyedEvent). k.key) by_key)) ≡ planned_runs db plan pred (span.Valid version from to)
+unfolding aggregate_runs
+groups_told db plan pred version by from to keep events by_key by_is keep_is events_are are =
+    given_by_some (λ v. grouped_runs (rows_of db plan.table) plan from to v (events_with v by_key)) (map (λ (k : KeyedEvent). k.key) by_key) (filter_map (λ (row : plain.Row). cell_at row.cells by) (rows_of db plan.table))
+    (λ v h. group_in (rows_of db plan.table) by v events (λ none. some_found v by_key h (are.found v ∙ none)))
+    (λ v h. nothing_given (rows_of db plan.table) plan from to v (events_with v by_key) (none_found v by_key h))
+    ∙ ap (λ (f : Cell → List Run). flat_map f (values_of by (rows_of db plan.table))) (fun_ext (λ v. ap (grouped_runs (rows_of db plan.table) plan from to v) (are.found v ∙ ap (group_of (rows_of db plan.table) by v) events_are) ∙ group_told db plan pred version by from to keep keep_is v))
+    ∙ ap (λ b. aggregate_runs db plan.table plan.kind plan.column b pred (span.Valid version from to)) (sym by_is)

@@ -1,0 +1,13 @@
+pub mod NumberLemmas
+pub mod CutLemmas
+pub mod OpenLemmas
+pub mod HoldLemmas
+pub mod PartLemmas
+pub mod RunsLemmas
+pub mod MarkLemmas
+pub mod KeyLemmas
+pub mod TellLemmas
+pub mod ValueLemmas
+pub mod GroupLemmas
+pub mod GroupedLemmas
+pub mod PlanLemmas

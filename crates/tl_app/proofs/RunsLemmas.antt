@@ -1,0 +1,66 @@
+-- The runs of a scan are those of the definition.
+use Rattle.std.proofs.Common.{◌≡◌, ℕ, suc, ◌≤◌, ◌<◌, ℤ, Bool, true, false, cond, List, [], ◌∷◌, length, map, get_or, Some, None, refl, sym, ap, ◌∙◌, arith, subst, slice_get}
+use Rattle.std.specs.List.{All, filter}
+use Rattle.std.proofs.Math.Path.{fun_ext}
+use Rattle.std.proofs.lemmas.Option.{slice_get-get_or}
+use Rattle.tl_types.specs.declared.events.ValidEvent.{ValidEvent}
+use Rattle.tl_types.specs.Plain as plain
+use Rattle.tl_types.specs.Checkpoints.{valid_events_in}
+use Rattle.tl_types.specs.History.{rows_of}
+use Rattle.tl_types.specs.Runs.{runs_of}
+use Rattle.tl_query.specs.Aggregates.{aggregate_of, passing_at, aggregate_runs}
+use Rattle.tl_query.specs.Passing.{passes}
+use Rattle.tl_query.specs.declared.typed_queries.AggPlan.{AggPlan}
+use Rattle.tl_query.specs.declared.typed_queries.Span.TheVariants as span
+use Rattle.tl_query.specs.declared.typed_queries.TypedPred.{TypedPred}
+use Rattle.tl_bits.specs.Sets.{is_member}
+use Rattle.tl_app.specs.Opening.{open_rows, up_to, Alternate}
+use Rattle.tl_app.specs.Parts.{kept_events, part_of, AreEventsOf, IsPart, planned_runs}
+use Rattle.tl_app.specs.Scans.{value_at}
+use Rattle.tl_app.proofs.PartLemmas.{alternate_part, open_is, member_is}
+
+-- THE EVENTS OF KEPT ROWS
+
+pub part_alternates : (rows : List plain.Row) (events : List ValidEvent) → IsPart rows events → Alternate rows events
+part_alternates rows events part = subst (Alternate rows) (sym part.are) (alternate_part part.chooses rows part.version)
+
+pub kept_part : (rows : List plain.Row) (keep : List Bool) (events kept : List ValidEvent) → AreEventsOf rows events → kept ≡ kept_events keep events → IsPart rows kept
+kept_part rows keep events kept are is = record {
+  version = are.version;
+  chooses = is_member keep;
+  are = is ∙ ap (kept_events keep) are.are;
+}
+
+pub filter_few : {X : Type 0} (p : X → Bool) (xs : List X) → length (filter p xs) ≤ length xs
+filter_few p [] = omega arith
+filter_few p (x ∷ xs) = by_test (p x) (filter_few p xs) where
+  by_test : (b : Bool) → length (filter p xs) ≤ length xs → length (cond b (x ∷ filter p xs) (filter p xs)) ≤ suc (length xs)
+  by_test true h = omega arith
+  by_test false h = omega arith
+
+all_of : (events : List ValidEvent) (m : ℕ) → ((i : ℕ) (e : ValidEvent) → slice_get events i ≡ Some e → e.row < m) → All (λ (e : ValidEvent). e.row < m) events
+all_of events m h = λ i d l. h i (get_or events i d) (slice_get-get_or events i d l)
+
+pub rows_within : (rows : List plain.Row) (events : List ValidEvent) (m : ℕ) → AreEventsOf rows events → m ≡ length rows → All (λ (e : ValidEvent). e.row < m) events
+rows_within rows events m are is =
+    let there = (part_alternates rows (part_of (λ id. true) rows are.version) (record { version = are.version; chooses = λ id. true; are = refl })).there in
+    all_of events m (λ i e at. subst (λ n. e.row < n) (sym is) (there i e (subst (λ xs. slice_get xs i ≡ Some e) (are.are ∙ sym (all_chosen (valid_events_in rows are.version))) at))) where
+      all_chosen : (xs : List ValidEvent) → filter (λ (e : ValidEvent). true) xs ≡ xs
+      all_chosen [] = refl
+      all_chosen (x ∷ xs) = ap (λ ys. x ∷ ys) (all_chosen xs)
+
+-- ALL KEPT ROWS TOGETHER
+
+pub planned : (db : plain.Database) (plan : AggPlan) (pred : TypedPred) (version : ℕ) (from to : ℤ) (keep : List Bool) (events : List ValidEvent) → plan.by ≡ None → keep ≡ map (passes pred) (rows_of db plan.table)
+    → events ≡ kept_events keep (valid_events_in (rows_of db plan.table) version) → runs_of (value_at (rows_of db plan.table) plan events) from to ≡ planned_runs db plan pred (span.Valid version from to)
+unfolding aggregate_runs
+planned db plan pred version from to keep events together keep_is events_are =
+    ap (λ es. runs_of (value_at (rows_of db plan.table) plan es) from to) events_are
+    ∙ ap (λ f. runs_of f from to) (fun_ext (λ m. ap (aggregate_of plan.kind plan.column) (rows_are m)))
+    ∙ ap (λ by. aggregate_runs db plan.table plan.kind plan.column by pred (span.Valid version from to)) (sym together) where
+      rows_are : (m : ℤ) → open_rows (rows_of db plan.table) (up_to (kept_events keep (valid_events_in (rows_of db plan.table) version)) m) ≡ passing_at db plan.table pred (span.Valid version from to) m
+      rows_are m = open_is (is_member keep) (rows_of db plan.table) version (passes pred) m
+          (λ i r is. ap (λ k. is_member k i) keep_is ∙ member_is (passes pred) (rows_of db plan.table) i r is)
+
+pub part_within : (rows : List plain.Row) (events : List ValidEvent) → IsPart rows events → All (λ (e : ValidEvent). e.row < length rows) events
+part_within rows events part = all_of events (length rows) (part_alternates rows events part).there

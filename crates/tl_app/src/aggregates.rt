@@ -1,0 +1,166 @@
+//! Aggregates over valid time.
+ghost use Rattle.std.specs.Prelude.{◌≡◌, ℕ, ◌+◌, ◌*◌, ◌≤◌, ◌<ℤ◌, Bool, List, Some, None, length, map, IfOk};
+ghost use Rattle.tl_types.specs.Entries.{commits_of};
+ghost use Rattle.tl_types.specs.Checkpoints.{valid_events_in};
+ghost use Rattle.tl_types.specs.History.{database_of};
+ghost use Rattle.tl_query.specs.Passing.{passes};
+ghost use Rattle.tl_query.specs.declared.typed_queries.Span.TheVariants as span;
+ghost use Rattle.tl_query.specs.declared.typed_queries.TypedPred.{TypedPred};
+ghost use Rattle.tl_app.specs.Parts.{AreEventsOf, IsPart, kept_events, planned_runs};
+ghost use Rattle.tl_app.specs.Scans.{IsPlanFor, rows_in};
+
+use crate::groups::{Groups, runs_of_groups};
+use crate::kept::kept_events;
+use crate::keyed::{KeyColumn, events_by_key};
+use crate::scans::{Scan, scanned_runs};
+use std::alloc::Global;
+use std::sync::ledger::Ledger;
+use tl_bits::RowSet;
+use tl_ckpt::ValidEvents;
+use tl_index::Snapshot;
+use tl_query::AggPlan;
+use tl_store::Store;
+use tl_types::{NoMemory, Run, Seq, Steps, ValidEvent};
+
+// The events of the rows that are kept.
+fn list_kept<L: Ledger>(
+    alloc: Global,
+    store: &Store,
+    plan: &AggPlan,
+    events: &ValidEvents,
+    keep: &RowSet,
+    steps: &mut Steps<L>,
+) -> Result<Vec<ValidEvent>, NoMemory>
+    requires events { AreEventsOf (rows_in store.now plan.now) events.now }
+    requires keep { length keep.now ≡ length (rows_in store.now plan.now) }
+    ensures list { IfOk result (λ list. list.items ≡ kept_events keep.now events.now) }
+    ensures steps { steps.new ≤ steps.old + length events.now }
+{
+    let list = events.list(alloc)?;
+    let kept = kept_events(alloc, list.as_slice(), keep, steps)?;
+    Ok(kept)
+}
+
+// The runs of all kept rows together.
+fn runs_of_all<L: Ledger>(
+    alloc: Global,
+    scan: &Scan<'_>,
+    from: i64,
+    to: i64,
+    steps: &mut Steps<L>,
+) -> Result<Vec<Run>, NoMemory>
+    requires plan { IsPlanFor (database_of scan.now.store.now) scan.now.plan.now }
+    requires events { IsPart (rows_in scan.now.store.now scan.now.plan.now)
+        scan.now.events.now }
+    requires together { scan.now.plan.now.by ≡ None }
+    ensures runs { (pred : TypedPred) (version : ℕ) (keep : List Bool)
+        → keep ≡ map (passes pred) (rows_in scan.now.store.now scan.now.plan.now)
+        → scan.now.events.now ≡ kept_events keep
+        (valid_events_in (rows_in scan.now.store.now scan.now.plan.now) version)
+        → IfOk result (λ runs. runs.items ≡ planned_runs (database_of scan.now.store.now)
+        scan.now.plan.now pred (span.Valid version from to)) }
+    ensures steps { steps.new ≤ steps.old + 2 * length scan.now.events.now }
+{
+    let runs = scanned_runs(alloc, scan, from, to, steps)?;
+    Ok(runs)
+}
+
+// The runs of each group of kept rows, which a column separates.
+fn runs_by<L: Ledger>(
+    alloc: Global,
+    scan: &Scan<'_>,
+    by: u8,
+    from: i64,
+    to: i64,
+    steps: &mut Steps<L>,
+) -> Result<Vec<Run>, NoMemory>
+    requires plan { IsPlanFor (database_of scan.now.store.now) scan.now.plan.now }
+    requires events { IsPart (rows_in scan.now.store.now scan.now.plan.now)
+        scan.now.events.now }
+    requires by { scan.now.plan.now.by ≡ Some by }
+    ensures runs { (pred : TypedPred) (version : ℕ) (keep : List Bool)
+        → keep ≡ map (passes pred) (rows_in scan.now.store.now scan.now.plan.now)
+        → scan.now.events.now ≡ kept_events keep
+        (valid_events_in (rows_in scan.now.store.now scan.now.plan.now) version)
+        → IfOk result (λ runs. runs.items ≡ planned_runs (database_of scan.now.store.now)
+        scan.now.plan.now pred (span.Valid version from to)) }
+    ensures steps { steps.new ≤ steps.old + 3 * length scan.now.events.now }
+{
+    let column = KeyColumn {
+        store: scan.store,
+        table: scan.plan.table,
+        column: by,
+    };
+    let by_key = events_by_key(alloc, &column, scan.events, steps)?;
+    let groups = Groups {
+        store: scan.store,
+        plan: scan.plan,
+        by_key: by_key.as_slice(),
+    };
+    let runs = runs_of_groups(alloc, &groups, from, to, steps)?;
+    Ok(runs)
+}
+
+// The runs that the plan asks for.
+fn runs_of_plan<L: Ledger>(
+    alloc: Global,
+    scan: &Scan<'_>,
+    from: i64,
+    to: i64,
+    steps: &mut Steps<L>,
+) -> Result<Vec<Run>, NoMemory>
+    requires plan { IsPlanFor (database_of scan.now.store.now) scan.now.plan.now }
+    requires events { IsPart (rows_in scan.now.store.now scan.now.plan.now)
+        scan.now.events.now }
+    ensures runs { (pred : TypedPred) (version : ℕ) (keep : List Bool)
+        → keep ≡ map (passes pred) (rows_in scan.now.store.now scan.now.plan.now)
+        → scan.now.events.now ≡ kept_events keep
+        (valid_events_in (rows_in scan.now.store.now scan.now.plan.now) version)
+        → IfOk result (λ runs. runs.items ≡ planned_runs (database_of scan.now.store.now)
+        scan.now.plan.now pred (span.Valid version from to)) }
+    ensures steps { steps.new ≤ steps.old + 3 * length scan.now.events.now }
+{
+    match scan.plan.by {
+        Some(by) => runs_by(alloc, scan, by, from, to, steps),
+        None => runs_of_all(alloc, scan, from, to, steps),
+    }
+}
+
+/// The maximal runs of an aggregate over the moments from `from` on and before `to` of valid time,
+/// of the rows that are in `keep`, at the version of which `events` are the events of valid time;
+/// separated by a column, those of each value that the column has, in order, where they have a row.
+/// The plan is one for a table of the snapshot whose rows have valid periods.
+///
+/// It takes at most four steps for each event, and two more, also where it fails. The error is
+/// `NoMemory`.
+pub fn valid_runs<L: Ledger>(
+    alloc: Global,
+    snapshot: &Snapshot,
+    plan: &AggPlan,
+    from: i64,
+    to: i64,
+    events: &ValidEvents,
+    keep: &RowSet,
+    steps: &mut Steps<L>,
+) -> Result<Seq<Run>, NoMemory>
+    requires plan { IsPlanFor (database_of (commits_of snapshot.now)) plan.now }
+    requires some { from <ℤ to }
+    requires events { AreEventsOf (rows_in (commits_of snapshot.now) plan.now) events.now }
+    requires keep { length keep.now ≡ length (rows_in (commits_of snapshot.now) plan.now) }
+    ensures runs { (pred : TypedPred) (version : ℕ)
+        → keep.now ≡ map (passes pred) (rows_in (commits_of snapshot.now) plan.now)
+        → events.now ≡ valid_events_in (rows_in (commits_of snapshot.now) plan.now) version
+        → IfOk result (λ runs. runs ≡ planned_runs (database_of (commits_of snapshot.now))
+        plan.now pred (span.Valid version from to)) }
+    ensures steps { steps.new ≤ steps.old + (4 * length events.now + 2) }
+{
+    let store = snapshot.store();
+    let kept = list_kept(alloc, store, plan, events, keep, steps)?;
+    let scan = Scan {
+        store,
+        plan,
+        events: kept.as_slice(),
+    };
+    let runs = runs_of_plan(alloc, &scan, from, to, steps)?;
+    Ok(Seq::from_vec(runs))
+}

@@ -1,0 +1,14 @@
+//! The index of valid time: the events of the periods of a table's rows at a version, aggregates
+//! over valid time, which one scan of such events gives, and joins over valid time.
+#![tactic(auto)]
+
+mod aggregates;
+mod corrected;
+mod groups;
+mod kept;
+mod keyed;
+pub mod laws;
+mod scans;
+
+pub use aggregates::valid_runs;
+pub use corrected::valid_events;

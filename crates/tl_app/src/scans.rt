@@ -1,0 +1,189 @@
+//! A scan of events of valid time, in order.
+ghost use Rattle.std.specs.Prelude.{◌≡◌, ℕ, ◌+◌, ◌*◌, ◌≤◌, ◌<◌, ◌<ℤ◌, ◌≤ℤ◌, length, take, Some, IsTrue, IfOk, OnOk, slice_get, slice_index_or};
+ghost use Rattle.std.specs.List.{AllByRecursion};
+ghost use Rattle.tl_types.specs.History.{database_of, rows_of};
+ghost use Rattle.tl_types.specs.Runs.{runs_of};
+ghost use Rattle.tl_store.specs.Reading.{columns_of, IsIntColumn};
+ghost use Rattle.tl_query.specs.declared.ast.AggKind.{AggKind};
+ghost use Rattle.tl_running.specs.Standing.{IsShort};
+ghost use Rattle.tl_app.specs.Opening.{Alternate};
+ghost use Rattle.tl_app.specs.Scans.{IsPlanFor, rows_in, TellsNumber, Holds, value_at, due_at, next_of, IsCut};
+ghost use Rattle.tl_app.specs.Telling.{Tells};
+
+use std::alloc::Global;
+use std::sync::ledger::Ledger;
+use tl_query::AggPlan;
+use tl_running::Running;
+use tl_store::Store;
+use tl_types::{NoMemory, Run, Steps, ValidEvent, add_stretch};
+
+/// What is scanned: some events of valid time of a table, in order, and what a plan asks of their
+/// rows.
+#[derive(Clone, Copy)]
+pub(crate) struct Scan<'a> {
+    /// The store that has the rows.
+    pub store: &'a Store,
+    /// The plan.
+    pub plan: &'a AggPlan,
+    /// The events.
+    pub events: &'a [ValidEvent],
+}
+
+// Whether there is an event at the place that has come at the moment.
+fn is_due(events: &[ValidEvent], i: usize, at: i64) -> bool
+    ensures { result ≡ due_at (slice_get events.now i) at }
+{
+    match events.get(i) {
+        Some(event) => event.time <= at,
+        None => false,
+    }
+}
+
+// The moment of the event at the place, or the end where there is none before it.
+fn next_moment(events: &[ValidEvent], i: usize, to: i64) -> i64
+    ensures { result ≡ next_of (slice_get events.now i) to }
+{
+    match events.get(i) {
+        Some(event) => { if event.time < to { event.time } else { to } }
+        None => to,
+    }
+}
+
+// The first of some numbers.
+fn first(numbers: &[i64]) -> i64
+    requires { 0 < length numbers.now }
+    ensures { slice_get numbers.now 0 ≡ Some result }
+{
+    numbers[0]
+}
+
+// The number of a row of a table in a column of numbers. It takes one step.
+fn column_number<L: Ledger>(
+    store: &Store,
+    table: u16,
+    column: u8,
+    row: u32,
+    steps: &mut Steps<L>,
+) -> i64
+    requires column { IsIntColumn (columns_of (database_of store.now) table) column }
+    requires row { row < length (rows_of (database_of store.now) table) }
+    ensures number { (kind : AggKind)
+        → TellsNumber kind (Some column) (rows_of (database_of store.now) table) row result }
+    ensures short { IsShort result }
+    ensures steps { steps.new ≡ steps.old + 1 }
+{
+    first(store.ints_from(table, row, column, steps))
+}
+
+// The number of a row, 0 where no column is asked for. It takes at most one step.
+fn number_of<L: Ledger>(store: &Store, plan: &AggPlan, row: u32, steps: &mut Steps<L>) -> i64
+    requires plan { IsPlanFor (database_of store.now) plan.now }
+    requires row { row < length (rows_in store.now plan.now) }
+    ensures number { TellsNumber plan.now.kind plan.now.column
+        (rows_in store.now plan.now) row result }
+    ensures short { IsShort result }
+    ensures steps { steps.new ≤ steps.old + 1 }
+{
+    match plan.column {
+        Some(column) => column_number(store, plan.table, column, row, steps),
+        None => 0,
+    }
+}
+
+// Takes the event at a place: its row comes, or goes. It takes at most two steps.
+fn take_event<L: Ledger>(
+    running: &mut Running,
+    scan: &Scan<'_>,
+    i: usize,
+    steps: &mut Steps<L>,
+) -> Result<(), NoMemory>
+    requires plan { IsPlanFor (database_of scan.now.store.now) scan.now.plan.now }
+    requires events { Alternate (rows_in scan.now.store.now scan.now.plan.now)
+        scan.now.events.now }
+    requires some { i < length scan.now.events.now }
+    requires holds { Holds (rows_in scan.now.store.now scan.now.plan.now) scan.now.plan.now
+        (take i scan.now.events.now) running.old }
+    ensures holds { OnOk result (Holds (rows_in scan.now.store.now scan.now.plan.now)
+        scan.now.plan.now (take (i + 1) scan.now.events.now) running.new) }
+    ensures steps { steps.new ≤ steps.old + 2 }
+{
+    let event = scan.events[i];
+    let table = scan.plan.table;
+    let _ = scan.store.rows(table); // says that rows are few
+    let period = scan.store.valid_at(table, event.row, steps);
+    let _ = period.from(); // says that the period is not empty
+    let number = number_of(scan.store, scan.plan, event.row, steps);
+    running.change(event.opens, number)?;
+    Ok(())
+}
+
+// Takes the events up to the moment, from the one at a place on, and gives how many are taken now.
+// It takes at most two steps for each.
+fn take_due<L: Ledger>(
+    running: &mut Running,
+    scan: &Scan<'_>,
+    from: usize,
+    at: i64,
+    steps: &mut Steps<L>,
+) -> Result<usize, NoMemory>
+    requires plan { IsPlanFor (database_of scan.now.store.now) scan.now.plan.now }
+    requires events { Alternate (rows_in scan.now.store.now scan.now.plan.now)
+        scan.now.events.now }
+    requires within { from ≤ length scan.now.events.now }
+    requires holds { Holds (rows_in scan.now.store.now scan.now.plan.now) scan.now.plan.now
+        (take from scan.now.events.now) running.old }
+    requires front { (k : ℕ) (d : _) → k < from
+        → (slice_index_or scan.now.events.now k d).time ≤ℤ at }
+    ensures cut { IfOk result (λ i. IsCut scan.now.events.now at i) }
+    ensures holds { IfOk result (λ i. Holds (rows_in scan.now.store.now scan.now.plan.now)
+        scan.now.plan.now (take i scan.now.events.now) running.new) }
+    ensures steps { IfOk result (λ i. steps.new + 2 * from ≤ steps.old + 2 * i) }
+    ensures all_steps { steps.new + 2 * from
+        ≤ steps.old + 2 * length scan.now.events.now }
+{
+    let mut i = from;
+    'taking: while is_due(scan.events, i, at) {
+        take_event(running, scan, i, steps)?;
+        i += 1;
+    }
+    Ok(i)
+}
+
+/// The maximal runs, over a range of valid time, of the aggregate of the rows that are open at each
+/// moment. It takes at most two steps for each event. The error is `NoMemory`.
+pub(crate) fn scanned_runs<L: Ledger>(
+    alloc: Global,
+    scan: &Scan<'_>,
+    from: i64,
+    to: i64,
+    steps: &mut Steps<L>,
+) -> Result<Vec<Run>, NoMemory>
+    requires plan { IsPlanFor (database_of scan.now.store.now) scan.now.plan.now }
+    requires events { Alternate (rows_in scan.now.store.now scan.now.plan.now)
+        scan.now.events.now }
+    ensures runs { IfOk result (λ runs. runs.items
+        ≡ runs_of (value_at (rows_in scan.now.store.now scan.now.plan.now) scan.now.plan.now
+        scan.now.events.now) from to) }
+    ensures tells { IfOk result (λ runs. AllByRecursion (Tells
+        (rows_in scan.now.store.now scan.now.plan.now) scan.now.plan.now scan.now.events.now)
+        runs.items) }
+    ensures steps { steps.new ≤ steps.old + 2 * length scan.now.events.now }
+{
+    let mut running = Running::none(alloc, scan.plan.kind);
+    let mut runs = Vec::new(alloc);
+    let mut at = from;
+    let mut i = 0;
+    'moments: while at < to {
+        i = take_due(&mut running, scan, i, at, steps)?;
+        let next = next_moment(scan.events, i, to);
+        let stretch = Run {
+            group: None,
+            from: at,
+            to: next,
+            value: running.value(),
+        };
+        add_stretch(&mut runs, stretch)?;
+        at = next;
+    }
+    Ok(runs)
+}

@@ -1,5 +1,5 @@
 -- Calls of two passes over an empty history: one creates a table, the other reads, and is refused the same name.
-use Rattle.std.proofs.Common.{◌≡◌, ◌+◌, List, [], ◌∷◌, Some, None, Ok, Err, false, true, inl, inr, refl, arith}
+use Rattle.std.proofs.Common.{◌≡◌, ◌+◌, ◌++◌, ℕ, subst, List, [], ◌∷◌, Some, None, Ok, Err, false, true, inl, inr, refl, arith}
 use mathlib.Core.List.{IsPrefix}
 use Rattle.tl_types.specs.Plain as plain
 use Rattle.tl_types.specs.Limits.{standard_limits}
@@ -16,7 +16,7 @@ use Rattle.tl_core.specs.World.{World}
 use Rattle.tl_engine.specs.declared.faults.CommitFault.TheVariants as fault
 use Rattle.tl_engine.specs.Calls.{Call, IsRun, after_calls, steps_of_calls}
 use Rattle.tl_engine.specs.Counting.{news}
-use Rattle.tl_engine.specs.Heads.{HeadState, LeadTo, world_of}
+use Rattle.tl_engine.specs.Heads.{HasBuild, HeadState, LeadTo, start_state, world_of}
 use Rattle.tl_engine.specs.Saying.{CommitSays, becomes}
 
 abbrev table : plain.Schema
@@ -29,29 +29,29 @@ abbrev all : List Entry
 all = entry.Commit create ∷ []
 
 abbrev start : HeadState
-start = record { written = []; seen = [] ∷ [] ∷ [] }
+start = start_state [] 2
 
 abbrev creates : Call
-creates = record { pass = 1; old = []; base = []; entry = Some (entry.Commit create) }
+creates = record { pass = 1; old = []; base = []; begins = None; entry = Some (entry.Commit create) }
 
 abbrev reads : Call
-reads = record { pass = 0; old = []; base = all; entry = None }
+reads = record { pass = 0; old = []; base = all; begins = None; entry = None }
 
 abbrev is_refused : Call
-is_refused = record { pass = 0; old = all; base = all; entry = None }
+is_refused = record { pass = 0; old = all; base = all; begins = None; entry = None }
 
 run : IsRun standard_limits 0 all start (creates ∷ reads ∷ is_refused ∷ [])
 run = (
-  record { pass = refl; count = refl },
-  (([], refl), inr (record { author = 1; batch = batch.Create table; answer = Ok 1; answers = (record { commit = create; whole = refl; makes = refl; entry_is = refl }, refl) })),
+  record { pass = refl; count = refl; marks = λ t v e. absurd (cc) },
+  (([], refl), inr (inr (inl (record { author = 1; batch = batch.Create table; answer = Ok 1; answers = (record { commit = create; whole = refl; makes = refl; entry_is = refl }, refl); begins_none = refl })))),
   ([], refl),
   (
-    record { pass = refl; count = refl },
-    ((all, refl), inl refl),
+    record { pass = refl; count = refl; marks = λ t v e. absurd (cc) },
+    ((all, refl), inl (record { begins_none = refl; entry_none = refl })),
     ([], refl),
     (
-      record { pass = refl; count = refl },
-      (([], refl), inr (record { author = 1; batch = batch.Create table; answer = Err (fault.Refused 1 refusal.TableExists); answers = (refl, refl, refl, refl) })),
+      record { pass = refl; count = refl; marks = λ t v e. absurd (cc) },
+      (([], refl), inr (inr (inl (record { author = 1; batch = batch.Create table; answer = Err (fault.Refused 1 refusal.TableExists); answers = (refl, refl, refl, refl); begins_none = refl })))),
       ([], refl),
       tt,
     ),
@@ -61,7 +61,7 @@ run = (
 steps : steps_of_calls (creates ∷ reads ∷ is_refused ∷ []) ≡ step.Read 1 ∷ step.Publish create ∷ step.Read 1 ∷ step.Read 0 ∷ step.Read 0 ∷ []
 steps = refl
 
-ends : after_calls start (creates ∷ reads ∷ is_refused ∷ []) ≡ record { written = all; seen = all ∷ all ∷ [] }
+ends : after_calls start (creates ∷ reads ∷ is_refused ∷ []) ≡ start_state all 2
 ends = refl
 
 -- the same commit twice is no steps of the world
@@ -69,8 +69,49 @@ not_twice : (w : World) → LeadTo (world_of start) (step.Publish create ∷ ste
 not_twice w h = let n = h.1.0 in absurd (cc)
 
 -- and two calls that both publish over the same list are no run
-not_both : (last : List Entry) → IsRun standard_limits 0 last start (creates ∷ record { pass = 0; old = []; base = []; entry = Some (entry.Commit create) } ∷ []) → ⊥
+not_both : (last : List Entry) → IsRun standard_limits 0 last start (creates ∷ record { pass = 0; old = []; base = []; begins = None; entry = Some (entry.Commit create) } ∷ []) → ⊥
 not_both last r = let n = r.3.0.count in absurd (omega (arith, n))
+
+-- BESIDE COMMITS
+
+-- a pass begins the build of the table, and publishes its mark
+abbrev begins : Call
+begins = record { pass = 0; old = []; base = all; begins = Some 0; entry = None }
+
+abbrev marks : Call
+marks = record { pass = 0; old = all; base = all; begins = None; entry = Some (entry.Mark 0 1) }
+
+tends : IsRun standard_limits 0 (all ++ entry.Mark 0 1 ∷ []) start (creates ∷ begins ∷ marks ∷ [])
+tends = (
+  record { pass = refl; count = refl; marks = λ t v e. absurd (cc) },
+  (([], refl), inr (inr (inl (record { author = 1; batch = batch.Create table; answer = Ok 1; answers = (record { commit = create; whole = refl; makes = refl; entry_is = refl }, refl); begins_none = refl })))),
+  (entry.Mark 0 1 ∷ [], refl),
+  (
+    record { pass = refl; count = refl; marks = λ t v e. absurd (cc) },
+    ((all, refl), inr (inl (record { table = 0; there = refl; begins_is = refl; entry_none = refl }))),
+    (entry.Mark 0 1 ∷ [], refl),
+    (
+      record { pass = refl; count = refl; marks = λ t v e. its_build t v (cc) (cc) },
+      (([], refl), inr (inr (inr (record { table = 0; version = 1; begins_none = refl; entry_is = refl })))),
+      ([], refl),
+      tt,
+    ),
+  ),
+) where
+  its_build : (t v : ℕ) → 0 ≡ t → 1 ≡ v → HasBuild (after_calls start (creates ∷ begins ∷ [])) 0 t v
+  its_build t v e f = subst (λ (z : ℕ × ℕ). HasBuild (after_calls start (creates ∷ begins ∷ [])) 0 z.0 z.1) (λ i. (e i, f i))
+      (record { base = 1; begun = record { front = record { seen = all; build = Some (record { table = 0; base = 1 }) }; pass_is = refl; build_is = refl }; version_is = refl })
+
+steps_of_tends : steps_of_calls (creates ∷ begins ∷ marks ∷ []) ≡ step.Read 1 ∷ step.Publish create ∷ step.Read 1 ∷ step.Begin 0 0 ∷ step.Read 0 ∷ step.Mark 0 ∷ step.Read 0 ∷ []
+steps_of_tends = refl
+
+-- a mark whose pass builds nothing is no call of a run
+no_build : (last : List Entry) → IsRun standard_limits 0 last start (creates ∷ reads ∷ marks ∷ []) → ⊥
+no_build last r =
+    let built = r.3.3.0.marks 0 1 refl in
+    let at = built.begun.pass_is in
+    let is = built.begun.build_is in
+    absurd (cc)
 
 -- THE PROMISES ALONE
 

@@ -1,5 +1,5 @@
 -- The commits and the break of a history with one entry more.
-use Rattle.std.proofs.Common.{◌≡◌, true, false, List, [], ◌∷◌, ◌++◌, map, refl, sym, ap, ◌∙◌}
+use Rattle.std.proofs.Common.{◌≡◌, true, false, List, [], ◌∷◌, ◌++◌, refl, ap}
 use Rattle.tl_types.specs.declared.commits.Commit.{Commit}
 use Rattle.tl_types.specs.declared.commits.Entry.{Entry}
 use Rattle.tl_types.specs.declared.commits.Entry.TheVariants as entry
@@ -54,11 +54,3 @@ tried_whole [] whole = refl
 tried_whole (entry.Commit d ∷ entries) whole = ap (λ cs. d ∷ cs) (tried_whole entries whole)
 tried_whole (entry.Mark table version ∷ entries) whole = tried_whole entries whole
 tried_whole (entry.Break d ∷ entries) whole = absurd (cc)
-
--- entries that are commits alone, with one more
-pub alone_more : (entries : List Entry) (c : Commit) → entries ≡ map commit_entry (commits_of entries) → entries ++ commit_entry c ∷ [] ≡ map commit_entry (commits_of (entries ++ commit_entry c ∷ []))
-alone_more entries c alone =
-    ap (λ es. es ++ commit_entry c ∷ []) alone ∙ (sym (map_more (commits_of entries)) ∙ ap (λ cs. map commit_entry cs) (sym (commits_more entries c))) where
-      map_more : (cs : List Commit) → map commit_entry (cs ++ c ∷ []) ≡ map commit_entry cs ++ commit_entry c ∷ []
-      map_more [] = refl
-      map_more (d ∷ cs) = ap (λ es. commit_entry d ∷ es) (map_more cs)

@@ -133,10 +133,10 @@ module _ {D : Type 0} (read : D → Option (List ℕ)) (may_leave : D → List �
   image_found (Err r) entries image b at whole same = tt
 
   -- a history goes on to be an engine's, or there is no memory for it
-  pub opens_on : (given : Limits) (disk : D) (h : plain.History D) (answer : Result (plain.Opening D) (Refused D)) → Opens read may_leave moment left_since fault_count given disk (Ok h) → IfOk answer (λ o. o.history ≡ h) → IfErr answer (λ r. r.fault ≡ fault.NoMemory) → disk_opened (history_attached answer) ≡ h.journal.disk → Opens read may_leave moment left_since fault_count given disk (history_attached answer)
-  opens_on given disk h (Ok o) opens same no_memory at =
-      subst (λ x. Opens read may_leave moment left_since fault_count given disk (Ok x)) (sym same) opens
-  opens_on given disk h (Err r) opens same no_memory at =
+  pub opens_on : (given : Limits) (k : ℕ) (disk : D) (h : plain.History D) (answer : Result (plain.Opening D) (Refused D)) → Opens read may_leave moment left_since fault_count given k disk (Ok h) → IfOk answer (λ o. o.history ≡ h) → IfErr answer (λ r. r.fault ≡ fault.NoMemory) → disk_opened (history_attached answer) ≡ h.journal.disk → Opens read may_leave moment left_since fault_count given k disk (history_attached answer)
+  opens_on given k disk h (Ok o) opens same no_memory at =
+      subst (λ x. Opens read may_leave moment left_since fault_count given k disk (Ok x)) (sym same) opens
+  opens_on given k disk h (Err r) opens same no_memory at =
       record {
         opened = tt;
         limits = tt;

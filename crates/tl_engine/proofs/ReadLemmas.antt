@@ -5,7 +5,8 @@ use Rattle.tl_types.specs.declared.commits.Entry.{Entry}
 use Rattle.tl_types.specs.declared.limits.Limits.{Limits}
 use Rattle.tl_types.specs.Entries.{commits_of}
 use Rattle.tl_types.specs.History.{fits}
-use Rattle.tl_index.specs.Snapshots.{commit_entry}
+use Rattle.tl_types.specs.Marks.{paced_step}
+use Rattle.tl_types.proofs.MarkLemmas.{commits_step}
 use Rattle.tl_record.specs.Spelling.{spelling}
 use Rattle.std.specs.Prelude.{Option, Some, None, IfSome, Result, Err}
 use Rattle.tl_journal.specs.Answers.{IsTooShort, IsDeviceOrMemory}
@@ -18,7 +19,6 @@ use Rattle.tl_journal.specs.Plain as journal
 use Rattle.tl_types.specs.Legality.{FitInTurn}
 use Rattle.tl_engine.specs.Fitting.{IsUnfitAt, IsDamaged}
 use Rattle.tl_engine.specs.Replaying.{IsFirstUnfit, IsApplied}
-use Rattle.tl_engine.proofs.ListLemmas.{commits_more}
 use Rattle.tl_engine.proofs.FitLemmas.{none_unfit}
 
 -- gates and records take as many bytes as their commits say
@@ -45,9 +45,9 @@ read_within found found_commits read =
     omega (arith, e, at, length-append (header ++ read.front) (drop found_commits.at found_commits.image))
 
 -- the commits that are applied with one more
-pub applied_read : {D : Type 0} (limits : Limits) (found_commits : journal.FoundCommits D) (old new : List Entry) (c : Commit) → HasRead (commits_of old ++ c ∷ []) found_commits → new ≡ old ++ commit_entry c ∷ [] → HasRead (commits_of new) found_commits
-applied_read limits found_commits old new c read more =
-    subst (λ cs. HasRead cs found_commits) (sym (ap commits_of more ∙ commits_more old c)) read
+pub applied_read : {D : Type 0} (k : ℕ) (found_commits : journal.FoundCommits D) (old new : List Entry) (c : Commit) → HasRead (commits_of old ++ c ∷ []) found_commits → new ≡ paced_step k old c → HasRead (commits_of new) found_commits
+applied_read k found_commits old new c read more =
+    subst (λ cs. HasRead cs found_commits) (sym (ap commits_of more ∙ commits_step k old c)) read
 
 -- where all is spelled well, the gate of the first unfit commit is where the journal is damaged
 pub unfit_read : {D : Type 0} (limits : Limits) (found_commits : journal.FoundCommits D) (before : List Commit) (at : ℕ) (image : List ℕ) → (first : IsFirstUnfit limits before found_commits at) → FitInTurn limits before → (later : List Commit) → ImageStandsOnlyFor ((before ++ first.commit ∷ []) ++ later) image → IsUnfitAt limits at image
@@ -97,14 +97,14 @@ fewer_left found_commits new found o f is same on read =
     omega (arith, n, within, l)
 
 -- the commits that are applied, with one more that fits
-pub applied_next : {D : Type 0} (limits : Limits) (new : journal.FoundCommits D) (old applied : List Entry) (o : Option Found) (f : Found) → o ≡ Some f → IfSome o (λ g. HasRead (commits_of old ++ g.commit ∷ []) new) → IsApplied limits old applied f.commit true → HasRead (commits_of applied) new
-applied_next limits new old applied o f is read fits =
+pub applied_next : {D : Type 0} (limits : Limits) (k : ℕ) (new : journal.FoundCommits D) (old applied : List Entry) (o : Option Found) (f : Found) → o ≡ Some f → IfSome o (λ g. HasRead (commits_of old ++ g.commit ∷ []) new) → IsApplied limits k old applied f.commit true → HasRead (commits_of applied) new
+applied_next limits k new old applied o f is read fits =
     let r : HasRead (commits_of old ++ f.commit ∷ []) new = subst (λ p. IfSome p (λ g. HasRead (commits_of old ++ g.commit ∷ []) new)) is read in
-    applied_read limits new old applied f.commit r fits.1
+    applied_read k new old applied f.commit r fits.1
 
 -- the first commit that does not fit
-pub first_unfit : {D : Type 0} (limits : Limits) (found_commits new : journal.FoundCommits D) (old applied : List Entry) (o : Option Found) (f : Found) → o ≡ Some f → HasRead (commits_of old) found_commits → IfSome o (λ g. g.at ≡ found_commits.at) → IfSome o (λ g. HasRead (commits_of old ++ g.commit ∷ []) new) → IsApplied limits old applied f.commit false → IsFirstUnfit limits (commits_of applied) new f.at
-first_unfit limits found_commits new old applied o f is before gate read fits =
+pub first_unfit : {D : Type 0} (limits : Limits) (k : ℕ) (found_commits new : journal.FoundCommits D) (old applied : List Entry) (o : Option Found) (f : Found) → o ≡ Some f → HasRead (commits_of old) found_commits → IfSome o (λ g. g.at ≡ found_commits.at) → IfSome o (λ g. HasRead (commits_of old ++ g.commit ∷ []) new) → IsApplied limits k old applied f.commit false → IsFirstUnfit limits (commits_of applied) new f.at
+first_unfit limits k found_commits new old applied o f is before gate read fits =
     let r : HasRead (commits_of old ++ f.commit ∷ []) new = subst (λ p. IfSome p (λ g. HasRead (commits_of old ++ g.commit ∷ []) new)) is read in
     let at : f.at ≡ found_commits.at = subst (λ p. IfSome p (λ g. g.at ≡ found_commits.at)) is gate in
     subst (λ es. IsFirstUnfit limits (commits_of es) new f.at) (sym fits.1)

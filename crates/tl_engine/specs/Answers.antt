@@ -1,5 +1,5 @@
 -- What the calls of a history answer.
-use Rattle.std.specs.Prelude.{◌≡◌, ◌⊎◌, ℕ, ◌<◌, true, false, List, [], ◌∷◌, ◌++◌, length, map, Some, IfSome, Result, Ok, Err, IfOk, IfErr}
+use Rattle.std.specs.Prelude.{◌≡◌, ◌⊎◌, ℕ, ◌<◌, true, false, List, [], ◌∷◌, ◌++◌, length, Some, IfSome, Result, Ok, Err, IfOk, IfErr}
 use Rattle.std.specs.declared.option.Option.{Option}
 use Rattle.tl_types.specs.declared.batches.Batch.{Batch}
 use Rattle.tl_types.specs.declared.commits.Commit.{Commit}
@@ -7,11 +7,12 @@ use Rattle.tl_types.specs.declared.commits.Entry.{Entry}
 use Rattle.tl_types.specs.declared.limits.Limits.{Limits}
 use Rattle.tl_types.specs.Entries.{commits_of, has_break}
 use Rattle.tl_types.specs.History.{database_of}
+use Rattle.tl_types.specs.Marks.{paced}
 use Rattle.tl_types.specs.Resolving.{resolved}
 use Rattle.tl_batch.specs.Made.{AreWithin}
 use Rattle.tl_device.specs.Disk.{IsStored}
 use Rattle.tl_device.specs.Known.{Rose}
-use Rattle.tl_index.specs.Snapshots.{commit_entry, break_entry}
+use Rattle.tl_index.specs.Snapshots.{break_entry}
 use Rattle.tl_journal.specs.Answers.{CountsFaults, IsTooShort, IsDeviceOrMemory}
 use Rattle.tl_journal.specs.Image.{ImageStandsFor, ImageStandsOnlyFor}
 use Rattle.tl_journal.specs.Moments.{EachMoment, EachMomentBySync, IsUntouched, LosesNothing, IsAsBefore, IsDurable, OldOr}
@@ -38,16 +39,16 @@ KeepsOrTrims reads may_leave old new =
     (b : List ℕ) → reads old ≡ Some b → (c : List ℕ) × SameOrTrimmed b c
     × IsStored reads may_leave new c
 
--- a history as it is opened: commits alone, which fit in turn
-pub record IsOpened {D : Type 0} (history : plain.History D) : Type 0 where
-  pub commits_alone : history.entries ≡ map commit_entry (commits_of history.entries)
+-- a history as it is opened: commits that fit in turn, each with its mark where that is due
+pub record IsOpened {D : Type 0} (k : ℕ) (history : plain.History D) : Type 0 where
+  pub pace : history.entries ≡ paced (commits_of history.entries) k
   pub whole : has_break history.entries ≡ false
   pub fitting : FitInTurn history.limits (commits_of history.entries)
 
--- what an opening with given limits answers, over a disk as it was before
-pub record Opens {D : Type 0} (read : D → Option (List ℕ)) (may_leave : D → List ℕ → Type 0) (moment : D → ℕ) (left_since : D → ℕ → List ℕ → Type 0) (fault_count : D → ℕ) (given : Limits) (disk : D) (answer : Result (plain.History D) (Refused D)) : Type 0 where
-  -- the history has commits alone, which fit in turn
-  pub opened : IfOk answer IsOpened
+-- what an opening with given limits and marks at this pace answers, over a disk as it was before
+pub record Opens {D : Type 0} (read : D → Option (List ℕ)) (may_leave : D → List ℕ → Type 0) (moment : D → ℕ) (left_since : D → ℕ → List ℕ → Type 0) (fault_count : D → ℕ) (given : Limits) (k : ℕ) (disk : D) (answer : Result (plain.History D) (Refused D)) : Type 0 where
+  -- the history has commits that fit in turn, with the marks that are due
+  pub opened : IfOk answer (IsOpened k)
   -- its limits are those given
   pub limits : IfOk answer (λ h. h.limits ≡ given)
   -- its first count of faults is that of the disk, which has not risen

@@ -11,4 +11,5 @@ pub mod Plain
 pub mod Replaying
 pub mod Saying
 pub mod Standing
+pub mod Tending
 pub mod Writing

@@ -1,29 +1,29 @@
 -- The commits of a journal while they are applied.
-use Rattle.std.specs.Prelude.{◌≡◌, ℕ, ◌+◌, Bool, true, false, IsTrue, List, [], ◌∷◌, ◌++◌, map}
+use Rattle.std.specs.Prelude.{◌≡◌, ℕ, ◌+◌, Bool, true, false, IsTrue, List, [], ◌∷◌, ◌++◌}
 use Rattle.tl_types.specs.declared.commits.Commit.{Commit}
 use Rattle.tl_types.specs.declared.commits.Entry.{Entry}
 use Rattle.tl_types.specs.declared.limits.Limits.{Limits}
 use Rattle.tl_types.specs.Entries.{commits_of, has_break}
 use Rattle.tl_types.specs.History.{database_of, fits}
+use Rattle.tl_types.specs.Marks.{paced_step}
 use Rattle.tl_batch.specs.KeyIndex.{IdsByKey}
 use Rattle.tl_batch.specs.Standing.{StandFor}
-use Rattle.tl_index.specs.Snapshots.{commit_entry}
 use Rattle.tl_journal.specs.Image.{size_of}
 use Rattle.tl_journal.specs.Opening.{HasRead}
 use Rattle.tl_journal.specs.Plain as journal
 
--- the entries are commits alone, and the keys stand for their tables
+-- there is no break among the entries, and the keys stand for their tables
 pub record IsReplay (entries : List Entry) (keys : List IdsByKey) : Type 0 where
-  pub commits_alone : entries ≡ map commit_entry (commits_of entries)
   pub whole : has_break entries ≡ false
   pub keys_stand : StandFor keys (database_of (commits_of entries))
 
--- the commit fits and is appended, or it does not and nothing has changed
-abbrev pub IsApplied : Limits → List Entry → List Entry → Commit → Bool → Type 0
-IsApplied limits old new commit true =
+-- the commit fits and is appended, with its mark where that is due; or it does not fit and nothing
+-- has changed
+abbrev pub IsApplied : Limits → ℕ → List Entry → List Entry → Commit → Bool → Type 0
+IsApplied limits k old new commit true =
     IsTrue (fits limits (database_of (commits_of old)) commit)
-    × (new ≡ old ++ commit_entry commit ∷ [])
-IsApplied limits old new commit false =
+    × (new ≡ paced_step k old commit)
+IsApplied limits k old new commit false =
     (fits limits (database_of (commits_of old)) commit ≡ false) × (new ≡ old)
 
 -- after these commits, one was read that does not fit them; its gate is at the offset

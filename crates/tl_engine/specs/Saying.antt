@@ -16,11 +16,11 @@ use Rattle.tl_index.specs.Snapshots.{commit_entry, break_entry}
 use Rattle.tl_engine.specs.declared.faults.CommitFault.{CommitFault}
 use Rattle.tl_engine.specs.declared.faults.CommitFault.TheVariants as fault
 
--- a batch that puts rows names a table that is there
+-- a batch that puts or removes rows names a table that is there
 abbrev pub names_table : plain.Database → Batch → Bool
 names_table db (batch.Create schema) = true
 names_table db (batch.Put name lines) = is_some (find_table name db.tables)
-names_table db (batch.Remove name lines) = true
+names_table db (batch.Remove name lines) = is_some (find_table name db.tables)
 
 -- what a batch of an author becomes over the commits of these entries
 abbrev pub becomes : Limits → ℕ → Batch → List Entry → Result Commit BatchFault

@@ -100,7 +100,9 @@ fn opening_over<D: Disk>(alloc: Global, history: History<D>) -> Result<Opening<D
 
 impl<D: Disk> Engine<D, Brand> {
     /// Opens the history whose journal is on a disk, as `History::open` does, and makes the head
-    /// on which its entries are written. Every refusal hands the disk back.
+    /// on which its entries are written: the commits, each with the mark of its table where that
+    /// has `k` events or more after its last mark, and none where `k` is 0. Every refusal hands the
+    /// disk back.
     ///
     /// `NotInitialised`: the disk has fewer than 17 bytes. `Damaged`: its bytes are no journal, and
     /// `at` is the offset where they are damaged; or they are one, and `at` is the offset of the
@@ -109,13 +111,13 @@ impl<D: Disk> Engine<D, Brand> {
     /// `NoMemory`: memory ran out; the disk stays as it is, or what it then reads as is durable.
     /// After both a journal stands for the same commits. A journal whose commits fit one after the
     /// other, with these limits or smaller ones, meets no other refusal.
-    pub fn attach(alloc: Global, disk: D, limits: &Limits) -> Result<Opening<D>, Refused<D>>
+    pub fn attach(alloc: Global, disk: D, limits: &Limits, k: u32) -> Result<Opening<D>, Refused<D>>
         requires { AreWithin limits.now standard_limits }
-        ensures opens { Opens D.reads D.may_leave D.moment D.left_since D.faults limits.now disk
+        ensures opens { Opens D.reads D.may_leave D.moment D.left_since D.faults limits.now k disk
             (history_attached result) }
         ensures parts { IfOk result (λ o. o.parts ≡ 65536) }
     {
-        match History::open(alloc, disk, limits) {
+        match History::open(alloc, disk, limits, k) {
             Ok(history) => opening_over(alloc, history),
             Err(refused) => Err(refused),
         }

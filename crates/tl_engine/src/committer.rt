@@ -1,17 +1,20 @@
 //! What lies behind the lock of an engine.
-ghost use Rattle.std.specs.Prelude.{◌≡◌, ◌+◌, ◌<◌, ◌++◌, ◌∷◌, [], IsTrue, IfOk};
+ghost use Rattle.std.specs.Prelude.{◌≡◌, ◌+◌, ◌<◌, ◌≤◌, ◌++◌, ◌∷◌, [], false, length, IsTrue, IfOk};
 ghost use mathlib.Core.List.{IsPrefix};
 ghost use Rattle.tl_types.specs.declared.commits.Entry.{Entry};
-ghost use Rattle.tl_types.specs.Entries.{commits_of};
+ghost use Rattle.tl_types.specs.Checkpoints.{checkpoint_at};
+ghost use Rattle.tl_types.specs.Entries.{commits_of, has_break};
 ghost use Rattle.tl_types.specs.History.{database_of};
-ghost use Rattle.tl_types.specs.Legality.{are_legal};
+ghost use Rattle.tl_types.specs.Legality.{are_legal, has_mark};
 ghost use Rattle.tl_batch.specs.Made.{batch_matches};
-ghost use Rattle.tl_engine.specs.Calls.{TakesEffect};
+ghost use Rattle.tl_index.specs.Snapshots.{mark_entry};
+ghost use Rattle.tl_engine.specs.Calls.{MarkTakesEffect, TakesEffect};
 ghost use Rattle.tl_engine.specs.Saying.{CommitSays, becomes, names_table};
+ghost use Rattle.tl_engine.specs.Tending.{IsCheckpoint, MarkSays};
 ghost use Rattle.tl_engine.specs.Writing.{shown_at, shown_by};
 
 use crate::committing::Draft;
-use crate::faults::CommitFault;
+use crate::faults::{CommitFault, TendFault, Tended};
 use crate::histories::History;
 use crate::names::Named;
 use std::alloc::Global;
@@ -19,6 +22,7 @@ use std::marker::Model;
 use std::mem;
 use std::sync::Wait;
 use std::sync::ledger::{Book, Share};
+use tl_ckpt::Checkpoint;
 use tl_device::Disk;
 use tl_head::{Head, Pass, WriterPass};
 use tl_index::Snapshot;
@@ -46,7 +50,25 @@ impl<J: Named> Publisher<J> {
         self.writer.meet(head, old);
     }
 
-    // Publishes a snapshot with one entry more, counts the entry, and lets the pass see it.
+    // Publishes a snapshot with one entry more, and lets the pass see it.
+    fn publish_uncounted<R: Wait>(
+        &mut self,
+        rt: &R,
+        head: &Head<Snapshot>,
+        pass: &mut Pass<Snapshot>,
+        next: Snapshot,
+    )
+        requires own { (self.old.writer.table ≡ head.now) × (pass.old.table ≡ head.now) }
+        requires one_more { (e : Entry) × (next ≡ self.old.writer.written ++ e ∷ []) }
+        ensures own { (self.new.writer.table ≡ head.now) × (pass.new.table ≡ head.now) }
+        ensures written { (self.new.writer.written ≡ next) × (pass.new.seen ≡ next) }
+        ensures book { self.new.book ≡ self.old.book }
+    {
+        drop(head.publish(rt, &mut self.writer, next));
+        self.show(head, pass);
+    }
+
+    // Publishes a snapshot with one commit or break more, counts it, and lets the pass see it.
     fn publish<R: Wait>(
         &mut self,
         rt: &R,
@@ -64,9 +86,8 @@ impl<J: Named> Publisher<J> {
             × (share.new.amount ≡ share.old.amount + 1) }
         ensures parts { share.new.parts ≡ share.old.parts }
     {
-        drop(head.publish(rt, &mut self.writer, next));
+        self.publish_uncounted(rt, head, pass, next);
         self.book.add(share, 1);
-        self.show(head, pass);
     }
 }
 
@@ -139,6 +160,33 @@ impl Copies {
     }
 }
 
+// The snapshots with a mark: one is kept, and one is published.
+struct MarkedCopies {
+    kept: Snapshot,
+    shown: Snapshot,
+}
+
+// The snapshots with the mark of a checkpoint. The error is `NoMemory`.
+fn marked_copies(
+    alloc: Global,
+    snapshot: &Snapshot,
+    checkpoint: Checkpoint,
+) -> Result<MarkedCopies, NoMemory>
+    requires whole { has_break snapshot.now ≡ false }
+    requires table { checkpoint.table < length (database_of (commits_of snapshot.now)).tables }
+    requires version { checkpoint.version ≤ (database_of (commits_of snapshot.now)).version }
+    requires fresh { has_mark snapshot.now checkpoint.table checkpoint.version ≡ false }
+    requires checkpoint { checkpoint ≡ checkpoint_at (database_of (commits_of snapshot.now))
+        checkpoint.table checkpoint.version }
+    ensures kept { IfOk result (λ c.
+        c.kept ≡ snapshot.now ++ mark_entry checkpoint.table checkpoint.version ∷ []) }
+    ensures shown { IfOk result (λ c. c.shown ≡ c.kept) }
+{
+    let kept = snapshot.mark(alloc, checkpoint)?;
+    let shown = kept.share()?;
+    Ok(MarkedCopies { kept, shown })
+}
+
 /// What an author wants to commit.
 #[derive(Drop)]
 pub(crate) struct Offer {
@@ -189,5 +237,45 @@ impl<D: Disk, J: Named> Committer<D, J> {
         let _legal = shown.has_break();
         publisher.publish(rt, head, pass, share, shown);
         answer
+    }
+
+    /// Publishes the mark of a checkpoint that was built of so many entries, as
+    /// `Engine::publish_mark` says.
+    pub fn mark<R: AllocGlobal + Wait>(
+        &mut self,
+        rt: &R,
+        head: &Head<Snapshot>,
+        pass: &mut Pass<Snapshot>,
+        checkpoint: Checkpoint,
+        read: u32,
+    ) -> Result<Tended, TendFault>
+        requires own { (head.now ≡ J.table) × (pass.old.table ≡ J.table) }
+        requires checkpoint { IsCheckpoint pass.old.seen checkpoint }
+        ensures own { pass.new.table ≡ J.table }
+        ensures written { pass.new.seen ≡ self.new }
+        ensures effect { MarkTakesEffect checkpoint.table checkpoint.version read
+            self.old self.new pass.old.seen pass.new.seen result }
+        ensures legal { IsTrue (are_legal pass.new.seen) }
+        ensures says { MarkSays checkpoint.table checkpoint.version read
+            pass.old.seen pass.new.seen result }
+    {
+        let table = checkpoint.table();
+        let version = checkpoint.version();
+        let Committer { history, publisher } = self;
+        publisher.show(head, pass);
+        if history.has_break() {
+            return Err(TendFault::Broken { version, read });
+        }
+        if history.snapshot().has_mark(table, version) {
+            return Ok(Tended::Had { version, read });
+        }
+        let Ok(copies) = marked_copies(rt.alloc(), history.snapshot(), checkpoint) else {
+            return Err(TendFault::NoMemory);
+        };
+        let MarkedCopies { kept, shown } = copies;
+        let _legal = shown.has_break();
+        history.take_mark(kept);
+        publisher.publish_uncounted(rt, head, pass, shown);
+        Ok(Tended::Built { version, read })
     }
 }

@@ -1,5 +1,5 @@
 //! The engine.
-ghost use Rattle.std.specs.Prelude.{◌≡◌, ◌+◌, ◌<◌, ℕ, List, Some, true, false, IsTrue, IfOk};
+ghost use Rattle.std.specs.Prelude.{◌≡◌, ◌+◌, ◌<◌, ℕ, length, List, Some, true, false, IsTrue, IfOk};
 ghost use mathlib.Core.List.{IsPrefix};
 ghost use Rattle.tl_types.specs.Entries.{commits_of, has_break};
 ghost use Rattle.tl_types.specs.History.{database_of};
@@ -9,19 +9,22 @@ ghost use Rattle.tl_journal.specs.Stands.{DiskStandsFor};
 ghost use Rattle.tl_engine.specs.Counting.{news};
 ghost use Rattle.tl_engine.specs.Saying.{CommitSays, becomes, names_table};
 ghost use Rattle.tl_engine.specs.Standing.{IsCount, ImageStandsForEntries};
+ghost use Rattle.tl_engine.specs.Tending.{IsCheckpoint, MarkSays, TendSays};
 
+use crate::building::build;
 use crate::committer::{Committer, Offer, Publisher};
-use crate::faults::CommitFault;
+use crate::faults::{CommitFault, TendFault, Tended};
 use crate::histories::Closed;
 use crate::locks::CommitLock;
 use crate::names::Named;
 use std::alloc::Global;
 use std::sync::Wait;
 use std::sync::ledger::Share;
+use tl_ckpt::Checkpoint;
 use tl_device::Disk;
 use tl_head::{Head, Pass};
 use tl_index::Snapshot;
-use tl_types::{Batch, NoMemory};
+use tl_types::{Batch, NoMemory, Published};
 
 /// One history for many threads: a head, from which they read, and behind a lock what commits.
 /// It is not let go but by `close`, which hands the disk back.
@@ -93,6 +96,63 @@ impl<D: Disk, J: Named> Engine<D, J> {
     {
         let offer = Offer { author, batch };
         self.lock.commit(rt, &self.head, pass, share, offer)
+    }
+
+    /// Reads a snapshot and, where a mark of a table is due in it by `k`, builds the checkpoint of
+    /// the table at its version without any lock, and publishes the mark under the lock. A mark is
+    /// due where the table has `k` events or more after its last mark, and none is where `k` is 0.
+    /// The table is among those of what the pass has seen. No share counts a mark.
+    ///
+    /// The answer names the number of the commits and of the entries that were read. `NotDue`: no
+    /// mark is due there, and the pass has seen just that. `Built`: the mark is the last entry
+    /// that the pass has seen. `Had`: the mark is there already. The faults are `Broken`, there is
+    /// a break once the lock is taken, which is tried before `Had`; and `NoMemory`, memory ran out
+    /// and nothing was published.
+    pub fn tend<R: AllocGlobal + Wait>(
+        &self,
+        rt: &R,
+        pass: &mut Pass<Snapshot>,
+        table: u16,
+        k: u32,
+    ) -> Result<Tended, TendFault>
+        requires own { pass.old.table ≡ J.table }
+        requires known { table < length (database_of (commits_of pass.old.seen)).tables }
+        ensures own { pass.new.table ≡ J.table }
+        ensures says { TendSays table k pass.old.seen pass.new.seen result }
+    {
+        let Ok(snapshot) = self.head.read(rt, pass) else {
+            return Err(TendFault::NoMemory);
+        };
+        let is_due = snapshot.due(table, k);
+        if !is_due {
+            return Ok(Tended::NotDue);
+        }
+        let Ok(checkpoint) = build(rt.alloc(), &snapshot, table) else {
+            return Err(TendFault::NoMemory);
+        };
+        self.publish_mark(rt, pass, checkpoint, snapshot.len())
+    }
+
+    /// Publishes the mark of a checkpoint that is right over what the pass has seen, as `tend` does
+    /// once it has built one. `read` is how many entries were read for it, and is named in the
+    /// answer, as the version of the checkpoint is. It takes the lock. In every answer but
+    /// `NoMemory` the pass has then seen all that is written; the answers are those of `tend`, but
+    /// for `NotDue`.
+    pub fn publish_mark<R: AllocGlobal + Wait>(
+        &self,
+        rt: &R,
+        pass: &mut Pass<Snapshot>,
+        checkpoint: Checkpoint,
+        read: u32,
+    ) -> Result<Tended, TendFault>
+        requires own { pass.old.table ≡ J.table }
+        requires checkpoint { IsCheckpoint pass.old.seen checkpoint }
+        ensures own { pass.new.table ≡ J.table }
+        ensures legal { IsTrue (are_legal pass.new.seen) }
+        ensures says { MarkSays checkpoint.table checkpoint.version read
+            pass.old.seen pass.new.seen result }
+    {
+        self.lock.mark(rt, &self.head, pass, checkpoint, read)
     }
 
     /// Ends with the engine: a snapshot of all that is written, and the disk. The share that has

@@ -1,11 +1,12 @@
 //! The history.
-ghost use Rattle.std.specs.Prelude.{◌≡◌, ◌+◌, ◌<◌, ◌++◌, ◌∷◌, [], ℕ, List, Some, None, map, false, Ok, IsTrue, IfOk, IfErr};
+ghost use Rattle.std.specs.Prelude.{◌≡◌, ◌+◌, ◌<◌, ◌++◌, ◌∷◌, [], ℕ, List, Some, None, false, Ok, IsTrue, IfOk, IfErr};
 ghost use Rattle.tl_types.specs.Entries.{commits_of, has_break};
 ghost use Rattle.tl_types.specs.History.{database_of};
 ghost use Rattle.tl_types.specs.Limits.{standard_limits};
+ghost use Rattle.tl_types.specs.Marks.{paced};
 ghost use Rattle.tl_types.specs.Resolving.{resolved};
 ghost use Rattle.tl_batch.specs.Made.{AreWithin, batch_matches};
-ghost use Rattle.tl_index.specs.Snapshots.{commit_entry};
+ghost use Rattle.tl_index.specs.Snapshots.{commit_entry, mark_entry};
 ghost use Rattle.tl_types.specs.Legality.{are_legal};
 ghost use Rattle.tl_journal.specs.Answers.{CountsFaults, IsDevice};
 ghost use Rattle.tl_journal.specs.Image.{ImageStandsFor};
@@ -78,8 +79,9 @@ pub struct Closed<D: Disk> {
 
 impl<D: Disk> History<D> {
     /// Opens the history whose journal is on a disk. It opens the journal and applies its commits
-    /// one by one, each of which is dropped once it is applied; what stands past the closed gate
-    /// is cut off. Every refusal hands the disk back.
+    /// one by one, each of which is dropped once it is applied; behind a commit comes the mark of
+    /// its table, where this has `k` events or more after its last mark, and none where `k` is 0.
+    /// What stands past the closed gate is cut off. Every refusal hands the disk back.
     ///
     /// `NotInitialised`: the disk has fewer than 17 bytes. `Damaged`: its bytes are no journal, and
     /// `at` is the offset where they are damaged; or they are one, and `at` is the offset of the
@@ -88,12 +90,13 @@ impl<D: Disk> History<D> {
     /// `NoMemory`: memory ran out; the disk stays as it is, or what it then reads as is durable.
     /// After both a journal stands for the same commits. A journal whose commits fit one after the
     /// other, with these limits or smaller ones, meets no other refusal.
-    pub fn open(alloc: Global, disk: D, limits: &Limits) -> Result<History<D>, Refused<D>>
+    pub fn open(alloc: Global, disk: D, limits: &Limits, k: u32) -> Result<History<D>, Refused<D>>
         requires { AreWithin limits.now standard_limits }
-        ensures { Opens D.reads D.may_leave D.moment D.left_since D.faults limits.now disk result }
+        ensures { Opens D.reads D.may_leave D.moment D.left_since D.faults limits.now k disk
+            result }
     {
-        match begin(alloc, disk, limits) {
-            Ok(begun) => finish(begun, *limits),
+        match begin(alloc, disk, limits, k) {
+            Ok(begun) => finish(begun, *limits, k),
             Err(refused) => Err(refused),
         }
     }
@@ -109,7 +112,6 @@ impl<D: Disk> History<D> {
           limits = limits;
         } }
         ensures whole { has_break result.entries ≡ false }
-        ensures alone { result.entries ≡ map commit_entry (commits_of result.entries) }
     {
         let first_count = journal.disk().faults();
         let Replay { snapshot, keys } = replay;
@@ -233,6 +235,19 @@ impl<D: Disk> History<D> {
         Ok(version + 1)
     }
 
+    /// Puts the snapshot with one mark more in place.
+    pub(crate) fn take_mark(&mut self, marked: Snapshot)
+        requires { (t v : ℕ) × (marked ≡ self.old.entries ++ mark_entry t v ∷ []) }
+        ensures entries { self.new.entries ≡ marked }
+        ensures settings { (self.new.limits ≡ self.old.limits)
+            × (self.new.first_count ≡ self.old.first_count) }
+        ensures journal { self.new.journal ≡ self.old.journal }
+        ensures stands { DiskStandsForHistory D.reads D.may_leave self.old →
+            DiskStandsForHistory D.reads D.may_leave self.new }
+    {
+        self.snapshot = marked;
+    }
+
     /// The snapshot of the entries.
     pub fn snapshot(&self) -> &Snapshot
         ensures value { result.now ≡ self.now.entries }
@@ -285,12 +300,13 @@ impl<D: Disk> History<D> {
 
 // The history once all commits of its journal were applied: what stands past the closed gate is cut
 // off the disk.
-fn finish<D: Disk>(begun: Begun<D>, limits: Limits) -> Result<History<D>, Refused<D>>
+fn finish<D: Disk>(begun: Begun<D>, limits: Limits, k: u32) -> Result<History<D>, Refused<D>>
+    requires pace { begun.replay ≡ paced (commits_of begun.replay) k }
     requires within { AreWithin limits standard_limits }
     requires read { HasRead (commits_of begun.replay) begun.found_commits }
     requires end { IsAtClosedGate begun.found_commits }
     requires fitting { FitInTurn limits (commits_of begun.replay) }
-    ensures opened { IfOk result IsOpened }
+    ensures opened { IfOk result (IsOpened k) }
     ensures entries { IfOk result (λ h. h.entries ≡ begun.replay) }
     ensures limits { IfOk result (λ h. h.limits ≡ limits) }
     ensures stands { IsStored D.reads D.may_leave begun.found_commits.disk

@@ -2,6 +2,7 @@
 ghost use Rattle.std.specs.Prelude.{◌≡◌, ◌<◌, ℕ, List, Some, IfSome, IfOk, IfErr};
 ghost use Rattle.tl_types.specs.Entries.{commits_of};
 ghost use Rattle.tl_types.specs.Limits.{standard_limits};
+ghost use Rattle.tl_types.specs.Marks.{paced};
 ghost use Rattle.tl_batch.specs.Made.{AreWithin};
 ghost use Rattle.tl_journal.specs.Answers.{CountsFaults, IsTooShort};
 ghost use Rattle.tl_journal.specs.Image.{ImageStandsOnlyFor};
@@ -23,20 +24,23 @@ use tl_types::Limits;
 pub(crate) struct Begun<D: Disk> {
     /// The journal while it is opened.
     pub found_commits: FoundCommits<D>,
-    /// The snapshot of its commits, and the keys.
+    /// The snapshot of its commits and of the marks that are due, and the keys.
     pub replay: Replay,
 }
 
-/// Reads the journal on a disk and applies its commits. The refusals are those of
+/// Reads the journal on a disk and applies its commits, each with its mark where that is due by
+/// `k`. The refusals are those of
 /// `History::open`. The disk stays as it is.
 pub(crate) fn begin<D: Disk>(
     alloc: Global,
     disk: D,
     limits: &Limits,
+    k: u32,
 ) -> Result<Begun<D>, Refused<D>>
     requires { AreWithin limits.now standard_limits }
     ensures read { IfOk result (λ o. HasRead (commits_of o.replay) o.found_commits) }
     ensures end { IfOk result (λ o. IsAtClosedGate o.found_commits) }
+    ensures pace { IfOk result (λ o. o.replay ≡ paced (commits_of o.replay) k) }
     ensures fitting { IfOk result (λ o. FitInTurn limits.now (commits_of o.replay)) }
     ensures whole { IfOk result (λ o.
         ImageStandsOnlyFor (commits_of o.replay) o.found_commits.image) }
@@ -67,7 +71,7 @@ pub(crate) fn begin<D: Disk>(
         Ok(found_commits) => found_commits,
         Err(refused) => return Err(refused),
     };
-    match replay_all(alloc, &mut found_commits, limits) {
+    match replay_all(alloc, &mut found_commits, limits, k) {
         Ok(replay) => Ok(Begun {
             found_commits,
             replay,

@@ -1,29 +1,33 @@
 //! The commits of a journal, applied one by one while it is opened.
-ghost use Rattle.std.specs.Prelude.{◌≡◌, ◌+◌, ◌++◌, ◌∷◌, [], ℕ, List, Ok, Err, None, true, false, IsTrue, IfSome, IfOk, IfErr, OnOk, OnErr};
+ghost use Rattle.std.specs.Prelude.{◌≡◌, ◌+◌, ◌<◌, ◌++◌, ◌∷◌, [], ℕ, length, List, Ok, Err, None, true, false, IsTrue, IfSome, IfOk, IfErr, OnOk, OnErr};
 ghost use Rattle.tl_types.specs.declared.commits.Commit.{Commit as CommitValue};
-ghost use Rattle.tl_types.specs.Entries.{commits_of};
+ghost use Rattle.tl_types.specs.declared.commits.Entry.{Entry};
+ghost use Rattle.tl_types.specs.Entries.{commits_of, has_break};
 ghost use Rattle.tl_types.specs.History.{database_of, fits};
+ghost use Rattle.tl_types.specs.Legality.{FitInTurn, has_mark};
 ghost use Rattle.tl_types.specs.Limits.{standard_limits};
+ghost use Rattle.tl_types.specs.Marks.{paced, paced_step, table_in};
 ghost use Rattle.tl_batch.specs.Made.{AreWithin};
-ghost use Rattle.tl_index.specs.Snapshots.{commit_entry};
+ghost use Rattle.tl_index.specs.Snapshots.{mark_entry};
 ghost use Rattle.tl_journal.specs.Answers.{IsDamagedOrMemoryThere};
 ghost use Rattle.tl_journal.specs.Image.{ImageStandsOnlyFor, IsDamagedOnlyAt};
 ghost use Rattle.tl_journal.specs.Opening.{HasRead, IsAtClosedGate};
 ghost use Rattle.tl_journal.specs.declared.faults.JournalFault.TheVariants as journal_fault;
-ghost use Rattle.tl_types.specs.Legality.{FitInTurn};
 ghost use Rattle.tl_engine.specs.Fitting.{IsDamaged};
 ghost use Rattle.tl_engine.specs.Replaying.{IsApplied, IsFirstUnfit};
 
+use crate::building::build;
 use std::alloc::Global;
 use std::marker::Model;
 use tl_batch::Keys;
 use tl_device::Disk;
 use tl_index::Snapshot;
 use tl_journal::{FoundCommits, JournalFault};
-use tl_types::{Commit, Limits, NoMemory};
+use tl_store::Store;
+use tl_types::{Body, Commit, Limits, NoMemory};
 
-/// A snapshot of commits alone, and the keys of the tables that they make. Contracts see the
-/// entries.
+/// A snapshot of commits and marks, and the keys of the tables that the commits make. Contracts see
+/// the entries.
 #[derive(Drop)]
 pub(crate) struct Replay {
     pub(crate) snapshot: Snapshot,
@@ -42,6 +46,50 @@ impl Model for Replay {
     ghost invariant = { λ r. IsReplay r.snapshot r.keys };
 }
 
+// The number of the table that a commit makes or changes.
+fn table_in(store: &Store, commit: &Commit) -> u16
+    ensures { (entries : List Entry) → commits_of entries ≡ store.now →
+        result ≡ table_in entries commit.now.body }
+{
+    match &commit.body {
+        Body::Create(_) => store.tables(),
+        Body::Change(change) => change.table(),
+    }
+}
+
+// The snapshot with a mark of a table at its version. The error is `NoMemory`.
+fn with_mark(alloc: Global, snapshot: &Snapshot, table: u16) -> Result<Snapshot, NoMemory>
+    requires whole { has_break snapshot.now ≡ false }
+    requires table { table < length (database_of (commits_of snapshot.now)).tables }
+    requires fresh { has_mark snapshot.now table (length (commits_of snapshot.now)) ≡ false }
+    ensures { IfOk result (λ s.
+        s ≡ snapshot.now ++ mark_entry table (length (commits_of snapshot.now)) ∷ []) }
+{
+    let checkpoint = build(alloc, snapshot, table)?;
+    snapshot.mark(alloc, checkpoint)
+}
+
+// The snapshot after a commit that fits, with its mark where that is due. The error is `NoMemory`.
+fn stepped(
+    alloc: Global,
+    snapshot: &Snapshot,
+    commit: &Commit,
+    k: u32,
+) -> Result<Snapshot, NoMemory>
+    requires whole { has_break snapshot.now ≡ false }
+    requires fit { IsTrue
+        (fits standard_limits (database_of (commits_of snapshot.now)) commit.now) }
+    ensures { IfOk result (λ s. s ≡ paced_step k snapshot.now commit.now) }
+{
+    let table = table_in(snapshot.store(), commit);
+    let next = snapshot.apply(alloc, commit)?;
+    let is_due = next.due(table, k);
+    if !is_due {
+        return Ok(next);
+    }
+    with_mark(alloc, &next, table)
+}
+
 impl Replay {
     /// No commits. The error is `NoMemory`.
     pub(crate) fn new(alloc: Global) -> Result<Replay, NoMemory>
@@ -53,51 +101,57 @@ impl Replay {
         })
     }
 
-    // Appends a commit that fits. The error is `NoMemory`, and leaves all as it was.
-    fn push(&mut self, alloc: Global, commit: &Commit) -> Result<(), NoMemory>
+    // Appends a commit that fits, and its mark where that is due. The error is `NoMemory`, and
+    // leaves all as it was.
+    fn push(&mut self, alloc: Global, commit: &Commit, k: u32) -> Result<(), NoMemory>
         requires { IsTrue (fits standard_limits (database_of (commits_of self.old)) commit.now) }
-        ensures ok { OnOk result (self.new ≡ self.old ++ commit_entry commit.now ∷ []) }
+        ensures ok { OnOk result (self.new ≡ paced_step k self.old commit.now) }
         ensures err { OnErr result (self.new ≡ self.old) }
     {
-        let snapshot = self.snapshot.apply(alloc, commit)?;
+        let snapshot = stepped(alloc, &self.snapshot, commit, k)?;
         self.keys.follow(alloc, self.snapshot.store(), commit)?;
         self.snapshot = snapshot;
         Ok(())
     }
 
-    // Appends a commit if it fits with the limits, and answers whether it does. The error is
+    // Appends a commit, with its mark where that is due, if it fits with the limits, and answers
+    // whether it does. The error is
     // `NoMemory`, and leaves all as it was.
     fn push_fitting(
         &mut self,
         alloc: Global,
         commit: &Commit,
         limits: &Limits,
+        k: u32,
     ) -> Result<bool, NoMemory>
         requires { AreWithin limits.now standard_limits }
-        ensures ok { IfOk result (IsApplied limits.now self.old self.new commit.now) }
+        ensures ok { IfOk result (IsApplied limits.now k self.old self.new commit.now) }
         ensures err { OnErr result (self.new ≡ self.old) }
     {
         if !self.snapshot.store().fits(commit, limits) {
             return Ok(false);
         }
-        self.push(alloc, commit)?;
+        self.push(alloc, commit, k)?;
         Ok(true)
     }
 }
 
-// Applies the commits up to the first one that does not fit with the limits, and answers the offset
-// of that one's gate, or `None` where all are applied.
+// Applies the commits, each with its mark where that is due, up to the first one that does not fit
+// with the limits, and answers the offset of that one's gate, or `None` where all are applied.
 fn replay_fitting<D: Disk>(
     alloc: Global,
     found_commits: &mut FoundCommits<D>,
     replay: &mut Replay,
     limits: &Limits,
+    k: u32,
 ) -> Result<Option<u64>, JournalFault>
+    requires pace { replay.old ≡ paced (commits_of replay.old) k }
     requires within { AreWithin limits.now standard_limits }
     requires read { HasRead (commits_of replay.old) found_commits.old }
     requires fitting { FitInTurn limits.now (commits_of replay.old) }
     ensures disk { found_commits.new.disk ≡ found_commits.old.disk }
     ensures image { found_commits.new.image ≡ found_commits.old.image }
+    ensures pace { replay.new ≡ paced (commits_of replay.new) k }
     ensures fitting { FitInTurn limits.now (commits_of replay.new) }
     ensures read { result ≡ Ok None → HasRead (commits_of replay.new) found_commits.new }
     ensures end { result ≡ Ok None → IsAtClosedGate found_commits.new }
@@ -110,7 +164,7 @@ fn replay_fitting<D: Disk>(
     ensures kinds { IfErr result IsDamagedOrMemoryThere }
 {
     'commits: while let Some(found) = found_commits.next(alloc)? {
-        let Ok(fits) = replay.push_fitting(alloc, &found.commit, limits) else {
+        let Ok(fits) = replay.push_fitting(alloc, &found.commit, limits, k) else {
             return Err(JournalFault::NoMemory);
         };
         if !fits {
@@ -141,13 +195,14 @@ fn pass_over<D: Disk>(
     Ok(())
 }
 
-/// Applies all commits of the journal that is opened. `Damaged` comes where a gate is damaged, and
-/// else where a commit does not fit those before it with the limits, at the first such gate.
-/// `NoMemory`: memory ran out. The disk stays as it is.
+/// Applies all commits of the journal that is opened, each with its mark where that is due by `k`.
+/// `Damaged` comes where a gate is damaged, and else where a commit does not fit those before it
+/// with the limits, at the first such gate. `NoMemory`: memory ran out. The disk stays as it is.
 pub(crate) fn replay_all<D: Disk>(
     alloc: Global,
     found_commits: &mut FoundCommits<D>,
     limits: &Limits,
+    k: u32,
 ) -> Result<Replay, JournalFault>
     requires within { AreWithin limits.now standard_limits }
     requires read { HasRead [] found_commits.old }
@@ -156,6 +211,7 @@ pub(crate) fn replay_all<D: Disk>(
     ensures read { IfOk result (λ r. HasRead (commits_of r) found_commits.new) }
     ensures end { OnOk result (IsAtClosedGate found_commits.new) }
     ensures whole { IfOk result (λ r. ImageStandsOnlyFor (commits_of r) found_commits.old.image) }
+    ensures pace { IfOk result (λ r. r ≡ paced (commits_of r) k) }
     ensures fitting { IfOk result (λ r. FitInTurn limits.now (commits_of r)) }
     ensures damaged { (at : ℕ) → result ≡ Err (journal_fault.Damaged at) →
         IsDamaged limits.now at found_commits.old.image }
@@ -164,7 +220,7 @@ pub(crate) fn replay_all<D: Disk>(
     let Ok(mut replay) = Replay::new(alloc) else {
         return Err(JournalFault::NoMemory);
     };
-    match replay_fitting(alloc, found_commits, &mut replay, limits)? {
+    match replay_fitting(alloc, found_commits, &mut replay, limits, k)? {
         None => Ok(replay),
         Some(at) => {
             pass_over(alloc, found_commits)?;

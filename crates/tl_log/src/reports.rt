@@ -60,7 +60,7 @@ fn history_of(alloc: Global, image: Vec<u8>) -> Result<History<SureDisk>, ListFa
     ensures refused { IfErr result (IsRefusedFor image.items) }
 {
     let disk = SureDisk::new(alloc, image);
-    match History::open(alloc, disk, &Limits::standard()) {
+    match History::open(alloc, disk, &Limits::standard(), 0) {
         Ok(history) => Ok(history),
         Err(Refused { fault, .. }) => Err(fault_of(fault)),
     }

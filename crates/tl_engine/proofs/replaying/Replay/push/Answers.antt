@@ -4,5 +4,5 @@ use Rattle.tl_engine.proofs.replaying.Replay.push.Goals as goal
 
 pub invariant_of-self-2 : goal.invariant_of-self-2
 invariant_of-self-2 c =
-    replay_more c.self.inside.snapshot c.in_ok-snapshot.snapshot c.self.inside.keys c.follow.new.self c.store.result.now
+    replay_more c.args.k c.self.inside.snapshot c.in_ok-snapshot.snapshot c.self.inside.keys c.follow.new.self c.store.result.now
     c.args.commit.now c.self.invariant c.in_ok-snapshot.ensures c.store.ensures c.in_ok-follow.ensures.ok

@@ -1,1 +1,9 @@
 pub mod StoreLemmas
+pub mod ShownLemmas
+pub mod SetLemmas
+pub mod SelectLemmas
+pub mod FullLemmas
+pub mod BehindLemmas
+pub mod PieceLemmas
+pub mod AggTypedLemmas
+pub mod MomentLemmas

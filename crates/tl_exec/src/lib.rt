@@ -1,8 +1,23 @@
-//! Answers to queries over a snapshot, made over the plain tables of the snapshot's commits. The
-//! contract speaks of the definition alone, and not of how an answer is made.
+//! Answers to queries over a snapshot, by its index: rows of a version, aggregates over versions
+//! and over valid time, and joins over versions. A join over valid time is answered over the plain
+//! tables of the snapshot's commits. The contract speaks of the definition alone, and of how many
+//! steps an answer takes.
 #![tactic(auto)]
 
+mod aggregate_answers;
+mod aggregates;
 mod answers;
+mod fields;
+mod join_answers;
+mod joins;
+mod moments;
+mod pieces;
+mod ranges;
 mod rebuilding;
+mod selects;
+mod sets;
+mod shown_pairs;
+mod shown_runs;
+mod sides;
 
 pub use answers::answer;

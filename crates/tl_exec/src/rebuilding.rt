@@ -1,13 +1,17 @@
 //! The tables of a store, made anew from its commits.
 ghost use Rattle.std.specs.Prelude.{◌≡◌, ◌<◌, IfOk};
+ghost use Rattle.tl_types.specs.Entries.{commits_of};
 ghost use Rattle.tl_types.specs.History.{database_of};
+ghost use Rattle.tl_query.specs.Answers.{answer_of};
 
 use std::alloc::Global;
 use std::marker::Brand;
 use std::sync::ledger::{Blank, Ledger};
-use tl_plain::Tables;
+use tl_index::Snapshot;
+use tl_plain::{Tables, answer_plain};
+use tl_query::Typed;
 use tl_store::Store;
-use tl_types::{NoMemory, Steps};
+use tl_types::{Answer, NoMemory, Steps};
 
 // The tables after the commits, which are applied one after the other. The steps of reading them
 // are not told.
@@ -32,4 +36,18 @@ pub(crate) fn tables_of(alloc: Global, store: &Store) -> Result<Tables, NoMemory
     ensures { IfOk result (λ tables. tables ≡ database_of store.now) }
 {
     apply_all::<Brand>(alloc, store, Blank::new(1))
+}
+
+/// The answer to a query over the plain tables of a snapshot, made anew. The error is out of
+/// memory.
+pub(crate) fn answer_over_tables(
+    alloc: Global,
+    snapshot: &Snapshot,
+    query: &Typed,
+) -> Result<Answer, NoMemory>
+    ensures { IfOk result
+        (λ a. a.rows ≡ answer_of (database_of (commits_of snapshot.now)) query.now) }
+{
+    let tables = tables_of(alloc, snapshot.store())?;
+    answer_plain(alloc, &tables, query)
 }

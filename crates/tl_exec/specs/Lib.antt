@@ -1,0 +1,7 @@
+pub mod Bounds
+pub mod Shown
+pub mod Joining
+pub mod JoinBounds
+pub mod JoinsFor
+pub mod Pieces
+pub mod Moments

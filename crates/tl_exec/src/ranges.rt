@@ -1,0 +1,71 @@
+//! Aggregates over a range of versions.
+ghost use Rattle.std.specs.Prelude.{◌≡◌, None, true, false, ◌+◌, ◌<◌, ◌≤◌, IfOk};
+ghost use Rattle.tl_types.specs.Entries.{commits_of};
+ghost use Rattle.tl_types.specs.History.{database_of};
+ghost use Rattle.tl_exec.specs.Pieces.{IsAskedOf, asked_runs};
+ghost use Rattle.tl_exec.specs.Bounds.{aggregate_steps};
+
+use crate::aggregates::{passing_rows, piece_runs};
+use crate::pieces::Scan;
+use std::alloc::AllocGlobal;
+use std::sync::ledger::Ledger;
+use std::thread::Threads;
+use tl_agg::laws::kept_rows_pass;
+use tl_device::Gate;
+use tl_index::Snapshot;
+use tl_query::{AggPlan, TypedPred};
+use tl_types::{NoMemory, Piece, Run, Seq, Steps};
+
+/// What is asked of a table: the runs of a plan over a range of versions, of the rows that pass a
+/// predicate.
+#[derive(Clone, Copy)]
+pub(crate) struct AskedRuns<'a> {
+    /// The plan.
+    pub(crate) plan: AggPlan,
+    /// The predicate.
+    pub(crate) pred: &'a TypedPred,
+    /// The range.
+    pub(crate) range: Piece,
+}
+
+// Whether so many workers divide the range of a plan: more than one do, unless there are groups.
+fn is_divided(plan: &AggPlan, workers: u32) -> bool
+    ensures single { result ≡ true → plan.now.by ≡ None }
+    ensures one { workers ≡ 1 → result ≡ false }
+{
+    match plan.by {
+        Some(_) => false,
+        None => workers != 1,
+    }
+}
+
+/// The runs that are asked for. So many workers divide the range, where they are more than one and
+/// the plan has no groups; else all of the work counts on `steps`. The error is out of memory.
+pub(crate) fn range_runs<R: AllocGlobal + Threads + Sync, L: Ledger, G: Gate>(
+    rt: &R,
+    snapshot: &Snapshot,
+    asked: AskedRuns<'_>,
+    workers: u32,
+    gate: &G,
+    steps: &mut Steps<L>,
+) -> Result<Seq<Run>, NoMemory>
+    requires asked { IsAskedOf (database_of (commits_of snapshot.now)) asked.plan asked.pred.now
+        asked.range.to }
+    requires some { 0 < workers }
+    requires few { workers ≤ 64 }
+    ensures runs { IfOk result (λ runs. runs
+        ≡ asked_runs (database_of (commits_of snapshot.now)) asked.entry.plan
+        asked.entry.pred.now asked.entry.range.from asked.entry.range.to) }
+    ensures steps { workers ≡ 1 → steps.new ≤ steps.old + aggregate_steps snapshot.now
+        asked.entry.plan.table asked.entry.pred.now asked.entry.range.from
+        asked.entry.range.to }
+{
+    kept_rows_pass();
+    let alloc = rt.alloc();
+    let keep = passing_rows(alloc, snapshot, asked.plan.table, asked.pred, steps)?;
+    if is_divided(&asked.plan, workers) {
+        let scan = Scan::new(alloc, snapshot, asked.plan, &keep, asked.range.to);
+        return scan.runs_in_pieces(rt, asked.range.from, workers, gate);
+    }
+    piece_runs(alloc, snapshot, &asked.plan, asked.range, &keep, steps)
+}

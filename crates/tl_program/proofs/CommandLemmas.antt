@@ -11,7 +11,9 @@ use Rattle.std.proofs.lemmas.Str.Parse.{parse_digits}
 use Rattle.std.proofs.lemmas.Bool.{ltb-true}
 use Rattle.std.proofs.lemmas.Bool.Decides.{nat_tests}
 use Rattle.tl_csv.proofs.NumberLemmas.{own, ok_by_test, both_tests, all_tests, lt_true}
-use Rattle.tl_program.specs.Commands.{spelled_number, within}
+use Rattle.std.specs.Prelude.{◌≤◌, codes, String}
+use Rattle.tl_types.specs.Names.{same_bytes}
+use Rattle.tl_program.specs.Commands.{spelled_number, within, workers_by, every_by, options_of, texts_of}
 
 all_digits : (bs : List ℕ) → all_ascii_digits bs ≡ list_all is_ascii_digit bs
 all_digits [] = refl
@@ -42,3 +44,42 @@ word_is_utf8 given i d word all within is = by_test (is_utf8 (get_or given i d))
   by_test : (t : Bool) → is_utf8 (get_or given i d) ≡ t → IsUtf8 word
   by_test true e = IsUtf8-from_is_utf8 word (ap is_utf8 is ∙ e)
   by_test false e = absurd (let f : true ≡ false = sym all ∙ list_all_at is_utf8 given i d within e in cc)
+
+-- a number within bounds lies between them
+within_bounds : (least most : ℕ) (o : Option ℕ) → IfSome (within least most o) (λ n. (least ≤ n) × (n ≤ most))
+within_bounds least most None = tt
+within_bounds least most (Some n) = by_test (nat_le least n && nat_le n most) refl where
+  by_test : (t : Bool) → (nat_le least n && nat_le n most) ≡ t → IfSome (cond t (Some n) None) (λ m. (least ≤ m) × (m ≤ most))
+  by_test true e = (grind (arith, nat_tests), grind (arith, nat_tests))
+  by_test false e = tt
+
+if_test : (P : ℕ → Type 0) (t : Bool) (o : Option ℕ) → IfSome o P → IfSome (cond t o None) P
+if_test P true o h = h
+if_test P false o h = tt
+
+if_more : (P Q : ℕ → Type 0) (o : Option ℕ) → ((n : ℕ) → P n → Q n) → IfSome o P → IfSome o Q
+if_more P Q None f h = tt
+if_more P Q (Some n) f h = f n h
+
+pub few_workers : (word number : List ℕ) → IfSome (workers_by word number) (λ n. (0 < n) × (n ≤ 64))
+few_workers word number =
+    if_test _ (same_bytes word (codes "--workers")) (within 1 64 (spelled_number number))
+    (if_more _ _ (within 1 64 (spelled_number number)) (λ n h. (omega (arith, h.0), h.1)) (within_bounds 1 64 (spelled_number number)))
+
+pub few_events : (word number : List ℕ) → IfSome (every_by word number) (λ n. n < 4294967296)
+few_events word number =
+    if_test _ (same_bytes word (codes "--every")) (within 0 16777216 (spelled_number number))
+    (if_more _ _ (within 0 16777216 (spelled_number number)) (λ n h. (let e = h.1 in omega (arith, e))) (within_bounds 0 16777216 (spelled_number number)))
+
+-- one word, or three, are no options
+pub one_alone : {A : Type 0} (words : List (String A)) → 1 ≤ length words → length words < 2 → None ≡ options_of (texts_of words)
+one_alone [] least most = absurd (omega (arith, least))
+one_alone (a ∷ []) least most = refl
+one_alone (a ∷ b ∷ ws) least most = absurd (omega (arith, most))
+
+pub three_alone : {A : Type 0} (words : List (String A)) → 3 ≤ length words → length words < 4 → None ≡ options_of (texts_of words)
+three_alone [] least most = absurd (omega (arith, least))
+three_alone (a ∷ []) least most = absurd (omega (arith, least))
+three_alone (a ∷ b ∷ []) least most = absurd (omega (arith, least))
+three_alone (a ∷ b ∷ c ∷ []) least most = refl
+three_alone (a ∷ b ∷ c ∷ d ∷ ws) least most = absurd (omega (arith, most))

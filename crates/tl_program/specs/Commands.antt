@@ -5,6 +5,8 @@ use Rattle.std.specs.List.{list_all}
 use Rattle.std.specs.Str.{is_utf8}
 use Rattle.std.specs.Str.Parse.{digits_value}
 use Rattle.tl_types.specs.Names.{same_bytes, is_name}
+use Rattle.tl_session.specs.Plain.{Pace}
+use Rattle.tl_program.specs.declared.commands.Asked.{Asked}
 use Rattle.tl_program.specs.declared.commands.Command.{Command}
 use Rattle.tl_program.specs.declared.commands.Command.TheVariants as command
 
@@ -28,32 +30,94 @@ abbrev pub within : ℕ → ℕ → Option ℕ → Option ℕ
 within least most None = None
 within least most (Some n) = if nat_le least n && nat_le n most then Some n else None
 
+-- the number that an option of this name sets, where the word is the name and the other spells a
+-- number between the bounds
+abbrev pub set_by : List ℕ → ℕ → ℕ → List ℕ → List ℕ → Option ℕ
+set_by name least most word number =
+    if same_bytes word name then within least most (spelled_number number) else None
+
+-- `--workers` and a number from 1 to 64
+abbrev pub workers_by : List ℕ → List ℕ → Option ℕ
+workers_by word number = set_by (codes "--workers") 1 64 word number
+
+-- `--every` and a number from 0 to 16,777,216
+abbrev pub every_by : List ℕ → List ℕ → Option ℕ
+every_by word number = set_by (codes "--every") 0 16777216 word number
+
+-- the pace of two numbers, where both are given
+abbrev pub pace_of : Option ℕ → Option ℕ → Option Pace
+pace_of None every = None
+pace_of (Some workers) None = None
+pace_of (Some workers) (Some every) = Some (record { workers = workers; every = every })
+
+-- the first where it is given, else the second
+abbrev pub either : Option Pace → Option Pace → Option Pace
+either (Some first) second = Some first
+either None second = second
+
+-- the pace that options set: none, one, or both in either order; 4 workers and 4096 events where
+-- no option says otherwise
+abbrev pub options_of : List (List ℕ) → Option Pace
+options_of [] = pace_of (Some 4) (Some 4096)
+options_of (word ∷ []) = None
+options_of (word ∷ number ∷ []) =
+    either (pace_of (workers_by word number) (Some 4096)) (pace_of (Some 4) (every_by word number))
+options_of (word ∷ number ∷ other ∷ []) = None
+options_of (word ∷ number ∷ other ∷ second ∷ []) =
+    either (pace_of (workers_by word number) (every_by other second))
+    (pace_of (workers_by other second) (every_by word number))
+options_of (word ∷ number ∷ other ∷ second ∷ more ∷ words) = None
+
+-- no command
+abbrev pub nothing : Asked
+nothing = record { command = None; pace = record { workers = 4; every = 4096 } }
+
+-- a command with a pace, where both are given
+abbrev pub with_pace : Option Command → Option Pace → Asked
+with_pace command None = nothing
+with_pace command (Some pace) = record { command = command; pace = pace }
+
 -- a sample of so many lines that begins with a number, where both are given
 abbrev pub sample_of : Option ℕ → Option ℕ → Option Command
 sample_of None start = None
 sample_of (Some lines) None = None
 sample_of (Some lines) (Some start) = Some (command.Sample lines start)
 
--- the command that one word is: `init`, or `run`
-abbrev pub single_word : List ℕ → Option Command
-single_word word =
-    if same_bytes word (codes "init") then Some command.Init
-    else (if same_bytes word (codes "run") then Some command.Run else None)
-
 -- the loading of a table, where the word is a name
 abbrev pub load_of : List ℕ → Option Command
 load_of table = if is_name table then Some (command.Load table) else None
 
--- the command that the words are: `init`; `run`; `load` and a name; or `sample`, 1 to 1,000,000 and
--- a number below 2 ^ 64
+-- behind `init`: no more words
+abbrev pub init_asked : List (List ℕ) → Asked
+init_asked [] = with_pace (Some command.Init) (options_of [])
+init_asked (word ∷ words) = nothing
+
+-- behind `load`: a name, and options
+abbrev pub load_asked : List (List ℕ) → Asked
+load_asked [] = nothing
+load_asked (table ∷ options) = with_pace (load_of table) (options_of options)
+
+-- behind `sample`: 1 to 1,000,000, a number below 2 ^ 64, and options
+abbrev pub sample_asked : List (List ℕ) → Asked
+sample_asked [] = nothing
+sample_asked (lines ∷ []) = nothing
+sample_asked (lines ∷ start ∷ options) =
+    with_pace (sample_of (within 1 1000000 (spelled_number lines)) (spelled_number start))
+    (options_of options)
+
+-- what the words ask for: `init`; or `run`, `load` and a name, or `sample` and its two numbers, each
+-- with options behind it
+abbrev pub asked_of : List (List ℕ) → Asked
+asked_of [] = nothing
+asked_of (word ∷ words) =
+    if same_bytes word (codes "init") then init_asked words
+    else (if same_bytes word (codes "run") then with_pace (Some command.Run) (options_of words)
+    else (if same_bytes word (codes "load") then load_asked words
+    else (if same_bytes word (codes "sample") then sample_asked words else nothing)))
+
+-- the command that the words are
 abbrev pub command_of : List (List ℕ) → Option Command
-command_of [] = None
-command_of (word ∷ []) = single_word word
-command_of (word ∷ table ∷ []) = if same_bytes word (codes "load") then load_of table else None
-command_of (word ∷ lines ∷ start ∷ []) =
-    if same_bytes word (codes "sample") then sample_of (within 1 1000000 (spelled_number lines))
-    (spelled_number start) else None
-command_of (word ∷ lines ∷ start ∷ more ∷ words) = None
+command_of words = (asked_of words).command
 
 -- the source is read by `run` and `load` alone
 abbrev pub reads_source : Option Command → Bool

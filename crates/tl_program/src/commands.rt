@@ -1,10 +1,11 @@
 //! What the words after the program's name ask for.
-ghost use Rattle.std.specs.Prelude.{◌≡◌, ◌<◌, ◌^◌, IfOk, IfSome, Some, true};
+ghost use Rattle.std.specs.Prelude.{◌≡◌, ◌<◌, ◌≤◌, ◌^◌, ◌∷◌, IfOk, IfSome, Some, true};
 ghost use Rattle.std.specs.Char.{is_ascii_digit};
 ghost use Rattle.std.specs.List.{list_all};
-ghost use Rattle.tl_program.specs.Commands.{spelled_number, within, load_of, sample_of, single_word, command_of, texts_of};
+ghost use Rattle.tl_program.specs.Commands.{spelled_number, within, set_by, workers_by, every_by, pace_of, either, options_of, nothing, with_pace, load_of, sample_of, init_asked, load_asked, sample_asked, asked_of, texts_of};
 
 use std::alloc::Global;
+use tl_session::Pace;
 use tl_types::{NoMemory, Text, is_name};
 
 /// What the words ask for.
@@ -28,8 +29,29 @@ pub enum Command {
     },
 }
 
+/// What the words ask for, with what their options set.
+#[derive(Drop)]
+pub struct Asked {
+    /// The command, `None` where the words are none.
+    pub command: Option<Command>,
+    /// The pace of its run.
+    pub pace: Pace,
+}
+
 // The most lines of a sample.
 const MOST_LINES: u64 = 1_000_000;
+
+// The most workers.
+const MOST_WORKERS: u64 = 64;
+
+// The most events that a mark may wait for.
+const MOST_EVERY: u64 = 16_777_216;
+
+// The workers where no option says otherwise.
+const WORKERS: u64 = 4;
+
+// The events that a mark waits for where no option says otherwise.
+const EVERY: u64 = 4096;
 
 fn all_digits(bytes: &[u8]) -> bool
     ensures { result ≡ list_all is_ascii_digit bytes.now }
@@ -63,6 +85,118 @@ fn within(least: u64, most: u64, number: Option<u64>) -> Option<u64>
     match number {
         Some(number) if least <= number && number <= most => Some(number),
         _ => None,
+    }
+}
+
+// The number that the option of a name sets, where the word is the name and the other spells a
+// number between two bounds.
+fn set_by(name: &str, least: u64, most: u64, word: &str, number: &str) -> Option<u64>
+    ensures { result ≡ set_by name.now least most word.now number.now }
+{
+    if word != name {
+        return None;
+    }
+    within(least, most, spelled_number(number))
+}
+
+#[tactic(auto, using(crate::proofs::CommandLemmas::few_workers))]
+fn workers_by(word: &str, number: &str) -> Option<u64>
+    ensures number { result ≡ workers_by word.now number.now }
+    ensures few { IfSome result (λ n. (0 < n) × (n ≤ 64)) }
+{
+    set_by("--workers", 1, MOST_WORKERS, word, number)
+}
+
+#[tactic(auto, using(crate::proofs::CommandLemmas::few_events))]
+fn every_by(word: &str, number: &str) -> Option<u64>
+    ensures number { result ≡ every_by word.now number.now }
+    ensures few { IfSome result (λ n. n < 2 ^ 32) }
+{
+    set_by("--every", 0, MOST_EVERY, word, number)
+}
+
+// The pace of two numbers, where both are given.
+fn pace_of(workers: Option<u64>, every: Option<u64>) -> Option<Pace>
+    requires workers { IfSome workers (λ n. (0 < n) × (n ≤ 64)) }
+    requires every { IfSome every (λ n. n < 2 ^ 32) }
+    ensures { result ≡ pace_of workers every }
+{
+    match (workers, every) {
+        (Some(workers), Some(every)) => Some(Pace::new(workers as u32, every as u32)),
+        _ => None,
+    }
+}
+
+// The first, where it is given, else the second.
+fn either(first: Option<Pace>, second: Option<Pace>) -> Option<Pace>
+    ensures { result ≡ either first second }
+{
+    match first {
+        Some(first) => Some(first),
+        None => second,
+    }
+}
+
+// What one option sets.
+fn one_option(word: &str, number: &str) -> Option<Pace>
+    ensures { result ≡ either (pace_of (workers_by word.now number.now) (Some 4096))
+        (pace_of (Some 4) (every_by word.now number.now)) }
+{
+    either(
+        pace_of(workers_by(word, number), Some(EVERY)),
+        pace_of(Some(WORKERS), every_by(word, number)),
+    )
+}
+
+// What two options set, in either order.
+fn two_options(word: &str, number: &str, other: &str, second: &str) -> Option<Pace>
+    ensures { result ≡ either
+        (pace_of (workers_by word.now number.now) (every_by other.now second.now))
+        (pace_of (workers_by other.now second.now) (every_by word.now number.now)) }
+{
+    either(
+        pace_of(workers_by(word, number), every_by(other, second)),
+        pace_of(workers_by(other, second), every_by(word, number)),
+    )
+}
+
+// The pace that options set.
+fn options_of(words: &[String]) -> Option<Pace>
+    ensures { result ≡ options_of (texts_of words.now) }
+{
+    match words {
+        [] => pace_of(Some(WORKERS), Some(EVERY)),
+        [_] => None,
+        [word, number] => one_option(word.as_str(), number.as_str()),
+        [_, _, _] => None,
+        [word, number, other, second] => {
+            two_options(
+                word.as_str(),
+                number.as_str(),
+                other.as_str(),
+                second.as_str(),
+            )
+        }
+        _ => None,
+    }
+}
+
+fn nothing() -> Asked
+    ensures { result ≡ nothing }
+{
+    Asked {
+        command: None,
+        pace: Pace::new(4, 4096),
+    }
+}
+
+// A command with a pace, where both are given.
+fn with_pace(command: Option<Command>, pace: Option<Pace>) -> Asked
+    ensures { result ≡ with_pace command pace }
+{
+    match pace {
+        Some(pace) => Asked { command, pace },
+        None => nothing(),
     }
 }
 
@@ -101,28 +235,62 @@ fn load_of(alloc: Global, table: &str) -> Result<Option<Command>, NoMemory>
     Ok(Some(Command::Load { table }))
 }
 
-fn single_word(word: &str) -> Option<Command>
-    ensures { result ≡ single_word word.now }
+// What is asked for behind `init`.
+fn init_asked(words: &[String]) -> Asked
+    ensures { result ≡ init_asked (texts_of words.now) }
 {
-    match word {
-        "init" => Some(Command::Init),
-        "run" => Some(Command::Run),
-        _ => None,
+    match words {
+        [] => with_pace(Some(Command::Init), options_of(words)),
+        _ => nothing(),
     }
 }
 
-/// The command that the words are, `None` where they are none: `init`, `run`, `load TABLE` with a
-/// name of the language, or `sample N START` with N from 1 to 1,000,000 and START from 0 to
-/// 2^64 - 1, both spelled by ASCII digits alone. The error is `NoMemory`.
-pub(crate) fn command_of(alloc: Global, words: &[String]) -> Result<Option<Command>, NoMemory>
-    ensures { IfOk result (λ command. command ≡ command_of (texts_of words.now)) }
+// What is asked for behind `load`.
+fn load_asked(alloc: Global, words: &[String]) -> Result<Asked, NoMemory>
+    ensures { IfOk result (λ asked. asked ≡ load_asked (texts_of words.now)) }
+{
+    let [table, options @ ..] = words else {
+        return Ok(nothing());
+    };
+    Ok(with_pace(load_of(alloc, table.as_str())?, options_of(options)))
+}
+
+// What is asked for behind `sample`.
+fn sample_asked(words: &[String]) -> Asked
+    ensures { result ≡ sample_asked (texts_of words.now) }
 {
     match words {
-        [word] => Ok(single_word(word.as_str())),
-        [word, table] if word.as_str() == "load" => load_of(alloc, table.as_str()),
-        [word, lines, start] if word.as_str() == "sample" => {
-            Ok(sample_with(lines.as_str(), start.as_str()))
-        }
-        _ => Ok(None),
+        [lines, start, options @ ..] => with_pace(
+            sample_with(lines.as_str(), start.as_str()),
+            options_of(options),
+        ),
+        _ => nothing(),
+    }
+}
+
+// What is asked for by a word and the words behind it.
+fn asked_by(alloc: Global, word: &str, words: &[String]) -> Result<Asked, NoMemory>
+    ensures { IfOk result (λ asked. asked ≡ asked_of (word.now ∷ texts_of words.now)) }
+{
+    match word {
+        "init" => Ok(init_asked(words)),
+        "run" => Ok(with_pace(Some(Command::Run), options_of(words))),
+        "load" => load_asked(alloc, words),
+        "sample" => Ok(sample_asked(words)),
+        _ => Ok(nothing()),
+    }
+}
+
+/// What the words ask for. A command is `init`; `run`; `load TABLE` with a name of the language; or
+/// `sample N START` with N from 1 to 1,000,000 and START from 0 to 2^64 - 1. Behind each but `init`
+/// may stand `--workers W` with W from 1 to 64, and `--every K` with K from 0 to 16,777,216, each
+/// at most once and in either order; else W is 4 and K is 4096. The numbers are spelled by ASCII
+/// digits alone. Any other words are no command. The error is `NoMemory`.
+pub(crate) fn asked_of(alloc: Global, words: &[String]) -> Result<Asked, NoMemory>
+    ensures { IfOk result (λ asked. asked ≡ asked_of (texts_of words.now)) }
+{
+    match words {
+        [word, behind @ ..] => asked_by(alloc, word.as_str(), behind),
+        [] => Ok(nothing()),
     }
 }

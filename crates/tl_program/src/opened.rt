@@ -18,14 +18,16 @@ use std::thread::Threads;
 use tl_device::{Disk, Gate, Sink, Source};
 use tl_engine::{Closed, Named, Opening, Started};
 use tl_session::laws::{lone_sessions_play, sessions_make_a_transcript};
-use tl_session::{AccessParts, SharedAccess};
+use tl_session::{AccessParts, Pace, SharedAccess};
 
-/// A journal that is opened, and its disk as it was before that.
+/// A journal that is opened, its disk as it was before that, and the pace of what is run over it.
 pub(crate) struct Attached<D: Disk> {
     /// The opening.
     pub opening: Opening<D>,
     /// The disk before.
     pub begun: Snapshot<D>,
+    /// The pace.
+    pub pace: Pace,
 }
 
 /// Why the phases of a run stopped, whether the history has a break then, and the disk.
@@ -80,7 +82,11 @@ pub(crate) fn run_opened<
 {
     sessions_make_a_transcript();
     lone_sessions_play();
-    let Attached { opening, begun: _ } = attached;
+    let Attached {
+        opening,
+        begun: _,
+        pace,
+    } = attached;
     let Started {
         engine,
         pass,
@@ -90,12 +96,14 @@ pub(crate) fn run_opened<
         engine,
         shared: SharedAccess::new(pass, share, 0),
         phases,
+        pace,
     };
     let stop = run_phases::<S, D, J, P, K, G, R>(rt, &mut running, source, sink, gate);
     let Running {
         engine,
         shared,
         phases: _,
+        pace: _,
     } = running;
     let AccessParts { pass, share } = shared.into_parts();
     let closed = engine.close(rt, pass, share);

@@ -20,11 +20,11 @@ use std::thread::Threads;
 use tl_device::{Disk, Gate, Sink, Source};
 use tl_engine::{Engine, Named};
 use tl_script::{Job, Phase};
-use tl_session::{LentJob, Reply, SharedAccess, put_reply, run_phase};
+use tl_session::{LentJob, Pace, Reply, SharedAccess, put_reply, run_phase};
 use tl_types::{Bytes, NoMemory};
 
-/// A run: the engine over its journal, what the sessions of its phases share, and the phases that
-/// are still to come.
+/// A run: the engine over its journal, what the sessions of its phases share, the phases that are
+/// still to come, and the pace of their statements.
 pub(crate) struct Running<D: Disk, J: Named, P> {
     /// The engine.
     pub engine: Engine<D, J>,
@@ -32,6 +32,8 @@ pub(crate) struct Running<D: Disk, J: Named, P> {
     pub shared: SharedAccess<J>,
     /// The phases.
     pub phases: P,
+    /// The pace.
+    pub pace: Pace,
 }
 
 fn lent_block(block: &Option<Bytes>) -> Option<&[u8]>
@@ -110,7 +112,8 @@ fn run_one<
         return Some(Stop::NoMemory);
     };
     running.shared.set_count(running.phases.session_count());
-    let Ok(replies) = run_phase(rt, &running.engine, &mut running.shared, &jobs, gate) else {
+    let (engine, shared, pace) = (&running.engine, &mut running.shared, &running.pace);
+    let Ok(replies) = run_phase(rt, engine, shared, &jobs, pace, gate) else {
         return Some(Stop::NoMemory);
     };
     let Ok(text) = text_of::<S, P>(alloc, &running.phases, &jobs, &replies) else {

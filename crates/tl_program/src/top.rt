@@ -12,7 +12,7 @@ ghost use Rattle.tl_program.specs.Sample.{sample_reading};
 
 use crate::alone::empty_disk;
 use crate::closing::{close, close_run, end_refused};
-use crate::commands::{Command, command_of};
+use crate::commands::{Asked, Command, asked_of};
 use crate::no_source::NoSource;
 use crate::opened::{Attached, Finished, run_opened};
 use crate::phases::{BlockPhase, Phases};
@@ -27,6 +27,7 @@ use tl_device::{Disk, Gate, Sink, Source, SureDisk};
 use tl_engine::Engine;
 use tl_journal::{InitRun, Journal, Refused};
 use tl_script::Script;
+use tl_session::Pace;
 use tl_types::{Limits, NoMemory};
 
 /// How a run ended, and the disk that it was given.
@@ -64,6 +65,13 @@ fn init<K: Sink, D: Disk>(alloc: Global, sink: &mut K, disk: D) -> Ending<D>
     }
 }
 
+// What is run, and the pace of its statements.
+#[derive(Drop)]
+struct Paced<T> {
+    of: T,
+    pace: Pace,
+}
+
 // Runs phases over the journal on the disk.
 fn run<
     R: AllocGlobal + Threads + Wait + Sync,
@@ -72,21 +80,26 @@ fn run<
     D: Disk + Send,
     P: Phases<S>,
     G: Gate,
->(rt: &R, phases: P, source: &mut S, sink: &mut K, disk: D, gate: &G) -> Ending<D>
-    requires { HasNotBegun (P.coming phases) }
-    ensures { RunEnds (P.coming phases).reads
+>(rt: &R, paced: Paced<P>, source: &mut S, sink: &mut K, disk: D, gate: &G) -> Ending<D>
+    requires { HasNotBegun (P.coming paced.of) }
+    ensures { RunEnds (P.coming paced.of).reads
         (outside S.Source K.Sink D.Disk source.old sink.old disk)
         (outside S.Source K.Sink D.Disk source.new sink.new result.disk) result.status }
 {
     let alloc = rt.alloc();
     let begun = Snapshot::of(&disk);
-    match Engine::<D, Brand>::attach(alloc, disk, &Limits::standard()) {
+    let Paced { of: phases, pace } = paced;
+    match Engine::<D, Brand>::attach(alloc, disk, &Limits::standard(), pace.every()) {
         Err(Refused { fault, disk }) => Ending {
             status: end_refused(alloc, sink, fault),
             disk,
         },
         Ok(opening) => {
-            let attached = Attached { opening, begun };
+            let attached = Attached {
+                opening,
+                begun,
+                pace,
+            };
             let Finished { stop, broke, disk } = run_opened::<S, D, Brand, P, K, G, R>(
                 rt, attached, phases, source, sink, gate,
             );
@@ -102,6 +115,7 @@ fn run<
 // Runs the script that the source has.
 fn run_script<R: AllocGlobal + Threads + Wait + Sync, S: Source, K: Sink, D: Disk + Send, G: Gate>(
     rt: &R,
+    pace: Pace,
     source: &mut S,
     sink: &mut K,
     disk: D,
@@ -112,23 +126,25 @@ fn run_script<R: AllocGlobal + Threads + Wait + Sync, S: Source, K: Sink, D: Dis
         (outside S.Source K.Sink D.Disk source.new sink.new result.disk) result.status }
 {
     let script = Script::new(rt.alloc(), &Limits::standard());
-    run::<R, S, K, D, Script, G>(rt, script, source, sink, disk, gate)
+    let paced = Paced { of: script, pace };
+    run::<R, S, K, D, Script, G>(rt, paced, source, sink, disk, gate)
 }
 
-// Loads a table with what the source has.
+// Loads the table of a name with what the source has.
 fn load<R: AllocGlobal + Threads + Wait + Sync, S: Source, K: Sink, D: Disk + Send, G: Gate>(
     rt: &R,
-    table: &str,
+    table: Paced<&str>,
     source: &mut S,
     sink: &mut K,
     disk: D,
     gate: &G,
 ) -> Ending<D>
-    ensures { RunEnds (block_reads (put_text table.now))
+    ensures { RunEnds (block_reads (put_text table.entry.of.now))
         (outside S.Source K.Sink D.Disk source.old sink.old disk)
         (outside S.Source K.Sink D.Disk source.new sink.new result.disk) result.status }
 {
-    let Ok(text) = put_text(rt.alloc(), table) else {
+    let Paced { of: name, pace } = table;
+    let Ok(text) = put_text(rt.alloc(), name) else {
         return Ending {
             status: Status::NoMemory,
             disk,
@@ -138,7 +154,8 @@ fn load<R: AllocGlobal + Threads + Wait + Sync, S: Source, K: Sink, D: Disk + Se
         text: text.as_str(),
         given: false,
     };
-    run::<R, S, K, D, BlockPhase, G>(rt, phase, source, sink, disk, gate)
+    let paced = Paced { of: phase, pace };
+    run::<R, S, K, D, BlockPhase, G>(rt, paced, source, sink, disk, gate)
 }
 
 // Runs the sample of so many lines, whose generator begins with `start`, over a journal of its own
@@ -147,6 +164,7 @@ fn run_sample<R: AllocGlobal + Threads + Wait + Sync, K: Sink, G: Gate>(
     rt: &R,
     lines: u32,
     start: u64,
+    pace: Pace,
     sink: &mut K,
     gate: &G,
 ) -> Status
@@ -156,11 +174,14 @@ fn run_sample<R: AllocGlobal + Threads + Wait + Sync, K: Sink, G: Gate>(
     let Ok(disk) = empty_disk(rt.alloc()) else {
         return Status::NoMemory;
     };
-    let phases = SamplePhases::new(lines, start);
+    let paced = Paced {
+        of: SamplePhases::new(lines, start),
+        pace,
+    };
     let mut source = NoSource;
     let ending = run::<R, NoSource, K, SureDisk, SamplePhases, G>(
         rt,
-        phases,
+        paced,
         &mut source,
         sink,
         disk,
@@ -169,31 +190,35 @@ fn run_sample<R: AllocGlobal + Threads + Wait + Sync, K: Sink, G: Gate>(
     ending.status
 }
 
-// Does a command, where the words are one.
+// Does what the words ask for.
 fn do_command<R: AllocGlobal + Threads + Wait + Sync, S: Source, K: Sink, D: Disk + Send, G: Gate>(
     rt: &R,
-    command: Option<Command>,
+    asked: Asked,
     source: &mut S,
     sink: &mut K,
     disk: D,
     gate: &G,
 ) -> Ending<D>
-    ensures ends { EndsBy command
+    ensures ends { EndsBy asked.command
         (outside S.Source K.Sink D.Disk source.old sink.old disk)
         (outside S.Source K.Sink D.Disk source.new sink.new result.disk) result.status }
-    ensures unread { reads_source command ≡ false → source.new ≡ source.old }
-    ensures unused { uses_disk command ≡ false → result.disk ≡ disk }
+    ensures unread { reads_source asked.command ≡ false → source.new ≡ source.old }
+    ensures unused { uses_disk asked.command ≡ false → result.disk ≡ disk }
 {
+    let Asked { command, pace } = asked;
     match command {
         None => Ending {
             status: close(rt.alloc(), sink, Status::Usage),
             disk,
         },
         Some(Command::Init) => init(rt.alloc(), sink, disk),
-        Some(Command::Run) => run_script(rt, source, sink, disk, gate),
-        Some(Command::Load { table }) => load(rt, table.as_str(), source, sink, disk, gate),
+        Some(Command::Run) => run_script(rt, pace, source, sink, disk, gate),
+        Some(Command::Load { table }) => {
+            let of = table.as_str();
+            load(rt, Paced { of, pace }, source, sink, disk, gate)
+        }
         Some(Command::Sample { lines, start }) => Ending {
-            status: run_sample(rt, lines, start, sink, gate),
+            status: run_sample(rt, lines, start, pace, sink, gate),
             disk,
         },
     }
@@ -211,6 +236,12 @@ fn do_command<R: AllocGlobal + Threads + Wait + Sync, S: Source, K: Sink, D: Dis
 /// - `sample N START` runs jobs that are made from the two numbers, over a journal of its own in
 ///   memory: a table, N rows in blocks of 10,000, and three queries. Neither the source nor the
 ///   disk is used.
+///
+/// Behind `run`, `load TABLE` and `sample N START` may stand `--workers W` and `--every K`, in
+/// either order, each at most once. The work of a query may be shared by W workers, 1 to 64, and 4
+/// where it is not given. A table gets a mark where it has K events or more after its last one, K
+/// from 0 to 16,777,216, and 4096 where it is not given; for 0 there are no marks. What is answered
+/// and kept is right for each of them.
 ///
 /// The order is: the words; opening; then for each phase reading the source, the faults of the
 /// script, running, writing. The sessions of a phase run at once, each its own jobs in order; their
@@ -240,8 +271,9 @@ fn do_command<R: AllocGlobal + Threads + Wait + Sync, S: Source, K: Sink, D: Dis
 ///   closing line alone is written, the source is unread, and the disk reads as it did.
 ///
 /// With the words of a command, a disk whose bytes are a journal of commits that fit one after the
-/// other (for `init` at most 17 bytes), a script without a fault and no count that rises, the status
-/// is `Done` or `NoMemory`. The call may wait, and starts threads of its own, which end with it.
+/// other (for `init` at most 17 bytes), a script without a fault and no count that rises, the
+/// status is `Done` or `NoMemory`. The call may wait, and starts threads of its own, which end with
+/// it.
 pub fn timeline<
     R: AllocGlobal + Threads + Wait + Sync,
     S: Source,
@@ -263,8 +295,8 @@ pub fn timeline<
     ensures unused { uses_disk (command_of (texts_of words.now)) ≡ false
         → result.disk ≡ disk }
 {
-    match command_of(rt.alloc(), words) {
-        Ok(command) => do_command(rt, command, source, sink, disk, gate),
+    match asked_of(rt.alloc(), words) {
+        Ok(asked) => do_command(rt, asked, source, sink, disk, gate),
         Err(_) => Ending {
             status: Status::NoMemory,
             disk,

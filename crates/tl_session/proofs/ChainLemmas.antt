@@ -1,6 +1,6 @@
 -- Chains of replies, made longer, from less seen and to more seen; and what sessions ran, put
 -- together.
-use Rattle.std.proofs.Common.{◌≡◌, ℕ, ◌+◌, ◌<◌, ◌==◌, length, slice_index_or, map, take, drop, slice_get, Some, List, [], ◌∷◌, ◌++◌, refl, sym, ap, ◌∙◌, subst, arith, append-nil, append_assoc, true, true≢false}
+use Rattle.std.proofs.Common.{◌≡◌, ℕ, ◌+◌, ◌<◌, ◌==◌, length, slice_index_or, map, take, drop, slice_get, Some, List, [], ◌∷◌, ◌++◌, refl, sym, ap, ◌∙◌, subst, arith, append-nil, append_assoc, true, true≢false, inl, inr}
 use Rattle.std.proofs.lemmas.Bool.Decides.{nat_tests}
 use Rattle.std.proofs.lemmas.List.{map-append, take-append-drop}
 use Rattle.std.proofs.lemmas.List.Elements.{filter-append}
@@ -12,7 +12,8 @@ use Rattle.tl_session.specs.declared.replies.ReplyBody.TheVariants as body
 use Rattle.tl_session.specs.declared.jobs.LentJob.{LentJob}
 use Rattle.tl_session.specs.Jobs.{Job, job_of}
 use Rattle.tl_session.specs.Plain as plain
-use Rattle.tl_session.specs.Statements.{IsSame, Answers, Stops}
+use Rattle.tl_session.specs.Statements.{IsSame, Replied, IsSilent, Stops}
+use Rattle.tl_session.specs.declared.replies.Reply.{Reply}
 use Rattle.tl_session.specs.Phases.{Ran, own_jobs, replies_of}
 use Rattle.tl_session.specs.Turns.{Turn, Meaning, meant}
 use Rattle.tl_session.specs.Promises.{BodySays, Says, Chain, tally, weight}
@@ -80,30 +81,42 @@ ran_none x = record {
 }
 
 -- one job more is answered
-pub ran_more : (x y z : plain.Session) (jobs : List Job) (job : Job) → RanAll jobs x y → Answers job y z → RanAll (jobs ++ job ∷ []) x z
-ran_more x y z jobs job ran answered =
-    let turn : Turn = record { job = job; reply = answered.reply } in
+pub ran_more : (x y z : plain.Session) (jobs : List Job) (job : Job) (reply : Reply) → RanAll jobs x y → Replied job reply y z → RanAll (jobs ++ job ∷ []) x z
+ran_more x y z jobs job reply ran answered =
+    let turn : Turn = record { job = job; reply = reply } in
+    let mid = answered.mid in
     let one = turn ∷ [] in
     record {
       turns = ran.turns ++ one;
       these = ap (λ l. l ++ job ∷ []) ran.these ∙ sym (jobs_on ran.turns one);
-      same = same_on x.access y.access z.access ran.same answered.told.same;
-      replies = answered.replies ∙ ap (λ l. l ++ answered.reply ∷ []) ran.replies ∙ append_assoc x.replies (replies_of ran.turns) (answered.reply ∷ []) ∙ ap (λ l. x.replies ++ l) (sym (replies_on ran.turns one));
-      chain = chain_more meant x.access.seen ran.turns turn y.access.seen z.access.seen ran.chain (answered.told.says, answered.line, answered.told.broken);
-      amount = (let p = ran.amount in let q = answered.told.amount in omega (arith, p, q, tally_on weight ran.turns one));
+      same = same_on x.access y.access z.access ran.same (same_on y.access mid z.access answered.told.same answered.later.same);
+      replies = answered.replies ∙ ap (λ l. l ++ reply ∷ []) ran.replies ∙ append_assoc x.replies (replies_of ran.turns) (reply ∷ []) ∙ ap (λ l. x.replies ++ l) (sym (replies_on ran.turns one));
+      chain = chain_to meant x.access.seen (ran.turns ++ one) mid.seen z.access.seen (chain_more meant x.access.seen ran.turns turn y.access.seen mid.seen ran.chain (answered.told.says, answered.line, answered.told.broken)) answered.later.later;
+      amount = (let p = ran.amount in let q = answered.told.amount in let r = answered.later.amount in omega (arith, p, q, r, tally_on weight ran.turns one));
     }
 
--- memory ran out before the next of the jobs
-pub ran_short : (x y z w : plain.Session) (jobs rest : List Job) → RanAll jobs x y → Stops y z → w.access ≡ z.access → w.replies ≡ z.replies → w.ran_out ≡ true → Ran (jobs ++ rest) x w
-ran_short x y z w jobs rest ran stopped access replies out = record {
-  same = subst (λ a. IsSame x.access a) (sym access) (same_on x.access y.access z.access ran.same stopped.more.same);
+-- all of the jobs so far are answered, and more was seen
+ran_silent : (x y z : plain.Session) (jobs : List Job) → RanAll jobs x y → IsSilent y z → RanAll jobs x z
+ran_silent x y z jobs ran silent = record {
+  turns = ran.turns;
+  these = ran.these;
+  same = same_on x.access y.access z.access ran.same silent.more.same;
+  replies = silent.replies ∙ ran.replies;
+  chain = chain_to meant x.access.seen ran.turns y.access.seen z.access.seen ran.chain silent.more.later;
+  amount = silent.more.amount ∙ ran.amount;
+}
+
+-- the jobs so far are answered, and memory ran out
+ran_front : (x z w : plain.Session) (jobs rest : List Job) → RanAll jobs x z → w.access ≡ z.access → w.replies ≡ z.replies → w.ran_out ≡ true → Ran (jobs ++ rest) x w
+ran_front x z w jobs rest ran access replies out = record {
+  same = subst (λ a. IsSame x.access a) (sym access) ran.same;
   turns = ran.turns;
   later = rest;
   these = ap (λ l. l ++ rest) ran.these;
   whole = λ e. absurd (true≢false (sym out ∙ e));
-  replies = replies ∙ stopped.replies ∙ ran.replies;
-  chain = subst (λ (a : plain.Access). Chain meant x.access.seen ran.turns a.seen) (sym access) (chain_to meant x.access.seen ran.turns y.access.seen z.access.seen ran.chain stopped.more.later);
-  amount = ap (λ (a : plain.Access). a.amount) access ∙ stopped.more.amount ∙ ran.amount;
+  replies = replies ∙ ran.replies;
+  chain = subst (λ (a : plain.Access). Chain meant x.access.seen ran.turns a.seen) (sym access) ran.chain;
+  amount = ap (λ (a : plain.Access). a.amount) access ∙ ran.amount;
 }
 
 -- JOBS ONE BY ONE
@@ -116,13 +129,18 @@ pub taken_next : (s i : ℕ) (lent : List LentJob) (job : LentJob) → Some job 
 taken_next s i lent job at =
     ap (λ l. own_jobs s (map job_of l)) (take_next lent i job (sym at)) ∙ ap (own_jobs s) (map-append job_of (take i lent) (job ∷ [])) ∙ own_split s (map job_of (take i lent)) (map job_of (job ∷ []))
 
-pub ran_next : (s i : ℕ) (lent : List LentJob) (d : LentJob) (x y z : plain.Session) → i < length lent → (slice_index_or lent i d).session ≡ y.access.author → y.access.author ≡ s → RanAll (own_jobs s (map job_of (take i lent))) x y → Answers (job_of (slice_index_or lent i d)) y z → RanAll (own_jobs s (map job_of (take (i + 1) lent))) x z
-ran_next s i lent d x y z inside own author ran answered =
+pub ran_next : (s i : ℕ) (lent : List LentJob) (d : LentJob) (x y z : plain.Session) → i < length lent → (slice_index_or lent i d).session ≡ y.access.author → y.access.author ≡ s → RanAll (own_jobs s (map job_of (take i lent))) x y → (reply : Reply) → Replied (job_of (slice_index_or lent i d)) reply y z → RanAll (own_jobs s (map job_of (take (i + 1) lent))) x z
+ran_next s i lent d x y z inside own author ran reply answered =
     let job = slice_index_or lent i d in
     let e : job.session ≡ s = own ∙ author in
-    subst (λ l. RanAll l x z) (sym (taken_next s i lent job (sym (slice_get-get_or lent i d inside)) ∙ ap (λ l. own_jobs s (map job_of (take i lent)) ++ l) (own_same s (job_of job) [] (grind (arith, nat_tests))))) (ran_more x y z (own_jobs s (map job_of (take i lent))) (job_of job) ran answered)
+    subst (λ l. RanAll l x z) (sym (taken_next s i lent job (sym (slice_get-get_or lent i d inside)) ∙ ap (λ l. own_jobs s (map job_of (take i lent)) ++ l) (own_same s (job_of job) [] (grind (arith, nat_tests))))) (ran_more x y z (own_jobs s (map job_of (take i lent))) (job_of job) reply ran answered)
 
-pub ran_stop : (s i : ℕ) (lent : List LentJob) (x y z w : plain.Session) → RanAll (own_jobs s (map job_of (take i lent))) x y → Stops y z → w ≡ record z { ran_out = true } → Ran (own_jobs s (map job_of lent)) x w
-ran_stop s i lent x y z w ran stopped is =
+-- memory ran out behind the first so many jobs
+ran_out_at : (s i : ℕ) (lent : List LentJob) (x z w : plain.Session) → RanAll (own_jobs s (map job_of (take i lent))) x z → w ≡ record z { ran_out = true } → Ran (own_jobs s (map job_of lent)) x w
+ran_out_at s i lent x z w ran is =
     subst (λ l. Ran l x w) (sym (own_split s (map job_of (take i lent)) (map job_of (drop i lent))) ∙ ap (own_jobs s) (sym (map-append job_of (take i lent) (drop i lent)) ∙ ap (map job_of) (take-append-drop i lent)))
-    (ran_short x y z w (own_jobs s (map job_of (take i lent))) (own_jobs s (map job_of (drop i lent))) ran stopped (ap (λ (v : plain.Session). v.access) is) (ap (λ (v : plain.Session). v.replies) is) (ap (λ (v : plain.Session). v.ran_out) is))
+    (ran_front x z w (own_jobs s (map job_of (take i lent))) (own_jobs s (map job_of (drop i lent))) ran (ap (λ (v : plain.Session). v.access) is) (ap (λ (v : plain.Session). v.replies) is) (ap (λ (v : plain.Session). v.ran_out) is))
+
+pub ran_stop : (s i : ℕ) (lent : List LentJob) (d : LentJob) (x y z w : plain.Session) → i < length lent → (slice_index_or lent i d).session ≡ y.access.author → y.access.author ≡ s → RanAll (own_jobs s (map job_of (take i lent))) x y → Stops (job_of (slice_index_or lent i d)) y z → w ≡ record z { ran_out = true } → Ran (own_jobs s (map job_of lent)) x w
+ran_stop s i lent d x y z w inside own author ran (inl silent) is = ran_out_at s i lent x z w (ran_silent x y z (own_jobs s (map job_of (take i lent))) ran silent) is
+ran_stop s i lent d x y z w inside own author ran (inr (reply, replied)) is = ran_out_at s (i + 1) lent x z w (ran_next s i lent d x y z inside own author ran reply replied) is

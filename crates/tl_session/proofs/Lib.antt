@@ -7,6 +7,7 @@ pub mod GrowthLemmas
 pub mod HandLemmas
 pub mod ListLemmas
 pub mod OnePlay
+pub mod NumberLemmas
 pub mod PhaseLemmas
 pub mod PlayLemmas
 pub mod PromiseLemmas
@@ -14,5 +15,6 @@ pub mod ReadingLemmas
 pub mod ReplyLemmas
 pub mod SessionLemmas
 pub mod StatementLemmas
+pub mod TendingLemmas
 pub mod TranscriptLemmas
 pub mod Worked

@@ -14,7 +14,8 @@ use Rattle.tl_types.specs.Resolving.{resolved}
 use Rattle.tl_index.specs.Snapshots.{commit_entry, break_entry}
 use Rattle.tl_engine.specs.declared.faults.CommitFault.{CommitFault}
 use Rattle.tl_engine.specs.declared.faults.CommitFault.TheVariants as fault
-use Rattle.tl_engine.specs.Saying.{Adds, CommitSays, becomes}
+use Rattle.tl_engine.specs.Saying.{Adds, CommitSays, becomes, names_table}
+use Rattle.tl_session.proofs.TendingLemmas.{adds_later, done_names}
 use Rattle.tl_session.specs.declared.readings.JobReading.{JobReading}
 use Rattle.tl_session.specs.declared.readings.JobReading.TheVariants as reading
 use Rattle.tl_session.specs.declared.replies.Refusal.{Refusal}
@@ -55,37 +56,45 @@ all_taken : (new : List Entry) (v : ℕ) → v ≡ length (commits_of new) → t
 all_taken new v is = take_all v (commits_of new) (omega (arith, is))
 
 -- what the engine's answer to a batch is told as is so
-settled : (limits : Limits) (first : ℕ) (batch : Batch) (x y : plain.Access) (answer : Result ℕ CommitFault) → limits ≡ standard_limits → IsSame x y → CommitSays (becomes limits x.author batch) first x.seen y.seen x.amount y.amount answer → IfSome (outcome_of answer) (λ (s : Settled). Settles batch s.version s.body x y)
-settled limits first batch x y (Ok v) std same s = record {
+settled : (limits : Limits) (first : ℕ) (batch : Batch) (x y : plain.Access) (answer : Result ℕ CommitFault) → limits ≡ standard_limits → names_table (database_of (commits_of x.seen)) batch ≡ true → IsSame x y → CommitSays (becomes limits x.author batch) first x.seen y.seen x.amount y.amount answer → IfSome (outcome_of answer) (λ (s : Settled). Settles batch s.version s.body x y)
+settled limits first batch x y (Ok v) std known same s = record {
   same = same;
   says = λ job own reads. (s.0.base, s.0.commit, (s.0.begins, s.0.entries_are), s.1, adds_made limits batch commit_entry x y.seen s.0 std job own reads);
   broken = λ is. absurd (no_break_before x.seen s.0.base s.0.begins s.0.whole is);
   amount = s.2;
+  later = adds_later x.seen s.0.base y.seen (commit_entry s.0.commit) s.0.begins s.0.entries_are;
+  names = done_names limits x.author batch x.seen y.seen v s.0 known s.1;
 }
-settled limits first batch x y (Err (fault.Broken v)) std same s = record {
+settled limits first batch x y (Err (fault.Broken v)) std known same s = record {
   same = same;
   says = λ job own reads. (s.0, s.1, s.2, (batch, reads_on x.seen y.seen job batch s.0 reads));
   broken = λ is. refl;
   amount = (let e = s.3 in omega (arith, e));
+  later = s.0;
+  names = λ is. absurd (cc);
 }
-settled limits first batch x y (Err (fault.Refused v f)) std same s = record {
+settled limits first batch x y (Err (fault.Refused v f)) std known same s = record {
   same = same;
   says = λ job own reads. (looked_now x.seen y.seen v s.0 s.2, subst (λ l. HasFault meant l job (refusal.BatchFault f)) (sym (all_taken y.seen v s.2)) (inr (batch, f, reads_on x.seen y.seen job batch s.0 reads, sym (made_by limits x.author job.session batch y.seen std own) ∙ s.4, refl)));
   broken = λ is. absurd (no_break_before x.seen y.seen s.0 s.1 is);
   amount = (let e = s.3 in omega (arith, e));
+  later = s.0;
+  names = λ is. absurd (cc);
 }
-settled limits first batch x y (Err fault.NoMemory) std same s = tt
-settled limits first batch x y (Err (fault.Device v count)) std same s = record {
+settled limits first batch x y (Err fault.NoMemory) std known same s = tt
+settled limits first batch x y (Err (fault.Device v count)) std known same s = record {
   same = same;
   says = λ job own reads. (s.0.base, s.0.commit, (s.0.begins, s.0.entries_are), s.1, adds_made limits batch break_entry x y.seen s.0 std job own reads);
   broken = λ is. absurd (no_break_before x.seen s.0.base s.0.begins s.0.whole is);
   amount = s.3;
+  later = adds_later x.seen s.0.base y.seen (break_entry s.0.commit) s.0.begins s.0.entries_are;
+  names = λ is. absurd (cc);
 }
 
 -- the same of an outcome that is told
-pub settles_some : (limits : Limits) (first : ℕ) (batch : Batch) (x y : plain.Access) (answer : Result ℕ CommitFault) (s : Settled) → limits ≡ standard_limits → IsSame x y → CommitSays (becomes limits x.author batch) first x.seen y.seen x.amount y.amount answer → outcome_of answer ≡ Some s → Settles batch s.version s.body x y
-settles_some limits first batch x y answer s std same says is =
-    subst (λ o. IfSome o (λ (r : Settled). Settles batch r.version r.body x y)) is (settled limits first batch x y answer std same says)
+pub settles_some : (limits : Limits) (first : ℕ) (batch : Batch) (x y : plain.Access) (answer : Result ℕ CommitFault) (s : Settled) → limits ≡ standard_limits → names_table (database_of (commits_of x.seen)) batch ≡ true → IsSame x y → CommitSays (becomes limits x.author batch) first x.seen y.seen x.amount y.amount answer → outcome_of answer ≡ Some s → Settles batch s.version s.body x y
+settles_some limits first batch x y answer s std known same says is =
+    subst (λ o. IfSome o (λ (r : Settled). Settles batch r.version r.body x y)) is (settled limits first batch x y answer std known same says)
 
 -- where it is not told, at most more was seen
 pub settles_none : (limits : Limits) (first : ℕ) (batch : Batch) (x y : plain.Access) (answer : Result ℕ CommitFault) → IsSame x y → CommitSays (becomes limits x.author batch) first x.seen y.seen x.amount y.amount answer → outcome_of answer ≡ None → SeesMore x y

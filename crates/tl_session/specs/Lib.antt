@@ -3,6 +3,7 @@ pub mod Plain
 pub mod Reading
 pub mod Turns
 pub mod Promises
+pub mod Tending
 pub mod Statements
 pub mod Phases
 pub mod Transcript

@@ -20,6 +20,12 @@ pub record Session : Type 0 where
   pub replies : List Reply
   pub ran_out : Bool
 
+-- by how many workers the work of a query may be shared, and with how many events since its last
+-- mark a table gets another
+pub record Pace : Type 0 where
+  pub workers : ℕ
+  pub every : ℕ
+
 -- what sessions share: the table of the head that they read, the entries that they have seen, the
 -- number of parts of the share of the ledger, how many commits and breaks this share counts, and
 -- the number of sessions

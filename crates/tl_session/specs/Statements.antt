@@ -1,8 +1,9 @@
 -- What a session does with one job.
-use Rattle.std.specs.Prelude.{◌≡◌, ℕ, ◌+◌, true, [], ◌∷◌, ◌++◌, length, take, Option, Some, None, Result, Ok, Err}
+use Rattle.std.specs.Prelude.{◌≡◌, ◌⊎◌, ℕ, ◌+◌, true, [], ◌∷◌, ◌++◌, length, take, Option, Some, None, Result, Ok, Err}
 use mathlib.Core.List.{IsPrefix}
 use Rattle.tl_types.specs.declared.batches.Batch.{Batch}
 use Rattle.tl_types.specs.Entries.{commits_of, has_break}
+use Rattle.tl_types.specs.History.{database_of}
 use Rattle.tl_engine.specs.declared.faults.CommitFault.{CommitFault}
 use Rattle.tl_engine.specs.declared.faults.CommitFault.TheVariants as fault
 use Rattle.tl_session.specs.declared.readings.JobReading.{JobReading}
@@ -15,6 +16,7 @@ use Rattle.tl_session.specs.declared.statements.Settled.{Settled}
 use Rattle.tl_session.specs.Jobs.{Job}
 use Rattle.tl_session.specs.Plain as plain
 use Rattle.tl_session.specs.Reading.{Reads}
+use Rattle.tl_session.specs.Tending.{table_of, NamesTable, HasTended}
 use Rattle.tl_session.specs.Turns.{meant, ReadsWell}
 use Rattle.tl_session.specs.Promises.{BodySays, body_weight}
 
@@ -45,6 +47,8 @@ pub record Settles (batch : Batch) (version : ℕ) (answer : ReplyBody)
       → BodySays meant job version answer old.seen new.seen
   pub broken : has_break old.seen ≡ true → answer ≡ body.BrokenJournal
   pub amount : new.amount ≡ old.amount + body_weight answer
+  pub later : IsPrefix old.seen new.seen
+  pub names : NamesTable (table_of (database_of (commits_of old.seen)) batch) version answer new.seen
 
 -- the version and the body with which the engine's answer to a batch is told, unless memory ran out
 abbrev pub outcome_of : Result ℕ CommitFault → Option Settled
@@ -67,16 +71,28 @@ pub record Tells (job : Job) (version : ℕ) (answer : ReplyBody)
       → ReadsWell meant (take version (commits_of new.seen)) job → answer ≡ body.BrokenJournal
   pub amount : new.amount ≡ old.amount + body_weight answer
 
--- the session answered the job by exactly one reply more, which names the job's line
-pub record Answers (job : Job) (old new : plain.Session) : Type 0 where
-  pub reply : Reply
-  pub told : Tells job reply.version reply.body old.access new.access
+-- the session answered the job by exactly one reply more, which names the job's line; when it was
+-- settled the access was this, and since then at most more was seen
+pub record Replied (job : Job) (reply : Reply) (old new : plain.Session) : Type 0 where
+  pub mid : plain.Access
+  pub told : Tells job reply.version reply.body old.access mid
+  pub later : SeesMore mid new.access
   pub line : reply.line ≡ job.line
   pub replies : new.replies ≡ old.replies ++ reply ∷ []
   pub ran_out : new.ran_out ≡ old.ran_out
 
--- memory ran out before the session answered: more may have been seen, and nothing else has changed
-pub record Stops (old new : plain.Session) : Type 0 where
+-- and of the table that a commit changed a mark is seen, or a break, or none is due
+pub record Answers (k : ℕ) (job : Job) (old new : plain.Session) : Type 0 where
+  pub reply : Reply
+  pub replied : Replied job reply old new
+  pub tended : HasTended k reply.version reply.body new.access.seen
+
+-- the session did not answer: more may have been seen, and nothing else has changed
+pub record IsSilent (old new : plain.Session) : Type 0 where
   pub more : SeesMore old.access new.access
   pub replies : new.replies ≡ old.replies
   pub ran_out : new.ran_out ≡ old.ran_out
+
+-- memory ran out before the session answered, or after it, while the table was tended
+abbrev pub Stops : Job → plain.Session → plain.Session → Type 0
+Stops job old new = IsSilent old new ⊎ ((reply : Reply) × Replied job reply old new)

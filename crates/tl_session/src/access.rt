@@ -1,17 +1,19 @@
-//! What a session has of an engine. Only here its head is read and a batch committed, so that a job
-//! takes one look at the head: the look uses up what the gate gave for the job.
-ghost use Rattle.std.specs.Prelude.{◌≡◌, ◌<◌, IfOk, IsTrue};
+//! What a session has of an engine. Only here its head is read, a batch committed and a table
+//! tended, so that a job takes one look at the head: the look uses up what the gate gave for the
+//! job. What is read where a table is tended is handed to nobody.
+ghost use Rattle.std.specs.Prelude.{◌≡◌, ◌<◌, IfOk, IsTrue, length};
 ghost use Rattle.tl_types.specs.Entries.{commits_of};
 ghost use Rattle.tl_types.specs.History.{database_of};
 ghost use Rattle.tl_batch.specs.Made.{batch_matches};
 ghost use Rattle.tl_engine.specs.Saying.{CommitSays, becomes, names_table};
+ghost use Rattle.tl_engine.specs.Tending.{TendSays};
 ghost use Rattle.tl_session.specs.Statements.{IsSame, SeesMore};
 
 use std::marker::Model;
 use std::sync::Wait;
 use std::sync::ledger::Share;
 use tl_device::{Disk, Gate, Place};
-use tl_engine::{CommitFault, Engine, Named};
+use tl_engine::{CommitFault, Engine, Named, TendFault, Tended};
 use tl_head::Pass;
 use tl_index::Snapshot;
 use tl_types::{Batch, NoMemory};
@@ -124,6 +126,22 @@ impl<J: Named> Access<J> {
     {
         let (pass, share) = (&mut self.pass, &mut self.share);
         engine.commit(rt, pass, share, self.author, batch)
+    }
+
+    /// Tends a table, as `Engine::tend` does.
+    #[tactic(auto, using(crate::proofs::TendingLemmas::tend_later))]
+    pub(crate) fn tend<D: Disk, R: AllocGlobal + Wait>(
+        &mut self,
+        rt: &R,
+        engine: &Engine<D, J>,
+        table: u16,
+        k: u32,
+    ) -> Result<Tended, TendFault>
+        requires known { table < length (database_of (commits_of self.old.seen)).tables }
+        ensures sees { SeesMore self.old self.new }
+        ensures says { TendSays table k self.old.seen self.new.seen result }
+    {
+        engine.tend(rt, &mut self.pass, table, k)
     }
 
     /// The pass and the share.

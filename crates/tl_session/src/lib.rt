@@ -6,6 +6,7 @@
 mod access;
 mod jobs;
 pub mod laws;
+mod paces;
 mod phases;
 mod readings;
 mod replies;
@@ -15,6 +16,7 @@ mod statements;
 
 pub use access::AccessParts;
 pub use jobs::LentJob;
+pub use paces::Pace;
 pub use phases::{SharedAccess, run_phase};
 pub use readings::{JobReading, read_job};
 pub use replies::{Refusal, Reply, ReplyBody, put_reply};

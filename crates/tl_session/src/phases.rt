@@ -10,6 +10,7 @@ ghost use Rattle.tl_session.specs.Written.{jobs_of};
 
 use crate::access::AccessParts;
 use crate::jobs::LentJob;
+use crate::paces::Pace;
 use crate::replies::Reply;
 use crate::runs::run_all;
 use crate::sessions::Session;
@@ -217,9 +218,9 @@ fn hand_out<J: Named>(
 }
 
 /// Sessions answer the jobs of a phase at once, each its own ones in order, and the replies are
-/// handed out in the order of the jobs. Each session begins with what the shared pass has seen;
-/// afterwards that pass has seen what each of them saw, and the shared share counts their commits
-/// and breaks, also where memory ran out.
+/// handed out in the order of the jobs; queries and marks go by the pace. Each session begins with
+/// what the shared pass has seen; afterwards that pass has seen what each of them saw, and the
+/// shared share counts their commits and breaks, also where memory ran out.
 ///
 /// The error is `NoMemory`: each session answered some of the first of its jobs.
 pub fn run_phase<
@@ -232,6 +233,7 @@ pub fn run_phase<
     engine: &Engine<D, J>,
     shared: &mut SharedAccess<J>,
     jobs: &[LentJob],
+    pace: &Pace,
     gate: &G,
 ) -> Result<Vec<Reply>, NoMemory>
     requires standard { J.limits ≡ standard_limits }
@@ -243,7 +245,8 @@ pub fn run_phase<
     let Ok(mut sessions) = sessions_of(alloc, engine, pass, share, *count) else {
         return Err(AllocError);
     };
-    run_all(rt, engine, &mut sessions, jobs, gate);
+    let (workers, k) = (pace.workers(), pace.every());
+    run_all(rt, engine, &mut sessions, jobs, workers, k, gate);
     let replies = hand_out(alloc, sessions.as_mut_slice(), jobs);
     take_in(engine, pass, share, sessions);
     replies

@@ -1,11 +1,13 @@
 //! What a job is over the commits of a snapshot: a batch, an answered query, or the first fault.
-ghost use Rattle.std.specs.Prelude.{◌≡◌, ◌≢◌, ◌<◌, IfOk, OnOk, length, Some};
+ghost use Rattle.std.specs.Prelude.{◌≡◌, ◌≢◌, ◌<◌, ◌≤◌, IfOk, OnOk, length, Some};
 ghost use Rattle.tl_types.specs.Entries.{commits_of};
 ghost use Rattle.tl_types.specs.History.{database_of};
 ghost use Rattle.tl_types.specs.declared.batches.Batch.TheVariants as batch;
+ghost use Rattle.tl_query.specs.Answers.{answer_of};
 ghost use Rattle.tl_query.specs.Checking.{checked_create};
 ghost use Rattle.tl_query.specs.CheckingQueries.{checked};
 ghost use Rattle.tl_query.specs.Parsed.{IsNewTable, IsParsed, IsQuery};
+ghost use Rattle.tl_query.specs.TypedFor.{IsTypedFor};
 ghost use Rattle.tl_query.specs.declared.check_faults.CheckFault.TheVariants as check_fault;
 ghost use Rattle.tl_query.specs.declared.faults.TextFault.TheVariants as text_fault;
 ghost use Rattle.tl_csv.specs.declared.faults.CsvFault.TheVariants as csv_fault;
@@ -14,14 +16,17 @@ ghost use Rattle.tl_session.specs.declared.replies.Refusal.TheVariants as refusa
 
 use crate::replies::Refusal;
 use std::alloc::{AllocError, Global};
+use std::marker::Brand;
+use std::sync::ledger::{Blank, Ledger};
+use std::thread::Threads;
 use tl_check::{check, check_create};
 use tl_csv::{BatchKind, CsvFault, read_batch};
 use tl_device::Gate;
 use tl_exec::answer;
 use tl_index::Snapshot;
-use tl_query::{CheckFault, CreateForm, Name, Query, Statement, TextFault, parse};
+use tl_query::{CheckFault, CreateForm, Name, Query, Statement, TextFault, Typed, parse};
 use tl_store::Store;
-use tl_types::{Answer, Batch, BatchFault, Limits, NoMemory};
+use tl_types::{Answer, Batch, BatchFault, Limits, NoMemory, Steps};
 
 /// What a job is over a list of commits. What a batch becomes is settled after it.
 #[derive(Drop)]
@@ -94,50 +99,78 @@ fn load(
     }
 }
 
-// The number of threads that may share the work of a query.
-const WORKERS: u32 = 1;
+// The answer to a query; its steps are not told.
+fn answer_uncounted<L: Ledger, R: AllocGlobal + Threads + Sync, G: Gate>(
+    rt: &R,
+    snapshot: &Snapshot,
+    query: &Typed,
+    workers: u32,
+    gate: &G,
+    blank: Blank,
+) -> Result<Answer, NoMemory>
+    requires typed { IsTypedFor (database_of (commits_of snapshot.now)) query.now }
+    requires some { 0 < workers }
+    requires few { workers ≤ 64 }
+    requires name { blank.name ≡ L.name }
+    requires parts { blank.parts ≡ L.parts }
+    requires whole { 0 < blank.parts }
+    ensures { IfOk result
+        (λ a. a.rows ≡ answer_of (database_of (commits_of snapshot.now)) query.now) }
+{
+    let mut steps = Steps::<L>::new(blank);
+    answer(rt, snapshot, query, workers, gate, &mut steps)
+}
 
 // What a query is: the rows that answer it over the tables.
-fn ask<G: Gate>(
-    alloc: Global,
+fn ask<R: AllocGlobal + Threads + Sync, G: Gate>(
+    rt: &R,
     snapshot: &Snapshot,
     query: &Query,
+    workers: u32,
     gate: &G,
 ) -> Result<JobReading, NoMemory>
-    requires { IsQuery query.now }
+    requires some { 0 < workers }
+    requires few { workers ≤ 64 }
+    requires query { IsQuery query.now }
     ensures reads { IfOk result (λ read. read ≡ query_reading (commits_of snapshot.now)
         (checked (length (commits_of snapshot.now)) (database_of (commits_of snapshot.now))
         query.now)) }
     ensures told { IfOk result IsFaultTold }
 {
-    let typed = match check(alloc, query, snapshot.store()) {
+    let typed = match check(rt.alloc(), query, snapshot.store()) {
         Ok(typed) => typed,
         Err(fault) => return Ok(JobReading::Fault(check_refusal(fault)?)),
     };
-    Ok(JobReading::Query(answer(alloc, snapshot, &typed, WORKERS, gate)?))
+    let blank = Blank::new(1);
+    let answer = answer_uncounted::<Brand, R, G>(rt, snapshot, &typed, workers, gate, blank)?;
+    Ok(JobReading::Query(answer))
 }
 
 // What a statement is.
-fn read_statement<G: Gate>(
-    alloc: Global,
+fn read_statement<R: AllocGlobal + Threads + Sync, G: Gate>(
+    rt: &R,
     snapshot: &Snapshot,
     statement: &Statement,
     block: &[u8],
+    workers: u32,
     gate: &G,
 ) -> Result<JobReading, NoMemory>
-    requires { IsParsed statement.now }
+    requires parsed { IsParsed statement.now }
+    requires some { 0 < workers }
+    requires few { workers ≤ 64 }
     ensures reads { IfOk result (λ read. read ≡ statement_reading
         (commits_of snapshot.now) statement.now block.now) }
     ensures told { IfOk result IsFaultTold }
     ensures matching { IfOk result (DoesMatch (database_of (commits_of snapshot.now))) }
     ensures known { IfOk result (IsKnown (database_of (commits_of snapshot.now))) }
 {
+    let alloc = rt.alloc();
     let store = snapshot.store();
     match statement {
         Statement::Create(form) => create(alloc, form),
         Statement::Put(name) => load(alloc, store, name, BatchKind::PutKind, block),
         Statement::Remove(name) => load(alloc, store, name, BatchKind::RemoveKind, block),
-        Statement::Ask(query) => ask(alloc, snapshot, query, gate),
+        Statement::Ask(query) => ask(rt, snapshot, query, workers, gate),
     }
 }
 
@@ -155,23 +188,26 @@ fn text_refusal(fault: TextFault) -> Result<Refusal, NoMemory>
 /// What a job is over the commits of a snapshot: its text is parsed; a new table or a query is
 /// checked, and a query answered; a batch finds its table, and its block is read. The version that
 /// a query or a fault names is the number of the commits. The block is empty where there is none.
-/// A batch of rows matches the schema of its table, which is there. The pieces of a query's work
-/// pass the gate. The error is `NoMemory`.
-pub fn read_job<G: Gate>(
-    alloc: Global,
+/// A batch of rows matches the schema of its table, which is there. The work of a query may be
+/// shared by so many workers, from 1 to 64, and its pieces pass the gate. The error is `NoMemory`.
+pub fn read_job<R: AllocGlobal + Threads + Sync, G: Gate>(
+    rt: &R,
     snapshot: &Snapshot,
     text: &str,
     block: &[u8],
+    workers: u32,
     gate: &G,
 ) -> Result<JobReading, NoMemory>
+    requires some { 0 < workers }
+    requires few { workers ≤ 64 }
     ensures reads { IfOk result
         (λ read. IsReading (commits_of snapshot.now) text.now block.now read) }
     ensures told { IfOk result IsFaultTold }
     ensures matching { IfOk result (DoesMatch (database_of (commits_of snapshot.now))) }
     ensures known { IfOk result (IsKnown (database_of (commits_of snapshot.now))) }
 {
-    match parse(alloc, text) {
-        Ok(statement) => read_statement(alloc, snapshot, &statement, block, gate),
+    match parse(rt.alloc(), text) {
+        Ok(statement) => read_statement(rt, snapshot, &statement, block, workers, gate),
         Err(fault) => Ok(JobReading::Fault(text_refusal(fault)?)),
     }
 }

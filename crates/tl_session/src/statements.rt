@@ -1,13 +1,15 @@
 //! A session answers one job.
-ghost use Rattle.std.specs.Prelude.{◌≡◌, ◌<◌, IfOk, OnOk, OnErr, IsTrue};
+ghost use Rattle.std.specs.Prelude.{◌≡◌, ◌≢◌, ◌<◌, ◌≤◌, Err, length, IfSome, IfOk, OnOk, OnErr, IsTrue};
 ghost use Rattle.tl_types.specs.Entries.{commits_of};
 ghost use Rattle.tl_types.specs.History.{database_of};
 ghost use Rattle.tl_types.specs.Limits.{standard_limits};
 ghost use Rattle.tl_batch.specs.Made.{batch_matches};
 ghost use Rattle.tl_engine.specs.Saying.{names_table};
+ghost use Rattle.tl_engine.specs.declared.faults.TendFault.TheVariants as tend_fault;
 ghost use Rattle.tl_session.specs.Jobs.{job_of};
 ghost use Rattle.tl_session.specs.Reading.{block_of, DoesMatch, IsKnown};
 ghost use Rattle.tl_session.specs.Statements.{Answers, IsLook, SeesMore, Settles, Stops, Tells, outcome_of};
+ghost use Rattle.tl_session.specs.Tending.{table_of, reading_table, if_done, IsThere, NamesTable, IsTended};
 
 use crate::access::{Access, Admission};
 use crate::jobs::LentJob;
@@ -16,15 +18,19 @@ use crate::replies::{Refusal, Reply, ReplyBody};
 use crate::sessions::Session;
 use std::alloc::AllocError;
 use std::sync::Wait;
+use std::thread::Threads;
 use tl_device::{Disk, Gate};
-use tl_engine::{CommitFault, Engine, Named};
+use tl_engine::{CommitFault, Engine, Named, TendFault, Tended};
+use tl_store::Store;
 use tl_types::{Batch, NoMemory};
 
-// What a job is over the commits that have been seen, and their number.
+// What a job is over the commits that have been seen, their number, and that of the table that a
+// batch of rows names.
 #[derive(Drop)]
 struct Look {
     version: u32,
     reading: JobReading,
+    table: Option<u16>,
 }
 
 // What a job is answered with, at a version.
@@ -32,6 +38,56 @@ struct Look {
 struct Settled {
     version: u32,
     body: ReplyBody,
+}
+
+// What a job is answered with, at a version, and the number of the table that it changed.
+#[derive(Drop)]
+struct Answered {
+    version: u32,
+    body: ReplyBody,
+    table: Option<u16>,
+}
+
+// Who share the work of a query: so many workers, and the gate that its pieces pass.
+#[derive(Drop)]
+struct Crew<'a, G> {
+    workers: u32,
+    gate: &'a G,
+}
+
+// The number of the table that a batch of rows names.
+fn table_of(store: &Store, batch: &Batch) -> Option<u16>
+    ensures { result ≡ table_of (database_of store.now) batch.now }
+{
+    match batch {
+        Batch::Create(_) => None,
+        Batch::Put { table, .. } => store.find(table.as_str()),
+        Batch::Remove { table, .. } => store.find(table.as_str()),
+    }
+}
+
+// The same of a reading.
+fn reading_table(store: &Store, reading: &JobReading) -> Option<u16>
+    ensures { result ≡ reading_table (database_of store.now) reading.now }
+{
+    match reading {
+        JobReading::Loads(batch) => table_of(store, batch),
+        JobReading::Query(_) => None,
+        JobReading::Fault(_) => None,
+    }
+}
+
+// The table where the batch is committed.
+fn if_done(body: &ReplyBody, table: Option<u16>) -> Option<u16>
+    ensures { result ≡ if_done body.now table }
+{
+    match body {
+        ReplyBody::Rows(_) => None,
+        ReplyBody::Refused(_) => None,
+        ReplyBody::Done => table,
+        ReplyBody::DeviceFault => None,
+        ReplyBody::BrokenJournal => None,
+    }
 }
 
 // The block of a job; it is empty where there is none.
@@ -45,26 +101,36 @@ fn block_of<'a>(job: &LentJob<'a>) -> &'a [u8]
 }
 
 // Looks at the engine's head, once, and what the job is over what has then been seen.
-fn look_at<D: Disk, J: Named, G: Gate, R: AllocGlobal + Wait>(
+fn look_at<D: Disk, J: Named, G: Gate, R: AllocGlobal + Threads + Wait + Sync>(
     rt: &R,
     engine: &Engine<D, J>,
     access: &mut Access<J>,
     admission: Admission,
     job: &LentJob,
-    gate: &G,
+    crew: &Crew<G>,
 ) -> Result<Look, NoMemory>
-    requires { admission.author ≡ access.old.author }
+    requires admitted { admission.author ≡ access.old.author }
+    requires some { 0 < crew.now.workers }
+    requires few { crew.now.workers ≤ 64 }
     ensures sees { SeesMore access.old access.new }
     ensures look { IfOk result (λ l. IsLook (job_of job.now) l.version l.reading access.new) }
     ensures known { IfOk result
         (λ l. IsKnown (database_of (commits_of access.new.seen)) l.reading) }
     ensures matching { IfOk result
         (λ l. DoesMatch (database_of (commits_of access.new.seen)) l.reading) }
+    ensures table { IfOk result
+        (λ l. l.table ≡ reading_table (database_of (commits_of access.new.seen)) l.reading) }
 {
     let snapshot = access.look(rt, engine, admission)?;
     let version = snapshot.store().versions();
-    let reading = read_job(rt.alloc(), &snapshot, job.text, block_of(job), gate)?;
-    Ok(Look { version, reading })
+    let block = block_of(job);
+    let reading = read_job(rt, &snapshot, job.text, block, crew.workers, crew.gate)?;
+    let table = reading_table(snapshot.store(), &reading);
+    Ok(Look {
+        version,
+        reading,
+        table,
+    })
 }
 
 // What the engine's answer to a batch is told as; being out of memory is not told.
@@ -105,63 +171,121 @@ fn settle<D: Disk, J: Named, R: AllocGlobal + Wait>(
 }
 
 // What a job is answered with: a batch is committed.
-fn answer<D: Disk, J: Named, G: Gate, R: AllocGlobal + Wait>(
+fn answer<D: Disk, J: Named, G: Gate, R: AllocGlobal + Threads + Wait + Sync>(
     rt: &R,
     engine: &Engine<D, J>,
     access: &mut Access<J>,
     admission: Admission,
     job: &LentJob,
-    gate: &G,
-) -> Result<Settled, NoMemory>
+    crew: &Crew<G>,
+) -> Result<Answered, NoMemory>
     requires standard { J.limits ≡ standard_limits }
     requires own { job.now.session ≡ access.old.author }
     requires admitted { admission.author ≡ access.old.author }
+    requires some { 0 < crew.now.workers }
+    requires few { crew.now.workers ≤ 64 }
     ensures ok { IfOk result
         (λ s. Tells (job_of job.now) s.version s.body access.old access.new) }
+    ensures names { IfOk result (λ s. NamesTable s.table s.version s.body access.new.seen) }
+    ensures known { IfOk result (λ s. IsThere s.table access.new.seen) }
     ensures err { OnErr result (SeesMore access.old access.new) }
 {
-    let Look { version, reading } = look_at(rt, engine, access, admission, job, gate)?;
+    let Look {
+        version,
+        reading,
+        table,
+    } = look_at(rt, engine, access, admission, job, crew)?;
     match reading {
         JobReading::Loads(batch) => {
             let settled = settle(rt, engine, access, batch)?;
-            Ok(settled)
+            let table = if_done(&settled.body, table);
+            Ok(Answered {
+                version: settled.version,
+                body: settled.body,
+                table,
+            })
         }
-        JobReading::Query(answer) => Ok(Settled {
+        JobReading::Query(answer) => Ok(Answered {
             version,
             body: ReplyBody::Rows(answer),
+            table: None,
         }),
-        JobReading::Fault(refusal) => Ok(Settled {
+        JobReading::Fault(refusal) => Ok(Answered {
             version,
             body: ReplyBody::Refused(refusal),
+            table: None,
         }),
     }
 }
 
+// Whether memory did not run out while a table was tended.
+fn was_tended(answer: Result<Tended, TendFault>) -> Result<(), NoMemory>
+    ensures { OnOk result (answer ≢ Err tend_fault.NoMemory) }
+{
+    match answer {
+        Err(TendFault::NoMemory) => Err(AllocError),
+        Err(TendFault::Broken { .. }) => Ok(()),
+        Ok(_) => Ok(()),
+    }
+}
+
+// Tends a table, where there is one.
+fn tend<D: Disk, J: Named, R: AllocGlobal + Wait>(
+    rt: &R,
+    engine: &Engine<D, J>,
+    access: &mut Access<J>,
+    table: Option<u16>,
+    k: u32,
+) -> Result<(), NoMemory>
+    requires known { IsThere table access.old.seen }
+    ensures sees { SeesMore access.old access.new }
+    ensures tended { OnOk result (IfSome table (λ t.
+        IsTended k t (length (commits_of access.old.seen)) access.new.seen)) }
+{
+    let Some(table) = table else {
+        return Ok(());
+    };
+    was_tended(access.tend(rt, engine, table, k))
+}
+
 /// A session answers a job of its own, once the gate has let it pass: it reads the engine's head
 /// once, and a batch is committed. There is exactly one reply more then. Room for it is made before
-/// a commit, so no commit and no break is without a reply.
+/// a commit, so no commit and no break is without a reply. Then the table that a commit changed is
+/// tended, so that it gets a mark where it has `k` events or more after its last one; for `k` 0 no
+/// mark is due. The work of a query may be shared by so many workers, from 1 to 64.
 ///
-/// The error is `NoMemory`: there is no reply more, and nothing was committed.
-pub fn run_statement<D: Disk, J: Named, G: Gate, R: AllocGlobal + Wait>(
+/// The error is `NoMemory`: there is no reply more, and nothing was committed; or there is the
+/// reply, and the table was not tended.
+pub fn run_statement<D: Disk, J: Named, G: Gate, R: AllocGlobal + Threads + Wait + Sync>(
     rt: &R,
     engine: &Engine<D, J>,
     session: &mut Session<J>,
     job: &LentJob,
+    workers: u32,
+    k: u32,
     gate: &G,
 ) -> Result<(), NoMemory>
     requires standard { J.limits ≡ standard_limits }
     requires own { job.now.session ≡ session.old.access.author }
-    ensures ok { OnOk result (Answers (job_of job.now) session.old session.new) }
-    ensures err { OnErr result (Stops session.old session.new) }
+    requires some { 0 < workers }
+    requires few { workers ≤ 64 }
+    ensures ok { OnOk result (Answers k (job_of job.now) session.old session.new) }
+    ensures err { OnErr result (Stops (job_of job.now) session.old session.new) }
 {
     let admission = Admission::at(gate, session.access.author());
     session.replies.reserve(1)?;
-    let settled = answer(rt, engine, &mut session.access, admission, job, gate)?;
+    let crew = Crew { workers, gate };
+    let Answered {
+        version,
+        body,
+        table,
+    } = answer(rt, engine, &mut session.access, admission, job, &crew)?;
     let reply = Reply {
         line: job.line,
-        version: settled.version,
-        body: settled.body,
+        version,
+        body,
     };
     session.replies.push_reserved(reply);
+    tend(rt, engine, &mut session.access, table, k)?;
     Ok(())
 }

@@ -9,7 +9,7 @@ use tl_device::MemoryDisk;
 use tl_types::NoMemory;
 
 // The worked history in one phase, and a query; also with its first statement once more.
-const WORKED: &str = "a> CREATE TABLE emp (id INT, dept TEXT, pay INT) KEY id\n\
+pub(crate) const WORKED: &str = "a> CREATE TABLE emp (id INT, dept TEXT, pay INT) KEY id\n\
                       a> PUT emp\nid,dept,pay\n1,ops,100\n2,dev,50\n\\.\n\
                       a> PUT emp\nid,dept,pay\n1,ops,150\n\\.\n\
                       a> REMOVE emp\nid\n2\n\\.\n\

@@ -24,14 +24,14 @@ use tl_types::{
 // What a batch does to the table of a name: it makes it, puts a row for each key below a number, or
 // removes no row.
 #[derive(Clone, Copy)]
-enum Kind {
+pub(crate) enum Kind {
     Create,
     Put(i64),
     Remove,
 }
 
 // A batch, and what the engine answers to it.
-type Case = (Kind, &'static str, Result<u32, CommitFault>);
+pub(crate) type Case = (Kind, &'static str, Result<u32, CommitFault>);
 
 // The column of the key.
 fn key(alloc: Global) -> Option<Column> {
@@ -97,7 +97,7 @@ fn may_commit(store: &Store, batch: &Batch) -> bool
             Some(number) => all_match(store.schema(number), lines.as_slice()),
             None => false,
         },
-        Batch::Remove { .. } => true,
+        Batch::Remove { table, .. } => store.find(table.as_str()).is_some(),
     }
 }
 
@@ -125,7 +125,7 @@ fn is_answered<J: Named, R: AllocGlobal + Wait>(
 }
 
 // The same of a case.
-fn holds<J: Named, R: AllocGlobal + Wait>(
+pub(crate) fn holds<J: Named, R: AllocGlobal + Wait>(
     rt: &R,
     engine: &Engine<SureDisk, J>,
     pass: &mut Pass<Snapshot>,
@@ -206,7 +206,7 @@ fn low_limits() -> Limits
 
 // Whether all cases hold over an empty journal on this disk.
 fn all_hold_on<R: AllocGlobal + Wait>(rt: &R, disk: SureDisk, cases: &[Case]) -> bool {
-    match Engine::attach(rt.alloc(), disk, &low_limits()) {
+    match Engine::attach(rt.alloc(), disk, &low_limits(), 0) {
         Ok(opening) => all_hold_over(rt, opening, cases),
         Err(_) => false,
     }
@@ -218,7 +218,7 @@ fn refused(version: u32, fault: BatchFault) -> Result<u32, CommitFault> {
 
 // A fault of the table comes before one of the number of commits, and that one before one of the
 // number of rows.
-fn cases() -> [Case; 12] {
+fn cases() -> [Case; 11] {
     [
         (Kind::Create, "t", Ok(1)),
         (Kind::Create, "t", refused(1, BatchFault::TableExists)),
@@ -231,7 +231,6 @@ fn cases() -> [Case; 12] {
         (Kind::Put(1), "t", refused(3, BatchFault::VersionsFull)),
         (Kind::Create, "t", refused(3, BatchFault::TableExists)),
         (Kind::Create, "u", refused(3, BatchFault::TablesFull)),
-        (Kind::Remove, "u", refused(3, BatchFault::UnknownTable)),
     ]
 }
 

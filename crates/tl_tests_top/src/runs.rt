@@ -16,6 +16,15 @@ pub(crate) fn words(alloc: Global, word: &str) -> Result<Vec<String>, NoMemory> 
     Ok(words)
 }
 
+/// These words.
+pub(crate) fn words_of(alloc: Global, texts: &[&str]) -> Result<Vec<String>, NoMemory> {
+    let mut words = Vec::new(alloc);
+    for text in texts {
+        words.push(String::from_str(alloc, text)?)?;
+    }
+    Ok(words)
+}
+
 /// The journal of no commit.
 pub(crate) const EMPTY: &[u8] = b"timeline journal\0";
 

@@ -16,4 +16,4 @@ returns-in-Some-Load-clause-ends g c =
     let after = outside source sink disk c.load.new.source c.load.new.sink c.load.result.disk in
     subst (λ (o : Option Command). EndsBy o before after c.load.result.status) (sym c.in-Some-Load.is)
     (subst (λ (x : Command). EndsBy (Some x) before after c.load.result.status) (sym c.in-Some-Load.field-0-is)
-    (subst (λ (t : List ℕ). RunEnds (block_reads (put_text t)) before after c.load.result.status) c.as_str.ensures.bytes c.load.ensures))
+    (subst (λ (t : List ℕ). RunEnds (block_reads (put_text t)) before after c.load.result.status) c.as_str-of.ensures.bytes c.load.ensures))

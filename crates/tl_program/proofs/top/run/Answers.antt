@@ -55,7 +55,7 @@ returns-in-Ok g c =
     } in
     inr (
       commits_of entries,
-      opened_ends disk c.args.disk c.run_opened-stop.result.disk entries opening.history.first_count (g.P.Phases.coming c.args.phases).reads
+      opened_ends disk c.args.disk c.run_opened-stop.result.disk entries opening.history.first_count (g.P.Phases.coming c.args.paced.of).reads
           (source.left c.args.source.now) (source.left c.run_opened-stop.new.source) (source.faults c.args.source.now) (source.faults c.run_opened-stop.new.source) (sink.written c.args.sink.now) (sink.written c.run_opened-stop.new.sink) (sink.written c.close_run.new.sink) (sink.faults c.args.sink.now) (sink.faults c.run_opened-stop.new.sink) (sink.faults c.close_run.new.sink)
           c.run_opened-stop.result.stop c.run_opened-stop.result.broke c.faults-faults.result c.close_run.result c.in-Ok.ensures.opens.count.0 c.faults-faults.ensures opens (rw c.of-begun.ensures at c.run_opened-stop.ensures) c.close_run.ensures,
     )

@@ -1,0 +1,454 @@
+//! Marks: those that are kept after the worked history, what a call that tends a table answers
+//! then, and the marks that one thread makes while another commits.
+ghost use Rattle.std.specs.Prelude.{◌≡◌, ◌<◌, false, IfSome};
+ghost use Rattle.tl_types.specs.Limits.{standard_limits};
+ghost use Rattle.tl_engine.specs.Naming.{IsNameOf};
+ghost use Rattle.tl_engine.specs.Tending.{IsCheckpoint};
+
+use crate::crashes::WORKED;
+use crate::limits::{Kind, holds};
+use crate::runs::{EMPTY, Wanted, disk_of, run, words_of};
+use std::marker::Brand;
+use std::sync::Wait;
+use std::sync::ledger::{Blank, Ledger};
+use std::test::Fail;
+use std::thread;
+use std::thread::Threads;
+use tl_bits::RowSet;
+use tl_ckpt::{Checkpoint, Marks};
+use tl_device::{MemoryDisk, SureDisk};
+use tl_engine::{Closed, Engine, Named, Opening, Pass, Share, Started, TendFault, Tended};
+use tl_index::Snapshot;
+use tl_journal::Journal;
+use tl_types::{Limits, Published, Steps};
+
+// How the worked history is run.
+const REPLIES: Wanted = (
+    0,
+    "a @1 ok\na @2 ok\na @3 ok\na @4 ok\na @5 ok\na @5 rows 2\n1,150\n2,50\n",
+);
+
+// Whether rows 1 and 2 are in a set of three rows, and row 0 is not.
+fn has_last_two<L: Ledger>(rows: &RowSet, blank: Blank) -> bool
+    requires name { blank.name ≡ L.name }
+    requires parts { blank.parts ≡ L.parts }
+    requires some { 0 < blank.parts }
+{
+    let mut steps = Steps::<L>::new(blank);
+    if rows.rows() != 3 {
+        return false;
+    }
+    rows.word(0, &mut steps) == 6
+}
+
+fn is_worked_mark(mark: &Checkpoint) -> bool {
+    mark.version() == 3 && mark.place() == 4 && has_last_two::<Brand>(mark.rows(), Blank::new(1))
+}
+
+// Whether a snapshot of the worked history has the one mark of version 3.
+fn has_worked_mark(snapshot: &Snapshot) -> bool {
+    let marks = snapshot.marks();
+    if marks.count(0) != 1 {
+        return false;
+    }
+    is_worked_mark(marks.at(0, 0)) && snapshot.has_mark(0, 3) && snapshot.len() == 6
+}
+
+fn reads_worked_mark<J: Named, R: AllocGlobal + Wait>(
+    rt: &R,
+    engine: &Engine<MemoryDisk, J>,
+    pass: &mut Pass<Snapshot>,
+) -> bool
+    requires own { pass.old.table ≡ J.table }
+    ensures own { pass.new.table ≡ J.table }
+{
+    match engine.read(rt, pass) {
+        Ok(snapshot) => has_worked_mark(&snapshot),
+        Err(_) => false,
+    }
+}
+
+// Whether the first table is tended by `k` with this answer.
+fn is_tended<J: Named, R: AllocGlobal + Wait>(
+    rt: &R,
+    engine: &Engine<MemoryDisk, J>,
+    pass: &mut Pass<Snapshot>,
+    k: u32,
+    answer: Result<Tended, TendFault>,
+) -> bool
+    requires own { pass.old.table ≡ J.table }
+    ensures own { pass.new.table ≡ J.table }
+{
+    let Ok(snapshot) = engine.read(rt, pass) else {
+        return false;
+    };
+    if snapshot.store().tables() == 0 {
+        return false;
+    }
+    engine.tend(rt, pass, 0, k) == answer
+}
+
+// Whether the table of the worked history is tended as it should be, with its one mark and then
+// with one at its end.
+fn tends_worked<J: Named, R: AllocGlobal + Wait>(
+    rt: &R,
+    engine: &Engine<MemoryDisk, J>,
+    pass: &mut Pass<Snapshot>,
+) -> bool
+    requires own { pass.old.table ≡ J.table }
+    ensures own { pass.new.table ≡ J.table }
+{
+    let built = Ok(Tended::Built {
+        version: 5,
+        read: 6,
+    });
+    let marked = reads_worked_mark(rt, engine, pass);
+    let not_by_three = is_tended(rt, engine, pass, 3, Ok(Tended::NotDue));
+    let by_two = is_tended(rt, engine, pass, 2, built);
+    let not_again = is_tended(rt, engine, pass, 2, Ok(Tended::NotDue));
+    marked & not_by_three & by_two & not_again
+}
+
+// The checkpoint of the first table over a snapshot.
+fn built<L: Ledger, R: AllocGlobal>(rt: &R, snapshot: &Snapshot, blank: Blank) -> Option<Checkpoint>
+    requires name { blank.name ≡ L.name }
+    requires parts { blank.parts ≡ L.parts }
+    requires some { 0 < blank.parts }
+    ensures { IfSome result (λ checkpoint. IsCheckpoint snapshot.now checkpoint) }
+{
+    if snapshot.store().tables() == 0 {
+        return None;
+    }
+    let mut steps = Steps::<L>::new(blank);
+    match snapshot.build(rt.alloc(), 0, &mut steps) {
+        Ok(checkpoint) => Some(checkpoint),
+        Err(_) => None,
+    }
+}
+
+// The checkpoint of the first table over what a pass then has seen.
+fn built_now<J: Named, R: AllocGlobal + Wait>(
+    rt: &R,
+    engine: &Engine<MemoryDisk, J>,
+    pass: &mut Pass<Snapshot>,
+) -> Option<Checkpoint>
+    requires own { pass.old.table ≡ J.table }
+    ensures own { pass.new.table ≡ J.table }
+    ensures checkpoint { IfSome result (λ checkpoint. IsCheckpoint pass.new.seen checkpoint) }
+{
+    match engine.read(rt, pass) {
+        Ok(snapshot) => built::<Brand, R>(rt, &snapshot, Blank::new(1)),
+        Err(_) => None,
+    }
+}
+
+// Whether the mark of a checkpoint that is there is published with this answer.
+fn is_published<J: Named, R: AllocGlobal + Wait>(
+    rt: &R,
+    engine: &Engine<MemoryDisk, J>,
+    pass: &mut Pass<Snapshot>,
+    checkpoint: Option<Checkpoint>,
+    answer: Result<Tended, TendFault>,
+) -> bool
+    requires own { pass.old.table ≡ J.table }
+    requires checkpoint { IfSome checkpoint (λ c. IsCheckpoint pass.old.seen c) }
+    ensures own { pass.new.table ≡ J.table }
+{
+    match checkpoint {
+        Some(checkpoint) => engine.publish_mark(rt, pass, checkpoint, 6) == answer,
+        None => false,
+    }
+}
+
+// Whether of two checkpoints of one version, both built before either mark is published, the first
+// is published and the second had.
+fn has_second<J: Named, R: AllocGlobal + Wait>(
+    rt: &R,
+    engine: &Engine<MemoryDisk, J>,
+    pass: &mut Pass<Snapshot>,
+) -> bool
+    requires own { pass.old.table ≡ J.table }
+    ensures own { pass.new.table ≡ J.table }
+{
+    let (version, read) = (5, 6);
+    let mut other = pass.copy(&engine.head);
+    let first = built_now(rt, engine, pass);
+    let second = built_now(rt, engine, &mut other);
+    let is_built = is_published(rt, engine, pass, first, Ok(Tended::Built { version, read }));
+    let is_had = is_published(
+        rt,
+        engine,
+        &mut other,
+        second,
+        Ok(Tended::Had { version, read }),
+    );
+    is_built & is_had
+}
+
+// What is tried over the worked history.
+#[derive(Clone, Copy)]
+enum Trial {
+    Tends,
+    HasSecond,
+}
+
+fn tries<J: Named, R: AllocGlobal + Wait>(
+    rt: &R,
+    engine: &Engine<MemoryDisk, J>,
+    pass: &mut Pass<Snapshot>,
+    trial: Trial,
+) -> bool
+    requires own { pass.old.table ≡ J.table }
+    ensures own { pass.new.table ≡ J.table }
+{
+    match trial {
+        Trial::Tends => tends_worked(rt, engine, pass),
+        Trial::HasSecond => has_second(rt, engine, pass),
+    }
+}
+
+fn holds_over<J: Named, R: AllocGlobal + Wait>(
+    rt: &R,
+    opening: Opening<MemoryDisk>,
+    trial: Trial,
+) -> bool
+    requires names { IsNameOf J.table J.first_entries J.first_count J.limits opening }
+    requires ledger { (opening.ledger ≡ J.name) × (opening.parts ≡ J.parts) }
+    requires untold { J.told ≡ false }
+{
+    let Started {
+        engine,
+        mut pass,
+        share,
+    } = opening.start::<J>();
+    let holds = tries(rt, &engine, &mut pass, trial);
+    let Closed { snapshot, .. } = engine.close(rt, pass, share);
+    holds & (snapshot.len() == 7)
+}
+
+// The same of an opening whose names are picked here.
+fn holds_by_brand<R: AllocGlobal + Wait>(rt: &R, opening: Opening<MemoryDisk>, trial: Trial) -> bool
+    requires { opening.parts ≡ 65536 }
+{
+    holds_over::<Brand, R>(rt, opening, trial)
+}
+
+fn holds_on<R: AllocGlobal + Wait>(rt: &R, disk: MemoryDisk, trial: Trial) -> bool {
+    match Engine::attach(rt.alloc(), disk, &Limits::standard(), 3) {
+        Ok(opening) => holds_by_brand(rt, opening, trial),
+        Err(_) => false,
+    }
+}
+
+// Whether the worked history is run by these words, and a trial holds over what it leaves.
+fn holds_after<R: AllocGlobal + Threads + Wait + Sync>(
+    rt: &R,
+    words: &[String],
+    trial: Trial,
+) -> bool {
+    match disk_of(rt.alloc(), EMPTY, &[]) {
+        Ok(disk) => {
+            let (is_run, disk) = run(rt, words, WORKED, disk, REPLIES);
+            is_run & holds_on(rt, disk, trial)
+        }
+        Err(_) => false,
+    }
+}
+
+// What a thread that makes marks has left: its pass, and whether all answers were right.
+#[derive(Drop)]
+struct Marker {
+    pass: Pass<Snapshot>,
+    is_right: bool,
+}
+
+// What a thread that commits has left: its pass, its share, and whether all answers were right.
+#[derive(Drop)]
+struct Committed<J: Named> {
+    pass: Pass<Snapshot>,
+    share: Share<J>,
+    is_right: bool,
+}
+
+// Whether an answer is right by what is seen after it: a mark that was built is there, of a version
+// that there was when the entries were read.
+fn tells_mark(snapshot: &Snapshot, answer: Result<Tended, TendFault>) -> bool {
+    match answer {
+        Ok(Tended::NotDue) => true,
+        Ok(Tended::Built { version, read }) => {
+            version <= read
+                && version <= snapshot.store().versions()
+                && snapshot.has_mark(0, version)
+        }
+        _ => false,
+    }
+}
+
+// Whether the first table, once it is there, is tended with a right answer.
+fn marks_rightly<J: Named, R: AllocGlobal + Wait>(
+    rt: &R,
+    engine: &Engine<SureDisk, J>,
+    pass: &mut Pass<Snapshot>,
+) -> bool
+    requires own { pass.old.table ≡ J.table }
+    ensures own { pass.new.table ≡ J.table }
+{
+    let Ok(before) = engine.read(rt, pass) else {
+        return false;
+    };
+    if before.store().tables() == 0 {
+        return true;
+    }
+    let answer = engine.tend(rt, pass, 0, 1);
+    let Ok(after) = engine.read(rt, pass) else {
+        return false;
+    };
+    tells_mark(&after, answer)
+}
+
+// Makes marks again and again.
+fn mark_each<J: Named, R: AllocGlobal + Wait>(
+    rt: &R,
+    engine: &Engine<SureDisk, J>,
+    mut pass: Pass<Snapshot>,
+) -> Marker
+    requires own { pass.table ≡ J.table }
+    ensures own { result.pass.table ≡ J.table }
+{
+    let mut is_right = true;
+    'marking: for _ in 0..200u32 {
+        let holds = marks_rightly(rt, engine, &mut pass);
+        is_right &= holds;
+    }
+    Marker { pass, is_right }
+}
+
+// Makes a table, and puts its one row 50 times.
+fn commit_each<J: Named, R: AllocGlobal + Wait>(
+    rt: &R,
+    engine: &Engine<SureDisk, J>,
+    mut pass: Pass<Snapshot>,
+    mut share: Share<J>,
+) -> Committed<J>
+    requires own { pass.table ≡ J.table }
+    requires part { 0 < share.parts }
+    ensures own { result.pass.table ≡ J.table }
+    ensures parts { result.share.parts ≡ share.parts }
+{
+    let mut is_right = holds(
+        rt,
+        engine,
+        &mut pass,
+        &mut share,
+        &(Kind::Create, "t", Ok(1)),
+    );
+    for version in 2..52u32 {
+        let case = (Kind::Put(1), "t", Ok(version));
+        let holds = holds(rt, engine, &mut pass, &mut share, &case);
+        is_right &= holds;
+    }
+    Committed {
+        pass,
+        share,
+        is_right,
+    }
+}
+
+// Whether the marks of the first table rise, from a version of the commits to another.
+fn are_rising(snapshot: &Snapshot, marks: &Marks) -> bool {
+    let mut last = 0;
+    for i in 0..marks.count(0) {
+        let version = marks.at(0, i).version();
+        if version <= last || version > snapshot.store().versions() {
+            return false;
+        }
+        if !snapshot.has_mark(0, version) {
+            return false;
+        }
+        last = version;
+    }
+    true
+}
+
+// Whether the marks that a snapshot keeps are just those among its entries, of which all others are
+// commits.
+fn are_listed(snapshot: &Snapshot) -> bool {
+    let marks = snapshot.marks();
+    let commits = snapshot.store().versions() as u64;
+    let all = commits.wrapping_add(marks.count(0));
+    are_rising(snapshot, marks)
+        && snapshot.store().versions() == 51
+        && all == snapshot.len() as u64
+        && marks.count(0) > 0
+}
+
+// Whether all is right where one thread makes marks while another commits.
+fn marks_beside_commits<J: Named + Send + Sync, R: AllocGlobal + Threads + Wait + Sync>(
+    rt: &R,
+    opening: Opening<SureDisk>,
+) -> bool
+    requires names { IsNameOf J.table J.first_entries J.first_count J.limits opening }
+    requires ledger { (opening.ledger ≡ J.name) × (opening.parts ≡ J.parts) }
+    requires untold { J.told ≡ false }
+{
+    let Started {
+        engine,
+        mut pass,
+        share,
+    } = opening.start::<J>();
+    let other = pass.copy(&engine.head);
+    let (marked, committed) = thread::join(
+        rt,
+        || mark_each(rt, &engine, other),
+        || commit_each(rt, &engine, pass, share),
+    );
+    let Marker {
+        pass: theirs,
+        is_right: marks,
+    } = marked;
+    let Committed {
+        mut pass,
+        share,
+        is_right: commits,
+    } = committed;
+    pass.learn(&engine.head, theirs);
+    let last = marks_rightly(rt, &engine, &mut pass);
+    let Closed { snapshot, .. } = engine.close(rt, pass, share);
+    marks & commits & last & are_listed(&snapshot)
+}
+
+// The same of an opening whose names are picked here.
+fn marks_by_brand<R: AllocGlobal + Threads + Wait + Sync>(
+    rt: &R,
+    opening: Opening<SureDisk>,
+) -> bool
+    requires { opening.parts ≡ 65536 }
+{
+    marks_beside_commits::<Brand, R>(rt, opening)
+}
+
+fn marks_on<R: AllocGlobal + Threads + Wait + Sync>(rt: &R, disk: SureDisk) -> bool {
+    match Engine::attach(rt.alloc(), disk, &Limits::standard(), 0) {
+        Ok(opening) => marks_by_brand(rt, opening),
+        Err(_) => false,
+    }
+}
+
+fn marks_over_none<R: AllocGlobal + Threads + Wait + Sync>(rt: &R) -> bool {
+    let run = Journal::init(SureDisk::new(rt.alloc(), Vec::new(rt.alloc())));
+    run.done.is_ok() && marks_on(rt, run.disk)
+}
+
+#[test]
+fn marks_of_the_worked_history(rt: HostRuntime) -> Result<(), Fail> {
+    let by_three = words_of(rt.alloc(), &["run", "--every", "3"])?;
+    assert!(rt; holds_after(&rt, &by_three, Trial::Tends));
+    assert!(rt; holds_after(&rt, &by_three, Trial::HasSecond));
+    Ok(())
+}
+
+#[test]
+fn one_thread_marks_while_another_commits(rt: HostRuntime) -> Result<(), Fail> {
+    assert!(rt; marks_over_none(&rt));
+    Ok(())
+}

@@ -224,6 +224,43 @@ def a_terminal_is_told():
         os.close(terminal)
 
 
+def progress_is_told():
+    """A run that lasts tells on a terminal the commits that were answered so far and the size of the journal's file."""
+    with tempfile.TemporaryDirectory(dir=JOURNALS) as room:
+        make_journal(room, "a> CREATE TABLE t (k INT) KEY k\n")
+        shows, terminal = pty.openpty()
+        runs = subprocess.Popen([TIMELINE, "run"], cwd=room, stdin=subprocess.PIPE, stdout=subprocess.PIPE, stderr=terminal)
+        os.close(terminal)
+
+        def shown_until(wanted):
+            """What the terminal shows up to this text, and for 20 seconds at most."""
+            shown, ends = "", time.time() + 20
+            while wanted not in shown and time.time() < ends:
+                if select.select([shows], [], [], 0.2)[0]:
+                    try:
+                        shown += os.read(shows, 4096).decode()
+                    except OSError:
+                        break
+            return shown
+
+        answered = 0
+        for count in (3, 4):
+            script = "".join(f"a> PUT t\nk\n{answered + number}\n\\.\n" for number in range(count))
+            runs.stdin.write(f"{script}GO\n".encode())
+            runs.stdin.flush()
+            for number in range(count):
+                answered += 1
+                judge("a reply of a run that lasts", runs.stdout.readline() == f"a @{answered + 1} ok\n".encode(), answered)
+            size = os.stat(f"{room}/timeline.tlj").st_size
+            told = f"timeline: {answered} commits answered, {size} bytes in the journal "
+            shown = shown_until(told)
+            judge("the progress of a run", told in shown, shown)
+        runs.stdin.close()
+        shown = shown_until("\r\x1b[K")
+        judge("a run whose progress was told", runs.wait(timeout=20) == 0 and shown.endswith("\r\x1b[K"), shown)
+        os.close(shows)
+
+
 def two_loaders_at_once():
     """Two loaders, 40 loads each, with and without --wait: what was answered `ok` is there, and nothing else."""
     for words in (["--wait", "load", "t"], ["load", "t"]):
@@ -334,6 +371,7 @@ refusals_are_told()
 explanations_come_from_a_pipe()
 what_is_not_open_fails()
 a_terminal_is_told()
+progress_is_told()
 two_loaders_at_once()
 another_program_has_the_journal()
 a_long_load_goes_on()

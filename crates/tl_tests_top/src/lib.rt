@@ -9,6 +9,8 @@ mod limits;
 #[cfg(test)]
 mod marks;
 #[cfg(test)]
+mod pieces;
+#[cfg(test)]
 mod runs;
 #[cfg(test)]
 mod sessions;

@@ -1,13 +1,19 @@
 //! Marks: those that are kept after the worked history, what a call that tends a table answers
-//! then, and the marks that one thread makes while another commits.
-ghost use Rattle.std.specs.Prelude.{◌≡◌, ◌<◌, false, IfSome};
+//! then, the marks that one thread makes while another commits, and those that an opening makes
+//! again.
+ghost use Rattle.std.specs.Prelude.{◌≡◌, ◌<◌, false, IsTrue, IfSome};
+ghost use Rattle.std.specs.Bool.{OnTrue};
+ghost use Rattle.tl_types.specs.History.{database_of};
 ghost use Rattle.tl_types.specs.Limits.{standard_limits};
+ghost use Rattle.tl_batch.specs.Made.{batch_matches};
 ghost use Rattle.tl_engine.specs.Naming.{IsNameOf};
+ghost use Rattle.tl_engine.specs.Saying.{names_table};
 ghost use Rattle.tl_engine.specs.Tending.{IsCheckpoint};
 
 use crate::crashes::WORKED;
 use crate::limits::{Kind, holds};
 use crate::runs::{EMPTY, Wanted, disk_of, run, words_of};
+use std::alloc::Global;
 use std::marker::Brand;
 use std::sync::Wait;
 use std::sync::ledger::{Blank, Ledger};
@@ -20,7 +26,8 @@ use tl_device::{MemoryDisk, SureDisk};
 use tl_engine::{Closed, Engine, Named, Opening, Pass, Share, Started, TendFault, Tended};
 use tl_index::Snapshot;
 use tl_journal::Journal;
-use tl_types::{Limits, Published, Steps};
+use tl_store::Store;
+use tl_types::{Batch, Cell, KeyLine, Limits, Published, Seq, Steps, Text};
 
 // How the worked history is run.
 const REPLIES: Wanted = (
@@ -284,11 +291,12 @@ fn tells_mark(snapshot: &Snapshot, answer: Result<Tended, TendFault>) -> bool {
     }
 }
 
-// Whether the first table, once it is there, is tended with a right answer.
+// Whether the first table, once it is there, is tended by `k` with a right answer.
 fn marks_rightly<J: Named, R: AllocGlobal + Wait>(
     rt: &R,
     engine: &Engine<SureDisk, J>,
     pass: &mut Pass<Snapshot>,
+    k: u32,
 ) -> bool
     requires own { pass.old.table ≡ J.table }
     ensures own { pass.new.table ≡ J.table }
@@ -299,7 +307,7 @@ fn marks_rightly<J: Named, R: AllocGlobal + Wait>(
     if before.store().tables() == 0 {
         return true;
     }
-    let answer = engine.tend(rt, pass, 0, 1);
+    let answer = engine.tend(rt, pass, 0, k);
     let Ok(after) = engine.read(rt, pass) else {
         return false;
     };
@@ -317,7 +325,7 @@ fn mark_each<J: Named, R: AllocGlobal + Wait>(
 {
     let mut is_right = true;
     'marking: for _ in 0..200u32 {
-        let holds = marks_rightly(rt, engine, &mut pass);
+        let holds = marks_rightly(rt, engine, &mut pass, 1);
         is_right &= holds;
     }
     Marker { pass, is_right }
@@ -412,7 +420,7 @@ fn marks_beside_commits<J: Named + Send + Sync, R: AllocGlobal + Threads + Wait 
         is_right: commits,
     } = committed;
     pass.learn(&engine.head, theirs);
-    let last = marks_rightly(rt, &engine, &mut pass);
+    let last = marks_rightly(rt, &engine, &mut pass, 1);
     let Closed { snapshot, .. } = engine.close(rt, pass, share);
     marks & commits & last & are_listed(&snapshot)
 }
@@ -439,6 +447,199 @@ fn marks_over_none<R: AllocGlobal + Threads + Wait + Sync>(rt: &R) -> bool {
     run.done.is_ok() && marks_on(rt, run.disk)
 }
 
+// The removal of the row of key 0.
+fn removal(alloc: Global) -> Option<Batch> {
+    let Ok(table) = Text::new(alloc, "t") else {
+        return None;
+    };
+    let mut lines = Seq::new(alloc);
+    let line = KeyLine {
+        key: Cell::Int(0),
+        period: None,
+    };
+    match lines.push(line) {
+        Ok(()) => Some(Batch::Remove { table, lines }),
+        Err(_) => None,
+    }
+}
+
+// Whether it is a removal from a table of the store.
+fn may_remove(store: &Store, batch: &Batch) -> bool
+    ensures known { OnTrue result (IsTrue (names_table (database_of store.now) batch.now)) }
+    ensures matching { OnTrue result (IsTrue (batch_matches (database_of store.now) batch.now)) }
+{
+    match batch {
+        Batch::Remove { table, .. } => store.find(table.as_str()).is_some(),
+        _ => false,
+    }
+}
+
+// Whether the engine answers this version to a removal.
+fn is_removed<J: Named, R: AllocGlobal + Wait>(
+    rt: &R,
+    engine: &Engine<SureDisk, J>,
+    pass: &mut Pass<Snapshot>,
+    share: &mut Share<J>,
+    batch: Batch,
+    version: u32,
+) -> bool
+    requires own { pass.old.table ≡ J.table }
+    requires part { 0 < share.old.parts }
+    ensures own { pass.new.table ≡ J.table }
+    ensures parts { share.new.parts ≡ share.old.parts }
+{
+    let Ok(snapshot) = engine.read(rt, pass) else {
+        return false;
+    };
+    if !may_remove(snapshot.store(), &batch) {
+        return false;
+    }
+    engine.commit(rt, pass, share, 7, batch) == Ok(version)
+}
+
+// Whether the row of key 0 is removed in this version.
+fn removes_row<J: Named, R: AllocGlobal + Wait>(
+    rt: &R,
+    engine: &Engine<SureDisk, J>,
+    pass: &mut Pass<Snapshot>,
+    share: &mut Share<J>,
+    version: u32,
+) -> bool
+    requires own { pass.old.table ≡ J.table }
+    requires part { 0 < share.old.parts }
+    ensures own { pass.new.table ≡ J.table }
+    ensures parts { share.new.parts ≡ share.old.parts }
+{
+    match removal(rt.alloc()) {
+        Some(batch) => is_removed(rt, engine, pass, share, batch, version),
+        None => false,
+    }
+}
+
+// Whether a version is made: the first makes a table, each fourth removes a row, and the others put
+// at most two.
+fn makes_version<J: Named, R: AllocGlobal + Wait>(
+    rt: &R,
+    engine: &Engine<SureDisk, J>,
+    pass: &mut Pass<Snapshot>,
+    share: &mut Share<J>,
+    version: u32,
+) -> bool
+    requires own { pass.old.table ≡ J.table }
+    requires part { 0 < share.old.parts }
+    ensures own { pass.new.table ≡ J.table }
+    ensures parts { share.new.parts ≡ share.old.parts }
+{
+    if version % 4 == 0 {
+        return removes_row(rt, engine, pass, share, version);
+    }
+    let kind = match version {
+        1 => Kind::Create,
+        _ => Kind::Put((version % 3) as i64),
+    };
+    holds(rt, engine, pass, share, &(kind, "t", Ok(version)))
+}
+
+// Whether the versions before `end` are made, each tended by 3 then.
+fn makes_versions<J: Named, R: AllocGlobal + Wait>(
+    rt: &R,
+    engine: &Engine<SureDisk, J>,
+    pass: &mut Pass<Snapshot>,
+    share: &mut Share<J>,
+    end: u32,
+) -> bool
+    requires own { pass.old.table ≡ J.table }
+    requires part { 0 < share.old.parts }
+    ensures own { pass.new.table ≡ J.table }
+    ensures parts { share.new.parts ≡ share.old.parts }
+{
+    let mut is_right = true;
+    for version in 1..end {
+        let is_made = makes_version(rt, engine, pass, share, version);
+        let is_tended = marks_rightly(rt, engine, pass, 3);
+        is_right &= is_made & is_tended;
+    }
+    is_right
+}
+
+// What an engine has left: its snapshot and its disk, and whether all answers were right.
+#[derive(Drop)]
+struct Left {
+    closed: Closed<SureDisk>,
+    is_right: bool,
+}
+
+// What an engine leaves that makes the versions before `end`.
+fn made<J: Named, R: AllocGlobal + Wait>(rt: &R, opening: Opening<SureDisk>, end: u32) -> Left
+    requires names { IsNameOf J.table J.first_entries J.first_count J.limits opening }
+    requires ledger { (opening.ledger ≡ J.name) × (opening.parts ≡ J.parts) }
+    requires untold { J.told ≡ false }
+{
+    let Started {
+        engine,
+        mut pass,
+        mut share,
+    } = opening.start::<J>();
+    let is_right = makes_versions(rt, &engine, &mut pass, &mut share, end);
+    let closed = engine.close(rt, pass, share);
+    Left { closed, is_right }
+}
+
+// The same of an opening whose names are picked here.
+fn made_by_brand<R: AllocGlobal + Wait>(rt: &R, opening: Opening<SureDisk>, end: u32) -> Left
+    requires { opening.parts ≡ 65536 }
+{
+    made::<Brand, R>(rt, opening, end)
+}
+
+// The same on a disk, which is opened with marks by 3.
+fn made_on<R: AllocGlobal + Wait>(rt: &R, disk: SureDisk, end: u32) -> Option<Left> {
+    match Engine::attach(rt.alloc(), disk, &Limits::standard(), 3) {
+        Ok(opening) => Some(made_by_brand(rt, opening, end)),
+        Err(_) => None,
+    }
+}
+
+// Whether the first table has the same marks here and there, by version and place, and three of
+// them or more.
+fn are_same(marks: &Marks, others: &Marks) -> bool {
+    if marks.count(0) < 3 || marks.count(0) != others.count(0) {
+        return false;
+    }
+    for i in 0..marks.count(0) {
+        let mark = marks.at(0, i);
+        let other = others.at(0, i);
+        if mark.version() != other.version() || mark.place() != other.place() {
+            return false;
+        }
+    }
+    true
+}
+
+// Whether another opening of the disk makes the marks that the snapshot keeps.
+fn opens_with_marks<R: AllocGlobal + Wait>(rt: &R, disk: SureDisk, snapshot: &Snapshot) -> bool {
+    match made_on(rt, disk, 1) {
+        Some(left) => {
+            let opened = &left.closed.snapshot;
+            opened.len() == snapshot.len() && are_same(opened.marks(), snapshot.marks())
+        }
+        None => false,
+    }
+}
+
+// Whether the marks of 12 versions are there again after an opening.
+fn marks_again<R: AllocGlobal + Wait>(rt: &R) -> bool {
+    let run = Journal::init(SureDisk::new(rt.alloc(), Vec::new(rt.alloc())));
+    match made_on(rt, run.disk, 13) {
+        Some(left) => {
+            let Left { closed, is_right } = left;
+            let Closed { snapshot, disk } = closed;
+            is_right & opens_with_marks(rt, disk, &snapshot)
+        }
+        None => false,
+    }
+}
+
 #[test]
 fn marks_of_the_worked_history(rt: HostRuntime) -> Result<(), Fail> {
     let by_three = words_of(rt.alloc(), &["run", "--every", "3"])?;
@@ -450,5 +651,11 @@ fn marks_of_the_worked_history(rt: HostRuntime) -> Result<(), Fail> {
 #[test]
 fn one_thread_marks_while_another_commits(rt: HostRuntime) -> Result<(), Fail> {
     assert!(rt; marks_over_none(&rt));
+    Ok(())
+}
+
+#[test]
+fn an_opening_makes_the_marks_that_tending_left(rt: HostRuntime) -> Result<(), Fail> {
+    assert!(rt; marks_again(&rt));
     Ok(())
 }

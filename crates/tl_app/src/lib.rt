@@ -1,5 +1,5 @@
-//! The index of valid time: the events of the periods of a table's rows at a version, aggregates
-//! over valid time, which one scan of such events gives, and joins over valid time.
+//! The index of valid time: the events of the periods of a table's rows at a version, and
+//! aggregates over valid time, which one scan of such events gives.
 #![tactic(auto)]
 
 mod aggregates;

@@ -70,7 +70,7 @@ IsAggWithin entries table pred (span.Valid version from to) workers before after
     after ≤ before + valid_steps entries table pred version
 
 -- a query takes no more steps from one count to another than its kind may take, where one worker
--- does it or, for a SELECT, so many
+-- does it or, for a SELECT, so many; it says nothing of a join over valid time
 abbrev pub IsWithinBound : List Entry → Typed → ℕ → ℕ → ℕ → Type 0
 IsWithinBound entries (typed.Select table items pred valid_at version) workers before after =
     after ≤ before + select_steps entries table items pred version

@@ -19,8 +19,9 @@ use tl_types::{Answer, NoMemory, Seq, Steps};
 
 /// The answer to a query over the tables of a snapshot, for whose store the query was checked. It
 /// is the same for every number of workers. `workers`, from 1 to 64, is the number of threads that
-/// may share the work, and each of the pieces that they divide it into passes the gate. Work that
-/// is not divided counts on `steps`, and a SELECT is not. The error is `NoMemory`.
+/// may share the work, and each of the pieces that they divide it into passes the gate. A SELECT is
+/// not divided, nor is a join over valid time. Work that is not divided counts on `steps`, but that
+/// of a join over valid time does not: it makes the plain tables. The error is `NoMemory`.
 pub fn answer<R: AllocGlobal + Threads + Sync, L: Ledger, G: Gate>(
     rt: &R,
     snapshot: &Snapshot,

@@ -14,7 +14,7 @@ use tl_store::Store;
 use tl_types::Steps;
 
 /// Puts into the set which rows of a table pass the predicate. It takes at most a step for each
-// begun 64 of rows and test.
+/// begun 64 of rows and test.
 pub(crate) fn select_rows<L: Ledger>(
     store: &Store,
     table: u16,

@@ -1,5 +1,4 @@
-use Rattle.std.proofs.Common.{◌≡◌, ◌∙◌, ap, arith, ◌-◌, ◌+◌, ◌++◌, ◌∷◌, [], length, List}
-use Rattle.std.specs.Prelude.{replicate}
+use Rattle.std.proofs.Common.{◌∙◌, arith}
 use Rattle.tl_ckpt.proofs.MarkLemmas.{one_none_more, same_count}
 use Rattle.tl_ckpt.proofs.marks.lists_to.Goals as goal
 

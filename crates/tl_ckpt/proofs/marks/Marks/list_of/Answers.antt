@@ -1,5 +1,4 @@
-use Rattle.std.proofs.Common.{◌≡◌, ◌∙◌, sym, ap, subst}
-use Rattle.std.specs.Prelude.{length, ◌≤◌, ◌<◌}
+use Rattle.std.proofs.Common.{◌∙◌, sym, ap, subst}
 use Rattle.tl_ckpt.specs.Marks.{EachClimbs, marks_for}
 use Rattle.tl_ckpt.proofs.MarkLemmas.{none_for, list_for, climbs_for}
 use Rattle.tl_ckpt.proofs.marks.Marks.list_of.Goals as goal

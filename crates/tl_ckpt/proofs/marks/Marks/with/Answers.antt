@@ -1,4 +1,4 @@
-use Rattle.std.proofs.Common.{◌≡◌, ◌∙◌, sym, ap, subst}
+use Rattle.std.proofs.Common.{◌∙◌, sym, ap, subst}
 use Rattle.std.specs.Prelude.{slice_set}
 use Rattle.tl_ckpt.specs.Marks.{EachClimbs, with_mark}
 use Rattle.tl_ckpt.proofs.MarkLemmas.{at_climbs, with_made, each_climbs}

@@ -1,0 +1,13 @@
+//! The rows of an answer, with no allocation for each: the fields of all rows stand one behind the
+//! other in one list, with the place where each row ends, and their texts in one list of bytes.
+//! Definitions see the rows as the answer of tl_types that they are.
+#![tactic(auto)]
+
+mod answers;
+mod fields;
+mod packed;
+mod writers;
+
+pub use answers::AnswerRows;
+pub use fields::FieldRef;
+pub use writers::RowsWriter;

@@ -25,7 +25,7 @@ use Rattle.std.specs.Option.{option_map}
 use Rattle.std.proofs.lemmas.Option.{slice_get_within}
 use Rattle.std.proofs.lemmas.List.{ext_get_or}
 use Rattle.tl_lanes.specs.Masks.{is_bit, words_for}
-use Rattle.tl_filter.specs.Words.{AreWordsFrom, AreNarrowed, AreLeft, AreJoined, AreWithin, AreZero, HaveColumns}
+use Rattle.tl_filter.specs.Words.{AreWordsFrom, AreNarrowed, AreOfAll, AreLeft, AreJoined, AreWithin, AreZero, HaveColumns, HaveNonePast}
 use Rattle.tl_filter.proofs.WordLemmas.{bit_of_zero}
 use Rattle.std.specs.Prelude.{sum_by}
 
@@ -36,54 +36,67 @@ bits_of_two h none f g [] j = sym none
 bits_of_two h none f g (r ∷ rows) zero = refl
 bits_of_two h none f g (r ∷ rows) (suc j) = bits_of_two h none f g rows j
 
--- a test, where the row is there
-bits_of_not : (f : plain.Row → Bool) (rows : List plain.Row) (j : ℕ)
-    → get_or (map (λ r. not (f r)) rows) j false ≡ (nat_lt j (length rows) && not (get_or (map f rows) j false))
-bits_of_not f [] j = grind (arith, nat_tests)
-bits_of_not f (r ∷ rows) zero = grind (arith, nat_tests)
-bits_of_not f (r ∷ rows) (suc j) = bits_of_not f rows j ∙ ap (λ b. b && not (get_or (map f rows) j false)) (grind (arith, nat_tests))
+-- the bit at a place, where all rows pass
+bits_of_all : (rows : List plain.Row) (j : ℕ) → get_or (map (λ (r : plain.Row). true) rows) j false ≡ nat_lt j (length rows)
+bits_of_all [] j = grind (arith, nat_tests)
+bits_of_all (r ∷ rows) zero = grind (arith, nat_tests)
+bits_of_all (r ∷ rows) (suc j) = bits_of_all rows j ∙ grind (arith, nat_tests)
 
--- words narrowed by a test
-pub narrowed : (f g : plain.Row → Bool) (rows : List plain.Row) (first : ℕ) (old new : List ℕ) → AreNarrowed (map g rows) first old new
-    → AreWordsFrom (map f rows) first old → AreWordsFrom (map (λ r. f r && g r) rows) first new
-narrowed f g rows first old new made were i below k small =
-    let long = made.long in
-    made.each i (omega arith) k small
-    ∙ ap (λ b. b && get_or (map g rows) (64 * (first + i) + k) false) (were i (omega arith) k small)
-    ∙ sym (bits_of_two (λ a b. a && b) refl f g rows (64 * (first + i) + k))
+-- a bit that is not past the rows, where all pass
+kept_bit : (rows : List plain.Row) (n j : ℕ) (bit : Bool) → n ≡ length rows → (n ≤ j → bit ≡ false) → bit ≡ (bit && get_or (map (λ (r : plain.Row). true) rows) j false)
+kept_bit rows n j bit same none = by_place (cases_lt j n) where
+  with_true : (a b : Bool) → b ≡ true → a ≡ (a && b)
+  with_true true b h = sym h
+  with_true false b h = refl
+
+  by_place : (j < n) ⊎ (n ≤ j) → bit ≡ (bit && get_or (map (λ (r : plain.Row). true) rows) j false)
+  by_place (inl inside) = with_true bit (get_or (map (λ (r : plain.Row). true) rows) j false) (bits_of_all rows j ∙ grind (arith, nat_tests))
+  by_place (inr past) = let e = none past in e ∙ ap (λ b. b && get_or (map (λ (r : plain.Row). true) rows) j false) (sym e)
+
+-- words narrowed by no test
+pub narrowed_none : (rows : List plain.Row) (n first : ℕ) (words : List ℕ) → n ≡ length rows → HaveNonePast n first words → AreNarrowed (map (λ (r : plain.Row). true) rows) first words words
+narrowed_none rows n first words same none = record {
+  long = refl;
+  each = λ i below k small. kept_bit rows n (64 * (first + i) + k) (is_bit (get_or words i 0) k) same (none i below k small);
+}
+
+-- words narrowed by two tests, one after the other
+narrowed_twice : (f g : plain.Row → Bool) (rows : List plain.Row) (first : ℕ) (old between new : List ℕ) → AreNarrowed (map g rows) first between new
+    → AreNarrowed (map f rows) first old between → AreNarrowed (map (λ r. f r && g r) rows) first old new
+narrowed_twice f g rows first old between new made were = record {
+  long = made.long ∙ were.long;
+  each = λ i below k small.
+      let long = were.long in
+      made.each i (omega arith) k small
+      ∙ ap (λ b. b && get_or (map g rows) (64 * (first + i) + k) false) (were.each i below k small)
+      ∙ regrouped (is_bit (get_or old i 0) k) (get_or (map f rows) (64 * (first + i) + k) false) (get_or (map g rows) (64 * (first + i) + k) false)
+      ∙ ap (λ b. is_bit (get_or old i 0) k && b) (sym (bits_of_two (λ a b. a && b) refl f g rows (64 * (first + i) + k)));
+} where
+  regrouped : (a b c : Bool) → ((a && b) && c) ≡ (a && (b && c))
+  regrouped true b c = refl
+  regrouped false b c = refl
 
 -- one test more
-pub tests_more : (f : plain.Row → Bool) (rows : List plain.Row) (tests : List TypedTest) (i : ℕ) (d : TypedTest) → i < length tests
-    → map (λ r. (f r && passes_all r (take i tests)) && passes_test r (get_or tests i d)) rows ≡ map (λ r. f r && passes_all r (take (i + 1) tests)) rows
-tests_more f rows tests i d there =
-    ap (λ t. map t rows) (fun_ext (λ r. regrouped (f r) (passes_all r (take i tests)) (passes_test r (get_or tests i d)) (passes_all r (take (i + 1) tests)) (list_all_more (passes_test r) tests i d there))) where
-      regrouped : (a b c e : Bool) → e ≡ (b && c) → ((a && b) && c) ≡ (a && e)
-      regrouped true b c e h = sym h
-      regrouped false b c e h = refl
-
--- no test
-pub no_tests : (f : plain.Row → Bool) (rows : List plain.Row) → map f rows ≡ map (λ r. f r && true) rows
-no_tests f rows = ap (λ t. map t rows) (fun_ext (λ r. whole (f r))) where
-  whole : (a : Bool) → a ≡ (a && true)
-  whole true = refl
-  whole false = refl
+tests_more : (rows : List plain.Row) (tests : List TypedTest) (i : ℕ) (d : TypedTest) → i < length tests
+    → map (λ r. passes_all r (take i tests) && passes_test r (get_or tests i d)) rows ≡ map (λ r. passes_all r (take (i + 1) tests)) rows
+tests_more rows tests i d there = ap (λ t. map t rows) (fun_ext (λ r. sym (list_all_more (passes_test r) tests i d there)))
 
 -- words narrowed by one test more
-pub narrowed_more : (f : plain.Row → Bool) (rows : List plain.Row) (tests : List TypedTest) (i : ℕ) (test : TypedTest) (ready : List Bool) (first : ℕ) (old new : List ℕ)
-    → i < length tests → test ≡ get_or tests i test → ready ≡ rows_passing rows test.column test → AreNarrowed ready first old new
-    → AreWordsFrom (map (λ r. f r && passes_all r (take i tests)) rows) first old
-    → AreWordsFrom (map (λ r. f r && passes_all r (take (i + 1) tests)) rows) first new
-narrowed_more f rows tests i test ready first old new there is ready_is made were =
-    let made_so : AreNarrowed (map (λ r. passes_test r (get_or tests i test)) rows) first old new =
-    subst (λ bits. AreNarrowed bits first old new) (ready_is ∙ ap (λ t. map (λ r. passes_test r t) rows) is) made in
-    subst (λ bits. AreWordsFrom bits first new) (tests_more f rows tests i test there)
-    (narrowed (λ r. f r && passes_all r (take i tests)) (λ r. passes_test r (get_or tests i test)) rows first old new made_so were)
+pub narrowed_more : (rows : List plain.Row) (tests : List TypedTest) (i : ℕ) (test : TypedTest) (ready : List Bool) (first : ℕ) (old between new : List ℕ)
+    → i < length tests → test ≡ get_or tests i test → ready ≡ rows_passing rows test.column test → AreNarrowed ready first between new
+    → AreNarrowed (map (λ r. passes_all r (take i tests)) rows) first old between
+    → AreNarrowed (map (λ r. passes_all r (take (i + 1) tests)) rows) first old new
+narrowed_more rows tests i test ready first old between new there is ready_is made were =
+    let made_so : AreNarrowed (map (λ r. passes_test r (get_or tests i test)) rows) first between new =
+    subst (λ bits. AreNarrowed bits first between new) (ready_is ∙ ap (λ t. map (λ r. passes_test r t) rows) is) made in
+    subst (λ bits. AreNarrowed bits first old new) (tests_more rows tests i test there)
+    (narrowed_twice (λ r. passes_all r (take i tests)) (λ r. passes_test r (get_or tests i test)) rows first old between new made_so were)
 
-pub narrowed_all : (f : plain.Row → Bool) (rows : List plain.Row) (tests : List TypedTest) (i : ℕ) (first : ℕ) (new : List ℕ) → length tests ≤ i
-    → AreWordsFrom (map (λ r. f r && passes_all r (take i tests)) rows) first new
-    → AreWordsFrom (map (λ r. f r && passes_all r tests) rows) first new
-narrowed_all f rows tests i first new all words =
-    subst (λ ts. AreWordsFrom (map (λ r. f r && passes_all r ts) rows) first new) (take_all i tests all) words
+pub narrowed_all : (rows : List plain.Row) (tests : List TypedTest) (i : ℕ) (first : ℕ) (old new : List ℕ) → length tests ≤ i
+    → AreNarrowed (map (λ r. passes_all r (take i tests)) rows) first old new
+    → AreNarrowed (map (λ r. passes_all r tests) rows) first old new
+narrowed_all rows tests i first old new all words =
+    subst (λ ts. AreNarrowed (map (λ r. passes_all r ts) rows) first old new) (take_all i tests all) words
 
 -- steps of one test more
 pub steps_more : (before between after i n m : ℕ) → between ≤ before + i * n → after ≤ between + m → m ≡ n → after ≤ before + (i + 1) * n
@@ -93,65 +106,59 @@ steps_more before between after i n m so_far last same =
 
 -- SEVERAL LISTS
 
--- words of what is left of all rows
-left_of : (h : plain.Row → Bool) (rows : List plain.Row) (n first : ℕ) (done left : List ℕ) → n ≡ length rows → AreLeft n first done left
-    → AreWordsFrom (map h rows) first done → AreWordsFrom (map (λ r. not (h r)) rows) first left
-left_of h rows n first done left same made were i below k small =
+-- what is left has no bit past the rows
+pub left_inside : (n first : ℕ) (base done left : List ℕ) → length base ≡ length done → AreLeft base done left → HaveNonePast n first base → HaveNonePast n first left
+left_inside n first base done left same made none i below k small past =
     let long = made.long in
-    made.each i (omega arith) k small
-    ∙ ap (λ b. nat_lt (64 * (first + i) + k) n && not b) (were i (omega arith) k small)
-    ∙ ap (λ m. nat_lt (64 * (first + i) + k) m && not (get_or (map h rows) (64 * (first + i) + k) false)) same
-    ∙ sym (bits_of_not h rows (64 * (first + i) + k))
+    made.each i (omega arith) k small ∙ ap (λ b. b && not (is_bit (get_or done i 0) k)) (none i (omega arith) k small past)
 
--- words of rows that pass one of two tests
-joined : (f g : plain.Row → Bool) (rows : List plain.Row) (first : ℕ) (one two new : List ℕ) → length two ≡ length one → AreJoined one two new
-    → AreWordsFrom (map f rows) first one → AreWordsFrom (map g rows) first two → AreWordsFrom (map (λ r. f r || g r) rows) first new
-joined f g rows first one two new long made ones twos i below k small =
-    let e = made.long in
-    made.each i (omega arith) k small
-    ∙ ap (λ b. b || is_bit (get_or two i 0) k) (ones i (omega arith) k small)
-    ∙ ap (λ b. get_or (map f rows) (64 * (first + i) + k) false || b) (twos i (omega arith) k small)
-    ∙ sym (bits_of_two (λ a b. a || b) refl f g rows (64 * (first + i) + k))
+-- bits of rows that pass one of two tests, of which the second is asked where the first does not tell
+pub widened : (f : plain.Row → Bool) (rows : List plain.Row) (tests : List TypedTest) (first : ℕ) (base done left narrowed_left new : List ℕ) → AreLeft base done left
+    → AreNarrowed (map (λ r. passes_all r tests) rows) first left narrowed_left → AreJoined done narrowed_left new
+    → AreNarrowed (map f rows) first base done → AreNarrowed (map (λ r. f r || passes_all r tests) rows) first base new
+widened f rows tests first base done left narrowed_left new made narrows adds were = record {
+  long = adds.long ∙ were.long;
+  each = λ i below k small.
+      let long = were.long in
+      let longer = made.long in
+      let g : plain.Row → Bool = λ r. passes_all r tests in
+      regrouped (is_bit (get_or base i 0) k) (get_or (map f rows) (64 * (first + i) + k) false) (get_or (map g rows) (64 * (first + i) + k) false)
+      (is_bit (get_or done i 0) k) (is_bit (get_or left i 0) k) (is_bit (get_or narrowed_left i 0) k) (is_bit (get_or new i 0) k)
+      (were.each i below k small) (made.each i (omega arith) k small) (narrows.each i (omega arith) k small) (adds.each i (omega arith) k small)
+      ∙ ap (λ b. is_bit (get_or base i 0) k && b) (sym (bits_of_two (λ a b. a || b) refl f g rows (64 * (first + i) + k)));
+} where
+  regrouped : (x a b d l m n : Bool) → d ≡ (x && a) → l ≡ (x && not d) → m ≡ (l && b) → n ≡ (d || m) → n ≡ (x && (a || b))
+  regrouped x a b d l m n e f g h = grind (arith, nat_tests)
 
 -- no list
-pub no_lists : (rows : List plain.Row) (first : ℕ) (words : List ℕ) → AreZero words → AreWordsFrom (map (λ (r : plain.Row). false) rows) first words
-no_lists rows first words none i below k small =
-    ap (λ w. is_bit w k) (none i) ∙ bit_of_zero k ∙ sym (no_bit rows (64 * (first + i) + k)) where
-      no_bit : (rs : List plain.Row) (j : ℕ) → get_or (map (λ (r : plain.Row). false) rs) j false ≡ false
-      no_bit [] j = refl
-      no_bit (r ∷ rs) zero = refl
-      no_bit (r ∷ rs) (suc j) = no_bit rs j
+pub no_lists : (rows : List plain.Row) (first : ℕ) (base words : List ℕ) → length words ≡ length base → AreZero words → AreNarrowed (map (λ (r : plain.Row). false) rows) first base words
+no_lists rows first base words same none = record {
+  long = same;
+  each = λ i below k small.
+      ap (λ w. is_bit w k) (none i) ∙ bit_of_zero k ∙ sym (ap (λ b. is_bit (get_or base i 0) k && b) (no_bit rows (64 * (first + i) + k)) ∙ none_of (is_bit (get_or base i 0) k));
+} where
+  no_bit : (rs : List plain.Row) (j : ℕ) → get_or (map (λ (r : plain.Row). false) rs) j false ≡ false
+  no_bit [] j = refl
+  no_bit (r ∷ rs) zero = refl
+  no_bit (r ∷ rs) (suc j) = no_bit rs j
+
+  none_of : (a : Bool) → (a && false) ≡ false
+  none_of true = refl
+  none_of false = refl
 
 -- one list more
-pub lists_more : (rows : List plain.Row) (lists : List (List TypedTest)) (i : ℕ) (tests : List TypedTest) → i < length lists → tests ≡ get_or lists i tests
-    → map (λ r. list_any (passes_all r) (take i lists) || (not (list_any (passes_all r) (take i lists)) && passes_all r tests)) rows
-    ≡ map (λ r. list_any (passes_all r) (take (i + 1) lists)) rows
-lists_more rows lists i tests there is =
-    ap (λ t. map t rows) (fun_ext (λ r. regrouped (list_any (passes_all r) (take i lists)) (passes_all r tests) (list_any (passes_all r) (take (i + 1) lists))
-    (list_any_more (passes_all r) lists i tests there ∙ ap (λ ts. list_any (passes_all r) (take i lists) || passes_all r ts) (sym is)))) where
-      regrouped : (a b e : Bool) → e ≡ (a || b) → (a || (not a && b)) ≡ e
-      regrouped true b e h = sym h
-      regrouped false b e h = sym h
+lists_more : (rows : List plain.Row) (lists : List (List TypedTest)) (i : ℕ) (tests asked : List TypedTest) → i < length lists → tests ≡ get_or lists i tests → asked ≡ tests
+    → map (λ r. list_any (passes_all r) (take i lists) || passes_all r asked) rows ≡ map (λ r. list_any (passes_all r) (take (i + 1) lists)) rows
+lists_more rows lists i tests asked there is asks =
+    ap (λ t. map t rows) (fun_ext (λ r. ap (λ ts. list_any (passes_all r) (take i lists) || passes_all r ts) (asks ∙ is) ∙ sym (list_any_more (passes_all r) lists i tests there)))
 
-pub widened : (rows : List plain.Row) (lists : List (List TypedTest)) (i : ℕ) (tests asked : List TypedTest) (n first : ℕ) (done left narrowed_left new : List ℕ)
-    → i < length lists → tests ≡ get_or lists i tests → asked ≡ tests → n ≡ length rows → AreLeft n first done left
-    → length narrowed_left ≡ length left
-    → ((f : plain.Row → Bool) → AreWordsFrom (map f rows) first left → AreWordsFrom (map (λ r. f r && passes_all r asked) rows) first narrowed_left)
-    → AreJoined done narrowed_left new
-    → AreWordsFrom (map (λ r. list_any (passes_all r) (take i lists)) rows) first done
-    → AreWordsFrom (map (λ r. list_any (passes_all r) (take (i + 1) lists)) rows) first new
-widened rows lists i tests asked n first done left narrowed_left new there is asks same made long narrows adds were =
-    let h : plain.Row → Bool = λ r. list_any (passes_all r) (take i lists) in
-    let lefts = left_of h rows n first done left same made were in
-    let twos = subst (λ ts. AreWordsFrom (map (λ r. not (h r) && passes_all r ts) rows) first narrowed_left) asks (narrows (λ r. not (h r)) lefts) in
-    subst (λ bits. AreWordsFrom bits first new) (lists_more rows lists i tests there is)
-    (joined h (λ r. not (h r) && passes_all r tests) rows first done narrowed_left new (long ∙ made.long) adds were twos)
-
-pub widened_all : (rows : List plain.Row) (lists : List (List TypedTest)) (i first : ℕ) (new : List ℕ) → length lists ≤ i
-    → AreWordsFrom (map (λ r. list_any (passes_all r) (take i lists)) rows) first new
-    → AreWordsFrom (map (λ r. list_any (passes_all r) lists) rows) first new
-widened_all rows lists i first new all words =
-    subst (λ ls. AreWordsFrom (map (λ r. list_any (passes_all r) ls) rows) first new) (take_all i lists all) words
+pub list_told : (rows : List plain.Row) (lists : List (List TypedTest)) (i : ℕ) (tests asked : List TypedTest) (first : ℕ) (base done new : List ℕ)
+    → i < length lists → tests ≡ get_or lists i tests → asked ≡ tests
+    → ((f : plain.Row → Bool) → AreNarrowed (map f rows) first base done → AreNarrowed (map (λ r. f r || passes_all r asked) rows) first base new)
+    → AreNarrowed (map (λ r. list_any (passes_all r) (take i lists)) rows) first base done
+    → AreNarrowed (map (λ r. list_any (passes_all r) (take (i + 1) lists)) rows) first base new
+list_told rows lists i tests asked first base done new there is asks adds were =
+    subst (λ bits. AreNarrowed bits first base new) (lists_more rows lists i tests asked there is asks) (adds (λ r. list_any (passes_all r) (take i lists)) were)
 
 -- steps of one list more
 pub list_steps : (lists : List (List TypedTest)) (i : ℕ) (tests asked : List TypedTest) (before between after n m : ℕ) → i < length lists → tests ≡ get_or lists i tests → asked ≡ tests
@@ -167,20 +174,31 @@ list_steps lists i tests asked before between after n m there is asks so_far las
 
 -- A BLOCK
 
+-- whether a row passes a predicate with no list
+passes_empty : (lists : List (List TypedTest)) (r : plain.Row) → length lists ≡ 0 → ((length lists == 0) || list_any (passes_all r) lists) ≡ true
+passes_empty lists r e = ap (λ n. (n == 0) || list_any (passes_all r) lists) e
+
+empty_passing : (pred : TypedPred) (rows : List plain.Row) → length pred.any ≡ 0 → map (λ (r : plain.Row). true) rows ≡ map (passes pred) rows
+empty_passing pred rows empty = ap (λ t. map t rows) (fun_ext (λ r. sym (passes_empty pred.any r empty)))
+
 -- where there is no list, all rows pass
-pub all_pass : (pred : TypedPred) (rows : List plain.Row) (n first : ℕ) (done left : List ℕ) → length pred.any ≡ 0 → n ≡ length rows → AreZero done → AreLeft n first done left
-    → AreWordsFrom (map (passes pred) rows) first left
-all_pass pred rows n first done left empty same none made =
-    subst (λ bits. AreWordsFrom bits first left) (ap (λ t. map t rows) (fun_ext (λ r. sym (passes_empty pred.any r empty))))
-    (left_of (λ (r : plain.Row). false) rows n first done left same made (no_lists rows first done none)) where
-      passes_empty : (lists : List (List TypedTest)) (r : plain.Row) → length lists ≡ 0 → ((length lists == 0) || list_any (passes_all r) lists) ≡ true
-      passes_empty lists r e = ap (λ n. (n == 0) || list_any (passes_all r) lists) e
+pub all_pass : (pred : TypedPred) (rows : List plain.Row) (first : ℕ) (base old new : List ℕ) → length pred.any ≡ 0 → AreZero old → length old ≡ length base → AreJoined old base new
+    → HaveNonePast (length rows) first base → AreNarrowed (map (passes pred) rows) first base new
+all_pass pred rows first base old new empty none same adds inside =
+    subst (λ bits. AreNarrowed bits first base new) (empty_passing pred rows empty) (record {
+      long = adds.long ∙ same;
+      each = λ i below k small.
+          adds.each i (omega arith) k small
+          ∙ ap (λ w. is_bit w k || is_bit (get_or base i 0) k) (none i)
+          ∙ ap (λ b. b || is_bit (get_or base i 0) k) (bit_of_zero k)
+          ∙ (narrowed_none rows (length rows) first base refl inside).each i below k small;
+    })
 
 -- where there is one, those that pass one of the lists
-pub some_pass : (pred : TypedPred) (rows : List plain.Row) (first : ℕ) (done : List ℕ) → (length pred.any ≡ 0 → ⊥)
-    → AreWordsFrom (map (λ r. list_any (passes_all r) pred.any) rows) first done → AreWordsFrom (map (passes pred) rows) first done
-some_pass pred rows first done some words =
-    subst (λ bits. AreWordsFrom bits first done) (ap (λ t. map t rows) (fun_ext (λ r. sym (passes_some pred.any r some)))) words where
+pub some_pass : (pred : TypedPred) (rows : List plain.Row) (first : ℕ) (base done : List ℕ) → (length pred.any ≡ 0 → ⊥)
+    → AreNarrowed (map (λ r. list_any (passes_all r) pred.any) rows) first base done → AreNarrowed (map (passes pred) rows) first base done
+some_pass pred rows first base done some words =
+    subst (λ bits. AreNarrowed bits first base done) (ap (λ t. map t rows) (fun_ext (λ r. sym (passes_some pred.any r some)))) words where
       passes_some : (lists : List (List TypedTest)) (r : plain.Row) → (length lists ≡ 0 → ⊥) → ((length lists == 0) || list_any (passes_all r) lists) ≡ list_any (passes_all r) lists
       passes_some [] r other = absurd (other refl)
       passes_some (l ∷ ls) r other = (let e : (length (l ∷ ls) == 0) ≡ false = grind (arith, nat_tests) in ap (λ b. b || list_any (passes_all r) (l ∷ ls)) e)
@@ -211,20 +229,56 @@ small_word word n fits none =
           let f = not_set (bit_at word k) (bit_at-lt word k) (none k below above) in
           omega arith
 
--- words of rows have no bit past them
-pub within_rows : (f : plain.Row → Bool) (rows : List plain.Row) (n first : ℕ) (words : List ℕ) → n ≡ length rows → ((i : ℕ) → get_or words i 0 < 2 ^ 64)
-    → AreWordsFrom (map f rows) first words → AreWithin n first words
-within_rows f rows n first words same fit are i below =
+-- narrowed words have no bit past the rows
+pub within_rows : (bits : List Bool) (n first : ℕ) (base words : List ℕ) → HaveNonePast n first base → ((i : ℕ) → get_or words i 0 < 2 ^ 64)
+    → AreNarrowed bits first base words → AreWithin n first words
+within_rows bits n first base words none fit made i below =
+    let long = made.long in
     small_word (get_or words i 0) (n - 64 * (first + i)) (fit i)
-    (λ k small past. are i below k small ∙ get_or_past (map f rows) (64 * (first + i) + k) false (let e = length-map rows f in omega arith))
+    (λ k small past. made.each i (omega arith) k small
+    ∙ ap (λ b. b && get_or bits (64 * (first + i) + k) false) (none i (omega arith) k small (omega arith)))
+
+-- the place of a row
+place_of : (first row : ℕ) → first ≤ row / 64 → 64 * (first + (row / 64 - first)) + row % 64 ≡ row
+place_of first row from = omega arith
 
 -- the words that were put tell of their rows
-pub rows_told : (bits : List Bool) (words : List ℕ) (first : ℕ) (new : List Bool) → AreWordsFrom bits first words
+pub rows_told : (bits : List Bool) (base words : List ℕ) (first : ℕ) (new : List Bool) → AreNarrowed bits first base words
     → ((row : ℕ) → first ≤ row / 64 → row / 64 < first + length words → get_or new row false ≡ is_bit (get_or words (row / 64 - first) 0) (row % 64))
-    → (row : ℕ) → first ≤ row / 64 → row / 64 < first + length words → get_or new row false ≡ get_or bits row false
-rows_told bits words first new are put row from to =
-    put row from to ∙ are (row / 64 - first) (omega arith) (row % 64) (omega arith)
-    ∙ ap (λ j. get_or bits j false) (let e : 64 * (first + (row / 64 - first)) + row % 64 ≡ row = omega arith in e)
+    → (row : ℕ) → first ≤ row / 64 → row / 64 < first + length base
+    → get_or new row false ≡ (is_bit (get_or base (row / 64 - first) 0) (row % 64) && get_or bits row false)
+rows_told bits base words first new made put row from to =
+    let long = made.long in
+    put row from (omega arith) ∙ made.each (row / 64 - first) (omega arith) (row % 64) (omega arith)
+    ∙ ap (λ j. is_bit (get_or base (row / 64 - first) 0) (row % 64) && get_or bits j false) (place_of first row from)
+
+-- words of all rows have no bit past them
+pub all_inside : (n first : ℕ) (words : List ℕ) → AreOfAll n first words → HaveNonePast n first words
+all_inside n first words are i below k small past = are i below k small ∙ grind (arith, nat_tests)
+
+-- they ask all rows
+pub all_asked : (f : plain.Row → Bool) (rows : List plain.Row) (n first row : ℕ) (words : List ℕ) (member : Bool) → n ≡ length rows → AreOfAll n first words
+    → first ≤ row / 64 → row / 64 < first + length words
+    → member ≡ (is_bit (get_or words (row / 64 - first) 0) (row % 64) && get_or (map f rows) row false) → member ≡ get_or (map f rows) row false
+all_asked f rows n first row words member same are from to told =
+    told ∙ ap (λ b. b && get_or (map f rows) row false) (are (row / 64 - first) (omega arith) (row % 64) (omega arith) ∙ ap (λ j. nat_lt j n) (place_of first row from))
+    ∙ by_place (cases_lt row n) where
+      by_place : (row < n) ⊎ (n ≤ row) → (nat_lt row n && get_or (map f rows) row false) ≡ get_or (map f rows) row false
+      by_place (inl inside) = let e : nat_lt row n ≡ true = grind (arith, nat_tests) in ap (λ b. b && get_or (map f rows) row false) e
+      by_place (inr past) =
+          let e : nat_lt row n ≡ false = grind (arith, nat_tests) in
+          let g = get_or_past (map f rows) row false (let h = length-map rows f in omega arith) in
+          ap (λ b. b && get_or (map f rows) row false) e ∙ sym g
+
+-- words of a set have no bit past its rows
+pub set_inside : (set : List Bool) (n first : ℕ) (words : List ℕ) → length set ≡ n → AreWordsFrom set first words → HaveNonePast n first words
+set_inside set n first words same are i below k small past = are i below k small ∙ get_or_past set (64 * (first + i) + k) false (omega arith)
+
+-- they ask its rows
+pub set_asked : (set bits : List Bool) (first row : ℕ) (words : List ℕ) (member : Bool) → AreWordsFrom set first words → first ≤ row / 64 → row / 64 < first + length words
+    → member ≡ (is_bit (get_or words (row / 64 - first) 0) (row % 64) && get_or bits row false) → member ≡ (get_or set row false && get_or bits row false)
+set_asked set bits first row words member are from to told =
+    told ∙ ap (λ b. b && get_or bits row false) (are (row / 64 - first) (omega arith) (row % 64) (omega arith) ∙ ap (λ j. get_or set j false) (place_of first row from))
 
 -- the front of words of zeros has no bit
 pub zeros_front : (n m : ℕ) → AreZero (take n (replicate m 0))
@@ -280,3 +334,22 @@ pub all_told : (f : plain.Row → Bool) (rows : List plain.Row) (set : List Bool
 all_told f rows set words long all told =
     let e = length-map rows f in
     ext_get_or false set (map f rows) (long ∙ sym e) (λ row inside. told row (omega arith))
+
+-- all rows of a set told
+pub all_left : (bits old new : List Bool) (words : ℕ) → length new ≡ length old → words_for (length old) ≤ words
+    → ((row : ℕ) → row / 64 < words → is_member new row ≡ (is_member old row && is_member bits row))
+    → (row : ℕ) → is_member new row ≡ (is_member old row && is_member bits row)
+all_left bits old new words long all told row = by_place (cases_lt (row / 64) words) where
+  by_place : (row / 64 < words) ⊎ (words ≤ row / 64) → is_member new row ≡ (is_member old row && is_member bits row)
+  by_place (inl inside) = told row inside
+  by_place (inr past) =
+      let e = get_or_past new row false (omega arith) in
+      let f = get_or_past old row false (omega arith) in
+      e ∙ ap (λ b. b && is_member bits row) (sym f)
+
+-- where there is no list, the set stays as it is
+pub all_stay : (pred : TypedPred) (rows : List plain.Row) (set : List Bool) → length pred.any ≡ 0 → length set ≡ length rows
+    → (row : ℕ) → is_member set row ≡ (is_member set row && is_member (map (passes pred) rows) row)
+all_stay pred rows set empty same row =
+    subst (λ bits. is_member set row ≡ (is_member set row && is_member bits row)) (empty_passing pred rows empty)
+    (kept_bit rows (length rows) row (is_member set row) refl (λ past. get_or_past set row false (omega arith)))

@@ -1,5 +1,5 @@
 -- Some words of a mask.
-use Rattle.std.specs.Prelude.{◌≡◌, ℕ, ◌+◌, ◌-◌, ◌*◌, ◌^◌, ◌<◌, Bool, ◌&&◌, ◌||◌, not, nat_lt, List, length, slice_index, slice_index_or, false}
+use Rattle.std.specs.Prelude.{◌≡◌, ℕ, ◌+◌, ◌-◌, ◌*◌, ◌^◌, ◌<◌, ◌≤◌, Bool, ◌&&◌, ◌||◌, not, nat_lt, List, length, slice_index, slice_index_or, false}
 use Rattle.std.specs.List.{All}
 use Rattle.tl_types.specs.Plain as plain
 use Rattle.tl_query.specs.declared.typed_queries.TypedTest.{TypedTest}
@@ -22,12 +22,18 @@ pub record AreNarrowed (bits : List Bool) (first : ℕ) (old new : List ℕ) : T
   pub each : (i : ℕ) → i < length old
       → IsNarrowed bits (first + i) (slice_index old i) (slice_index new i)
 
--- the words have the bits of all of so many rows but for those that are done
-pub record AreLeft (rows first : ℕ) (done left : List ℕ) : Type 0 where
+-- the words have the bits of all of so many rows, from a word on
+abbrev pub AreOfAll : ℕ → ℕ → List ℕ → Type 0
+AreOfAll rows first words =
+    (i : ℕ) → i < length words → (k : ℕ) → k < 64
+    → is_bit (slice_index words i) k ≡ nat_lt (64 * (first + i) + k) rows
+
+-- the words have the bits of some words but for those that are done
+pub record AreLeft (base done left : List ℕ) : Type 0 where
   pub long : length left ≡ length done
   pub each : (i : ℕ) → i < length done → (k : ℕ) → k < 64
       → is_bit (slice_index left i) k
-      ≡ (nat_lt (64 * (first + i) + k) rows && not (is_bit (slice_index done i) k))
+      ≡ (is_bit (slice_index base i) k && not (is_bit (slice_index done i) k))
 
 -- the words have the bits that one of two had
 pub record AreJoined (one two joined : List ℕ) : Type 0 where
@@ -40,6 +46,12 @@ pub record AreJoined (one two joined : List ℕ) : Type 0 where
 abbrev pub AreWithin : ℕ → ℕ → List ℕ → Type 0
 AreWithin rows first words =
     (i : ℕ) → i < length words → slice_index words i < 2 ^ (rows - 64 * (first + i))
+
+-- the same, bit by bit
+abbrev pub HaveNonePast : ℕ → ℕ → List ℕ → Type 0
+HaveNonePast rows first words =
+    (i : ℕ) → i < length words → (k : ℕ) → k < 64 → rows ≤ 64 * (first + i) + k
+    → is_bit (slice_index words i) k ≡ false
 
 -- the tests name columns that are there
 abbrev pub HaveColumns : plain.Database → ℕ → List TypedTest → Type 0

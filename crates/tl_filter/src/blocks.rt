@@ -1,5 +1,5 @@
 //! Blocks of words of one table, worked out together.
-ghost use Rattle.std.specs.Prelude.{◌≡◌, ℕ, ◌+◌, ◌*◌, ◌-◌, ◌^◌, ◌/◌, ◌%◌, ◌<◌, ◌≤◌, Bool, ◌&&◌, false, IsTrue, List, length, map, slice_index, slice_index_or, sum_by};
+ghost use Rattle.std.specs.Prelude.{◌≡◌, ℕ, ◌+◌, ◌*◌, ◌-◌, ◌^◌, ◌/◌, ◌%◌, ◌<◌, ◌≤◌, Bool, ◌&&◌, ◌||◌, false, IsTrue, List, length, map, slice_index, slice_index_or, sum_by};
 ghost use Rattle.std.specs.List.{All, list_any};
 ghost use Rattle.tl_types.specs.Plain as plain;
 ghost use Rattle.tl_types.specs.History.{database_of, rows_of};
@@ -7,14 +7,17 @@ ghost use Rattle.tl_query.specs.Passing.{passes_all};
 ghost use Rattle.tl_lanes.specs.Masks.{is_bit, words_for};
 ghost use Rattle.tl_bits.specs.Sets.{is_member};
 ghost use Rattle.tl_filter.specs.Selecting.{rows_that_pass, tests_in};
-ghost use Rattle.tl_filter.specs.Words.{AreWordsFrom, AreZero, HaveColumns};
+ghost use Rattle.tl_filter.specs.Words.{AreNarrowed, AreZero, HaveColumns, HaveNonePast};
 
-use crate::words::{join, leave, narrow, put_words};
+use crate::words::{all_words, join, leave, narrow, put_words, read_words};
 use std::sync::ledger::Ledger;
 use tl_bits::RowSet;
 use tl_query::{TypedPred, TypedTest};
 use tl_store::Store;
 use tl_types::{Seq, Steps};
+
+/// How many words are worked out together.
+pub(crate) const WORDS: usize = 512;
 
 /// Where a block stands: in the masks of a table, from a word on.
 #[derive(Clone, Copy)]
@@ -37,10 +40,10 @@ fn narrow_all<L: Ledger>(
 )
     requires columns { HaveColumns (database_of store.now) block.table tests.now }
     requires small { 64 * (block.first + length words.old) < 2 ^ 32 }
-    ensures long { length words.new ≡ length words.old }
+    requires inside { let rows = rows_of (database_of store.now) block.table in
+        HaveNonePast (length rows) block.first words.old }
     ensures bits { let rows = rows_of (database_of store.now) block.table in
-        (f : plain.Row → Bool) → AreWordsFrom (map f rows) block.first words.old
-        → AreWordsFrom (map (λ r. f r && passes_all r tests.now) rows) block.first words.new }
+        AreNarrowed (map (λ r. passes_all r tests.now) rows) block.first words.old words.new }
     ensures steps { steps.new ≤ steps.old + length tests.now * length words.old }
 {
     for test in tests {
@@ -53,66 +56,125 @@ fn narrow_all<L: Ledger>(
     }
 }
 
-// Adds to the words, which have no bit yet, those of the rows that pass all tests of one of the
-// lists. A list is asked of the rows that no list before it let pass: `left` holds them.
+// Adds to the words `done` those bits of `base` whose rows pass all of the tests. These are asked
+// of the rows that are not done yet.
+fn pass_list<L: Ledger>(
+    store: &Store,
+    block: Block,
+    base: &[u64],
+    tests: &[TypedTest],
+    done: &mut [u64],
+    steps: &mut Steps<L>,
+)
+    requires columns { HaveColumns (database_of store.now) block.table tests.now }
+    requires small { 64 * (block.first + length base.now) < 2 ^ 32 }
+    requires room { length base.now ≤ WORDS }
+    requires long { length done.old ≡ length base.now }
+    requires inside { let rows = rows_of (database_of store.now) block.table in
+        HaveNonePast (length rows) block.first base.now }
+    ensures long { length done.new ≡ length done.old }
+    ensures bits { let rows = rows_of (database_of store.now) block.table in
+        (f : plain.Row → Bool) → AreNarrowed (map f rows) block.first base.now done.old
+        → AreNarrowed (map (λ r. f r || passes_all r tests.now) rows) block.first
+        base.now done.new }
+    ensures steps { steps.new ≤ steps.old + length tests.now * length base.now }
+{
+    let mut left = [0; WORDS];
+    let left = &mut left[..base.len()];
+    leave(left, base, done);
+    narrow_all(store, block, tests, left, steps);
+    join(done, left);
+}
+
+// Adds to the words `done`, which have no bit yet, those bits of `base` whose rows pass all tests
+// of one of the lists. A list is asked of the rows that no list before it let pass.
 fn pass_lists<L: Ledger>(
     store: &Store,
     block: Block,
+    base: &[u64],
     lists: &[Seq<TypedTest>],
     done: &mut [u64],
-    left: &mut [u64],
     steps: &mut Steps<L>,
 )
     requires columns { All (HaveColumns (database_of store.now) block.table) lists.now }
-    requires rows { block.rows ≡ length (rows_of (database_of store.now) block.table) }
-    requires within { 64 * (block.first + length done.old) < block.rows + 64 }
-    requires few { block.rows ≤ 16777216 }
-    requires long { length left.old ≡ length done.old }
+    requires small { 64 * (block.first + length base.now) < 2 ^ 32 }
+    requires room { length base.now ≤ WORDS }
+    requires long { length done.old ≡ length base.now }
+    requires inside { let rows = rows_of (database_of store.now) block.table in
+        HaveNonePast (length rows) block.first base.now }
     requires none { AreZero done.old }
-    ensures long { length done.new ≡ length done.old }
-    ensures bits { AreWordsFrom
-        (map (λ r. list_any (passes_all r) lists.now)
-        (rows_of (database_of store.now) block.table)) block.first done.new }
-    ensures steps { steps.new ≤ steps.old + sum_by length lists.now * length done.old }
+    ensures bits { let rows = rows_of (database_of store.now) block.table in
+        AreNarrowed (map (λ r. list_any (passes_all r) lists.now) rows) block.first
+        base.now done.new }
+    ensures steps { steps.new ≤ steps.old + sum_by length lists.now * length base.now }
 {
     for tests in lists {
-        leave(left, done, block.rows, block.first);
-        narrow_all(store, block, tests.as_slice(), left, steps);
-        join(done, left);
+        pass_list(store, block, base, tests.as_slice(), done, steps);
     }
 }
 
-// Puts into the words, which have no bit yet, those of the rows that pass.
+// Puts into the words `done`, which have no bit yet, those bits of `base` whose rows pass.
 fn pass<L: Ledger>(
     store: &Store,
     block: Block,
+    base: &[u64],
     pred: &TypedPred,
     done: &mut [u64],
-    left: &mut [u64],
+    steps: &mut Steps<L>,
+)
+    requires columns { All (HaveColumns (database_of store.now) block.table) pred.now.any }
+    requires small { 64 * (block.first + length base.now) < 2 ^ 32 }
+    requires room { length base.now ≤ WORDS }
+    requires long { length done.old ≡ length base.now }
+    requires inside { let rows = rows_of (database_of store.now) block.table in
+        HaveNonePast (length rows) block.first base.now }
+    requires none { AreZero done.old }
+    ensures fits { (i : ℕ) → slice_index done.new i < 2 ^ 64 }
+    ensures bits { AreNarrowed
+        (rows_that_pass (database_of store.now) block.table pred.now) block.first
+        base.now done.new }
+    ensures steps { steps.new ≤ steps.old + tests_in pred.now * length base.now }
+{
+    if pred.any.is_empty() {
+        join(done, base);
+    } else {
+        pass_lists(store, block, base, pred.any.as_slice(), done, steps);
+    }
+}
+
+// Puts into the set of the rows of a block those of the bits of `base` that pass, and takes the
+// others out. It takes at most a step for each word and test.
+fn pass_block<L: Ledger>(
+    store: &Store,
+    block: Block,
+    base: &[u64],
+    pred: &TypedPred,
+    into: &mut RowSet,
     steps: &mut Steps<L>,
 )
     requires columns { All (HaveColumns (database_of store.now) block.table) pred.now.any }
     requires rows { block.rows ≡ length (rows_of (database_of store.now) block.table) }
-    requires within { 64 * (block.first + length done.old) < block.rows + 64 }
+    requires set { length into.old ≡ block.rows }
+    requires within { block.first + length base.now ≤ words_for block.rows }
     requires few { block.rows ≤ 16777216 }
-    requires long { length left.old ≡ length done.old }
-    requires none { AreZero done.old }
-    requires nothing { AreZero left.old }
-    ensures long { length done.new ≡ length done.old }
-    ensures fits { (i : ℕ) → slice_index done.new i < 2 ^ 64 }
-    ensures bits { AreWordsFrom
-        (rows_that_pass (database_of store.now) block.table pred.now) block.first done.new }
-    ensures steps { steps.new ≤ steps.old + tests_in pred.now * length done.old }
+    requires room { length base.now ≤ WORDS }
+    requires inside { HaveNonePast block.rows block.first base.now }
+    ensures rows { length into.new ≡ length into.old }
+    ensures kept { (row : ℕ) → row / 64 < block.first
+        → is_member into.new row ≡ is_member into.old row }
+    ensures behind { (row : ℕ) → block.first + length base.now ≤ row / 64
+        → is_member into.new row ≡ is_member into.old row }
+    ensures put { (row : ℕ) → block.first ≤ row / 64 → row / 64 < block.first + length base.now
+        → is_member into.new row
+        ≡ (is_bit (slice_index base.now (row / 64 - block.first)) (row % 64)
+        && is_member (rows_that_pass (database_of store.now) block.table pred.now) row) }
+    ensures steps { steps.new ≤ steps.old + tests_in pred.now * length base.now }
 {
-    if pred.any.is_empty() {
-        leave(done, left, block.rows, block.first);
-    } else {
-        pass_lists(store, block, pred.any.as_slice(), done, left, steps);
-    }
+    let mut done = [0; WORDS];
+    let done = &mut done[..base.len()];
+    pass(store, block, base, pred, done, steps);
+    put_words(into, done, block.first);
 }
-
-/// How many words are worked out together.
-pub(crate) const WORDS: usize = 512;
 
 /// Puts into the set which rows of a block pass: of `count` words, which are as many as there are,
 /// up to 512. It takes at most a step for each word and test.
@@ -138,10 +200,40 @@ pub(crate) fn select_block<L: Ledger>(
         ≡ is_member (rows_that_pass (database_of store.now) block.table pred.now) row }
     ensures steps { steps.new ≤ steps.old + tests_in pred.now * count }
 {
-    let mut done = [0; WORDS];
-    let mut left = [0; WORDS];
-    let done = &mut done[..count];
-    let left = &mut left[..count];
-    pass(store, block, pred, done, left, steps);
-    put_words(into, done, block.first);
+    let mut base = [0; WORDS];
+    let base = &mut base[..count];
+    all_words(base, block.rows, block.first);
+    pass_block(store, block, base, pred, into, steps);
+}
+
+/// Leaves in the set the rows of a block that pass: of `count` words, up to 512. It takes at most a
+/// step for each word and test, and one more for each word.
+pub(crate) fn narrow_block<L: Ledger>(
+    store: &Store,
+    block: Block,
+    count: usize,
+    pred: &TypedPred,
+    set: &mut RowSet,
+    steps: &mut Steps<L>,
+)
+    requires columns { All (HaveColumns (database_of store.now) block.table) pred.now.any }
+    requires rows { block.rows ≡ length (rows_of (database_of store.now) block.table) }
+    requires set { length set.old ≡ block.rows }
+    requires within { block.first + count ≤ words_for block.rows }
+    requires few { block.rows ≤ 16777216 }
+    requires room { count ≤ WORDS }
+    ensures rows { length set.new ≡ length set.old }
+    ensures kept { (row : ℕ) → row / 64 < block.first
+        → is_member set.new row ≡ is_member set.old row }
+    ensures behind { (row : ℕ) → block.first + count ≤ row / 64
+        → is_member set.new row ≡ is_member set.old row }
+    ensures left { (row : ℕ) → block.first ≤ row / 64 → row / 64 < block.first + count
+        → is_member set.new row ≡ (is_member set.old row
+        && is_member (rows_that_pass (database_of store.now) block.table pred.now) row) }
+    ensures steps { steps.new ≤ steps.old + tests_in pred.now * count + count }
+{
+    let mut base = [0; WORDS];
+    let base = &mut base[..count];
+    read_words(set, base, block.first, steps);
+    pass_block(store, block, base, pred, set, steps);
 }

@@ -6,4 +6,4 @@ mod blocks;
 mod selects;
 mod words;
 
-pub use selects::select;
+pub use selects::{select, select_within};

@@ -2,7 +2,7 @@
 ghost use Rattle.std.specs.Prelude.{◌≡◌, ℕ, ◌+◌, ◌*◌, ◌-◌, ◌^◌, ◌/◌, ◌%◌, ◌<◌, ◌≤◌, nat_lt, length, slice_index};
 ghost use Rattle.tl_lanes.specs.Masks.{is_bit, words_for};
 ghost use Rattle.tl_bits.specs.Sets.{is_member};
-ghost use Rattle.tl_filter.specs.Words.{IsNarrowed, AreNarrowed, AreLeft, AreJoined, AreWithin};
+ghost use Rattle.tl_filter.specs.Words.{IsNarrowed, AreNarrowed, AreOfAll, AreLeft, AreJoined, AreWithin, AreWordsFrom};
 
 use std::sync::ledger::Ledger;
 use tl_bits::RowSet;
@@ -19,14 +19,43 @@ fn all_word(rows: u32, i: u32) -> u64
     if left < 64 { (1 << left) - 1 } else { u64::MAX }
 }
 
-/// Leaves of each word of all of so many rows, from word `first` on, the bits that are not done.
-pub(crate) fn leave(left: &mut [u64], done: &[u64], rows: u32, first: u32)
+/// Makes the words those of the mask of all of so many rows, from word `first` on.
+pub(crate) fn all_words(words: &mut [u64], rows: u32, first: u32)
+    requires { 64 * (first + length words.old) < rows + 64 }
+    ensures long { length words.new ≡ length words.old }
+    ensures bits { AreOfAll rows first words.new }
+{
+    for i in 0..words.len() {
+        words[i] = all_word(rows, first + i as u32);
+    }
+}
+
+/// Makes the words those of a set, from word `first` on. It takes a step for each word.
+pub(crate) fn read_words<L: Ledger>(
+    set: &RowSet,
+    words: &mut [u64],
+    first: u32,
+    steps: &mut Steps<L>,
+)
+    requires place { first + length words.old ≤ words_for (length set.now) }
+    requires few { length set.now ≤ 16777216 }
+    ensures long { length words.new ≡ length words.old }
+    ensures bits { AreWordsFrom set.now first words.new }
+    ensures steps { steps.new ≤ steps.old + length words.old }
+{
+    for i in 0..words.len() {
+        words[i] = set.word(first + i as u32, steps);
+    }
+}
+
+/// Leaves of each of the words `base` the bits that are not done.
+pub(crate) fn leave(left: &mut [u64], base: &[u64], done: &[u64])
     requires long { length left.old ≡ length done.now }
-    requires within { 64 * (first + length done.now) < rows + 64 }
-    ensures { AreLeft rows first done.now left.new }
+    requires base { length base.now ≡ length done.now }
+    ensures { AreLeft base.now done.now left.new }
 {
     for i in 0..done.len() {
-        left[i] = all_word(rows, first + i as u32) & !done[i];
+        left[i] = base[i] & !done[i];
     }
 }
 
@@ -75,6 +104,8 @@ pub(crate) fn put_words(set: &mut RowSet, words: &[u64], first: u32)
     requires within { AreWithin (length set.old) first words.now }
     ensures rows { length set.new ≡ length set.old }
     ensures kept { (row : ℕ) → row / 64 < first → is_member set.new row ≡ is_member set.old row }
+    ensures behind { (row : ℕ) → first + length words.now ≤ row / 64
+        → is_member set.new row ≡ is_member set.old row }
     ensures put { (row : ℕ) → first ≤ row / 64 → row / 64 < first + length words.now
         → is_member set.new row ≡ is_bit (slice_index words.now (row / 64 - first)) (row % 64) }
 {

@@ -24,7 +24,7 @@ use Rattle.tl_agg.specs.Kept.{both, picked, kept_at}
 use Rattle.tl_agg.specs.Tables.{rows_in}
 use Rattle.tl_agg.specs.Groups.{Asked, kept_in, value_at, has_rows, State, IsNone, IsAdvanced, Tracks, HoldsIn, EachAdvanced, grouped, AreAdvanced}
 use Rattle.tl_agg.specs.Runs.{kept_with, runs_by, system_runs}
-use Rattle.tl_agg.specs.Scans.{ScanOf, asked_of, keep_with, Groups, TrackBy, AllTrack}
+use Rattle.tl_agg.specs.Scans.{ScanOf, asked_of, keep_with, Groups, AreAllAdvanced, TrackBy, AllTrack}
 use Rattle.tl_agg.specs.Values.{has, Rises}
 use Rattle.tl_agg.proofs.CellLemmas.{cell_self, cell_symm, cell_equal, before_apart, values_same, has_fold, rises_fold}
 use Rattle.tl_agg.proofs.GroupLemmas.{has_told, past_more, advances_made}
@@ -70,10 +70,10 @@ rows_with scan by value (negsuc n) = refl
 
 -- THE VALUES OF RUNS
 
-abbrev IsRunOf : (ℤ → Field) → ℤ → ℤ → Run → Type 0
+abbrev pub IsRunOf : (ℤ → Field) → ℤ → ℤ → Run → Type 0
 IsRunOf f from to run = (from ≤ℤ run.from) × (run.from <ℤ to) × (run.value ≡ f run.from)
 
-abbrev AreRunsOf : (ℤ → Field) → ℤ → ℤ → List Run → Type 0
+abbrev pub AreRunsOf : (ℤ → Field) → ℤ → ℤ → List Run → Type 0
 AreRunsOf f from to [] = Unit {0}
 AreRunsOf f from to (run ∷ runs) = IsRunOf f from to run × AreRunsOf f from to runs
 
@@ -98,13 +98,13 @@ runs_are_over f from (suc n) =
     let b : (from +ℤ pos n) <ℤ (from +ℤ pos (suc n)) = omega (arith, ints) in
     runs_add f from (from +ℤ pos (suc n)) (runs_over f from n) (stretch_of (from +ℤ pos n) (from +ℤ pos n +ℤ pos 1) (f (from +ℤ pos n))) (runs_wider f from (from +ℤ pos n) (from +ℤ pos (suc n)) (runs_over f from n) l (runs_are_over f from n)) (a, b, refl)
 
-runs_are : (f : ℤ → Field) (from to : ℤ) → from ≤ℤ to → AreRunsOf f from to (runs_of f from to)
+pub runs_are : (f : ℤ → Field) (from to : ℤ) → from ≤ℤ to → AreRunsOf f from to (runs_of f from to)
 runs_are f from to l =
     let n = count_is (to -ℤ from) (omega (arith, ints)) in
     let e : from +ℤ pos (count_of (to -ℤ from)) ≡ to = omega (arith, ints) in
     subst (λ z. AreRunsOf f from z (runs_of f from to)) e (runs_are_over f from (count_of (to -ℤ from)))
 
-filter_same : (f : ℤ → Field) (from to : ℤ) (P Q : Run → Bool) (runs : List Run) → AreRunsOf f from to runs → ((run : Run) → IsRunOf f from to run → P run ≡ Q run) → filter P runs ≡ filter Q runs
+pub filter_same : (f : ℤ → Field) (from to : ℤ) (P Q : Run → Bool) (runs : List Run) → AreRunsOf f from to runs → ((run : Run) → IsRunOf f from to run → P run ≡ Q run) → filter P runs ≡ filter Q runs
 filter_same f from to P Q [] are same = refl
 filter_same f from to P Q (run ∷ runs) are same = ap (λ b. cond b (run ∷ filter P runs) (filter P runs)) (same run are.0) ∙ ap (λ xs. cond (Q run) (run ∷ xs) xs) (filter_same f from to P Q runs are.1 same)
 
@@ -303,26 +303,30 @@ not_found (e ∷ es) z out =
 
 -- ALL VALUES
 
-grouped_told : (scan : ScanOf) (by : ℕ) (set : List Bool) (groups : Groups) (es : List (Cell × State)) (rs : List (List Run)) → is_some scan.plan.by ≡ true → scan.from ≤ scan.to → TrackBy (Some by) scan set scan.to groups → AllFound groups.by es → EachAdvanced es scan.to rs
+grouped_told : (scan : ScanOf) (by : ℕ) (set : List Bool) (groups all es : List (Cell × State)) (rs : List (List Run)) → is_some scan.plan.by ≡ true → scan.from ≤ scan.to → ((value : Cell) → HoldsIn (asked_of scan (keep_with scan by value)) set scan.to (lookup (same_cell value) groups))
+    → ((value : Cell) → lookup (same_cell value) all ≡ lookup (same_cell value) groups) → AllFound all es → EachAdvanced es scan.to rs
     → grouped es rs ≡ flat_map (runs_with scan by) (map (λ (e : Cell × State). e.0) es)
-grouped_told scan by set groups [] [] gaps l tracks found each = refl
-grouped_told scan by set groups [] (r ∷ rs) gaps l tracks found each = absurd each
-grouped_told scan by set groups (e ∷ es) [] gaps l tracks found each = absurd each
-grouped_told scan by set groups (e ∷ es) (r ∷ rs) gaps l tracks found each =
-    let own : Tracks (asked_of scan (keep_with scan by e.0)) set scan.to e.1 = subst (HoldsIn (asked_of scan (keep_with scan by e.0)) set scan.to) found.0 (tracks e.0) in
+grouped_told scan by set groups all [] [] gaps l tracks same found each = refl
+grouped_told scan by set groups all [] (r ∷ rs) gaps l tracks same found each = absurd each
+grouped_told scan by set groups all (e ∷ es) [] gaps l tracks same found each = absurd each
+grouped_told scan by set groups all (e ∷ es) (r ∷ rs) gaps l tracks same found each =
+    let own : Tracks (asked_of scan (keep_with scan by e.0)) set scan.to e.1 = subst (HoldsIn (asked_of scan (keep_with scan by e.0)) set scan.to) (sym (same e.0) ∙ found.0) (tracks e.0) in
     ap (λ xs. xs ++ grouped es rs) (group_told scan by e.0 set e.1 r gaps l own each.0)
-    ∙ ap (λ xs. runs_with scan by e.0 ++ xs) (grouped_told scan by set groups es rs gaps l tracks found.1 each.1)
+    ∙ ap (λ xs. runs_with scan by e.0 ++ xs) (grouped_told scan by set groups all es rs gaps l tracks same found.1 each.1)
 
-pub groups_told : (scan : ScanOf) (by : ℕ) (set : List Bool) (groups : Groups) (runs : List Run) → scan.plan.by ≡ Some by → scan.from ≤ scan.to → AllTrack scan set scan.to groups → Rises (map (λ (e : Cell × State). e.0) groups.by) → AreAdvanced groups.by scan.to runs
+pub groups_told : (scan : ScanOf) (by : ℕ) (set : List Bool) (groups : Groups) (runs : List Run) → scan.plan.by ≡ Some by → scan.from ≤ scan.to → AllTrack scan set scan.to groups → AreAllAdvanced groups.by scan.to runs
     → runs ≡ system_runs scan.plan (rows_in scan.table) scan.keep scan.from scan.to
-groups_told scan by set groups runs by_is l tracks up are =
+groups_told scan by set groups runs by_is l tracks all =
     let gaps = ap is_some by_is in
     let rows = rows_in scan.table in
-    let keys = map (λ (e : Cell × State). e.0) groups.by in
+    let sorted = all.sorted in
+    let up = all.are.rises in
+    let are = all.advanced in
+    let keys = map (λ (e : Cell × State). e.0) sorted in
     let own : TrackBy (Some by) scan set scan.to groups = subst (λ b. TrackBy b scan set scan.to groups) by_is tracks in
     are.all_are
-    ∙ grouped_told scan by set groups groups.by are.runs gaps l own (all_found groups.by up) are.each
+    ∙ grouped_told scan by set groups.by sorted sorted are.runs gaps l own.1 all.are.same (all_found sorted up) are.each
     ∙ flat_same (runs_with scan by) keys (values_of by rows) up (rises_fold [] (filter_map (λ (row : plain.Row). cell_at row.cells by) rows) tt)
-    (λ z out. none_told scan by z set gaps l (subst (HoldsIn (asked_of scan (keep_with scan by z)) set scan.to) (not_found groups.by z out) (own z)))
+    (λ z out. none_told scan by z set gaps l (subst (HoldsIn (asked_of scan (keep_with scan by z)) set scan.to) (sym (all.are.same z) ∙ not_found sorted z out) (own.1 z)))
     (λ z out. absent_told scan by z out)
     ∙ ap (λ b. runs_by scan.plan.kind scan.plan.column b rows scan.keep scan.from scan.to) (sym by_is)

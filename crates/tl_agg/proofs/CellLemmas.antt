@@ -16,6 +16,7 @@ use Rattle.std.proofs.lemmas.Map.Text.{is_eq-slice_cmp}
 use Rattle.tl_types.specs.declared.cells.Cell.{Cell}
 use Rattle.tl_types.specs.declared.cells.Cell.TheVariants as cell
 use Rattle.tl_types.specs.contracts.cells.CellOrd.TheImpl as cells
+use Rattle.tl_types.specs.contracts.cells.CellPartialEq.TheImpl as same
 use Rattle.tl_types.specs.History.{same_cell}
 use Rattle.tl_types.proofs.ValidEventOrder.{int_before}
 use Rattle.tl_agg.specs.Values.{has, Rises}
@@ -61,6 +62,16 @@ cell_same_is (cell.Int i) (cell.Int j) = refl
 cell_same_is (cell.Int i) (cell.Text t) = refl
 cell_same_is (cell.Text s) (cell.Int j) = refl
 cell_same_is (cell.Text s) (cell.Text t) = is_eq-slice_cmp s t
+
+pub eq_is : (x y : Cell) → same.eq-value.it x y ≡ same_cell x y
+eq_is (cell.Int i) (cell.Int j) = refl
+eq_is (cell.Int i) (cell.Text t) = refl
+eq_is (cell.Text s) (cell.Int j) = refl
+eq_is (cell.Text s) (cell.Text t) = refl
+
+pub ruleset same_cells = (eq_is)
+
+pub ruleset cells_before = (cell_before_is)
 
 pub cell_symm : (x y : Cell) → same_cell x y ≡ same_cell y x
 cell_symm (cell.Int i) (cell.Int j) = int_eq_equiv.symm i j

@@ -26,7 +26,7 @@ use Rattle.tl_running.specs.Touching.{add_touching}
 use Rattle.tl_running.proofs.StandingLemmas.{has_room, row_enters, can_leave, row_leaves, numbers_same}
 use Rattle.tl_running.proofs.TouchLemmas.{left_touching, cover_runs}
 use Rattle.tl_agg.specs.Kept.{picked}
-use Rattle.tl_agg.specs.Groups.{Asked, kept_in, value_at, has_rows, runs_to, State, put_stretch, advanced_runs, Advances, MovesRow, CanMoveRow, Tracks}
+use Rattle.tl_agg.specs.Groups.{Asked, kept_in, value_at, has_rows, runs_to, State, put_stretch, stretch_to, advanced_runs, Advances, Shifts, Moves, MovesRow, CanMoveRow, Tracks}
 use Rattle.tl_agg.proofs.KeptLemmas.{row_in, row_out, row_left, picked_few}
 
 -- ROWS THAT HAVE A NUMBER
@@ -243,6 +243,36 @@ tracks_moved asked set at old new event r long is turn kept tracks moved =
     }
 
 -- OTHER STEPS
+
+-- a change at the version up to which the runs reach
+pub shift_moves : (old new : State) (at : ℕ) (opens : Bool) (n : ℤ) → old.since ≡ at → Shifts old new opens n → Moves old new at opens n
+shift_moves old new at opens n since shifts = record {
+  middle = old;
+  advances = record { running = refl; gaps = refl; since = λ l. since; runs = λ column rows stands suits. no_more (put_stretch old.gaps old.running.count old.runs (stretch_to old at column rows)) };
+  changes = shifts.changes;
+  since = shifts.since;
+  runs = shifts.runs;
+  gaps = shifts.gaps;
+} where
+  no_more : (more : List Run) → old.runs ≡ cond (nat_lt old.since at) more old.runs
+  no_more more = let e : nat_lt old.since at ≡ false = grind (arith, nat_tests) in sym (ap (λ b. cond b more old.runs) e)
+
+-- the runs are made to reach up to a version
+pub tracks_advanced : (asked : Asked) (set : List Bool) (at : ℕ) (old new : State) → Tracks asked set at old → Advances old new at → Tracks asked set at new
+tracks_advanced asked set at old new tracks advances =
+    let since : new.since ≡ at = advances.since tracks.before in
+    let after = tracks.after in
+    let before = tracks.before in record {
+      kind = ap (λ (k : Kept). k.kind) advances.running ∙ tracks.kind;
+      gaps = advances.gaps ∙ tracks.gaps;
+      stands = subst (λ k. StandsFor k asked.column (kept_in asked set)) (sym advances.running) tracks.stands;
+      suits = tracks.suits;
+      after = omega arith;
+      before = omega arith;
+      made = advances_made asked set at old new tracks advances ∙ ap (runs_to asked) (sym since);
+      same = λ v l h. absurd (omega arith);
+      past = λ v l h. past_more asked set at old tracks v l (omega arith);
+    }
 
 -- a group depends on the kept rows of a set alone
 pub tracks_same : (asked : Asked) (set other : List Bool) (at : ℕ) (group : State) → kept_in asked set ≡ kept_in asked other → Tracks asked set at group → Tracks asked other at group

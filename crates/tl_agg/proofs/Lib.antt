@@ -2,9 +2,12 @@ pub mod NumberLemmas
 pub mod KeptLemmas
 pub mod GroupLemmas
 pub mod CellLemmas
+pub mod PlaceLemmas
 pub mod StepLemmas
 pub mod StartLemmas
 pub mod PieceLemmas
 pub mod ByLemmas
 pub mod JoinLemmas
+pub mod GroupedLemmas
+pub mod TypedLemmas
 pub mod PassLemmas

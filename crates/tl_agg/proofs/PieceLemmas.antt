@@ -57,10 +57,13 @@ none_tracks asked set group empty none =
 
 start_by : (by : Option ℕ) (scan : ScanOf) (start : List Bool) (groups : Groups) → AreNone groups scan.plan.kind (is_some scan.plan.by) scan.from → TrackBy by scan (below 0 start) scan.from groups
 start_by None scan start groups none = none_tracks (asked_of scan scan.keep) (below 0 start) groups.all (none_below start scan.keep (rows_in scan.table)) none.all
-start_by (Some by) scan start groups none = λ value.
-    let keep = keep_with scan by value in
-    subst (λ entries. HoldsIn (asked_of scan keep) (below 0 start) scan.from (lookup (same_cell value) entries)) (sym none.by)
-    (λ group is. none_tracks (asked_of scan keep) (below 0 start) group (none_below start keep (rows_in scan.table)) is)
+start_by (Some by) scan start groups none = (
+  none.numbered,
+  λ value.
+      let keep = keep_with scan by value in
+      subst (λ entries. HoldsIn (asked_of scan keep) (below 0 start) scan.from (lookup (same_cell value) entries)) (sym none.by)
+      (λ group is. none_tracks (asked_of scan keep) (below 0 start) group (none_below start keep (rows_in scan.table)) is),
+)
 
 pub start_tracks : (scan : ScanOf) (start : List Bool) (groups : Groups) → AreNone groups scan.plan.kind (is_some scan.plan.by) scan.from → AllTrack scan (below 0 start) scan.from groups
 start_tracks scan start groups none = start_by scan.plan.by scan start groups none

@@ -29,9 +29,10 @@ use Rattle.tl_query.specs.Passing.{compare_cells}
 use Rattle.tl_agg.proofs.StartLemmas.{next_turns, next_below, rest_below}
 use Rattle.tl_running.specs.Standing.{IsShort}
 use Rattle.tl_agg.specs.Tables.{TableOf, rows_in, TellsNumber, HasKey, IsNextEntry}
-use Rattle.tl_agg.specs.Groups.{Asked, State, IsNone, IsOne, HoldsIn, Tracks, Moves, MovesRow, CanMoveRow}
-use Rattle.tl_agg.specs.Scans.{ScanOf, IsScan, asked_of, keep_with, Turns, set_after, Groups, group_of, TrackBy, AllTrack, IsReady, TakesEvent}
-use Rattle.tl_agg.proofs.GroupLemmas.{can_move, tracks_moved, tracks_left, tracks_later}
+use Rattle.tl_agg.specs.Groups.{Asked, State, IsNone, IsOne, HoldsIn, Tracks, Advances, Shifts, MovesRow, CanMoveRow}
+use Rattle.tl_agg.specs.Scans.{ScanOf, IsScan, asked_of, keep_with, Turns, set_after, Groups, group_of, AreNumbered, HasPlace, CanMoveAt, MovesAt, TrackBy, AllTrack, IsReady, TakesEvent}
+use Rattle.tl_agg.proofs.GroupLemmas.{can_move, tracks_moved, tracks_advanced, shift_moves, tracks_left, tracks_later}
+use Rattle.tl_agg.proofs.PlaceLemmas.{moved_place}
 
 -- ONE EVENT
 
@@ -59,12 +60,15 @@ pub all_map : (by : Option ℕ) (scan : ScanOf) (set other : List Bool) (at next
     → ((keep : List Bool) → IsPart scan keep → (group : State) → Tracks (asked_of scan keep) set at group → Tracks (asked_of scan keep) other next group)
     → TrackBy by scan set at groups → TrackBy by scan other next groups
 all_map None scan set other at next groups step tracks = step scan.keep (record { out = λ row h. h; again = λ set. both_again set scan.keep }) groups.all tracks
-all_map (Some by) scan set other at next groups step tracks = λ value.
-    let keep = keep_with scan by value in
-    let test = map (has_value by value) (rows_in scan.table) in
-    holds_map (asked_of scan keep) set other at next (group_of groups value)
-    (step keep (record { out = λ row h. both_out scan.keep test row h; again = λ set. both_less set scan.keep test }))
-    (tracks value)
+all_map (Some by) scan set other at next groups step tracks = (
+  tracks.0,
+  λ value.
+      let keep = keep_with scan by value in
+      let test = map (has_value by value) (rows_in scan.table) in
+      holds_map (asked_of scan keep) set other at next (group_of groups value)
+      (step keep (record { out = λ row h. both_out scan.keep test row h; again = λ set. both_less set scan.keep test }))
+      (tracks.1 value),
+)
 
 -- ONE EVENT OF ALL ROWS
 
@@ -86,10 +90,26 @@ taken_by None scan at set event old new is kept turns moved tracks =
     let r = row_with (rows_in scan.table) event.row (turn_inside (rows_in scan.table) set event turns) in
     tracks_moved (asked_of scan scan.keep) set at old.all new.all event r.0 turns.long r.1 turns.turn kept tracks moved
 
-pub takes_moved : (scan : ScanOf) (at : ℕ) (event : Event) (old new : Groups) (n : ℤ) → scan.plan.by ≡ None → is_member scan.keep event.row ≡ true → TellsNumber scan.plan.kind scan.plan.column (rows_in scan.table) event.row n → IsShort n
-    → Moves old.all new.all at event.opens n → TakesEvent scan at event old new
-takes_moved scan at event old new n is kept told short moves = λ set turns tracks.
-    taken_by scan.plan.by scan at set event old new is kept turns (record { number = n; told = told; short = short; moves = moves }) tracks
+pub takes_shifted : (scan : ScanOf) (at : ℕ) (event : Event) (old new : Groups) (n : ℤ) → scan.plan.by ≡ None → is_member scan.keep event.row ≡ true → TellsNumber scan.plan.kind scan.plan.column (rows_in scan.table) event.row n → IsShort n
+    → old.all.since ≡ at → Shifts old.all new.all event.opens n → TakesEvent scan at event old new
+takes_shifted scan at event old new n is kept told short since shifts = λ set turns tracks.
+    taken_by scan.plan.by scan at set event old new is kept turns (record { number = n; told = told; short = short; moves = shift_moves old.all new.all at event.opens n since shifts }) tracks
+
+-- before the events of a version the runs of the group of all rows are made to reach up to it
+advanced_by : (by : Option ℕ) (scan : ScanOf) (at : ℕ) (set : List Bool) (old new : Groups) → by ≡ None → Advances old.all new.all at → TrackBy by scan set at old → TrackBy by scan set at new × (new.all.since ≡ at)
+advanced_by (Some b) scan at set old new is advances tracks = absurd (cc)
+advanced_by None scan at set old new is advances tracks = (tracks_advanced (asked_of scan scan.keep) set at old.all new.all tracks advances, advances.since tracks.before)
+
+pub all_advanced : (scan : ScanOf) (at : ℕ) (set : List Bool) (old new : Groups) → scan.plan.by ≡ None → Advances old.all new.all at → AllTrack scan set at old → AllTrack scan set at new × (new.all.since ≡ at)
+all_advanced scan at set old new is advances tracks = advanced_by scan.plan.by scan at set old new is advances tracks
+
+-- at the first version these reach up to it
+first_by : (by : Option ℕ) (scan : ScanOf) (set : List Bool) (groups : Groups) → by ≡ None → TrackBy by scan set scan.from groups → groups.all.since ≡ scan.from
+first_by (Some b) scan set groups is tracks = absurd (cc)
+first_by None scan set groups is tracks = let after = tracks.after in let before = tracks.before in omega arith
+
+pub first_since : (scan : ScanOf) (set : List Bool) (groups : Groups) → AllTrack scan set scan.from groups → scan.plan.by ≡ None → groups.all.since ≡ scan.from
+first_since scan set groups tracks is = first_by scan.plan.by scan set groups is tracks
 
 -- ONE EVENT OF A GROUP
 
@@ -114,14 +134,14 @@ can_with scan by at set event groups r key group gaps long few kept turns is key
     let keep = keep_with scan by key in
     let member : is_member keep event.row ≡ true = both_tested scan.keep (has_value by key) (rows_in scan.table) event.row r long is kept ∙ has_key by key key r key_is ∙ cell_self key in
     can_move (asked_of scan keep) set at group event r turns.long few is turns.turn member
-    (one_tracks (asked_of scan keep) set at (group_of groups key) group gaps (tracks key) one)
+    (one_tracks (asked_of scan keep) set at (group_of groups key) group gaps (tracks.1 key) one)
 
 taken_with : (scan : ScanOf) (by at : ℕ) (set : List Bool) (event : Event) (old new : Groups) (r : plain.Row) (key : Cell) (group moved : State) → is_some scan.plan.by ≡ true → length scan.keep ≡ length (rows_in scan.table)
     → is_member scan.keep event.row ≡ true → Turns (rows_in scan.table) set event → slice_get (rows_in scan.table) event.row ≡ Some r → cell_at r.cells by ≡ Some key → IsOne (group_of old key) scan.plan.kind scan.from group
     → MovesRow scan.plan.kind scan.plan.column (rows_in scan.table) group moved at event
-    → ((x : Cell) → group_of new x ≡ cond (same_cell x key) (Some moved) (group_of old x))
+    → AreNumbered new.keys new.by × ((x : Cell) → group_of new x ≡ cond (same_cell x key) (Some moved) (group_of old x))
     → TrackBy (Some by) scan set at old → TrackBy (Some by) scan (after_event set event) at new
-taken_with scan by at set event old new r key group moved gaps long kept turns is key_is one moves puts tracks = λ value. by_test value (same_cell value key) refl where
+taken_with scan by at set event old new r key group moved gaps long kept turns is key_is one moves puts tracks = (puts.0, λ value. by_test value (same_cell value key) refl) where
   member : (value : Cell) → is_member (keep_with scan by value) event.row ≡ same_cell key value
   member value = both_tested scan.keep (has_value by value) (rows_in scan.table) event.row r long is kept ∙ has_key by value key r key_is
 
@@ -130,36 +150,41 @@ taken_with scan by at set event old new r key group moved gaps long kept turns i
       let same : value ≡ key = cell_equal value key e in
       let keep = keep_with scan by value in
       let holds = subst (λ x. IsOne (group_of old x) scan.plan.kind scan.from group) (sym same) one in
-      let before = one_tracks (asked_of scan keep) set at (group_of old value) group gaps (tracks value) holds in
+      let before = one_tracks (asked_of scan keep) set at (group_of old value) group gaps (tracks.1 value) holds in
       let after = tracks_moved (asked_of scan keep) set at group moved event r turns.long is turns.turn (member value ∙ cell_symm key value ∙ e) before moves in
-      subst (HoldsIn (asked_of scan keep) (after_event set event) at) (sym (puts value ∙ ap (λ b. cond b (Some moved) (group_of old value)) e)) after
+      subst (HoldsIn (asked_of scan keep) (after_event set event) at) (sym (puts.1 value ∙ ap (λ b. cond b (Some moved) (group_of old value)) e)) after
   by_test value false e =
       let keep = keep_with scan by value in
       let left : is_member keep event.row ≡ false = member value ∙ cell_symm key value ∙ e in
-      subst (HoldsIn (asked_of scan keep) (after_event set event) at) (sym (puts value ∙ ap (λ b. cond b (Some moved) (group_of old value)) e))
-      (holds_map (asked_of scan keep) set (after_event set event) at at (group_of old value) (λ g t. tracks_left (asked_of scan keep) set at g event left t) (tracks value))
+      subst (HoldsIn (asked_of scan keep) (after_event set event) at) (sym (puts.1 value ∙ ap (λ b. cond b (Some moved) (group_of old value)) e))
+      (holds_map (asked_of scan keep) set (after_event set event) at at (group_of old value) (λ g t. tracks_left (asked_of scan keep) set at g event left t) (tracks.1 value))
 
-pub can_take_in : (scan : ScanOf) (by at : ℕ) (event : Event) (groups : Groups) (key : Cell) (group : State) → scan.plan.by ≡ Some by → IsScan scan → length (rows_in scan.table) ≤ 16777216 → is_member scan.keep event.row ≡ true → HasKey (rows_in scan.table) event.row by key
-    → IsOne (group_of groups key) scan.plan.kind scan.from group → IsReady scan at event groups → CanMoveRow scan.plan.kind scan.plan.column (rows_in scan.table) group event
-can_take_in scan by at event groups key group by_is is few kept has one ready =
-    can_with scan by at ready.set event groups has.row key group (ap is_some by_is) is.keep few kept ready.turns has.there has.cell_is one
-    (subst (λ b. TrackBy b scan ready.set at groups) by_is ready.tracks)
+-- the groups are numbered
+numbered_by : (b : Option ℕ) (by : ℕ) (scan : ScanOf) (set : List Bool) (at : ℕ) (groups : Groups) → b ≡ Some by → TrackBy b scan set at groups → AreNumbered groups.keys groups.by
+numbered_by None by scan set at groups is tracks = absurd (cc)
+numbered_by (Some b) by scan set at groups is tracks = tracks.0
 
-pub takes_in : (scan : ScanOf) (by at : ℕ) (event : Event) (old new : Groups) (key : Cell) (group moved : State) (n : ℤ) → scan.plan.by ≡ Some by → IsScan scan → is_member scan.keep event.row ≡ true → HasKey (rows_in scan.table) event.row by key
-    → IsOne (group_of old key) scan.plan.kind scan.from group → TellsNumber scan.plan.kind scan.plan.column (rows_in scan.table) event.row n → IsShort n → Moves group moved at event.opens n
-    → ((x : Cell) → group_of new x ≡ cond (same_cell x key) (Some moved) (group_of old x)) → TakesEvent scan at event old new
-takes_in scan by at event old new key group moved n by_is is kept has one told short moves puts = λ set turns tracks.
+pub ready_numbered : (scan : ScanOf) (by at : ℕ) (event : Event) (groups : Groups) → scan.plan.by ≡ Some by → IsReady scan at event groups → AreNumbered groups.keys groups.by
+ready_numbered scan by at event groups is ready = numbered_by scan.plan.by by scan ready.set at groups is ready.tracks
+
+pub can_take_in : (scan : ScanOf) (by at : ℕ) (event : Event) (old middle : Groups) (key : Cell) (n : ℕ) → scan.plan.by ≡ Some by → IsScan scan → length (rows_in scan.table) ≤ 16777216 → is_member scan.keep event.row ≡ true → HasKey (rows_in scan.table) event.row by key
+    → HasPlace old middle key scan.plan.kind scan.from n → IsReady scan at event old → (number : ℤ) → TellsNumber scan.plan.kind scan.plan.column (rows_in scan.table) event.row number → CanMoveAt middle.by n event.opens number
+can_take_in scan by at event old middle key n by_is is few kept has place ready number told = record {
+  value = key;
+  group = place.group;
+  there = place.there;
+  can = can_with scan by at ready.set event old has.row key place.group (ap is_some by_is) is.keep few kept ready.turns has.there has.cell_is place.one
+      (subst (λ b. TrackBy b scan ready.set at old) by_is ready.tracks) number told;
+}
+
+pub takes_in : (scan : ScanOf) (by at : ℕ) (event : Event) (old middle new : Groups) (key : Cell) (n : ℕ) (number : ℤ) → scan.plan.by ≡ Some by → IsScan scan → is_member scan.keep event.row ≡ true → HasKey (rows_in scan.table) event.row by key
+    → HasPlace old middle key scan.plan.kind scan.from n → TellsNumber scan.plan.kind scan.plan.column (rows_in scan.table) event.row number → IsShort number → new.keys ≡ middle.keys → MovesAt middle.by new.by n at event.opens number
+    → TakesEvent scan at event old new
+takes_in scan by at event old middle new key n number by_is is kept has place told short keys moved = λ set turns tracks.
+    let made = moved_place old middle new key scan.plan.kind scan.from n at event.opens number place moved keys in
     subst (λ b. TrackBy b scan (after_event set event) at new) (sym by_is)
-    (taken_with scan by at set event old new has.row key group moved (ap is_some by_is) is.keep kept turns has.there has.cell_is one (record { number = n; told = told; short = short; moves = moves }) puts
+    (taken_with scan by at set event old new has.row key place.group moved.moved (ap is_some by_is) is.keep kept turns has.there has.cell_is place.one (record { number = number; told = told; short = short; moves = made.0 }) made.1
     (subst (λ b. TrackBy b scan set at old) by_is tracks))
-
--- a group that is taken out and put back changed
-pub put_back : (key : Cell) (moved : State) (old middle new : Groups) → ((x : Cell) → group_of middle x ≡ cond (same_cell x key) None (group_of old x)) → ((x : Cell) → group_of new x ≡ cond (same_cell x key) (Some moved) (group_of middle x))
-    → (x : Cell) → group_of new x ≡ cond (same_cell x key) (Some moved) (group_of old x)
-put_back key moved old middle new out back x = back x ∙ ap (cond (same_cell x key) (Some moved)) (out x) ∙ by_test (same_cell x key) where
-  by_test : (b : Bool) → cond b (Some moved) (cond b None (group_of old x)) ≡ cond b (Some moved) (group_of old x)
-  by_test true = refl
-  by_test false = refl
 
 pub takes_left : (scan : ScanOf) (at : ℕ) (event : Event) (groups : Groups) → is_member scan.keep event.row ≡ false → TakesEvent scan at event groups groups
 takes_left scan at event groups left = λ set turns tracks.

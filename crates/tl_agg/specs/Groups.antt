@@ -88,6 +88,13 @@ pub record Advances (old new : State) (to : ℕ) : Type 0 where
   pub runs : (column : Option ℕ) (rows : List plain.Row) → StandsFor old.running column rows
       → Suits old.running.kind column rows → new.runs ≡ advanced_runs old to column rows
 
+-- a number comes into the group, or goes, at the version up to which its runs reach
+pub record Shifts (old new : State) (opens : Bool) (number : ℤ) : Type 0 where
+  pub changes : Changes opens old.running new.running number
+  pub since : new.since ≡ old.since
+  pub runs : new.runs ≡ old.runs
+  pub gaps : new.gaps ≡ old.gaps
+
 -- a number comes into the group at a version, or goes
 pub record Moves (old new : State) (at : ℕ) (opens : Bool) (number : ℤ) : Type 0 where
   pub middle : State

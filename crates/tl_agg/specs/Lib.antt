@@ -4,3 +4,4 @@ pub mod Groups
 pub mod Scans
 pub mod Runs
 pub mod Values
+pub mod Seams

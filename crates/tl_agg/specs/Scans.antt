@@ -1,5 +1,5 @@
 -- A scan of a table: what is asked for, and how far the walk along its events has come.
-use Rattle.std.specs.Prelude.{◌≡◌, ℕ, ◌+◌, ◌<◌, ◌≤◌, Bool, not, List, length, take, Some, None, is_some, slice_get, [], map, Option}
+use Rattle.std.specs.Prelude.{◌≡◌, ℕ, ℤ, ◌+◌, ◌<◌, ◌≤◌, Bool, not, List, length, take, Some, None, is_some, slice_get, slice_set, [], map, Option, if◌then◌else◌}
 use Rattle.tl_types.specs.declared.events.Event.{Event}
 use Rattle.tl_types.specs.Plain as plain
 use Rattle.tl_types.specs.Events.{events_of}
@@ -14,7 +14,11 @@ use Rattle.tl_query.specs.declared.typed_queries.AggPlan.{AggPlan}
 use Rattle.tl_store.specs.Reading.{columns_of, IsIntColumn}
 use Rattle.tl_agg.specs.Tables.{TableOf, rows_in}
 use Rattle.tl_agg.specs.Kept.{both}
-use Rattle.tl_agg.specs.Groups.{Asked, Tracks, State, IsNone, HoldsIn}
+use Rattle.tl_agg.specs.Groups.{Asked, Tracks, State, IsNone, IsOne, HoldsIn, Moves, AreAdvanced}
+use Rattle.tl_agg.specs.Values.{Rises}
+use Rattle.tl_keys.specs.Keys.{KeyNumbers, number_in, AreApart}
+use Rattle.tl_running.specs.Standing.{CanChange}
+use Rattle.tl_types.specs.declared.runs.Run.{Run}
 
 -- the plan is one for the table: its column holds numbers, a count has none, and what separates the
 -- rows into groups is a column
@@ -67,29 +71,79 @@ pub record Turns (rows : List plain.Row) (set : List Bool) (event : Event) : Typ
 -- the rows that stand after so many events
 abbrev pub set_after : TableOf → ℕ → List Bool
 set_after table place =
-    after_events (standing (rows_in table) 0) (take place (events_of (rows_in table) table.db.version))
+    after_events (standing (rows_in table) 0)
+    (take place (events_of (rows_in table) table.db.version))
 
--- the groups of a scan: that of all rows, and that of each value of a column
+-- the groups of a scan: that of all rows, and that of each value of a column, by the number of the
+-- value
 pub record Groups : Type 0 where
   pub all : State
+  pub keys : KeyNumbers
   pub by : List (Cell × State)
 
 -- the group of a value, where there is one
 abbrev pub group_of : Groups → Cell → Option State
 group_of groups value = lookup (same_cell value) groups.by
 
+-- each group stands at the number of its value
+pub record AreNumbered (keys : KeyNumbers) (by : List (Cell × State)) : Type 0 where
+  pub apart : AreApart keys
+  pub many : length by ≡ keys.count
+  pub each : (n : ℕ) (value : Cell) (group : State) → slice_get by n ≡ Some (value, group)
+      → number_in keys value ≡ Some n
+
 -- groups of no rows since a version
 pub record AreNone (groups : Groups) (kind : AggKind) (gaps : Bool) (since : ℕ) : Type 0 where
   pub all : IsNone groups.all kind gaps since
+  pub numbered : AreNumbered groups.keys groups.by
   pub by : groups.by ≡ []
+
+-- a value has this number and a group: the one that it had, or one of no rows since a version
+pub record HasPlace (old new : Groups) (value : Cell) (kind : AggKind) (since n : ℕ)
+    : Type 0 where
+  pub group : State
+  pub there : slice_get new.by n ≡ Some (value, group)
+  pub one : IsOne (group_of old value) kind since group
+  pub numbered : AreNumbered new.keys new.by
+  pub others : (x : Cell) → group_of new x
+      ≡ (if same_cell x value then Some group else group_of old x)
+
+-- a number can come into the group with this number, or this one can go
+pub record CanMoveAt (by : List (Cell × State)) (n : ℕ) (opens : Bool) (number : ℤ) : Type 0 where
+  pub value : Cell
+  pub group : State
+  pub there : slice_get by n ≡ Some (value, group)
+  pub can : CanChange opens group.running number
+
+-- a number comes into the group with this number at a version, or goes
+pub record MovesAt (old new : List (Cell × State)) (n at : ℕ) (opens : Bool) (number : ℤ)
+    : Type 0 where
+  pub value : Cell
+  pub group : State
+  pub moved : State
+  pub was : slice_get old n ≡ Some (value, group)
+  pub now : new ≡ slice_set old n (value, moved)
+  pub moves : Moves group moved at opens number
+
+-- these are the groups in order of their values
+pub record AreSorted (by sorted : List (Cell × State)) : Type 0 where
+  pub rises : Rises (map (λ group. group.0) sorted)
+  pub same : (x : Cell) → lookup (same_cell x) sorted ≡ lookup (same_cell x) by
+
+-- these are the runs of the groups, in order of their values, when they are advanced to a version
+pub record AreAllAdvanced (by : List (Cell × State)) (to : ℕ) (all : List Run) : Type 0 where
+  pub sorted : List (Cell × State)
+  pub are : AreSorted by sorted
+  pub advanced : AreAdvanced sorted to all
 
 -- at a version, when the rows of a set stand, the groups are those of the kept ones among them
 abbrev pub TrackBy : Option ℕ → ScanOf → List Bool → ℕ → Groups → Type 0
 TrackBy None scan set at groups = Tracks (asked_of scan scan.keep) set at groups.all
 TrackBy (Some by) scan set at groups =
-    (value : Cell)
-    → HoldsIn (asked_of scan (keep_with scan by value)) set at (group_of groups value)
+    AreNumbered groups.keys groups.by × ((value : Cell)
+    → HoldsIn (asked_of scan (keep_with scan by value)) set at (group_of groups value))
 
+-- so it is with the groups of the scan's plan
 abbrev pub AllTrack : ScanOf → List Bool → ℕ → Groups → Type 0
 AllTrack scan set at groups = TrackBy scan.plan.by scan set at groups
 

@@ -1,44 +1,54 @@
 //! All groups of a scan.
-ghost use Rattle.std.specs.Prelude.{◌≡◌, ◌++◌, map, None, Some, OnOk, IfOk, if◌then◌else◌};
+ghost use Rattle.std.specs.Prelude.{◌≡◌, ◌++◌, ◌<◌, length, map, OnOk, IfOk};
+ghost use Rattle.std.specs.Map.{lookup};
 ghost use Rattle.tl_types.specs.declared.cells.Cell.{Cell};
 ghost use Rattle.tl_types.specs.History.{same_cell};
+ghost use Rattle.tl_store.specs.Reading.{IsShort, cell_shown};
 ghost use Rattle.tl_running.specs.Standing.{CanChange};
-ghost use Rattle.tl_agg.specs.Groups.{IsOne, IsAdvanced, AreAdvanced, Moves};
+ghost use Rattle.tl_agg.specs.Groups.{IsAdvanced, AreAdvanced, Advances, Shifts};
 ghost use Rattle.tl_query.specs.Aggregates.{in_group};
-ghost use Rattle.tl_agg.specs.Scans.{group_of, AreNone};
+ghost use Rattle.tl_agg.specs.Scans.{AreNone, AreNumbered, HasPlace, CanMoveAt, MovesAt, AreAllAdvanced};
 ghost use Rattle.tl_agg.specs.Values.{Rises};
 
 use crate::groups::Group;
-use std::alloc::Global;
+use crate::value_groups::ValueGroup;
+use std::alloc::{AllocError, Global};
 use std::collections::BTreeMap;
 use std::marker::Model;
+use tl_keys::Keys;
 use tl_query::AggKind;
+use tl_store::CellRef;
 use tl_types::{Cell, NoMemory, Run};
 
 /// All groups of a scan: that of all rows, or where a column separates them, one for each value
-/// that came so far.
+/// that came so far, at the number of the value.
 #[derive(Drop)]
-pub(crate) struct Groups {
+pub(crate) struct Groups<'a> {
     all: Group,
-    by: BTreeMap<Cell, Group>,
+    keys: Keys<'a>,
+    by: Vec<ValueGroup<'a>>,
 }
 
-impl Model for Groups {
+impl<'a> Model for Groups<'a> {
     ghost use Rattle.tl_agg.specs.Scans.{Groups};
 
     ghost Value = { Groups };
 
-    ghost view = { λ g. record { all = g.all; by = g.by.entries } };
+    ghost view = { λ g. record { all = g.all; keys = g.keys; by = g.by.items } };
 }
 
-// A group that was found, or one of no rows since a version.
-fn found_or_none(alloc: Global, found: Option<Group>, kind: AggKind, since: u32) -> Group
-    ensures { IsOne found kind since result }
+// A number comes into the group with this number at a version where `opens`, else it goes.
+fn change_at(
+    groups: &mut Vec<ValueGroup<'_>>,
+    n: u32,
+    at: u32,
+    opens: bool,
+    number: i64,
+) -> Result<(), NoMemory>
+    requires { CanMoveAt groups.old.items n opens number }
+    ensures { OnOk result (MovesAt groups.old.items groups.new.items n at opens number) }
 {
-    match found {
-        Some(group) => group,
-        None => Group::none(alloc, kind, true, since),
-    }
+    groups[n as usize].change(at, opens, number)
 }
 
 // A run as one of the group of a value.
@@ -72,6 +82,20 @@ fn advanced(group: Group, to: u32) -> Result<Vec<Run>, NoMemory>
     Ok(group.into_runs())
 }
 
+// The groups by their values. Where two are of one value, the first of them counts.
+fn sorted(alloc: Global, groups: Vec<ValueGroup<'_>>) -> Result<BTreeMap<Cell, Group>, NoMemory>
+    ensures { IfOk result (λ sorted. (x : Cell) → lookup (same_cell x) sorted.entries
+        ≡ lookup (same_cell x) groups.entry.items) }
+{
+    let mut groups = groups;
+    let mut sorted = BTreeMap::new(alloc);
+    'groups: while let Some(group) = groups.pop() {
+        let (value, group) = group.into_parts(alloc)?;
+        sorted.insert(value, group)?;
+    }
+    Ok(sorted)
+}
+
 // The runs of the groups of all values when they are advanced to a version.
 fn all_runs(alloc: Global, groups: BTreeMap<Cell, Group>, to: u32) -> Result<Vec<Run>, NoMemory>
     ensures runs { IfOk result (λ runs. AreAdvanced groups.entries to runs.items) }
@@ -84,48 +108,79 @@ fn all_runs(alloc: Global, groups: BTreeMap<Cell, Group>, to: u32) -> Result<Vec
     Ok(all)
 }
 
-impl Groups {
+impl<'a> Groups<'a> {
     /// Groups of no rows since a version.
-    pub(crate) fn none(alloc: Global, kind: AggKind, gaps: bool, since: u32) -> Groups
+    pub(crate) fn none(alloc: Global, kind: AggKind, gaps: bool, since: u32) -> Groups<'a>
         ensures { AreNone result kind gaps since }
     {
         Groups {
             all: Group::none(alloc, kind, gaps, since),
-            by: BTreeMap::new(alloc),
+            keys: Keys::none(alloc),
+            by: Vec::new(alloc),
         }
     }
 
-    /// A number comes into the group of all rows at a version where `opens`, else it goes. The
-    /// error is `NoMemory`.
-    pub(crate) fn change(&mut self, at: u32, opens: bool, number: i64) -> Result<(), NoMemory>
+    /// Makes the runs of the group of all rows reach up to a version, which is not before those of
+    /// its last change. The error is `NoMemory`.
+    pub(crate) fn advance(&mut self, to: u32) -> Result<(), NoMemory>
+        ensures { OnOk result (Advances self.old.all self.new.all to) }
+    {
+        self.all.advance(to)
+    }
+
+    /// A number comes into the group of all rows where `opens`, else it goes, at the version up to
+    /// which its runs reach. The error is `NoMemory`.
+    pub(crate) fn shift(&mut self, opens: bool, number: i64) -> Result<(), NoMemory>
         requires { CanChange opens self.old.all.running number }
-        ensures { OnOk result (Moves self.old.all self.new.all at opens number) }
+        ensures { OnOk result (Shifts self.old.all self.new.all opens number) }
     {
-        self.all.change(at, opens, number)
+        self.all.shift(opens, number)
     }
 
-    /// Takes the group of a value out, or makes one of no rows since a version where there is none.
-    pub(crate) fn take(&mut self, alloc: Global, key: &Cell, kind: AggKind, since: u32) -> Group
-        ensures one { IsOne (group_of self.old key.now) kind since result }
-        ensures others { (x : Cell) → group_of self.new x
-            ≡ (if same_cell x key.now then None else group_of self.old x) }
+    /// The number of a value, which gets one, and a group of no rows since a version, where it has
+    /// none. The error is `NoMemory`, which comes at 2^31 values too.
+    pub(crate) fn number(
+        &mut self,
+        alloc: Global,
+        value: CellRef<'a>,
+        kind: AggKind,
+        since: u32,
+    ) -> Result<u32, NoMemory>
+        requires short { IsShort value }
+        requires numbered { AreNumbered self.old.keys self.old.by }
+        ensures { IfOk result
+            (λ n. HasPlace self.old self.new (cell_shown value.entry) kind since n) }
     {
-        let found = self.by.remove(key);
-        found_or_none(alloc, found, kind, since)
+        if self.keys.count() >= 2147483648 {
+            return Err(AllocError);
+        }
+        let n = self.keys.number(value)?;
+        if n as usize >= self.by.len() {
+            let group = Group::none(alloc, kind, true, since);
+            self.by.push(ValueGroup::new(value, group))?;
+        }
+        Ok(n)
     }
 
-    /// Gives a value a group. The error is `NoMemory`.
-    pub(crate) fn put(&mut self, key: Cell, group: Group) -> Result<(), NoMemory>
-        ensures { OnOk result ((x : Cell) → group_of self.new x
-            ≡ (if same_cell x key then Some group else group_of self.old x)) }
+    /// A number comes into the group with this number at a version where `opens`, else it goes. The
+    /// error is `NoMemory`.
+    pub(crate) fn change_at(
+        &mut self,
+        n: u32,
+        at: u32,
+        opens: bool,
+        number: i64,
+    ) -> Result<(), NoMemory>
+        requires { CanMoveAt self.old.by n opens number }
+        ensures keys { OnOk result (self.new.keys ≡ self.old.keys) }
+        ensures moves { OnOk result (MovesAt self.old.by self.new.by n at opens number) }
     {
-        self.by.insert(key, group)?;
-        Ok(())
+        change_at(&mut self.by, n, at, opens, number)
     }
 
     /// The runs of all rows up to a version. The error is `NoMemory`.
     pub(crate) fn into_runs(self, to: u32) -> Result<Vec<Run>, NoMemory>
-        ensures { IfOk result (λ runs. IsAdvanced self.all to runs.items) }
+        ensures { IfOk result (λ runs. IsAdvanced self.entry.all to runs.items) }
     {
         let runs = advanced(self.all, to)?;
         Ok(runs)
@@ -133,10 +188,10 @@ impl Groups {
 
     /// The runs of each value up to a version, in order of the values. The error is `NoMemory`.
     pub(crate) fn into_runs_by(self, alloc: Global, to: u32) -> Result<Vec<Run>, NoMemory>
-        ensures runs { IfOk result (λ runs. AreAdvanced self.by to runs.items) }
-        ensures order { IfOk result (λ _. Rises (map (λ group. group.0) self.by)) }
+        ensures { IfOk result (λ runs. AreAllAdvanced self.entry.by to runs.items) }
     {
-        let runs = all_runs(alloc, self.by, to)?;
+        let sorted = sorted(alloc, self.by)?;
+        let runs = all_runs(alloc, sorted, to)?;
         Ok(runs)
     }
 }

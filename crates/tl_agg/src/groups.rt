@@ -2,7 +2,7 @@
 ghost use Rattle.std.specs.Prelude.{◌≡◌, pos, true, false, OnOk};
 ghost use Rattle.tl_types.specs.Runs.{stretch_of};
 ghost use Rattle.tl_running.specs.Standing.{CanChange};
-ghost use Rattle.tl_agg.specs.Groups.{State, put_stretch, IsNone, Advances, Moves};
+ghost use Rattle.tl_agg.specs.Groups.{State, put_stretch, IsNone, Advances, Shifts, Moves};
 
 use std::alloc::Global;
 use std::marker::Model;
@@ -92,6 +92,15 @@ impl Group {
         put_stretch(&mut self.runs, self.gaps, self.running.count(), stretch)?;
         self.since = to;
         Ok(())
+    }
+
+    /// A number comes into the group where `opens`, else it goes, at the version up to which its
+    /// runs reach. The error is `NoMemory`.
+    pub(crate) fn shift(&mut self, opens: bool, number: i64) -> Result<(), NoMemory>
+        requires { CanChange opens self.old.running number }
+        ensures { OnOk result (Shifts self.old self.new opens number) }
+    {
+        self.running.change(opens, number)
     }
 
     /// A number comes into the group at a version where `opens`, else it goes. The error is

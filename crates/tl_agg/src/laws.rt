@@ -1,13 +1,19 @@
-//! What the runs of kept rows are, said in the contract of a function that does nothing.
-ghost use Rattle.std.specs.Prelude.{◌≡◌, ℕ, Bool, List, map};
+//! What holds of the rows of a plan and of their runs, said in the contracts of functions that do
+//! nothing.
+ghost use Rattle.std.specs.Prelude.{◌≡◌, ℕ, IsTrue, Bool, List, map};
+ghost use Rattle.tl_types.specs.declared.commits.Entry.{Entry};
+ghost use Rattle.tl_types.specs.Entries.{commits_of};
+ghost use Rattle.tl_types.specs.Legality.{are_legal};
 ghost use Rattle.tl_types.specs.Plain as plain;
-ghost use Rattle.tl_types.specs.History.{rows_of};
+ghost use Rattle.tl_types.specs.History.{database_of, rows_of};
 ghost use Rattle.tl_query.specs.declared.typed_queries.AggPlan.{AggPlan};
 ghost use Rattle.tl_query.specs.declared.typed_queries.TypedPred.{TypedPred};
 ghost use Rattle.tl_query.specs.declared.typed_queries.Span.TheVariants as span;
 ghost use Rattle.tl_query.specs.Aggregates.{aggregate_runs};
 ghost use Rattle.tl_query.specs.Passing.{passes};
+ghost use Rattle.tl_running.specs.Standing.{Suits};
 ghost use Rattle.tl_agg.specs.Runs.{system_runs};
+ghost use Rattle.tl_agg.specs.Scans.{IsPlanFor};
 
 /// Carries a law in its contract, and does nothing: where the rows that are kept are those that
 /// pass a predicate, the runs of a plan are those with which its query is answered.
@@ -16,4 +22,13 @@ pub fn kept_rows_pass()
         (from to : ℕ) → keep ≡ map (passes pred) (rows_of db plan.table)
         → system_runs plan (rows_of db plan.table) keep from to
         ≡ aggregate_runs db plan.table plan.kind plan.column plan.by pred (span.System from to) }
+{}
+
+/// Carries a law in its contract, and does nothing: where a plan is one for a table of a legal list
+/// of entries, it suits the rows of that table: each has a number in the column that is aggregated,
+/// unless they are counted.
+pub fn plans_suit()
+    ensures { (entries : List Entry) (plan : AggPlan) → IsTrue (are_legal entries)
+        → IsPlanFor (record { db = database_of (commits_of entries); number = plan.table }) plan
+        → Suits plan.kind plan.column (rows_of (database_of (commits_of entries)) plan.table) }
 {}

@@ -10,6 +10,7 @@ pub mod laws;
 mod scans;
 mod seams;
 mod tables;
+mod value_groups;
 
 pub use aggregates::aggregate;
 pub use seams::seam;

@@ -1,5 +1,5 @@
 //! The walk along the events of a table.
-ghost use Rattle.std.specs.Prelude.{◌≡◌, None, Some, ◌+◌, ◌-◌, ◌*◌, ◌<◌, ◌≤◌, true, length, take, drop, OnOk, IfOk, IfSome, IfNone};
+ghost use Rattle.std.specs.Prelude.{◌≡◌, None, Some, ◌+◌, ◌-◌, ◌*◌, ◌<◌, ◌≤◌, true, length, take, drop, is_some, OnOk, IfOk, IfSome, IfNone};
 ghost use Rattle.tl_types.specs.Events.{events_of, place_of};
 ghost use Rattle.tl_types.specs.Walks.{IsQuiet, standing};
 ghost use Rattle.tl_events.specs.Timeline.{Follow};
@@ -76,10 +76,11 @@ impl<'a> Scan<'a> {
         }
     }
 
-    // A kept row comes into the group of all rows at a version, or goes. It takes at most one step.
+    // A kept row comes into the group of all rows, or goes, at the version up to which its runs
+    // reach. It takes at most one step.
     fn move_all<L: Ledger>(
         &self,
-        groups: &mut Groups,
+        groups: &mut Groups<'a>,
         at: u32,
         event: Event,
         steps: &mut Steps<L>,
@@ -87,12 +88,15 @@ impl<'a> Scan<'a> {
         requires single { self.now.plan.by ≡ None }
         requires kept { is_member self.now.keep event.row ≡ true }
         requires ready { IsReady self.now at event groups.old }
+        requires since { groups.old.all.since ≡ at }
         ensures takes { OnOk result (TakesEvent self.now at event groups.old groups.new) }
+        ensures since { OnOk result (groups.new.all.since ≡ at) }
         ensures steps { steps.new ≤ steps.old + 1 }
     {
+        let _at = at;
         let _ = self.table.rows();
         let number = self.number_in(event.row, steps);
-        groups.change(at, event.opens, number)?;
+        groups.shift(event.opens, number)?;
         Ok(())
     }
 
@@ -100,7 +104,7 @@ impl<'a> Scan<'a> {
     // most two steps.
     fn move_in<L: Ledger>(
         &self,
-        groups: &mut Groups,
+        groups: &mut Groups<'a>,
         by: u8,
         at: u32,
         event: Event,
@@ -114,24 +118,47 @@ impl<'a> Scan<'a> {
     {
         let _ = self.table.rows();
         let number = self.number_in(event.row, steps);
-        let key = self.table.cell(self.alloc, by, event.row, steps)?;
-        let mut group = groups.take(self.alloc, &key, self.plan.kind, self.piece.from);
-        group.change(at, event.opens, number)?;
-        groups.put(key, group)?;
+        let value = self.table.cell(by, event.row, steps);
+        let n = groups.number(self.alloc, value, self.plan.kind, self.piece.from)?;
+        groups.change_at(n, at, event.opens, number)?;
+        Ok(())
+    }
+
+    // An event of the version up to which the runs of the group of all rows reach, which changes
+    // that group where its row is kept. It takes at most two steps.
+    fn fold_all<L: Ledger>(
+        &self,
+        groups: &mut Groups<'a>,
+        at: u32,
+        event: Event,
+        steps: &mut Steps<L>,
+    ) -> Result<(), NoMemory>
+        requires single { self.now.plan.by ≡ None }
+        requires ready { IsReady self.now at event groups.old }
+        requires since { groups.old.all.since ≡ at }
+        ensures takes { OnOk result (TakesEvent self.now at event groups.old groups.new) }
+        ensures since { OnOk result (groups.new.all.since ≡ at) }
+        ensures steps { steps.new ≤ steps.old + 2 }
+    {
+        if self.keep.test(event.row, steps) {
+            return self.move_all(groups, at, event, steps);
+        }
         Ok(())
     }
 
     // A kept row comes into its group at a version, or goes. It takes at most two steps.
     fn move_row<L: Ledger>(
         &self,
-        groups: &mut Groups,
+        groups: &mut Groups<'a>,
         at: u32,
         event: Event,
         steps: &mut Steps<L>,
     ) -> Result<(), NoMemory>
         requires kept { is_member self.now.keep event.row ≡ true }
         requires ready { IsReady self.now at event groups.old }
+        requires since { self.now.plan.by ≡ None → groups.old.all.since ≡ at }
         ensures takes { OnOk result (TakesEvent self.now at event groups.old groups.new) }
+        ensures since { OnOk result (self.now.plan.by ≡ None → groups.new.all.since ≡ at) }
         ensures steps { steps.new ≤ steps.old + 2 }
     {
         match self.plan.by {
@@ -144,17 +171,72 @@ impl<'a> Scan<'a> {
     // steps.
     fn fold_event<L: Ledger>(
         &self,
-        groups: &mut Groups,
+        groups: &mut Groups<'a>,
         at: u32,
         event: Event,
         steps: &mut Steps<L>,
     ) -> Result<(), NoMemory>
-        requires { IsReady self.now at event groups.old }
+        requires grouped { is_some self.now.plan.by ≡ true }
+        requires ready { IsReady self.now at event groups.old }
         ensures takes { OnOk result (TakesEvent self.now at event groups.old groups.new) }
         ensures steps { steps.new ≤ steps.old + 3 }
     {
-        if self.keep.test(event.row, steps) {
+        let is_kept = self.keep.test(event.row, steps);
+        if is_kept {
             return self.move_row(groups, at, event, steps);
+        }
+        Ok(())
+    }
+
+    // Some events of a version, which begin at a place among the table's events, where the rows have
+    // one group. It takes at most three steps for each.
+    fn run_all<L: Ledger>(
+        &self,
+        groups: &mut Groups<'a>,
+        at: u32,
+        place: u32,
+        events: &[PackedEvent],
+        steps: &mut Steps<L>,
+    ) -> Result<(), NoMemory>
+        requires single { self.now.plan.by ≡ None }
+        requires events { events.now ≡ take (length events.now)
+            (drop place (events_of (rows_in self.now.table) self.now.table.db.version)) }
+        requires tracks { AllTrack self.now (set_after self.now.table place) at groups.old }
+        ensures tracks { OnOk result (AllTrack self.now
+            (set_after self.now.table (place + length events.now)) at groups.new) }
+        ensures steps { steps.new ≤ steps.old + 3 * length events.now }
+    {
+        let _place = place;
+        let _ = self.table.rows();
+        groups.advance(at)?;
+        for packed in events {
+            self.fold_all(groups, at, packed.event(), steps)?;
+        }
+        Ok(())
+    }
+
+    // Some events of a version, which begin at a place among those of the table, where a column
+    // separates the rows into groups. It takes at most three steps for each.
+    fn run_in<L: Ledger>(
+        &self,
+        groups: &mut Groups<'a>,
+        at: u32,
+        place: u32,
+        events: &[PackedEvent],
+        steps: &mut Steps<L>,
+    ) -> Result<(), NoMemory>
+        requires grouped { is_some self.now.plan.by ≡ true }
+        requires events { events.now ≡ take (length events.now)
+            (drop place (events_of (rows_in self.now.table) self.now.table.db.version)) }
+        requires tracks { AllTrack self.now (set_after self.now.table place) at groups.old }
+        ensures tracks { OnOk result (AllTrack self.now
+            (set_after self.now.table (place + length events.now)) at groups.new) }
+        ensures steps { steps.new ≤ steps.old + 3 * length events.now }
+    {
+        let _place = place;
+        let _ = self.table.rows();
+        for packed in events {
+            self.fold_event(groups, at, packed.event(), steps)?;
         }
         Ok(())
     }
@@ -163,7 +245,7 @@ impl<'a> Scan<'a> {
     // three steps for each.
     fn fold_run<L: Ledger>(
         &self,
-        groups: &mut Groups,
+        groups: &mut Groups<'a>,
         at: u32,
         place: u32,
         events: &[PackedEvent],
@@ -176,17 +258,16 @@ impl<'a> Scan<'a> {
             (set_after self.now.table (place + length events.now)) at groups.new) }
         ensures steps { steps.new ≤ steps.old + 3 * length events.now }
     {
-        let _ = self.table.rows();
-        for packed in events {
-            self.fold_event(groups, at, packed.event(), steps)?;
+        match self.plan.by {
+            None => self.run_all(groups, at, place, events, steps),
+            Some(_) => self.run_in(groups, at, place, events, steps),
         }
-        Ok(())
     }
 
     // The events of a version, from one place up to another. It takes at most four steps for each.
     fn fold_version<L: Ledger>(
         &self,
-        groups: &mut Groups,
+        groups: &mut Groups<'a>,
         at: u32,
         from: u32,
         to: u32,
@@ -234,7 +315,7 @@ impl<'a> Scan<'a> {
     /// at most five steps for each event, and one more.
     pub(crate) fn walk<L: Ledger>(
         &self,
-        groups: &mut Groups,
+        groups: &mut Groups<'a>,
         first: u64,
         from: u32,
         steps: &mut Steps<L>,
@@ -266,7 +347,7 @@ impl<'a> Scan<'a> {
     // three steps for each, and one for each begun 64 rows.
     fn enter_all<L: Ledger>(
         &self,
-        groups: &mut Groups,
+        groups: &mut Groups<'a>,
         start: &RowSet,
         steps: &mut Steps<L>,
     ) -> Result<(), NoMemory>
@@ -287,7 +368,11 @@ impl<'a> Scan<'a> {
     }
 
     // The groups when all events of the piece are taken.
-    fn groups<L: Ledger>(&self, start: &RowSet, steps: &mut Steps<L>) -> Result<Groups, NoMemory>
+    fn groups<L: Ledger>(
+        &self,
+        start: &RowSet,
+        steps: &mut Steps<L>,
+    ) -> Result<Groups<'a>, NoMemory>
         requires { start.now ≡ start_set (rows_in self.now.table) self.now.keep self.now.from }
         ensures tracks { IfOk result (λ groups. AllTrack self.now
             (standing (rows_in self.now.table) (self.now.to - 1)) self.now.to groups) }
@@ -306,7 +391,7 @@ impl<'a> Scan<'a> {
     }
 
     // The runs of the groups when all events of the piece are taken.
-    fn runs_of(&self, groups: Groups) -> Result<Vec<Run>, NoMemory>
+    fn runs_of(&self, groups: Groups<'a>) -> Result<Vec<Run>, NoMemory>
         requires { AllTrack self.now (standing (rows_in self.now.table) (self.now.to - 1))
             self.now.to groups }
         ensures { IfOk result (λ runs. runs.items ≡ system_runs self.now.plan

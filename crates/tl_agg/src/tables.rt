@@ -4,17 +4,16 @@ ghost use Rattle.tl_types.specs.Events.{events_of, place_of};
 ghost use Rattle.tl_types.specs.History.{database_of};
 ghost use Rattle.tl_types.specs.WellFormed.{AreWellFormed};
 ghost use Rattle.tl_events.specs.Timeline.{IsSplit, Follow};
-ghost use Rattle.tl_store.specs.Reading.{columns_of, IsIntColumn};
+ghost use Rattle.tl_store.specs.Reading.{columns_of, IsIntColumn, cell_shown, IsShort as IsShortCell};
 ghost use Rattle.tl_running.specs.Standing.{IsShort};
 ghost use Rattle.tl_query.specs.declared.ast.AggKind.{AggKind};
 ghost use Rattle.tl_agg.specs.Tables.{rows_in, ends_in, HasTimeline, search_steps, TellsNumber, HasKey};
 
-use std::alloc::Global;
 use std::marker::Model;
 use std::sync::ledger::Ledger;
 use tl_events::{EventList, PackedEvent, VersionEnd, VersionMap};
-use tl_store::Store;
-use tl_types::{Cell, NoMemory, Steps};
+use tl_store::{CellRef, Store};
+use tl_types::Steps;
 
 /// A table of a store with its timeline: its events, and where those of its versions end. A
 /// contract sees the tables of the store, and the number of this one.
@@ -127,25 +126,15 @@ impl<'a> TimedTable<'a> {
         first(self.store.ints_from(self.number, row, column, steps))
     }
 
-    /// The cell of a row in a column, as a value of its own. It takes one step. The error is
-    /// `NoMemory`.
-    pub(crate) fn cell<L: Ledger>(
-        &self,
-        alloc: Global,
-        column: u8,
-        row: u32,
-        steps: &mut Steps<L>,
-    ) -> Result<Cell, NoMemory>
+    /// The cell of a row in a column. It takes one step.
+    pub(crate) fn cell<L: Ledger>(&self, column: u8, row: u32, steps: &mut Steps<L>) -> CellRef<'a>
         requires column { column < length (columns_of self.now.db self.now.number) }
         requires row { row < length (rows_in self.now) }
-        ensures key { IfOk result (λ key. HasKey (rows_in self.now) row column key) }
+        ensures key { HasKey (rows_in self.now) row column (cell_shown result) }
+        ensures short { IsShortCell result }
         ensures steps { steps.new ≡ steps.old + 1 }
     {
-        let key = self
-            .store
-            .cell(self.number, row, column, steps)
-            .to_cell(alloc)?;
-        Ok(key)
+        self.store.cell(self.number, row, column, steps)
     }
 }
 

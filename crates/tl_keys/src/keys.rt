@@ -1,4 +1,4 @@
-//! Numbers for the keys of both sides.
+//! Numbers for the keys of columns.
 ghost use Rattle.std.specs.Prelude.{◌≡◌, ◌+◌, ◌<◌, ◌≤◌, ◌^◌, Some, IfOk, OnOk};
 ghost use Rattle.tl_store.specs.Reading.{cell_shown};
 ghost use Rattle.tl_types.specs.declared.cells.Cell.TheVariants as cell;
@@ -60,6 +60,7 @@ impl<'a> Keys<'a> {
         ensures apart { OnOk result (AreApart self.new) }
         ensures kept { OnOk result (KeepsNumbers self.old self.new) }
         ensures count { OnOk result (self.new.count ≤ self.old.count + 1) }
+        ensures same { IfOk result (λ n. n < self.old.count → self.new ≡ self.old) }
     {
         if let Some(code) = self.ints.get(&key) {
             return Ok(*code);
@@ -78,6 +79,7 @@ impl<'a> Keys<'a> {
         ensures apart { OnOk result (AreApart self.new) }
         ensures kept { OnOk result (KeepsNumbers self.old self.new) }
         ensures count { OnOk result (self.new.count ≤ self.old.count + 1) }
+        ensures same { IfOk result (λ n. n < self.old.count → self.new ≡ self.old) }
     {
         if let Some(code) = self.texts.get(key) {
             return Ok(*code);
@@ -88,7 +90,8 @@ impl<'a> Keys<'a> {
         Ok(code)
     }
 
-    /// The number of a key, which it is given here where it has none. The error is `NoMemory`.
+    /// The number of a key, which it is given here where it has none: then it is as many as had one
+    /// before, and else nothing changes. The error is `NoMemory`.
     pub fn number(&mut self, key: CellRef<'a>) -> Result<u32, NoMemory>
         requires apart { AreApart self.old }
         requires room { self.old.count + 1 < 2 ^ 32 }
@@ -96,6 +99,7 @@ impl<'a> Keys<'a> {
         ensures apart { OnOk result (AreApart self.new) }
         ensures kept { OnOk result (KeepsNumbers self.old self.new) }
         ensures count { OnOk result (self.new.count ≤ self.old.count + 1) }
+        ensures same { IfOk result (λ n. n < self.old.count → self.new ≡ self.old) }
     {
         match key {
             CellRef::Int(number) => Ok(self.number_int(number)?),

@@ -1,5 +1,5 @@
-//! Numbers for the keys of both sides of a join: equal keys have one number, and other keys have
-//! others.
+//! Numbers for keys, as of both sides of a join or of groups: equal keys have one number, and other
+//! keys have others.
 #![tactic(auto)]
 
 mod keys;

@@ -1,4 +1,5 @@
 pub mod SumLemmas
 pub mod OrderLemmas
+pub mod HeapLemmas
 pub mod StandingLemmas
 pub mod TouchLemmas

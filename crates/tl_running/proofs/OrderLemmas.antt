@@ -17,7 +17,7 @@ use Rattle.tl_query.specs.Aggregates.{least_field, greatest_field}
 pub counted_first : (v x : ℤ) (xs : List ℤ) → count_by (int_eq v) (x ∷ xs) ≡ cond (int_eq v x) 1 0 + count_by (int_eq v) xs
 counted_first v x xs = let z : 0 + cond (int_eq v x) 1 0 ≡ cond (int_eq v x) 1 0 = omega arith in sum_by-append (λ n. cond (int_eq v n) 1 0) (x ∷ []) xs ∙ ap (λ n. n + count_by (int_eq v) xs) z
 
-counted_own : (v : ℤ) (xs : List ℤ) → 0 < count_by (int_eq v) (v ∷ xs)
+pub counted_own : (v : ℤ) (xs : List ℤ) → 0 < count_by (int_eq v) (v ∷ xs)
 counted_own v xs =
     let e = counted_first v v xs in
     let s : cond {A = ℕ} (int_eq v v) 1 0 ≡ 1 = cond-true (int_eq v v) 1 0 (int_eq_equiv.refl v) in omega arith

@@ -1,2 +1,3 @@
+pub mod Heaps
 pub mod Standing
 pub mod Touching

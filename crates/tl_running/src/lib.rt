@@ -4,6 +4,8 @@
 //! tells it which number comes and which goes.
 #![tactic(auto)]
 
+mod heap;
+mod heaps;
 pub mod laws;
 mod running;
 mod touching;

@@ -5,12 +5,14 @@ ghost use Rattle.std.specs.Ordering.{int_eq};
 ghost use Rattle.tl_types.specs.declared.answers.Field.TheVariants as field;
 ghost use Rattle.tl_types.specs.Plain as plain;
 ghost use Rattle.tl_bits.specs.Bags.{times, AddsOne};
+ghost use Rattle.tl_query.specs.declared.ast.AggKind.TheVariants as kind;
+ghost use Rattle.tl_running.specs.Heaps.{bag_of, turned};
 ghost use Rattle.tl_query.specs.Aggregates.{total_of, sum_field, average_field, least_field, greatest_field, aggregate_of};
 ghost use Rattle.tl_running.specs.Standing.{is_ordered, Suits, Counts, StandsFor, HasRoom, CanLeave, Enters, Changes, CanChange};
 
+use crate::heaps::Heaps;
 use std::alloc::Global;
 use std::marker::Model;
-use tl_bits::Bag;
 use tl_query::AggKind;
 use tl_types::{Field, NoMemory};
 
@@ -21,25 +23,21 @@ pub struct Running {
     kind: AggKind,
     count: u32,
     sum: i128,
-    bag: Bag,
+    heaps: Heaps,
 }
 
 impl Model for Running {
     ghost use Rattle.tl_running.specs.Standing.{Kept};
+    ghost use Rattle.tl_running.specs.Heaps.{bag_of};
 
     ghost Value = { Kept };
 
-    ghost view = { λ r. record { kind = r.kind; count = r.count; sum = r.sum; bag = r.bag } };
-}
-
-// Whether the kind asks for the order of the numbers.
-fn is_ordered(kind: AggKind) -> bool
-    ensures { result ≡ is_ordered kind }
-{
-    match kind {
-        AggKind::Min | AggKind::Max => true,
-        _ => false,
-    }
+    ghost view = { λ r. record {
+      kind = r.kind;
+      count = r.count;
+      sum = r.sum;
+      bag = bag_of r.kind r.heaps;
+    } };
 }
 
 // The sum of so many numbers.
@@ -69,46 +67,63 @@ fn number_field(number: i64) -> Field
     Field::Number(i128::from(number))
 }
 
-// The least number of a bag.
-fn least_field(bag: &Bag) -> Field
-    ensures { (ns : List ℤ) → ((v : ℤ) → times bag.now v ≡ count_by (int_eq v) ns)
-        → result ≡ least_field ns }
+// A number as one in the opposite order.
+fn turned(number: i64) -> i64
+    ensures { result ≡ turned number }
 {
-    match bag.least() {
-        Some(number) => number_field(number),
+    -1 - number
+}
+
+// The least of numbers that are kept turned.
+fn least_field(heaps: &Heaps) -> Field
+    ensures { (ns : List ℤ) → ((v : ℤ) → times (bag_of kind.Min heaps.now) v
+        ≡ count_by (int_eq v) ns) → result ≡ least_field ns }
+{
+    match heaps.greatest() {
+        Some(number) => number_field(turned(number)),
         None => Field::Empty,
     }
 }
 
-// The greatest number of a bag.
-fn greatest_field(bag: &Bag) -> Field
-    ensures { (ns : List ℤ) → ((v : ℤ) → times bag.now v ≡ count_by (int_eq v) ns)
+// The greatest of numbers.
+fn greatest_field(heaps: &Heaps) -> Field
+    ensures { (ns : List ℤ) → ((v : ℤ) → times heaps.now v ≡ count_by (int_eq v) ns)
         → result ≡ greatest_field ns }
 {
-    match bag.greatest() {
+    match heaps.greatest() {
         Some(number) => number_field(number),
         None => Field::Empty,
     }
 }
 
-// Puts the number into the bag, where its order is asked for.
-fn put_in(bag: &mut Bag, kind: AggKind, number: i64) -> Result<(), NoMemory>
-    ensures { OnOk result (is_ordered kind ≡ true → AddsOne bag.old bag.new number) }
+// Puts the number in, where the kind asks for the order of the numbers.
+fn put_in(heaps: &mut Heaps, kind: AggKind, number: i64) -> Result<(), NoMemory>
+    ensures { OnOk result (is_ordered kind ≡ true
+        → AddsOne (bag_of kind heaps.old) (bag_of kind heaps.new) number) }
 {
-    if is_ordered(kind) {
-        return bag.add(number);
+    match kind {
+        AggKind::Min => {
+            heaps.add(turned(number))?;
+            Ok(())
+        }
+        AggKind::Max => {
+            heaps.add(number)?;
+            Ok(())
+        }
+        _ => Ok(()),
     }
-    Ok(())
 }
 
-// Takes the number out of the bag, where its order is asked for.
-fn take_out(bag: &mut Bag, kind: AggKind, number: i64)
-    requires { is_ordered kind ≡ true → 0 < times bag.old number }
-    ensures { is_ordered kind ≡ true → AddsOne bag.new bag.old number }
+// Takes the number out, where the kind asks for the order of the numbers.
+fn take_out(heaps: &mut Heaps, kind: AggKind, number: i64)
+    requires { is_ordered kind ≡ true → 0 < times (bag_of kind heaps.old) number }
+    ensures { is_ordered kind ≡ true
+        → AddsOne (bag_of kind heaps.new) (bag_of kind heaps.old) number }
 {
-    if is_ordered(kind) {
-        bag.remove(number);
-        return;
+    match kind {
+        AggKind::Min => heaps.remove(turned(number)),
+        AggKind::Max => heaps.remove(number),
+        _ => {}
     }
 }
 
@@ -122,7 +137,7 @@ impl Running {
             kind,
             count: 0,
             sum: 0,
-            bag: Bag::none(alloc),
+            heaps: Heaps::none(alloc),
         }
     }
 
@@ -132,7 +147,7 @@ impl Running {
         requires { HasRoom self.old }
         ensures { OnOk result (Enters self.old self.new number) }
     {
-        put_in(&mut self.bag, self.kind, number)?;
+        put_in(&mut self.heaps, self.kind, number)?;
         self.count += 1;
         self.sum += i128::from(number);
         Ok(())
@@ -144,7 +159,7 @@ impl Running {
         requires { CanLeave self.old number }
         ensures { Enters self.new self.old number }
     {
-        take_out(&mut self.bag, self.kind, number);
+        take_out(&mut self.heaps, self.kind, number);
         self.count -= 1;
         self.sum -= i128::from(number);
     }
@@ -177,8 +192,8 @@ impl Running {
             AggKind::Count => Field::Number(i128::from(self.count)),
             AggKind::Sum => sum_field(self.count, self.sum),
             AggKind::Avg => average_field(self.count, self.sum),
-            AggKind::Min => least_field(&self.bag),
-            AggKind::Max => greatest_field(&self.bag),
+            AggKind::Min => least_field(&self.heaps),
+            AggKind::Max => greatest_field(&self.heaps),
         }
     }
 }

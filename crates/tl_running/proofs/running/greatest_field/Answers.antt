@@ -7,7 +7,7 @@ use Rattle.tl_running.proofs.running.greatest_field.Goals as goal
 pub returns-in-Some : goal.returns-in-Some
 returns-in-Some c =
     let fits : SFits w64 c.in-Some.number = search rules in
-    λ ns are. c.number_field.ensures ∙ ap field.Number (to_z-of_z w64 c.in-Some.number fits) ∙ greatest_told c.args.bag.now ns c.in-Some.number are c.in-Some.ensures.greatest
+    λ ns are. c.number_field.ensures ∙ ap field.Number (to_z-of_z w64 c.in-Some.number fits) ∙ greatest_told c.args.heaps.now ns c.in-Some.number are c.in-Some.ensures.greatest
 
 pub returns-in-None : goal.returns-in-None
-returns-in-None c = λ ns are. greatest_none c.args.bag.now ns are (c.in-None.ensures.none)
+returns-in-None c = λ ns are. greatest_none c.args.heaps.now ns are c.in-None.ensures.none

@@ -1,8 +1,9 @@
 use Rattle.std.proofs.Common.{◌+◌, ap, arith, sym, ◌∙◌, subst, length}
+use Rattle.tl_agg.specs.Kept.{below}
 use Rattle.tl_agg.specs.Tables.{rows_in}
 use Rattle.tl_agg.specs.Scans.{ScanOf, IsScan, IsReady, TakesEvent}
 use Rattle.tl_agg.proofs.StartLemmas.{size_none, next_size, size_below}
-use Rattle.tl_agg.proofs.StepLemmas.{start_ready, start_taken, start_ends}
+use Rattle.tl_agg.proofs.StepLemmas.{start_ready, start_taken, start_ends, first_since}
 use Rattle.tl_types.specs.Events.{activation}
 use Rattle.tl_agg.proofs.scans.Scan.enter_all.Goals as goal
 
@@ -20,6 +21,11 @@ move_row-requires-clause-ready g c =
     let from = ap (λ (s : ScanOf). s.from) c.self.view_is in
     subst (λ at. IsReady c.args.self.now at (activation c.in-Some.row) c.members.groups) (sym from)
     (start_ready c.args.self.now c.args.self.now.from c.members.from c.in-Some.row c.args.start.now c.members.groups (c.requires.members.rows ∙ scan.keep) c.in-Some.ensures.found c.members.invariant.tracks)
+
+pub move_row-requires-clause-since : goal.move_row-requires-clause-since
+move_row-requires-clause-since g c =
+    let from = ap (λ (s : ScanOf). s.from) c.self.view_is in
+    λ single. first_since c.args.self.now (below c.members.from c.args.start.now) c.members.groups c.members.invariant.tracks single ∙ sym from
 
 pub returns-in_err-move_row-clause-steps : goal.returns-in_err-move_row-clause-steps
 returns-in_err-move_row-clause-steps g c =

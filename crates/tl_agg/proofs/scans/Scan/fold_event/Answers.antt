@@ -7,4 +7,4 @@ use Rattle.tl_agg.proofs.scans.Scan.fold_event.Goals as goal
 pub returns-clause-takes : goal.returns-clause-takes
 returns-clause-takes g c =
     let keep = ap (λ (s : ScanOf). is_member s.keep c.args.event.row) c.self.view_is in
-    takes_left c.args.self.now c.args.at c.args.event c.args.groups.now (sym keep ∙ sym c.test.ensures.member ∙ c.if-test.false)
+    takes_left c.args.self.now c.args.at c.args.event c.args.groups.now (sym keep ∙ sym c.test-is_kept.ensures.member ∙ c.if-is_kept.false)

@@ -21,6 +21,7 @@ enter_all-requires-clause-tracks g c =
         none = none.none;
         stands = none.stands;
       };
+      numbered = c.none-groups.ensures.numbered;
       by = c.none-groups.ensures.by;
     })
 

@@ -1,13 +1,13 @@
-use Rattle.std.proofs.Common.{rules, w64, SFits, ap, arith, subst, length}
+use Rattle.std.proofs.Common.{rules, w64, SFits, ap, arith, subst, length, ◌∙◌}
 use Rattle.std.proofs.lemmas.Int.{to_z-of_z}
 use Rattle.tl_agg.specs.Tables.{rows_in}
-use Rattle.tl_agg.specs.Groups.{Moves}
+use Rattle.tl_agg.specs.Groups.{Shifts}
 use Rattle.tl_agg.specs.Scans.{ScanOf}
-use Rattle.tl_agg.proofs.StepLemmas.{can_take, takes_moved}
+use Rattle.tl_agg.proofs.StepLemmas.{can_take, takes_shifted}
 use Rattle.tl_agg.proofs.scans.Scan.move_all.Goals as goal
 
-pub change-requires : goal.change-requires
-change-requires g c =
+pub shift-requires : goal.shift-requires
+shift-requires g c =
     let fits : SFits w64 c.number_in-number.result = search rules in
     let whole = to_z-of_z w64 c.number_in-number.result fits in
     let table = ap (λ (s : ScanOf). length (rows_in s.table)) c.self.view_is in
@@ -19,4 +19,7 @@ pub returns-clause-takes : goal.returns-clause-takes
 returns-clause-takes g c =
     let fits : SFits w64 c.number_in-number.result = search rules in
     let whole = to_z-of_z w64 c.number_in-number.result fits in
-    takes_moved c.args.self.now c.args.at c.args.event c.args.groups.now c.change.new.self c.number_in-number.result c.requires.single c.requires.kept c.number_in-number.ensures.number c.number_in-number.ensures.short (subst (λ n. Moves c.args.groups.now.all c.change.new.self.all c.args.at c.args.event.opens n) whole c.in_ok-change.ensures)
+    takes_shifted c.args.self.now c.args.at c.args.event c.args.groups.now c.shift.new.self c.number_in-number.result c.requires.single c.requires.kept c.number_in-number.ensures.number c.number_in-number.ensures.short c.requires.since (subst (λ n. Shifts c.args.groups.now.all c.shift.new.self.all c.args.event.opens n) whole c.in_ok-shift.ensures)
+
+pub returns-clause-since : goal.returns-clause-since
+returns-clause-since g c = c.in_ok-shift.ensures.since ∙ c.requires.since

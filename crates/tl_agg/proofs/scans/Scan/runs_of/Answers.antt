@@ -1,8 +1,8 @@
 use Rattle.std.proofs.Common.{◌-◌, ap, sym, ◌∙◌, subst, arith}
 use Rattle.tl_types.specs.Walks.{standing}
 use Rattle.tl_agg.specs.Tables.{rows_in}
-use Rattle.tl_agg.specs.Groups.{IsAdvanced, AreAdvanced}
-use Rattle.tl_agg.specs.Scans.{ScanOf, IsScan}
+use Rattle.tl_agg.specs.Groups.{IsAdvanced}
+use Rattle.tl_agg.specs.Scans.{ScanOf, IsScan, AreAllAdvanced}
 use Rattle.tl_agg.proofs.PieceLemmas.{piece_runs}
 use Rattle.tl_agg.proofs.ByLemmas.{groups_told}
 use Rattle.tl_agg.proofs.scans.Scan.runs_of.Goals as goal
@@ -20,5 +20,5 @@ returns-in_ok-runs-in-Some c =
     let later = scan.later in
     let to = ap (λ (s : ScanOf). s.to) c.self.view_is in
     let by = sym (ap (λ (s : ScanOf). s.plan.by) c.self.view_is) ∙ c.in-Some.is in
-    groups_told c.args.self.now c.in-Some.field-0 (standing (rows_in c.args.self.now.table) (c.args.self.now.to - 1)) c.args.groups c.in_ok-runs-in-Some.runs.items by (omega arith) c.requires c.in_ok-runs-in-Some.ensures.order
-    (subst (λ t. AreAdvanced c.args.groups.by t c.in_ok-runs-in-Some.runs.items) to c.in_ok-runs-in-Some.ensures.runs)
+    groups_told c.args.self.now c.in-Some.field-0 (standing (rows_in c.args.self.now.table) (c.args.self.now.to - 1)) c.args.groups c.in_ok-runs-in-Some.runs.items by (omega arith) c.requires
+    (subst (λ t. AreAllAdvanced c.args.groups.by t c.in_ok-runs-in-Some.runs.items) to c.in_ok-runs-in-Some.ensures)

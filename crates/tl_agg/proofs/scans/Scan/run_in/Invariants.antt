@@ -1,6 +1,6 @@
 use Rattle.std.proofs.Common.{◌+◌, ◌*◌, ◌≤◌}
 use Rattle.tl_agg.specs.Scans.{AllTrack, set_after}
-use Rattle.tl_agg.proofs.scans.Scan.fold_run.Given as goal
+use Rattle.tl_agg.proofs.scans.Scan.run_in.Given as goal
 
 abbrev pub invariant-loop-packed : goal.invariant-loop-packed
 invariant-loop-packed g l = record {

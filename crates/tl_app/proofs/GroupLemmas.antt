@@ -1,9 +1,8 @@
--- The runs of groups, one behind the other.
-use Rattle.std.proofs.Common.{◌≡◌, ℕ, zero, suc, ◌+◌, ◌≤◌, ◌<◌, ℤ, Bool, not, cond, List, [], ◌∷◌, ◌++◌, length, map, take, get_or, fold, refl, sym, ap, ◌∙◌, arith, subst}
+-- The runs of groups, one behind the other, and the steps that they take.
+use Rattle.std.proofs.Common.{◌≡◌, ℕ, zero, suc, ◌+◌, ◌≤◌, ◌<◌, ℤ, Bool, not, cond, List, [], ◌∷◌, ◌++◌, length, map, take, get_or, Option, Some, None, refl, sym, ap, ◌∙◌, arith, subst}
 use Rattle.std.specs.Prelude.{◌==◌}
-use Rattle.std.specs.Borrow.{Bor}
 use Rattle.std.specs.List.{filter, AllByRecursion}
-use Rattle.std.proofs.lemmas.List.{take_more, length-map, append-nil}
+use Rattle.std.proofs.lemmas.List.{take_more, append-nil}
 use Rattle.std.proofs.lemmas.Grind.{flat_map-append}
 use Rattle.tl_types.specs.declared.cells.Cell.{Cell}
 use Rattle.tl_types.specs.declared.events.ValidEvent.{ValidEvent}
@@ -11,14 +10,14 @@ use Rattle.tl_types.specs.declared.runs.Run.{Run}
 use Rattle.tl_types.specs.Plain as plain
 use Rattle.tl_types.specs.Runs.{runs_of}
 use Rattle.tl_query.specs.Aggregates.{in_group}
-use Rattle.tl_query.specs.Ordered.{with_value}
 use Rattle.tl_query.specs.declared.typed_queries.AggPlan.{AggPlan}
-use Rattle.tl_app.specs.declared.keyed.KeyedEvent.{KeyedEvent}
-use Rattle.tl_app.specs.Groups.{has_key, events_with, runs_with, grouped_runs, runs_of_keys}
+use Rattle.tl_app.specs.declared.keyed.Group.{Group}
+use Rattle.tl_app.specs.Groups.{key_of, is_value, has_cell, group_of, event_count, runs_with, grouped_runs, runs_of_groups}
 use Rattle.tl_app.specs.Opening.{open_rows, up_to}
 use Rattle.tl_app.specs.Scans.{value_at}
 use Rattle.tl_app.specs.Telling.{has_rows, Tells}
-use Rattle.tl_app.proofs.ValueLemmas.{total, rises_fold, owed}
+use Rattle.tl_app.proofs.ValueLemmas.{Rises, total, one_if, none_owed, count_once, owed}
+use Rattle.tl_app.proofs.KeyLemmas.{AreTheirs}
 
 -- ONE GROUP
 
@@ -33,42 +32,42 @@ runs_told rows plan from to value events runs is tells =
 
 -- ALL GROUPS
 
-map_more : (xs : List (Bor Cell)) (y : Bor Cell) → map (λ (k : Bor Cell). k.now) (xs ++ y ∷ []) ≡ map (λ (k : Bor Cell). k.now) xs ++ y.now ∷ []
-map_more [] y = refl
-map_more (x ∷ xs) y = ap (λ ys. x.now ∷ ys) (map_more xs y)
-
-pub keys_more : (rows : List plain.Row) (plan : AggPlan) (from to : ℤ) (by_key : List KeyedEvent) (keys : List (Bor Cell)) (i : ℕ) (key : Bor Cell) (runs more all : List Run) → i < length keys → key ≡ get_or keys i key
-    → runs ≡ runs_of_keys rows plan from to by_key (map (λ (k : Bor Cell). k.now) (take i keys)) → more ≡ grouped_runs rows plan from to key.now (events_with key.now by_key) → all ≡ runs ++ more
-    → all ≡ runs_of_keys rows plan from to by_key (map (λ (k : Bor Cell). k.now) (take (i + 1) keys))
-keys_more rows plan from to by_key keys i key runs more all inside is before here behind =
-    behind ∙ ap (λ rs. rs ++ more) before ∙ ap (λ rs. runs_of_keys rows plan from to by_key (map (λ (k : Bor Cell). k.now) (take i keys)) ++ rs) (here ∙ sym (append-nil (grouped_runs rows plan from to key.now (events_with key.now by_key))))
-    ∙ sym (flat_map-append (λ v. grouped_runs rows plan from to v (events_with v by_key)) (map (λ (k : Bor Cell). k.now) (take i keys)) (key.now ∷ []))
-    ∙ ap (runs_of_keys rows plan from to by_key) (sym (map_more (take i keys) key) ∙ ap (map (λ (k : Bor Cell). k.now)) (ap (λ k. take i keys ++ k ∷ []) is ∙ sym (take_more keys i key inside)))
+pub groups_more : (rows : List plain.Row) (plan : AggPlan) (from to : ℤ) (groups : List Group) (i : ℕ) (group : Group) (runs more all : List Run) → i < length groups → group ≡ get_or groups i group
+    → runs ≡ runs_of_groups rows plan from to (take i groups) → more ≡ grouped_runs rows plan from to group.key group.events.items → all ≡ runs ++ more → all ≡ runs_of_groups rows plan from to (take (i + 1) groups)
+groups_more rows plan from to groups i group runs more all inside is before here behind =
+    behind ∙ ap (λ rs. rs ++ more) before ∙ ap (λ rs. runs_of_groups rows plan from to (take i groups) ++ rs) (here ∙ sym (append-nil (grouped_runs rows plan from to group.key group.events.items)))
+    ∙ sym (flat_map-append (λ (g : Group). grouped_runs rows plan from to g.key g.events.items) (take i groups) (group ∷ []))
+    ∙ ap (runs_of_groups rows plan from to) (ap (λ g. take i groups ++ g ∷ []) is ∙ sym (take_more groups i group inside))
 
 -- STEPS
 
-total_append : {X : Type 0} (f : X → ℕ) (xs : List X) (x : X) → total f (xs ++ x ∷ []) ≡ total f xs + f x
-total_append f [] x = omega arith
-total_append f (y ∷ xs) x = let later = total_append f xs x in omega arith
+count_append : (groups : List Group) (group : Group) → event_count (groups ++ group ∷ []) ≡ event_count groups + length group.events.items
+count_append [] group = omega arith
+count_append (g ∷ groups) group = let later = count_append groups group in omega arith
 
-pub owed_more : {X : Type 0} (f : X → ℕ) (xs : List X) (i : ℕ) (x : X) → i < length xs → x ≡ get_or xs i x → total f (take (i + 1) xs) ≡ total f (take i xs) + f x
-owed_more f xs i x inside is = ap (total f) (take_more xs i x inside ∙ ap (λ y. take i xs ++ y ∷ []) (sym is)) ∙ total_append f (take i xs) x
+pub count_more : (groups : List Group) (i : ℕ) (group : Group) → i < length groups → group ≡ get_or groups i group → event_count (take (i + 1) groups) ≡ event_count (take i groups) + length group.events.items
+count_more groups i group inside is = ap event_count (take_more groups i group inside ∙ ap (λ g. take i groups ++ g ∷ []) (sym is)) ∙ count_append (take i groups) group
 
-pub owed_part : {X : Type 0} (f : X → ℕ) (xs : List X) (i : ℕ) → total f (take i xs) ≤ total f xs
-owed_part f [] zero = omega arith
-owed_part f [] (suc i) = omega arith
-owed_part f (x ∷ xs) zero = omega arith
-owed_part f (x ∷ xs) (suc i) = let later = owed_part f xs i in omega arith
+pub count_part : (groups : List Group) (i : ℕ) → event_count (take i groups) ≤ event_count groups
+count_part [] zero = omega arith
+count_part [] (suc i) = omega arith
+count_part (g ∷ groups) zero = omega arith
+count_part (g ∷ groups) (suc i) = let later = count_part groups i in omega arith
 
-owed_each : (by_key : List KeyedEvent) (keys : List (Bor Cell)) → total (λ (k : Bor Cell). length (events_with k.now by_key)) keys ≡ total (λ v. length (filter (has_key v) by_key)) (map (λ (k : Bor Cell). k.now) keys)
-owed_each by_key [] = refl
-owed_each by_key (k ∷ keys) =
-    let here = length-map (filter (has_key k.now) by_key) (λ (e : KeyedEvent). e.event) in
-    let later = owed_each by_key keys in
+count_each : (rows : List plain.Row) (column : ℕ) (events : List ValidEvent) (groups : List Group) → AreTheirs rows column events groups → event_count groups ≡ total (λ v. length (group_of rows column v events)) (map (λ (g : Group). g.key) groups)
+count_each rows column events [] theirs = refl
+count_each rows column events (g ∷ groups) theirs =
+    let here = ap length theirs.0 in
+    let later = count_each rows column events groups theirs.1 in
     omega arith
 
-pub owed_keys : (by_key : List KeyedEvent) (keys : List (Bor Cell)) → map (λ (k : Bor Cell). k.now) keys ≡ fold with_value [] (map (λ (k : KeyedEvent). k.key) by_key) → total (λ (k : Bor Cell). length (events_with k.now by_key)) keys ≤ length by_key
-owed_keys by_key keys is =
-    let each = owed_each by_key keys ∙ ap (total (λ v. length (filter (has_key v) by_key))) is in
-    let few = owed (λ (k : KeyedEvent). k.key) (fold with_value [] (map (λ (k : KeyedEvent). k.key) by_key)) by_key (rises_fold [] (map (λ (k : KeyedEvent). k.key) by_key) tt) in
-    subst (λ n. n ≤ length by_key) (sym each) few
+once : (o : Option Cell) (values : List Cell) → Rises values → total (λ v. one_if (is_value v o)) values ≤ 1
+once None values up = let none = none_owed values in omega arith
+once (Some c) values up = count_once c values up
+
+-- the groups have no more events than there are
+pub count_few : (rows : List plain.Row) (column : ℕ) (events : List ValidEvent) (groups : List Group) → AreTheirs rows column events groups → Rises (map (λ (g : Group). g.key) groups) → event_count groups ≤ length events
+count_few rows column events groups theirs up =
+    let each = count_each rows column events groups theirs in
+    let few = owed (λ v (e : ValidEvent). has_cell rows column v e.row) (map (λ (g : Group). g.key) groups) events (λ e. once (key_of rows column e) (map (λ (g : Group). g.key) groups) up) in
+    subst (λ n. n ≤ length events) (sym each) few

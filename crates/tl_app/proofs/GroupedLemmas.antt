@@ -1,7 +1,7 @@
 -- The runs of all groups are those of the definition.
-use Rattle.std.proofs.Common.{◌≡◌, ℕ, zero, suc, ℤ, Bool, true, false, ◌&&◌, ◌||◌, not, cond, List, [], ◌∷◌, length, map, fold, Option, Some, None, refl, sym, ap, ◌∙◌, subst, slice_get}
+use Rattle.std.proofs.Common.{◌≡◌, ℕ, zero, suc, ◌<◌, ◌≤◌, ◌++◌, get_or, arith, ℤ, Bool, true, false, ◌&&◌, ◌||◌, not, cond, List, [], ◌∷◌, length, map, Option, Some, None, refl, sym, ap, ◌∙◌, subst, slice_get}
 use Rattle.std.specs.Prelude.{◌==◌}
-use Rattle.std.specs.List.{filter, filter_map, flat_map}
+use Rattle.std.specs.List.{All, filter, filter_map, flat_map}
 use Rattle.std.proofs.Math.Path.{fun_ext}
 use Rattle.tl_types.specs.declared.cells.Cell.{Cell}
 use Rattle.tl_types.specs.declared.cells.Cell.TheVariants as cell
@@ -13,7 +13,7 @@ use Rattle.tl_types.specs.Checkpoints.{valid_events_in}
 use Rattle.tl_types.specs.History.{rows_of, same_cell, cell_at}
 use Rattle.tl_types.specs.Runs.{runs_of}
 use Rattle.tl_query.specs.Aggregates.{in_group, has_value, group_at, group_runs, aggregate_runs}
-use Rattle.tl_query.specs.Ordered.{values_of, with_value}
+use Rattle.tl_query.specs.Ordered.{values_of}
 use Rattle.tl_query.specs.Passing.{passes, compare_cells}
 use Rattle.tl_query.specs.declared.typed_queries.AggPlan.{AggPlan}
 use Rattle.tl_query.specs.declared.typed_queries.Span.TheVariants as span
@@ -21,32 +21,28 @@ use Rattle.tl_query.specs.declared.typed_queries.TypedPred.{TypedPred}
 use Rattle.tl_store.specs.Reading.{cell_of_row}
 use Rattle.tl_bits.specs.Sets.{is_member}
 use Rattle.tl_plain.proofs.CellLemmas.{cell_symm}
-use Rattle.tl_app.specs.declared.keyed.KeyedEvent.{KeyedEvent}
-use Rattle.tl_app.specs.Groups.{is_value, has_cell, group_of, has_key, events_with, AreByKey, AreGroups, grouped_runs, runs_of_keys}
+use Rattle.tl_app.specs.declared.keyed.Group.{Group}
+use Rattle.tl_app.specs.Groups.{is_value, has_cell, group_of, has_key, event_count, AreGroupsOf, grouped_runs, runs_of_groups}
 use Rattle.tl_app.specs.Opening.{open_rows, up_to, Alternate}
 use Rattle.tl_app.specs.Parts.{kept_events, part_of, IsPart, planned_runs}
 use Rattle.tl_app.specs.Scans.{value_at}
 use Rattle.tl_app.proofs.HoldLemmas.{none_open}
 use Rattle.tl_app.proofs.PartLemmas.{alternate_part, open_is, member_is}
-use Rattle.tl_app.proofs.ValueLemmas.{has, given_by_some}
-
-filter_twice : {X : Type 0} (P Q : X → Bool) (xs : List X) → filter P (filter Q xs) ≡ filter (λ x. Q x && P x) xs
-filter_twice P Q [] = refl
-filter_twice P Q (x ∷ xs) = by_test (Q x) (filter_twice P Q xs) where
-  by_test : (b : Bool) → filter P (filter Q xs) ≡ filter (λ x. Q x && P x) xs → filter P (cond b (x ∷ filter Q xs) (filter Q xs)) ≡ cond (b && P x) (x ∷ filter (λ x. Q x && P x) xs) (filter (λ x. Q x && P x) xs)
-  by_test true h = ap (λ ys. cond (P x) (x ∷ ys) ys) h
-  by_test false h = h
+use Rattle.tl_app.proofs.ValueLemmas.{has, given_by_both}
+use Rattle.tl_app.proofs.KeyLemmas.{filter_twice, AreTheirs, are_theirs, values_rise, values_once}
+use Rattle.tl_app.proofs.GroupLemmas.{count_few}
 
 -- THE EVENTS OF A GROUP
 
 group_part : (rows : List plain.Row) (column : ℕ) (value : Cell) (chooses : ℕ → Bool) (version : ℕ) → group_of rows column value (part_of chooses rows version) ≡ part_of (λ id. chooses id && has_cell rows column value id) rows version
 group_part rows column value chooses version = filter_twice (λ (e : ValidEvent). has_cell rows column value e.row) (λ (e : ValidEvent). chooses e.row) (valid_events_in rows version)
 
-pub are_groups : (rows : List plain.Row) (column : ℕ) (events : List ValidEvent) (by_key : List KeyedEvent) → IsPart rows events → AreByKey rows column events by_key → AreGroups rows by_key
-are_groups rows column events by_key part are = record {
-  ascend = are.ascend;
-  alternate = λ value. subst (Alternate rows) (sym (are.found value ∙ ap (group_of rows column value) part.are ∙ group_part rows column value part.chooses part.version)) (alternate_part (λ id. part.chooses id && has_cell rows column value id) rows part.version);
-}
+pub all_alternate : (rows : List plain.Row) (column : ℕ) (events : List ValidEvent) (groups : List Group) → IsPart rows events → AreGroupsOf rows column events groups → All (λ (g : Group). Alternate rows g.events.items) groups
+all_alternate rows column events groups part are = λ i d l. of_each groups (are_theirs rows column events groups are) i d l where
+  of_each : (gs : List Group) → AreTheirs rows column events gs → (i : ℕ) (d : Group) → i < length gs → Alternate rows (get_or gs i d).events.items
+  of_each [] theirs i d l = absurd (omega arith)
+  of_each (g ∷ gs) theirs zero d l = subst (Alternate rows) (sym (theirs.0 ∙ ap (group_of rows column g.key) part.are ∙ group_part rows column g.key part.chooses part.version)) (alternate_part (λ id. part.chooses id && has_cell rows column g.key id) rows part.version)
+  of_each (g ∷ gs) theirs (suc i) d l = of_each gs theirs.1 i d (omega arith)
 
 -- THE ROWS OF A GROUP
 
@@ -90,21 +86,14 @@ nothing_given rows plan from to value events is =
     ∙ ap (λ (p : Run → Bool). map (in_group value) (filter p (runs_of (value_at rows plan []) from to))) (fun_ext (λ run. ap (λ rs. not (length rs == 0)) (none_open rows)))
     ∙ none_with value (runs_of (value_at rows plan []) from to)
 
-none_found : (value : Cell) (by_key : List KeyedEvent) → has (map (λ (k : KeyedEvent). k.key) by_key) value ≡ false → events_with value by_key ≡ []
-none_found value [] h = refl
-none_found value (k ∷ by_key) h = by_tests (same_cell k.key value) refl h (none_found value by_key) where
-  by_tests : (b : Bool) → same_cell k.key value ≡ b → (b || has (map (λ (k : KeyedEvent). k.key) by_key) value) ≡ false → (has (map (λ (k : KeyedEvent). k.key) by_key) value ≡ false → events_with value by_key ≡ []) → events_with value (k ∷ by_key) ≡ []
-  by_tests true e g later = absurd (cc)
-  by_tests false e g later = let f : same_cell value k.key ≡ false = cell_symm value k.key ∙ e in rw f (later g)
+no_group : (value : Cell) (groups : List Group) → has (map (λ (g : Group). g.key) groups) value ≡ false → filter (has_key value) groups ≡ []
+no_group value [] h = refl
+no_group value (g ∷ groups) h = by_tests (same_cell g.key value) refl h (no_group value groups) where
+  by_tests : (b : Bool) → same_cell g.key value ≡ b → (b || has (map (λ (g : Group). g.key) groups) value) ≡ false → (has (map (λ (g : Group). g.key) groups) value ≡ false → filter (has_key value) groups ≡ []) → filter (has_key value) (g ∷ groups) ≡ []
+  by_tests true e h later = absurd (cc)
+  by_tests false e h later = let f : same_cell value g.key ≡ false = cell_symm value g.key ∙ e in rw f (later h)
 
--- EACH KEY IS A VALUE OF THE COLUMN
-
-some_found : (value : Cell) (by_key : List KeyedEvent) → has (map (λ (k : KeyedEvent). k.key) by_key) value ≡ true → events_with value by_key ≡ [] → ⊥
-some_found value [] h none = absurd (cc)
-some_found value (k ∷ by_key) h none = by_tests (same_cell value k.key) refl none (some_found value by_key) where
-  by_tests : (b : Bool) → same_cell value k.key ≡ b → map (λ (e : KeyedEvent). e.event) (cond b (k ∷ filter (has_key value) by_key) (filter (has_key value) by_key)) ≡ [] → (has (map (λ (k : KeyedEvent). k.key) by_key) value ≡ true → events_with value by_key ≡ [] → ⊥) → ⊥
-  by_tests true e g later = absurd (cc)
-  by_tests false e g later = later (ap (λ b. b || has (map (λ (k : KeyedEvent). k.key) by_key) value) (sym (cell_symm k.key value ∙ e)) ∙ h) g
+-- A VALUE THAT NO ROW HAS
 
 value_in : (column i : ℕ) (value : Cell) (rows : List plain.Row) → has_cell rows column value i ≡ true → has (filter_map (λ (row : plain.Row). cell_at row.cells column) rows) value ≡ true
 value_in column i value [] h = absurd (cc)
@@ -121,22 +110,36 @@ value_in column (suc i) value (r ∷ rows) h = by_cell (cell_at r.cells column) 
   by_cell None e g = rw e g
   by_cell (Some x) e g = rw e (ap (λ b. same_cell x value || b) g ∙ or_true (same_cell x value))
 
-group_in : (rows : List plain.Row) (column : ℕ) (value : Cell) (events : List ValidEvent) → (group_of rows column value events ≡ [] → ⊥) → has (filter_map (λ (row : plain.Row). cell_at row.cells column) rows) value ≡ true
-group_in rows column value [] some = absurd (some refl)
-group_in rows column value (e ∷ events) some = by_test (has_cell rows column value e.row) refl some (group_in rows column value events) where
-  by_test : (b : Bool) → has_cell rows column value e.row ≡ b → (cond b (e ∷ group_of rows column value events) (group_of rows column value events) ≡ [] → ⊥) → ((group_of rows column value events ≡ [] → ⊥) → has (filter_map (λ (row : plain.Row). cell_at row.cells column) rows) value ≡ true) → has (filter_map (λ (row : plain.Row). cell_at row.cells column) rows) value ≡ true
-  by_test true is s later = value_in column e.row value rows is
-  by_test false is s later = later s
+no_event : (rows : List plain.Row) (column : ℕ) (value : Cell) (events : List ValidEvent) → has (filter_map (λ (row : plain.Row). cell_at row.cells column) rows) value ≡ false → group_of rows column value events ≡ []
+no_event rows column value [] none = refl
+no_event rows column value (e ∷ events) none = by_test (has_cell rows column value e.row) refl (no_event rows column value events none) where
+  by_test : (b : Bool) → has_cell rows column value e.row ≡ b → group_of rows column value events ≡ [] → cond b (e ∷ group_of rows column value events) (group_of rows column value events) ≡ []
+  by_test true is later = absurd (let f = value_in column e.row value rows is in cc)
+  by_test false is later = later
 
 -- ALL GROUPS
 
-pub groups_told : (db : plain.Database) (plan : AggPlan) (pred : TypedPred) (version by : ℕ) (from to : ℤ) (keep : List Bool) (events : List ValidEvent) (by_key : List KeyedEvent) → plan.by ≡ Some by → keep ≡ map (passes pred) (rows_of db plan.table)
-    → events ≡ kept_events keep (valid_events_in (rows_of db plan.table) version) → AreByKey (rows_of db plan.table) by events by_key
-    → runs_of_keys (rows_of db plan.table) plan from to by_key (fold with_value [] (map (λ (k : KeyedEvent). k.key) by_key)) ≡ planned_runs db plan pred (span.Valid version from to)
+by_values : (rows : List plain.Row) (plan : AggPlan) (column : ℕ) (from to : ℤ) (events : List ValidEvent) (groups : List Group) → AreTheirs rows column events groups
+    → runs_of_groups rows plan from to groups ≡ flat_map (λ v. grouped_runs rows plan from to v (group_of rows column v events)) (map (λ (g : Group). g.key) groups)
+by_values rows plan column from to events [] theirs = refl
+by_values rows plan column from to events (g ∷ groups) theirs =
+    ap (λ es. grouped_runs rows plan from to g.key es ++ runs_of_groups rows plan from to groups) theirs.0
+    ∙ ap (λ rs. grouped_runs rows plan from to g.key (group_of rows column g.key events) ++ rs) (by_values rows plan column from to events groups theirs.1)
+
+pub groups_told : (db : plain.Database) (plan : AggPlan) (pred : TypedPred) (version by : ℕ) (from to : ℤ) (keep : List Bool) (events : List ValidEvent) (groups : List Group) → plan.by ≡ Some by → keep ≡ map (passes pred) (rows_of db plan.table)
+    → events ≡ kept_events keep (valid_events_in (rows_of db plan.table) version) → AreGroupsOf (rows_of db plan.table) by events groups
+    → runs_of_groups (rows_of db plan.table) plan from to groups ≡ planned_runs db plan pred (span.Valid version from to)
 unfolding aggregate_runs
-groups_told db plan pred version by from to keep events by_key by_is keep_is events_are are =
-    given_by_some (λ v. grouped_runs (rows_of db plan.table) plan from to v (events_with v by_key)) (map (λ (k : KeyedEvent). k.key) by_key) (filter_map (λ (row : plain.Row). cell_at row.cells by) (rows_of db plan.table))
-    (λ v h. group_in (rows_of db plan.table) by v events (λ none. some_found v by_key h (are.found v ∙ none)))
-    (λ v h. nothing_given (rows_of db plan.table) plan from to v (events_with v by_key) (none_found v by_key h))
-    ∙ ap (λ (f : Cell → List Run). flat_map f (values_of by (rows_of db plan.table))) (fun_ext (λ v. ap (grouped_runs (rows_of db plan.table) plan from to v) (are.found v ∙ ap (group_of (rows_of db plan.table) by v) events_are) ∙ group_told db plan pred version by from to keep keep_is v))
+groups_told db plan pred version by from to keep events groups by_is keep_is events_are are =
+    by_values (rows_of db plan.table) plan by from to events groups (are_theirs (rows_of db plan.table) by events groups are)
+    ∙ ap (flat_map (λ v. grouped_runs (rows_of db plan.table) plan from to v (group_of (rows_of db plan.table) by v events))) (sym (values_once groups (values_rise groups are.ascend are.alone)))
+    ∙ given_by_both (λ v. grouped_runs (rows_of db plan.table) plan from to v (group_of (rows_of db plan.table) by v events)) (map (λ (g : Group). g.key) groups) (filter_map (λ (row : plain.Row). cell_at row.cells by) (rows_of db plan.table))
+    (λ v h. nothing_given (rows_of db plan.table) plan from to v (group_of (rows_of db plan.table) by v events) (sym (are.found v) ∙ ap (flat_map (λ (g : Group). g.events.items)) (no_group v groups h)))
+    (λ v h. nothing_given (rows_of db plan.table) plan from to v (group_of (rows_of db plan.table) by v events) (no_event (rows_of db plan.table) by v events h))
+    ∙ ap (λ (f : Cell → List Run). flat_map f (values_of by (rows_of db plan.table))) (fun_ext (λ v. ap (grouped_runs (rows_of db plan.table) plan from to v) (ap (group_of (rows_of db plan.table) by v) events_are) ∙ group_told db plan pred version by from to keep keep_is v))
     ∙ ap (λ b. aggregate_runs db plan.table plan.kind plan.column b pred (span.Valid version from to)) (sym by_is)
+
+-- STEPS
+
+pub steps_few : (rows : List plain.Row) (column : ℕ) (events : List ValidEvent) (groups : List Group) → AreGroupsOf rows column events groups → event_count groups ≤ length events
+steps_few rows column events groups are = count_few rows column events groups (are_theirs rows column events groups are) (values_rise groups are.ascend are.alone)

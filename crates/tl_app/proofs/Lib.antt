@@ -1,13 +1,15 @@
 pub mod NumberLemmas
+pub mod KeptLemmas
 pub mod CutLemmas
 pub mod OpenLemmas
 pub mod HoldLemmas
+pub mod ValueLemmas
 pub mod PartLemmas
 pub mod RunsLemmas
 pub mod MarkLemmas
+pub mod DealLemmas
 pub mod KeyLemmas
 pub mod TellLemmas
-pub mod ValueLemmas
 pub mod GroupLemmas
 pub mod GroupedLemmas
 pub mod PlanLemmas

@@ -2,7 +2,7 @@
 use Rattle.std.proofs.Common.{◌≡◌, ℕ, zero, suc, ◌+◌, ◌<◌, ℤ, ◌<ℤ◌, ◌≤ℤ◌, Bool, true, false, ◌&&◌, ◌||◌, not, cond, nat_eq, nat_lt, int_le, int_lt, List, [], ◌∷◌, ◌++◌, length, map, take, get_or, Option, Some, None, ◌⊎◌, inl, inr, refl, sym, ap, ◌∙◌, arith, subst, slice_get}
 use Rattle.std.specs.Bool.{beq}
 use Rattle.std.specs.Ordering.{int_eq}
-use Rattle.std.specs.List.{filter, enumerate_from, AllByRecursion}
+use Rattle.std.specs.List.{filter, enumerate_from}
 use Rattle.std.proofs.lemmas.Int.{ints}
 use Rattle.std.proofs.lemmas.Map.Views.{any-filter_same}
 use Rattle.std.proofs.lemmas.Option.{slice_get_within}
@@ -17,6 +17,7 @@ use Rattle.tl_ckpt.proofs.Members.{Above}
 use Rattle.tl_index.proofs.ChangeLemmas.{rises_valid, has_valid}
 use Rattle.tl_app.specs.Opening.{same_event, has, begin_of, end_of, is_open, open_rows, up_to, InTime, Turns, Alternate}
 use Rattle.tl_app.specs.Parts.{part_of}
+use Rattle.tl_app.proofs.ValueLemmas.{all_filter}
 use Rattle.tl_app.proofs.OpenLemmas.{chosen, chosen_step, chosen_same, has_append}
 
 -- EVENTS THAT A TEST CHOOSES
@@ -32,13 +33,6 @@ has_nobody rows v z here = rw here at (has_valid rows v z)
 
 has_part : (chooses : ℕ → Bool) (rows : List plain.Row) (v : ℕ) (z : ValidEvent) → has (part_of chooses rows v) z ≡ (chooses z.row && has (valid_events_in rows v) z)
 has_part chooses rows v z = has_filter (λ e. chooses e.row) (valid_events_in rows v) z
-
-all_filter : (Q : ValidEvent → Type 0) (P : ValidEvent → Bool) (xs : List ValidEvent) → AllByRecursion Q xs → AllByRecursion Q (filter P xs)
-all_filter Q P [] all = tt
-all_filter Q P (x ∷ xs) all = by_test (P x) (all_filter Q P xs all.1) where
-  by_test : (b : Bool) → AllByRecursion Q (filter P xs) → AllByRecursion Q (cond b (x ∷ filter P xs) (filter P xs))
-  by_test true h = (all.0, h)
-  by_test false h = h
 
 rises_filter : (P : ValidEvent → Bool) (xs : List ValidEvent) → Rises xs → Rises (filter P xs)
 rises_filter P [] up = tt

@@ -34,7 +34,7 @@ before_apart x y h = sym (cell_level y x) ∙ ap (λ b. not (cell_before y x) &&
   and_false true = refl
   and_false false = refl
 
-before_other : (x y : Cell) → same_cell y x ≡ false → cell_before y x ≡ false → cell_before x y ≡ true
+pub before_other : (x y : Cell) → same_cell y x ≡ false → cell_before y x ≡ false → cell_before x y ≡ true
 before_other x y h k = by_test (cell_before x y) refl where
   by_test : (b : Bool) → cell_before x y ≡ b → b ≡ true
   by_test true e = refl
@@ -58,7 +58,7 @@ of_member P x (y ∷ ys) all h = by_test (same_cell y x) refl h (of_member P x y
   by_test false e h later = later h
 
 -- two such lists that have the same values are one list
-values_same : (xs ys : List Cell) → Rises xs → Rises ys → ((z : Cell) → has xs z ≡ has ys z) → xs ≡ ys
+pub values_same : (xs ys : List Cell) → Rises xs → Rises ys → ((z : Cell) → has xs z ≡ has ys z) → xs ≡ ys
 values_same [] [] a b h = refl
 values_same [] (y ∷ ys) a b h = absurd (let e = h y in let self : has (y ∷ ys) y ≡ true = rw (cell_itself y) refl in cc)
 values_same (x ∷ xs) [] a b h = absurd (let e = h x in let self : has (x ∷ xs) x ≡ true = rw (cell_itself x) refl in cc)
@@ -145,7 +145,7 @@ rises_fold values (x ∷ xs) up = rises_fold (with_value values x) xs (rises_wit
 has_filter : (P : Cell → Bool) (xs : List Cell) (z : Cell) → has (filter P xs) z ≡ (P z && has xs z)
 has_filter P xs z = any-filter_same (λ y. same_cell y z) P (P z) (λ y h. ap P (cell_equal y z h)) xs
 
-all_filter : (Q : Cell → Type 0) (P : Cell → Bool) (xs : List Cell) → AllByRecursion Q xs → AllByRecursion Q (filter P xs)
+pub all_filter : {X : Type 0} (Q : X → Type 0) (P : X → Bool) (xs : List X) → AllByRecursion Q xs → AllByRecursion Q (filter P xs)
 all_filter Q P [] all = tt
 all_filter Q P (x ∷ xs) all = by_test (P x) (all_filter Q P xs all.1) where
   by_test : (b : Bool) → AllByRecursion Q (filter P xs) → AllByRecursion Q (cond b (x ∷ filter P xs) (filter P xs))
@@ -167,23 +167,26 @@ module _ {Y : Type 0} (G : Cell → List Y) where
     by_test true e h = ap (λ ys. G x ++ ys) h
     by_test false e h = h ∙ sym (ap (λ ys. ys ++ flat_map G xs) (none x e))
 
-  -- some of the values give what all give, where the others give nothing
-  pub given_by_some : (some all : List Cell) → ((z : Cell) → has some z ≡ true → has all z ≡ true) → ((z : Cell) → has some z ≡ false → G z ≡ []) → flat_map G (fold with_value [] some) ≡ flat_map G (fold with_value [] all)
-  given_by_some some all within none =
-      ap (flat_map G) (values_same (fold with_value [] some) (filter (has some) (fold with_value [] all)) (rises_fold [] some tt) (rises_filter (has some) (fold with_value [] all) (rises_fold [] all tt)) members)
-      ∙ flat_filter (has some) (fold with_value [] all) none where
+  -- two lists of values give the same, where a value that one of them lacks gives nothing
+  pub given_by_both : (some other : List Cell) → ((z : Cell) → has some z ≡ false → G z ≡ []) → ((z : Cell) → has other z ≡ false → G z ≡ []) → flat_map G (fold with_value [] some) ≡ flat_map G (fold with_value [] other)
+  given_by_both some other none none_other =
+      sym (flat_filter (has other) (fold with_value [] some) none_other)
+      ∙ ap (flat_map G) (values_same (filter (has other) (fold with_value [] some)) (filter (has some) (fold with_value [] other)) (rises_filter (has other) (fold with_value [] some) (rises_fold [] some tt)) (rises_filter (has some) (fold with_value [] other) (rises_fold [] other tt)) members)
+      ∙ flat_filter (has some) (fold with_value [] other) none where
         or_false : (b : Bool) → (b || false) ≡ b
         or_false true = refl
         or_false false = refl
 
-        both : (a b : Bool) → (a ≡ true → b ≡ true) → a ≡ (a && b)
-        both true b h = sym (h refl)
-        both false b h = refl
+        and_turn : (a b : Bool) → (a && b) ≡ (b && a)
+        and_turn true true = refl
+        and_turn true false = refl
+        and_turn false true = refl
+        and_turn false false = refl
 
-        members : (z : Cell) → has (fold with_value [] some) z ≡ has (filter (has some) (fold with_value [] all)) z
+        members : (z : Cell) → has (filter (has other) (fold with_value [] some)) z ≡ has (filter (has some) (fold with_value [] other)) z
         members z =
-            has_fold z [] some ∙ or_false (has some z) ∙ both (has some z) (has all z) (within z)
-            ∙ ap (λ b. has some z && b) (sym (or_false (has all z)) ∙ sym (has_fold z [] all)) ∙ sym (has_filter (has some) (fold with_value [] all) z)
+            has_filter (has other) (fold with_value [] some) z ∙ ap (λ b. has other z && b) (has_fold z [] some ∙ or_false (has some z)) ∙ and_turn (has other z) (has some z)
+            ∙ ap (λ b. has some z && b) (sym (has_fold z [] other ∙ or_false (has other z))) ∙ sym (has_filter (has some) (fold with_value [] other) z)
 
 -- A KEY IS ONE VALUE
 
@@ -192,7 +195,7 @@ abbrev pub total : {X : Type 0} → (X → ℕ) → List X → ℕ
 total f [] = 0
 total f (x ∷ xs) = f x + total f xs
 
-abbrev one_if : Bool → ℕ
+abbrev pub one_if : Bool → ℕ
 one_if b = cond b 1 0
 
 count_none : (z : Cell) (xs : List Cell) → has xs z ≡ false → total (λ x. one_if (same_cell x z)) xs ≡ 0
@@ -202,7 +205,7 @@ count_none z (x ∷ xs) h = by_test (same_cell x z) h (count_none z xs) where
   by_test true h later = absurd (cc)
   by_test false h later = let l = later h in omega arith
 
-count_once : (z : Cell) (xs : List Cell) → Rises xs → total (λ x. one_if (same_cell x z)) xs ≤ 1
+pub count_once : (z : Cell) (xs : List Cell) → Rises xs → total (λ x. one_if (same_cell x z)) xs ≤ 1
 count_once z [] up = omega arith
 count_once z (x ∷ xs) up = by_test (same_cell x z) refl (count_once z xs up.1) where
   by_test : (b : Bool) → same_cell x z ≡ b → total (λ x. one_if (same_cell x z)) xs ≤ 1 → one_if b + total (λ x. one_if (same_cell x z)) xs ≤ 1
@@ -212,7 +215,7 @@ count_once z (x ∷ xs) up = by_test (same_cell x z) refl (count_once z xs up.1)
       omega arith
   by_test false e later = omega arith
 
-none_owed : (vs : List Cell) → total (λ v. 0) vs ≡ 0
+pub none_owed : (vs : List Cell) → total (λ v. 0) vs ≡ 0
 none_owed [] = refl
 none_owed (v ∷ vs) = let later = none_owed vs in omega arith
 
@@ -220,18 +223,18 @@ one_more : {X : Type 0} (b : Bool) (x : X) (ys : List X) → length (cond b (x �
 one_more true x ys = omega arith
 one_more false x ys = omega arith
 
-owed_head : {X : Type 0} (key : X → Cell) (x : X) (xs : List X) (vs : List Cell) → total (λ v. length (filter (λ x. same_cell v (key x)) (x ∷ xs))) vs ≡ total (λ v. one_if (same_cell v (key x))) vs + total (λ v. length (filter (λ x. same_cell v (key x)) xs)) vs
-owed_head key x xs [] = refl
-owed_head key x xs (v ∷ vs) =
-    let here = one_more (same_cell v (key x)) x (filter (λ x. same_cell v (key x)) xs) in
-    let later = owed_head key x xs vs in
+owed_head : {X : Type 0} (holds : Cell → X → Bool) (x : X) (xs : List X) (vs : List Cell) → total (λ v. length (filter (holds v) (x ∷ xs))) vs ≡ total (λ v. one_if (holds v x)) vs + total (λ v. length (filter (holds v) xs)) vs
+owed_head holds x xs [] = refl
+owed_head holds x xs (v ∷ vs) =
+    let here = one_more (holds v x) x (filter (holds v) xs) in
+    let later = owed_head holds x xs vs in
     omega arith
 
--- the items of each of some values are together no more than all items
-pub owed : {X : Type 0} (key : X → Cell) (values : List Cell) (xs : List X) → Rises values → total (λ v. length (filter (λ x. same_cell v (key x)) xs)) values ≤ length xs
-owed key values [] up = let none = none_owed values in omega arith
-owed key values (x ∷ xs) up =
-    let later = owed key values xs up in
-    let once = count_once (key x) values up in
-    let split = owed_head key x xs values in
+-- the items of each of some values are together no more than all items, where each is of one value
+pub owed : {X : Type 0} (holds : Cell → X → Bool) (values : List Cell) (xs : List X) → ((x : X) → total (λ v. one_if (holds v x)) values ≤ 1) → total (λ v. length (filter (holds v) xs)) values ≤ length xs
+owed holds values [] once = let none = none_owed values in omega arith
+owed holds values (x ∷ xs) once =
+    let later = owed holds values xs once in
+    let here = once x in
+    let split = owed_head holds x xs values in
     omega arith

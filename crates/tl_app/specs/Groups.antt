@@ -1,6 +1,6 @@
 -- Groups of events: those of the rows that have one value in a column.
-use Rattle.std.specs.Prelude.{◌≡◌, ℕ, ℤ, ◌==◌, Bool, false, not, List, length, map, Option, Some, None, slice_get}
-use Rattle.std.specs.List.{filter, flat_map}
+use Rattle.std.specs.Prelude.{◌≡◌, ℕ, ℤ, ◌+◌, ◌≤◌, ◌==◌, Bool, true, false, not, List, [], ◌∷◌, ◌++◌, length, map, Option, Some, None, is_some, slice_get, if◌then◌else◌}
+use Rattle.std.specs.List.{filter, flat_map, AllByRecursion}
 use Rattle.std.specs.List.Sorted.{IsSortedBy}
 use Rattle.tl_types.specs.declared.cells.Cell.{Cell}
 use Rattle.tl_types.specs.declared.events.ValidEvent.{ValidEvent}
@@ -13,18 +13,17 @@ use Rattle.tl_query.specs.Ordered.{cell_before}
 use Rattle.tl_query.specs.declared.ast.AggKind.{AggKind}
 use Rattle.tl_query.specs.declared.typed_queries.AggPlan.{AggPlan}
 use Rattle.tl_store.specs.Reading.{cell_of_row}
-use Rattle.tl_app.specs.declared.keyed.KeyedEvent.{KeyedEvent}
-use Rattle.tl_app.specs.Opening.{open_rows, up_to, Alternate}
+use Rattle.tl_keys.specs.Keys.{KeyNumbers, number_in, number_at, AreApart}
+use Rattle.tl_app.specs.declared.keyed.Group.{Group}
+use Rattle.tl_app.specs.Opening.{open_rows, up_to}
 use Rattle.tl_app.specs.Scans.{value_at}
 use Rattle.tl_app.specs.Telling.{has_rows}
 
--- an event behind its key
-abbrev pub with_cell : KeyedEvent → Option Cell × ValidEvent
-with_cell keyed = (Some keyed.key, keyed.event)
+-- THE EVENTS OF A VALUE
 
--- an event behind the cell that its row has in a column
-abbrev pub behind_cell : List plain.Row → ℕ → ValidEvent → Option Cell × ValidEvent
-behind_cell rows column event = (cell_of_row column (slice_get rows event.row), event)
+-- the cell that the event's row has in a column
+abbrev pub key_of : List plain.Row → ℕ → ValidEvent → Option Cell
+key_of rows column event = cell_of_row column (slice_get rows event.row)
 
 -- there is a cell, and it is this value
 abbrev pub is_value : Cell → Option Cell → Bool
@@ -39,24 +38,81 @@ has_cell rows column value id = is_value value (cell_of_row column (slice_get ro
 abbrev pub group_of : List plain.Row → ℕ → Cell → List ValidEvent → List ValidEvent
 group_of rows column value events = filter (λ event. has_cell rows column value event.row) events
 
--- the first key comes before the second
-abbrev pub key_before : KeyedEvent → KeyedEvent → Bool
+-- GROUPS
+
+-- the first group's value comes before the second's
+abbrev pub key_before : Group → Group → Bool
 key_before first second = cell_before first.key second.key
 
--- the event has the key
-abbrev pub has_key : Cell → KeyedEvent → Bool
-has_key key keyed = same_cell key keyed.key
+-- the group is that of the value
+abbrev pub has_key : Cell → Group → Bool
+has_key key group = same_cell key group.key
 
--- the events that have the key
-abbrev pub events_with : Cell → List KeyedEvent → List ValidEvent
-events_with key by_key = map (λ k. k.event) (filter (has_key key) by_key)
+-- there are some
+abbrev pub are_some : List ValidEvent → Bool
+are_some [] = false
+are_some (event ∷ events) = true
 
--- the events in order of the cells of their rows in a column: those of a value are found by it, in
--- their order
-pub record AreByKey (rows : List plain.Row) (column : ℕ) (events : List ValidEvent)
-    (by_key : List KeyedEvent) : Type 0 where
-  pub ascend : IsSortedBy key_before by_key
-  pub found : (value : Cell) → events_with value by_key ≡ group_of rows column value events
+-- the group has an event
+abbrev pub has_events : Group → Bool
+has_events group = are_some group.events.items
+
+-- the group's value, which is that of its first event
+abbrev pub value_with : Group → Cell → Cell
+value_with group key = if has_events group then group.key else key
+
+-- the groups, and one without events behind them
+pub record HasOneMore (groups more : List Group) : Type 0 where
+  pub none : Group
+  pub empty : none.events.items ≡ []
+  pub are : more ≡ groups ++ none ∷ []
+
+-- how many events the groups have
+abbrev pub event_count : List Group → ℕ
+event_count [] = 0
+event_count (group ∷ groups) = length group.events.items + event_count groups
+
+-- EVENTS DEALT BY NUMBER
+
+-- there is a number, and it is this one
+abbrev pub is_number : ℕ → Option ℕ → Bool
+is_number n None = false
+is_number n (Some m) = m == n
+
+-- the cell of the event's row has this number
+abbrev pub has_number : KeyNumbers → List plain.Row → ℕ → ℕ → ValidEvent → Bool
+has_number keys rows column n event = is_number n (number_at keys (key_of rows column event))
+
+-- each group has the events of the rows whose cell has the group's place as its number, in their
+-- order, and that cell as its value
+pub record AreDealt (rows : List plain.Row) (column : ℕ) (keys : KeyNumbers) (groups : List Group)
+    (done : List ValidEvent) : Type 0 where
+  pub apart : AreApart keys
+  pub count : keys.count ≤ length groups
+  pub few : length groups ≤ length done
+  pub numbered : AllByRecursion
+      (λ event. is_some (number_at keys (key_of rows column event)) ≡ true) done
+  pub events : (n : ℕ) (g : Group) → slice_get groups n ≡ Some g
+      → g.events.items ≡ filter (has_number keys rows column n) done
+  pub key : (n : ℕ) (g : Group) → slice_get groups n ≡ Some g → has_events g ≡ true
+      → number_in keys g.key ≡ Some n
+
+-- so it is for some numbers
+pub record IsDealt (rows : List plain.Row) (column : ℕ) (groups : List Group)
+    (events : List ValidEvent) : Type 0 where
+  pub keys : KeyNumbers
+  pub dealt : AreDealt rows column keys groups events
+
+-- the groups are in order of their values, no two have the same, and those of each value, one at
+-- most, have its events in their order
+pub record AreGroupsOf (rows : List plain.Row) (column : ℕ) (events : List ValidEvent)
+    (groups : List Group) : Type 0 where
+  pub ascend : IsSortedBy key_before groups
+  pub alone : (value : Cell) → length (filter (has_key value) groups) ≤ 1
+  pub found : (value : Cell) → flat_map (λ group. group.events.items)
+      (filter (has_key value) groups) ≡ group_of rows column value events
+
+-- RUNS
 
 -- of the group of a value the runs that have a row
 abbrev pub runs_with : AggKind → Cell → List Run → List Run
@@ -69,12 +125,7 @@ grouped_runs rows plan from to value events =
     (filter (λ run. not (length (open_rows rows (up_to events run.from)) == 0))
     (runs_of (value_at rows plan events) from to))
 
--- the events of each key begin and end periods in turn, and the keys are in order
-pub record AreGroups (rows : List plain.Row) (by_key : List KeyedEvent) : Type 0 where
-  pub ascend : IsSortedBy key_before by_key
-  pub alternate : (value : Cell) → Alternate rows (events_with value by_key)
-
 -- the runs of each of these groups, one group behind the other
-abbrev pub runs_of_keys : List plain.Row → AggPlan → ℤ → ℤ → List KeyedEvent → List Cell → List Run
-runs_of_keys rows plan from to by_key keys =
-    flat_map (λ value. grouped_runs rows plan from to value (events_with value by_key)) keys
+abbrev pub runs_of_groups : List plain.Row → AggPlan → ℤ → ℤ → List Group → List Run
+runs_of_groups rows plan from to groups =
+    flat_map (λ group. grouped_runs rows plan from to group.key group.events.items) groups

@@ -11,7 +11,7 @@ ghost use Rattle.tl_app.specs.Scans.{IsPlanFor, rows_in};
 
 use crate::groups::{Groups, runs_of_groups};
 use crate::kept::kept_events;
-use crate::keyed::{KeyColumn, events_by_key};
+use crate::keyed::{KeyColumn, groups_of};
 use crate::scans::{Scan, scanned_runs};
 use std::alloc::Global;
 use std::sync::ledger::Ledger;
@@ -37,8 +37,7 @@ fn list_kept<L: Ledger>(
     ensures steps { steps.new ≤ steps.old + length events.now }
 {
     let list = events.list(alloc)?;
-    let kept = kept_events(alloc, list.as_slice(), keep, steps)?;
-    Ok(kept)
+    Ok(kept_events(list, keep, steps))
 }
 
 // The runs of all kept rows together.
@@ -91,11 +90,13 @@ fn runs_by<L: Ledger>(
         table: scan.plan.table,
         column: by,
     };
-    let by_key = events_by_key(alloc, &column, scan.events, steps)?;
+    let _ = scan.store.rows(scan.plan.table); // says that rows are few
+    let groups_of_events = groups_of(alloc, &column, scan.events, steps)?;
     let groups = Groups {
         store: scan.store,
         plan: scan.plan,
-        by_key: by_key.as_slice(),
+        groups: groups_of_events.as_slice(),
+        events: scan.events.len(),
     };
     let runs = runs_of_groups(alloc, &groups, from, to, steps)?;
     Ok(runs)

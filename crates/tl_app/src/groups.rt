@@ -1,30 +1,33 @@
 //! The runs of groups of rows, each with one value in a column.
-ghost use Rattle.std.specs.Prelude.{◌≡◌, ◌+◌, ◌*◌, ◌≤◌, ◌++◌, [], length, map, fold, IfOk, OnOk};
+ghost use Rattle.std.specs.Prelude.{◌≡◌, ◌+◌, ◌*◌, ◌≤◌, ◌++◌, ◌∷◌, [], length, IfOk, OnOk};
+ghost use Rattle.std.specs.List.{All};
 ghost use Rattle.tl_types.specs.History.{database_of};
 ghost use Rattle.tl_query.specs.Aggregates.{in_group};
-ghost use Rattle.tl_query.specs.Ordered.{with_value};
-ghost use Rattle.tl_app.specs.Groups.{runs_with, grouped_runs, events_with, AreGroups, runs_of_keys};
+ghost use Rattle.tl_app.specs.Groups.{runs_with, grouped_runs, event_count, runs_of_groups};
+ghost use Rattle.tl_app.specs.Opening.{Alternate};
 ghost use Rattle.tl_app.specs.Scans.{IsPlanFor, rows_in};
 ghost use Rattle.tl_app.specs.Telling.{counts_some, is_there, has_rows};
 
-use crate::keyed::{KeyedEvent, events_with, keys_of};
-use crate::scans::{Scan, scanned_runs};
+use crate::keyed::Group;
+use crate::scans::{AT_ONCE, Scan, scanned_runs};
 use std::alloc::Global;
 use std::sync::ledger::Ledger;
 use tl_query::{AggKind, AggPlan};
 use tl_store::Store;
 use tl_types::{Cell, Field, NoMemory, Run, Steps};
 
-/// What is scanned group by group: events of valid time in order of the cells that their rows have
-/// in a column, and what a plan asks of these rows.
+/// What is scanned group by group: the groups of events of valid time, in order of their values,
+/// and what a plan asks of these rows.
 #[derive(Clone, Copy)]
 pub(crate) struct Groups<'a> {
     /// The store that has the rows.
     pub store: &'a Store,
     /// The plan.
     pub plan: &'a AggPlan,
-    /// The events.
-    pub by_key: &'a [KeyedEvent],
+    /// The groups.
+    pub groups: &'a [Group],
+    /// How many events they have.
+    pub events: usize,
 }
 
 // Whether a count is not 0.
@@ -58,77 +61,66 @@ fn has_rows(kind: AggKind, value: &Field) -> bool
     }
 }
 
-// The run as one of the group of a value.
-fn in_group(value: &Cell, run: Run) -> Result<Run, NoMemory>
-    ensures { IfOk result (λ r. r ≡ in_group value.now run) }
+// Puts a run behind others, as one of the group of a value.
+fn push_in_group(runs: &mut Vec<Run>, value: &Cell, run: Run) -> Result<(), NoMemory>
+    ensures { OnOk result (runs.new.items ≡ runs.old.items ++ in_group value.now run ∷ []) }
 {
-    Ok(Run {
-        group: Some(value.clone()?),
+    let group = Some(value.clone()?);
+    runs.push(Run {
+        group,
         from: run.from,
         to: run.to,
         value: run.value,
-    })
+    })?;
+    Ok(())
 }
 
-// Of the group of a value the runs that have a row.
-fn runs_with(
-    alloc: Global,
+// Puts those of the runs of the group of a value that have a row behind others.
+fn add_runs(
+    runs: &mut Vec<Run>,
     kind: AggKind,
     value: &Cell,
-    runs: Vec<Run>,
-) -> Result<Vec<Run>, NoMemory>
-    ensures { IfOk result (λ kept. kept.items ≡ runs_with kind value.now runs.items) }
-{
-    let mut kept = Vec::new(alloc);
-    for run in runs {
-        if has_rows(kind, &run.value) {
-            kept.push(in_group(value, run)?)?;
-        }
-    }
-    Ok(kept)
-}
-
-// Puts runs behind others.
-fn add_all(runs: &mut Vec<Run>, more: Vec<Run>) -> Result<(), NoMemory>
-    ensures { OnOk result (runs.new.items ≡ runs.old.items ++ more.items) }
+    more: Vec<Run>,
+) -> Result<(), NoMemory>
+    ensures { OnOk result
+        (runs.new.items ≡ runs.old.items ++ runs_with kind value.now more.items) }
 {
     for run in more {
-        runs.push(run)?;
+        if has_rows(kind, &run.value) {
+            push_in_group(runs, value, run)?;
+        }
     }
     Ok(())
 }
 
-// The runs of the group of a value. It takes at most two steps for each of its events.
+// The runs of the rows of a group. It takes at most two steps for each of its events.
 fn runs_of_group<L: Ledger>(
     alloc: Global,
     groups: &Groups<'_>,
-    value: &Cell,
+    group: &Group,
     from: i64,
     to: i64,
     steps: &mut Steps<L>,
 ) -> Result<Vec<Run>, NoMemory>
     requires plan { IsPlanFor (database_of groups.now.store.now) groups.now.plan.now }
-    requires groups { AreGroups (rows_in groups.now.store.now groups.now.plan.now)
-        groups.now.by_key.now }
-    ensures runs { IfOk result (λ runs. runs.items ≡ grouped_runs
-        (rows_in groups.now.store.now groups.now.plan.now) groups.now.plan.now from to value.now
-        (events_with value.now groups.now.by_key.now)) }
-    ensures steps { steps.new
-        ≤ steps.old + 2 * length (events_with value.now groups.now.by_key.now) }
+    requires events { Alternate (rows_in groups.now.store.now groups.now.plan.now)
+        group.now.events.items }
+    ensures runs { IfOk result (λ runs. runs_with groups.now.plan.now.kind group.now.key runs.items
+        ≡ grouped_runs (rows_in groups.now.store.now groups.now.plan.now) groups.now.plan.now
+        from to group.now.key group.now.events.items) }
+    ensures steps { steps.new ≤ steps.old + 2 * length group.now.events.items }
 {
-    let events = events_with(alloc, groups.by_key, value)?;
     let scan = Scan {
         store: groups.store,
         plan: groups.plan,
-        events: events.as_slice(),
+        events: group.events.as_slice(),
     };
     let runs = scanned_runs(alloc, &scan, from, to, steps)?;
-    let kept = runs_with(alloc, groups.plan.kind, value, runs)?;
-    Ok(kept)
+    Ok(runs)
 }
 
-/// The runs of all groups, in order of their values, without those that have no row. It takes at
-/// most two steps for each event. The error is `NoMemory`.
+/// The runs of all groups, in their order, without those that have no row. It takes at most two
+/// steps for each event. The error is `NoMemory`.
 pub(crate) fn runs_of_groups<L: Ledger>(
     alloc: Global,
     groups: &Groups<'_>,
@@ -137,19 +129,17 @@ pub(crate) fn runs_of_groups<L: Ledger>(
     steps: &mut Steps<L>,
 ) -> Result<Vec<Run>, NoMemory>
     requires plan { IsPlanFor (database_of groups.now.store.now) groups.now.plan.now }
-    requires groups { AreGroups (rows_in groups.now.store.now groups.now.plan.now)
-        groups.now.by_key.now }
-    ensures runs { IfOk result (λ runs. runs.items ≡ runs_of_keys
+    requires events { All (λ group. Alternate (rows_in groups.now.store.now groups.now.plan.now)
+        group.events.items) groups.now.groups.now }
+    ensures runs { IfOk result (λ runs. runs.items ≡ runs_of_groups
         (rows_in groups.now.store.now groups.now.plan.now) groups.now.plan.now from to
-        groups.now.by_key.now
-        (fold with_value [] (map (λ k. k.key) groups.now.by_key.now))) }
-    ensures steps { steps.new ≤ steps.old + 2 * length groups.now.by_key.now }
+        groups.now.groups.now) }
+    ensures steps { steps.new ≤ steps.old + 2 * event_count groups.now.groups.now }
 {
-    let keys = keys_of(alloc, groups.by_key)?;
-    let mut runs = Vec::new(alloc);
-    for key in keys.as_slice() {
-        let more = runs_of_group(alloc, groups, key, from, to, steps)?;
-        add_all(&mut runs, more)?;
+    let mut runs = Vec::with_capacity(alloc, groups.events.min(AT_ONCE))?;
+    for group in groups.groups {
+        let more = runs_of_group(alloc, groups, group, from, to, steps)?;
+        add_runs(&mut runs, groups.plan.kind, &group.key, more)?;
     }
     Ok(runs)
 }

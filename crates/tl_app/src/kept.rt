@@ -1,30 +1,31 @@
 //! The events of the rows in a set.
-ghost use Rattle.std.specs.Prelude.{◌≡◌, ◌+◌, ◌≤◌, ◌<◌, length, IfOk};
+ghost use Rattle.std.specs.Prelude.{◌≡◌, ◌+◌, ◌≤◌, ◌<◌, length};
 ghost use Rattle.std.specs.List.{All};
 ghost use Rattle.tl_app.specs.Parts.{kept_events};
 
-use std::alloc::Global;
 use std::sync::ledger::Ledger;
 use tl_bits::RowSet;
-use tl_types::{NoMemory, Steps, ValidEvent};
+use tl_types::{Steps, ValidEvent};
 
-/// The events of the rows in a set, in order. It takes a step for each event. The error is
-/// `NoMemory`.
+/// The events of the rows in a set, in order. It takes a step for each event, and no memory.
 pub(crate) fn kept_events<L: Ledger>(
-    alloc: Global,
-    events: &[ValidEvent],
+    events: Vec<ValidEvent>,
     keep: &RowSet,
     steps: &mut Steps<L>,
-) -> Result<Vec<ValidEvent>, NoMemory>
-    requires { All (λ event. event.row < length keep.now) events.now }
-    ensures list { IfOk result (λ kept. kept.items ≡ kept_events keep.now events.now) }
-    ensures steps { steps.new ≤ steps.old + length events.now }
+) -> Vec<ValidEvent>
+    requires { All (λ event. event.row < length keep.now) events.items }
+    ensures list { result.items ≡ kept_events keep.now events.items }
+    ensures steps { steps.new ≤ steps.old + length events.items }
 {
-    let mut kept = Vec::new(alloc);
-    for event in events {
+    let mut events = events;
+    let mut kept = 0;
+    for i in 0..events.len() {
+        let event = events[i];
         if keep.test(event.row, steps) {
-            kept.push(*event)?;
+            events[kept] = event;
+            kept += 1;
         }
     }
-    Ok(kept)
+    events.truncate(kept);
+    events
 }

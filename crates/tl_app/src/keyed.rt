@@ -1,28 +1,29 @@
-//! Events in order of the cells that their rows have in a column, so that those of a value are
-//! found at once.
-ghost use Rattle.std.specs.Prelude.{◌≡◌, ◌+◌, ◌≤◌, ◌<◌, [], Some, length, map, fold, slice_get, IfOk};
+//! Events by the value that their rows have in a column: each distinct value gets a number once, and
+//! an event is dealt to the group of its value's number.
+ghost use Rattle.std.specs.Prelude.{◌≡◌, ◌+◌, ◌-◌, ◌^◌, ◌≤◌, ◌<◌, ◌++◌, ◌∷◌, [], List, length, IfOk, OnOk};
 ghost use Rattle.std.specs.List.{All, filter};
-ghost use Rattle.std.specs.List.Sorted.{IsSortedBy};
-ghost use Rattle.tl_types.specs.History.{database_of, rows_of, same_cell};
-ghost use Rattle.tl_query.specs.Ordered.{cell_before, with_value};
-ghost use Rattle.tl_store.specs.Reading.{columns_of, cell_of_row};
-ghost use Rattle.tl_app.specs.Groups.{with_cell, behind_cell, key_before, has_key, events_with, AreByKey};
+ghost use Rattle.tl_types.specs.declared.events.ValidEvent.{ValidEvent};
+ghost use Rattle.tl_types.specs.History.{database_of, rows_of};
+ghost use Rattle.tl_store.specs.Reading.{columns_of, cell_shown, IsShort};
+ghost use Rattle.tl_keys.specs.Keys.{AreApart};
+ghost use Rattle.tl_app.specs.Groups.{has_events, value_with, HasOneMore, AreDealt, IsDealt, AreGroupsOf};
 
 use std::alloc::Global;
 use std::sync::ledger::Ledger;
-use tl_store::Store;
+use tl_keys::Keys;
+use tl_store::{CellRef, Store};
 use tl_types::{Cell, NoMemory, Steps, ValidEvent};
 
-/// An event, with the cell that its row has in the column by which events are found.
+/// The events of the rows that have one value in a column.
 #[derive(Drop)]
-pub(crate) struct KeyedEvent {
-    /// The cell.
+pub(crate) struct Group {
+    /// The value.
     pub key: Cell,
-    /// The event.
-    pub event: ValidEvent,
+    /// The events, in order.
+    pub events: Vec<ValidEvent>,
 }
 
-/// The column of a table by which events are found.
+/// The column of a table by which events are dealt to groups.
 #[derive(Clone, Copy)]
 pub(crate) struct KeyColumn<'a> {
     /// The store that has the rows.
@@ -33,141 +34,159 @@ pub(crate) struct KeyColumn<'a> {
     pub column: u8,
 }
 
-// The event with its key. It takes a step.
-fn keyed_event<L: Ledger>(
+// A group without events, whose value is not known yet.
+fn no_events(alloc: Global) -> Group
+    ensures { result.events.items ≡ [] }
+{
+    Group {
+        key: Cell::Int(0),
+        events: Vec::new(alloc),
+    }
+}
+
+// Whether the group has an event.
+fn has_events(group: &Group) -> bool
+    ensures { result ≡ has_events group.now }
+{
+    match group.events.as_slice() {
+        [] => false,
+        [..] => true,
+    }
+}
+
+// One group more, where there are fewer than so many.
+fn reach_number(alloc: Global, groups: &mut Vec<Group>, count: u32) -> Result<(), NoMemory>
+    ensures more { OnOk result (length groups.old.items < count
+        → HasOneMore groups.old.items groups.new.items) }
+    ensures same { OnOk result (count ≤ length groups.old.items
+        → groups.new.items ≡ groups.old.items) }
+    ensures enough { OnOk result (count ≤ length groups.old.items + 1
+        → count ≤ length groups.new.items) }
+{
+    if groups.len() < count as usize {
+        groups.push(no_events(alloc))?;
+    }
+    Ok(())
+}
+
+// Gives a group without events its value.
+fn name_group(alloc: Global, group: &mut Group, key: CellRef<'_>) -> Result<(), NoMemory>
+    requires { IsShort key }
+    ensures key { OnOk result (group.new.key ≡ value_with group.old (cell_shown key.entry)) }
+    ensures events { OnOk result (group.new.events ≡ group.old.events) }
+{
+    if has_events(group) {
+        return Ok(());
+    }
+    group.key = key.to_cell(alloc)?;
+    Ok(())
+}
+
+// Puts an event behind those of its value's group.
+fn put_event(
     alloc: Global,
-    by: &KeyColumn<'_>,
+    group: &mut Group,
+    key: CellRef<'_>,
+    event: ValidEvent,
+) -> Result<(), NoMemory>
+    requires { IsShort key }
+    ensures key { OnOk result (group.new.key ≡ value_with group.old (cell_shown key.entry)) }
+    ensures events { OnOk result
+        (group.new.events.items ≡ group.old.events.items ++ event ∷ []) }
+{
+    name_group(alloc, group, key)?;
+    group.events.push(event)?;
+    Ok(())
+}
+
+// Deals one event more. It takes a step.
+fn deal<'a, L: Ledger>(
+    alloc: Global,
+    by: &KeyColumn<'a>,
+    keys: &mut Keys<'a>,
+    groups: &mut Vec<Group>,
     event: ValidEvent,
     steps: &mut Steps<L>,
-) -> Result<KeyedEvent, NoMemory>
+) -> Result<(), NoMemory>
     requires column { by.now.column
         < length (columns_of (database_of by.now.store.now) by.now.table) }
     requires row { event.row < length (rows_of (database_of by.now.store.now) by.now.table) }
-    ensures keyed { IfOk result (λ keyed. with_cell keyed
-        ≡ behind_cell (rows_of (database_of by.now.store.now) by.now.table) by.now.column event) }
+    requires apart { AreApart keys.old }
+    requires count { keys.old.count ≤ length groups.old.items }
+    requires room { length groups.old.items + 1 < 2 ^ 32 }
+    ensures dealt { OnOk result ((done : List ValidEvent)
+        → AreDealt (rows_of (database_of by.now.store.now) by.now.table) by.now.column
+        keys.old groups.old.items done
+        → AreDealt (rows_of (database_of by.now.store.now) by.now.table) by.now.column
+        keys.new groups.new.items (done ++ event ∷ [])) }
     ensures steps { steps.new ≡ steps.old + 1 }
 {
-    let cell = by.store.cell(by.table, event.row, by.column, steps);
-    let key = cell.to_cell(alloc)?;
-    Ok(KeyedEvent { key, event })
+    let key = by.store.cell(by.table, event.row, by.column, steps);
+    let number = keys.number(key)?;
+    reach_number(alloc, groups, keys.count())?;
+    put_event(alloc, &mut groups[number as usize], key, event)?;
+    Ok(())
 }
 
-// The events, each with its key, in their order. It takes a step for each.
-fn all_keyed<L: Ledger>(
+// The groups to which the events are dealt, by the numbers of their values. It takes a step for
+// each event.
+fn dealt<L: Ledger>(
     alloc: Global,
     by: &KeyColumn<'_>,
     events: &[ValidEvent],
     steps: &mut Steps<L>,
-) -> Result<Vec<KeyedEvent>, NoMemory>
+) -> Result<Vec<Group>, NoMemory>
     requires column { by.now.column
         < length (columns_of (database_of by.now.store.now) by.now.table) }
     requires rows { All (λ event. event.row
         < length (rows_of (database_of by.now.store.now) by.now.table)) events.now }
-    ensures keyed { IfOk result (λ keyed. map with_cell keyed.items
-        ≡ map (behind_cell (rows_of (database_of by.now.store.now) by.now.table) by.now.column)
+    requires few { length events.now + 1 < 2 ^ 32 }
+    ensures dealt { IfOk result (λ groups. IsDealt
+        (rows_of (database_of by.now.store.now) by.now.table) by.now.column groups.items
         events.now) }
     ensures steps { steps.new ≤ steps.old + length events.now }
 {
-    let mut all = Vec::new(alloc);
+    let mut keys = Keys::none(alloc);
+    let mut groups = Vec::new(alloc);
     for event in events {
-        let keyed = keyed_event(alloc, by, *event, steps)?;
-        all.push(keyed)?;
+        deal(alloc, by, &mut keys, &mut groups, *event, steps)?;
     }
-    Ok(all)
+    Ok(groups)
 }
 
-/// The events in order of their keys, those of one key in their order. It takes a step for each.
-/// The error is `NoMemory`.
-pub(crate) fn events_by_key<L: Ledger>(
+// The groups that have an event.
+fn with_events(alloc: Global, groups: Vec<Group>) -> Result<Vec<Group>, NoMemory>
+    ensures { IfOk result (λ kept. kept.items ≡ filter has_events groups.items) }
+{
+    let mut kept = Vec::with_capacity(alloc, groups.len())?;
+    for group in groups {
+        if has_events(&group) {
+            kept.push(group)?;
+        }
+    }
+    Ok(kept)
+}
+
+/// The events of each value that their rows have in the column, in order of the values, those of a
+/// value in their order. It takes a step for each event. The error is `NoMemory`.
+pub(crate) fn groups_of<L: Ledger>(
     alloc: Global,
     by: &KeyColumn<'_>,
     events: &[ValidEvent],
     steps: &mut Steps<L>,
-) -> Result<Vec<KeyedEvent>, NoMemory>
+) -> Result<Vec<Group>, NoMemory>
     requires column { by.now.column
         < length (columns_of (database_of by.now.store.now) by.now.table) }
     requires rows { All (λ event. event.row
         < length (rows_of (database_of by.now.store.now) by.now.table)) events.now }
-    ensures by_key { IfOk result (λ by_key. AreByKey
+    requires few { length events.now + 1 < 2 ^ 32 }
+    ensures groups { IfOk result (λ groups. AreGroupsOf
         (rows_of (database_of by.now.store.now) by.now.table) by.now.column events.now
-        by_key.items) }
-    ensures few { IfOk result (λ by_key. length by_key.items ≡ length events.now) }
+        groups.items) }
     ensures steps { steps.new ≤ steps.old + length events.now }
 {
-    let mut by_key = all_keyed(alloc, by, events, steps)?;
-    by_key.sort_by(|first, second| first.key.cmp(&second.key))?;
-    Ok(by_key)
-}
-
-// Whether the key of the event comes before a key.
-#[tactic(auto, using(tl_plain::proofs::CellLemmas::cells_before))]
-fn is_before(keyed: &KeyedEvent, key: &Cell) -> bool
-    ensures { result ≡ cell_before keyed.now.key key.now }
-{
-    keyed.key < *key
-}
-
-// Whether the event has the key.
-#[tactic(auto, using(tl_plain::proofs::CellLemmas::same_cells))]
-fn has_key(keyed: &KeyedEvent, key: &Cell) -> bool
-    ensures { result ≡ has_key key.now keyed.now }
-{
-    *key == keyed.key
-}
-
-// Of events in order of their keys, those that have the key.
-fn found<'a>(by_key: &'a [KeyedEvent], key: &Cell) -> &'a [KeyedEvent]
-    requires { IsSortedBy key_before by_key.now }
-    ensures { result.now ≡ filter (has_key key.now) by_key.now }
-{
-    let (_, rest) = by_key.split_at(by_key.partition_point(|keyed| is_before(keyed, key)));
-    let (found, _) = rest.split_at(rest.partition_point(|keyed| has_key(keyed, key)));
-    found
-}
-
-// The events alone.
-fn bare_events(alloc: Global, by_key: &[KeyedEvent]) -> Result<Vec<ValidEvent>, NoMemory>
-    ensures { IfOk result (λ events. events.items ≡ map (λ k. k.event) by_key.now) }
-{
-    let mut events = Vec::with_capacity(alloc, by_key.len())?;
-    for keyed in by_key {
-        events.push(keyed.event)?;
-    }
-    Ok(events)
-}
-
-/// Of events in order of their keys, those that have the key. The error is `NoMemory`.
-pub(crate) fn events_with(
-    alloc: Global,
-    by_key: &[KeyedEvent],
-    key: &Cell,
-) -> Result<Vec<ValidEvent>, NoMemory>
-    requires { IsSortedBy key_before by_key.now }
-    ensures { IfOk result (λ events. events.items ≡ events_with key.now by_key.now) }
-{
-    let events = bare_events(alloc, found(by_key, key))?;
-    Ok(events)
-}
-
-// The keys of the events.
-fn all_keys(alloc: Global, by_key: &[KeyedEvent]) -> Result<Vec<&Cell>, NoMemory>
-    ensures { IfOk result
-        (λ keys. map (λ k. k.now) keys.items ≡ map (λ k. k.key) by_key.now) }
-{
-    let mut keys = Vec::with_capacity(alloc, by_key.len())?;
-    for keyed in by_key {
-        keys.push(&keyed.key)?;
-    }
-    Ok(keys)
-}
-
-/// The keys of the events, in order, each once. The error is `NoMemory`.
-pub(crate) fn keys_of(alloc: Global, by_key: &[KeyedEvent]) -> Result<Vec<&Cell>, NoMemory>
-    ensures { IfOk result (λ keys. map (λ k. k.now) keys.items
-        ≡ fold with_value [] (map (λ k. k.key) by_key.now)) }
-{
-    let mut keys = all_keys(alloc, by_key)?;
-    keys.sort()?;
-    keys.dedup();
-    Ok(keys)
+    let all = dealt(alloc, by, events, steps)?;
+    let mut groups = with_events(alloc, all)?;
+    groups.sort_by(|first, second| first.key.cmp(&second.key))?;
+    Ok(groups)
 }

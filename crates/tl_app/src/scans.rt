@@ -17,6 +17,9 @@ use tl_running::Running;
 use tl_store::Store;
 use tl_types::{NoMemory, Run, Steps, ValidEvent, add_stretch};
 
+/// For so many runs at most memory is taken before it is known how many there are.
+pub(crate) const AT_ONCE: usize = 65_536;
+
 /// What is scanned: some events of valid time of a table, in order, and what a plan asks of their
 /// rows.
 #[derive(Clone, Copy)]
@@ -169,8 +172,8 @@ pub(crate) fn scanned_runs<L: Ledger>(
         runs.items) }
     ensures steps { steps.new ≤ steps.old + 2 * length scan.now.events.now }
 {
+    let mut runs = Vec::with_capacity(alloc, scan.events.len().min(AT_ONCE) + 1)?;
     let mut running = Running::none(alloc, scan.plan.kind);
-    let mut runs = Vec::new(alloc);
     let mut at = from;
     let mut i = 0;
     'moments: while at < to {

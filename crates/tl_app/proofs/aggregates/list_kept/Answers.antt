@@ -1,4 +1,4 @@
-use Rattle.std.proofs.Common.{◌<◌, length, subst, sym, ◌∙◌}
+use Rattle.std.proofs.Common.{◌<◌, length, subst, sym}
 use Rattle.std.specs.List.{All}
 use Rattle.tl_types.specs.declared.events.ValidEvent.{ValidEvent}
 use Rattle.tl_app.specs.Scans.{rows_in}
@@ -7,5 +7,5 @@ use Rattle.tl_app.proofs.aggregates.list_kept.Goals as goal
 
 pub kept_events-requires : goal.kept_events-requires
 kept_events-requires g c =
-    subst (All (λ (e : ValidEvent). e.row < length c.args.keep.now)) (sym (c.as_slice.ensures.value ∙ c.in_ok-list.ensures))
+    subst (All (λ (e : ValidEvent). e.row < length c.args.keep.now)) (sym c.in_ok-list.ensures)
     (rows_within (rows_in c.args.store.now c.args.plan.now) c.args.events.now (length c.args.keep.now) c.requires.events c.requires.keep)

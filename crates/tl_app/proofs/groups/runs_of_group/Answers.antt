@@ -8,11 +8,10 @@ use Rattle.tl_app.proofs.groups.runs_of_group.Goals as goal
 
 pub scanned_runs-requires-clause-events : goal.scanned_runs-requires-clause-events
 scanned_runs-requires-clause-events g c =
-    subst (Alternate (rows_in c.args.groups.now.store.now c.args.groups.now.plan.now)) (sym (c.as_slice.ensures.value ∙ c.in_ok-events.ensures)) (c.requires.groups.alternate c.args.value.now)
+    subst (Alternate (rows_in c.args.groups.now.store.now c.args.groups.now.plan.now)) (sym c.as_slice.ensures.value) c.requires.events
 
 pub returns-clause-runs : goal.returns-clause-runs
 returns-clause-runs g c =
     let rows = rows_in c.args.groups.now.store.now c.args.groups.now.plan.now in
-    c.in_ok-kept.ensures
-    ∙ runs_told rows c.args.groups.now.plan.now c.args.from c.args.to c.args.value.now c.as_slice.result.now c.in_ok-runs.runs.items (rw (to_z-of_z w64 c.args.from c.ranges.from, to_z-of_z w64 c.args.to c.ranges.to) at c.in_ok-runs.ensures.runs) c.in_ok-runs.ensures.tells
-    ∙ ap (grouped_runs rows c.args.groups.now.plan.now c.args.from c.args.to c.args.value.now) (c.as_slice.ensures.value ∙ c.in_ok-events.ensures)
+    runs_told rows c.args.groups.now.plan.now c.args.from c.args.to c.args.group.now.key c.as_slice.result.now c.in_ok-runs.runs.items (rw (to_z-of_z w64 c.args.from c.ranges.from, to_z-of_z w64 c.args.to c.ranges.to) at c.in_ok-runs.ensures.runs) c.in_ok-runs.ensures.tells
+    ∙ ap (grouped_runs rows c.args.groups.now.plan.now c.args.from c.args.to c.args.group.now.key) c.as_slice.ensures.value

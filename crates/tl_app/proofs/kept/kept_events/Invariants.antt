@@ -1,9 +1,11 @@
-use Rattle.std.proofs.Common.{◌≡◌, ◌+◌, ◌≤◌, take}
-use Rattle.tl_app.specs.Parts.{kept_events}
+use Rattle.std.proofs.Common.{◌+◌, ◌≤◌}
+use Rattle.tl_types.specs.declared.events.ValidEvent.{ValidEvent}
+use Rattle.tl_bits.specs.Sets.{is_member}
+use Rattle.tl_app.proofs.KeptLemmas.{IsSifted}
 use Rattle.tl_app.proofs.kept.kept_events.Given as goal
 
-abbrev pub invariant-loop-event : goal.invariant-loop-event
-invariant-loop-event g l = record {
-  list : l.kept.items ≡ kept_events l.keep (take l.event-index l.events);
-  steps : l.steps ≤ l.initial.steps + l.event-index;
+abbrev pub invariant-loop-i : goal.invariant-loop-i
+invariant-loop-i g l = record {
+  sifted : IsSifted (λ (event : ValidEvent). is_member l.keep event.row) l.initial.events.items l.events.items l.i l.kept;
+  steps : l.steps ≤ l.initial.steps + l.i;
 }

@@ -17,9 +17,9 @@ use Rattle.tl_app.proofs.scans.scanned_runs.Goals as goal
 
 pub moments-init : goal.moments-init
 moments-init g c = record {
-  made = none_made _ _ _ _ _ refl c.new-runs.ensures.items;
+  made = none_made _ _ _ _ _ refl c.in_ok-runs.ensures.items;
   holds = holds_none (rows_in c.args.scan.now.store.now c.args.scan.now.plan.now) c.args.scan.now.plan.now c.none-running.result c.none-running.ensures.kind (c.none-running.ensures.stands c.args.scan.now.plan.now.column);
-  tells = subst (AllByRecursion (Tells (rows_in c.args.scan.now.store.now c.args.scan.now.plan.now) c.args.scan.now.plan.now c.args.scan.now.events.now)) (sym c.new-runs.ensures.items) tt;
+  tells = subst (AllByRecursion (Tells (rows_in c.args.scan.now.store.now c.args.scan.now.plan.now) c.args.scan.now.plan.now c.args.scan.now.events.now)) (sym c.in_ok-runs.ensures.items) tt;
   within = omega arith;
   front = λ k d l. absurd (omega arith);
   steps = omega arith;

@@ -31,6 +31,18 @@ merged_twice es ts us a b c =
       turn false false true = refl
       turn false false false = refl
 
+-- events with changes are the changes with the events
+pub merged_turned : (es ts : List ValidEvent) → Rises es → Rises ts → merged es ts ≡ merged ts es
+merged_turned es ts a b =
+    let one = good_merged es ts a b in
+    let other = good_merged ts es b a in
+    members_same (merged es ts) (merged ts es) one.rises other.rises (λ z. one.members z ∙ turn (has es z) (has ts z) ∙ sym (other.members z)) where
+      turn : (a b : Bool) → xor a b ≡ xor b a
+      turn true true = refl
+      turn true false = refl
+      turn false true = refl
+      turn false false = refl
+
 pub merged_none : (ts : List ValidEvent) → Rises ts → merged [] ts ≡ ts
 merged_none ts up =
     let good = good_merged [] ts tt up in

@@ -1,45 +1,129 @@
 //! The rows of an answer as CSV.
-ghost use Rattle.std.specs.Prelude.{◌≡◌, ◌++◌, ◌∷◌, [], map, IfOk, OnOk};
+ghost use Rattle.std.specs.Prelude.{◌≡◌, ℕ, List, ◌<◌, ◌++◌, ◌∷◌, [], codes, length, IfOk, OnOk};
+ghost use Rattle.std.specs.Fmt.{decimal, signed_decimal};
 ghost use Rattle.std.specs.String.{string_bytes};
-ghost use Rattle.csv.specs.Records.{fields_of, partial_of};
 ghost use Rattle.csv.specs.Writing.{default_writer, row_text};
-ghost use Rattle.tl_csv.specs.Answers.{answer_text, field_text};
-ghost use Rattle.tl_csv.specs.Writing.{bytes_written, IsWriting};
+ghost use Rattle.tl_csv.specs.Answers.{answer_row, answer_text, field_text};
+ghost use Rattle.tl_csv.specs.Writing.{bytes_written, IsWithinRow, IsWriting, WritesField};
+ghost use Rattle.tl_rows.specs.Fields.{field_shown};
+ghost use Rattle.tl_rows.specs.Rows.{row_at};
 
-use csv::{ByteRecord, Writer, WriterBuilder};
+use csv::{Writer, WriterBuilder};
 use std::alloc::{AllocError, Global};
-use tl_types::{Answer, Bytes, Field, NoMemory};
+use std::fmt::Write;
+use tl_rows::{AnswerRows, FieldRef};
+use tl_types::{Bytes, NoMemory};
 
-fn field_text(alloc: Global, field: &Field) -> Result<String, NoMemory>
-    ensures { IfOk result (λ text. string_bytes text ≡ field_text field.now) }
+// Makes `text` a number in decimal.
+fn write_number(text: &mut String, number: i128) -> Result<(), NoMemory>
+    ensures { OnOk result (string_bytes text.new ≡ signed_decimal number) }
 {
-    match field {
-        Field::Number(number) => format!(in alloc; "{number}"),
-        Field::Text(text) => String::from_str(alloc, text.as_str()),
-        Field::Ratio { sum, count } => format!(in alloc; "{sum}/{count}"),
-        Field::Empty => Ok(String::new(alloc)),
-        Field::Forever => String::from_str(alloc, "FOREVER"),
-    }
-}
-
-fn put_field(alloc: Global, row: &mut ByteRecord, field: &Field) -> Result<(), NoMemory>
-    requires { partial_of row.old ≡ [] }
-    ensures fields { OnOk result
-        (fields_of row.new ≡ fields_of row.old ++ field_text field.now ∷ []) }
-    ensures ended { OnOk result (partial_of row.new ≡ []) }
-{
-    let text = field_text(alloc, field)?;
-    row.push_field(text.as_bytes())?;
+    text.clear();
+    write!(text, "{number}")?;
     Ok(())
 }
 
-// Makes `row` the record of these fields.
-fn put_fields(alloc: Global, row: &mut ByteRecord, fields: &[Field]) -> Result<(), NoMemory>
-    ensures { OnOk result (fields_of row.new ≡ map field_text fields.now) }
+// Makes `text` a sum, `/` and its count.
+fn write_ratio(text: &mut String, sum: i128, count: u32) -> Result<(), NoMemory>
+    ensures { OnOk result
+        (string_bytes text.new ≡ signed_decimal sum ++ (codes "/" ++ decimal count)) }
 {
-    row.clear();
-    for field in fields {
-        put_field(alloc, row, field)?;
+    text.clear();
+    write!(text, "{sum}/{count}")?;
+    Ok(())
+}
+
+// Writes a field of these bytes.
+fn put_bytes(writer: &mut Writer<Vec<u8>>, field: &[u8]) -> Result<(), NoMemory>
+    ensures { OnOk result (WritesField writer.old writer.new field.now) }
+{
+    let Ok(()) = writer.write_field(field) else {
+        return Err(AllocError);
+    };
+    Ok(())
+}
+
+// Writes a field. `text` is where a number or a ratio is put together.
+fn put_field(
+    writer: &mut Writer<Vec<u8>>,
+    text: &mut String,
+    field: FieldRef<'_>,
+) -> Result<(), NoMemory>
+    ensures { OnOk result
+        (WritesField writer.old writer.new (field_text (field_shown field.entry))) }
+{
+    match field {
+        FieldRef::Number(number) => {
+            write_number(text, number)?;
+            put_bytes(writer, text.as_bytes())?;
+            Ok(())
+        }
+        FieldRef::Text(bytes) => {
+            put_bytes(writer, bytes)?;
+            Ok(())
+        }
+        FieldRef::Ratio { sum, count } => {
+            write_ratio(text, sum, count)?;
+            put_bytes(writer, text.as_bytes())?;
+            Ok(())
+        }
+        FieldRef::Empty => {
+            put_bytes(writer, b"".as_slice())?;
+            Ok(())
+        }
+        FieldRef::Forever => {
+            put_bytes(writer, b"FOREVER".as_slice())?;
+            Ok(())
+        }
+    }
+}
+
+// Ends the row whose fields were written.
+fn end_row(writer: &mut Writer<Vec<u8>>) -> Result<(), NoMemory>
+    ensures row { OnOk result ((bytes : List ℕ) (row : List (List ℕ)) →
+        IsWithinRow writer.old bytes row →
+        bytes_written writer.new ≡ bytes ++ row_text default_writer row) }
+    ensures writing { OnOk result ((bytes : List ℕ) (row : List (List ℕ)) →
+        IsWithinRow writer.old bytes row → IsWriting writer.new) }
+{
+    let Ok(()) = writer.end_record() else {
+        return Err(AllocError);
+    };
+    Ok(())
+}
+
+// Writes the row at this place.
+fn write_row(
+    writer: &mut Writer<Vec<u8>>,
+    text: &mut String,
+    answer: &AnswerRows,
+    row: usize,
+) -> Result<(), NoMemory>
+    requires writing { IsWriting writer.old }
+    requires there { row < length answer.now.rows }
+    ensures row { OnOk result (bytes_written writer.new
+        ≡ bytes_written writer.old ++ answer_row (row_at answer.now row)) }
+    ensures writing { OnOk result (IsWriting writer.new) }
+{
+    for place in 0..answer.row_len(row) {
+        put_field(writer, text, answer.field(row, place))?;
+    }
+    end_row(writer)?;
+    Ok(())
+}
+
+// Writes all rows, behind nothing.
+fn write_rows(
+    writer: &mut Writer<Vec<u8>>,
+    text: &mut String,
+    answer: &AnswerRows,
+) -> Result<(), NoMemory>
+    requires writing { IsWriting writer.old }
+    requires empty { bytes_written writer.old ≡ [] }
+    ensures { OnOk result (bytes_written writer.new ≡ answer_text answer.now) }
+{
+    for row in 0..answer.len() {
+        write_row(writer, text, answer, row)?;
     }
     Ok(())
 }
@@ -54,18 +138,7 @@ fn writer_of(alloc: Global) -> Writer<Vec<u8>>
         .from_writer(Vec::new(alloc))
 }
 
-fn write_row(writer: &mut Writer<Vec<u8>>, row: &ByteRecord) -> Result<(), NoMemory>
-    requires { IsWriting writer.old }
-    ensures row { OnOk result (bytes_written writer.new
-        ≡ bytes_written writer.old ++ row_text default_writer (fields_of row.now)) }
-    ensures writing { OnOk result (IsWriting writer.new) }
-{
-    let Ok(()) = writer.write_byte_record(row) else {
-        return Err(AllocError);
-    };
-    Ok(())
-}
-
+// All bytes that were written.
 fn bytes_of(writer: Writer<Vec<u8>>) -> Result<Bytes, NoMemory>
     ensures { IfOk result (λ bytes. bytes ≡ bytes_written writer) }
 {
@@ -79,14 +152,11 @@ fn bytes_of(writer: Writer<Vec<u8>>) -> Result<Bytes, NoMemory>
 /// ended by LF, and a field in double quotes where it needs them. A number is written in decimal, a
 /// text as it is, a mean as its sum, `/` and its count, the value over no row as an empty field,
 /// and an end that does not come as FOREVER. The error is `NoMemory`.
-pub fn answer_bytes(alloc: Global, answer: &Answer) -> Result<Bytes, NoMemory>
+pub fn answer_bytes(alloc: Global, answer: &AnswerRows) -> Result<Bytes, NoMemory>
     ensures { IfOk result (λ bytes. bytes ≡ answer_text answer.now) }
 {
     let mut writer = writer_of(alloc);
-    let mut row = ByteRecord::new(alloc);
-    for fields in answer.rows.as_slice() {
-        put_fields(alloc, &mut row, fields.as_slice())?;
-        write_row(&mut writer, &row)?;
-    }
+    let mut text = String::new(alloc);
+    write_rows(&mut writer, &mut text, answer)?;
     bytes_of(writer)
 }

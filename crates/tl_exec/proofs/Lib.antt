@@ -1,4 +1,3 @@
-pub mod StoreLemmas
 pub mod ShownLemmas
 pub mod SetLemmas
 pub mod SelectLemmas
@@ -7,3 +6,4 @@ pub mod BehindLemmas
 pub mod PieceLemmas
 pub mod AggTypedLemmas
 pub mod MomentLemmas
+pub mod JoinTypedLemmas

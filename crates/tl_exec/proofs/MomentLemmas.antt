@@ -53,3 +53,9 @@ pub same_moments : (db : plain.Database) (plan : AggPlan) (pred : TypedPred) (ve
 same_moments db plan pred version (Ok runs) first last from to same also h =
     h ∙ ap (λ m. planned_runs db plan pred (span.Valid version m last)) same ∙ ap (λ m. planned_runs db plan pred (span.Valid version from m)) also
 same_moments db plan pred version (Err e) first last from to same also h = tt
+
+-- what the pairs of both sides take
+pub pair_steps : (before first second third fourth after p q w v e d s t n m e2 d2 n2 m2 : ℕ) → first ≤ before + p → second ≤ first + q → third ≤ second + (4 * e2 + w + 2 * s)
+    → fourth ≤ third + (4 * d2 + v + 2 * t) → after ≤ fourth + (4 * (n2 + m2) + 2) → e2 ≡ e → d2 ≡ d → n2 ≤ n → m2 ≤ m
+    → after ≤ before + (p + 4 * e + 2 * w + 2 * s + 4 * n + 2 + (q + 4 * d + 2 * v + 2 * t + 4 * m + 2))
+pair_steps before first second third fourth after p q w v e d s t n m e2 d2 n2 m2 one two three four five es ds ns ms = omega arith

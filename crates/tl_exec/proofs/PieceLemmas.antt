@@ -1,12 +1,13 @@
 -- Runs over pieces, put together; and what they take.
 use Rattle.std.proofs.Common.{◌≡◌, ℕ, zero, suc, ◌+◌, ◌*◌, ◌≤◌, ℤ, pos, ◌-ℤ◌, Bool, true, false, ◌&&◌, cond, List, [], ◌∷◌, ◌++◌, length, map, Option, Some, None, Result, Ok, Err, IfOk, slice_get, refl, ap, sym, subst, ◌∙◌, arith}
-use Rattle.std.specs.List.{filter}
+use Rattle.std.specs.List.{filter, flat_map}
 use Rattle.std.specs.declared.alloc.AllocError.{AllocError}
 use Rattle.std.proofs.lemmas.Int.{ints}
 use Rattle.std.proofs.lemmas.List.Sums.{sum_by-append}
 use Rattle.std.proofs.lemmas.List.{length-map, length-append, ext_get_or}
 use Rattle.tl_bits.specs.Sets.{is_member}
 use Rattle.tl_types.specs.declared.answers.Field.{Field}
+use Rattle.tl_types.specs.declared.cells.Cell.{Cell}
 use Rattle.tl_types.specs.declared.commits.Entry.{Entry}
 use Rattle.tl_types.specs.declared.runs.Piece.{Piece}
 use Rattle.tl_types.specs.declared.runs.Run.{Run}
@@ -17,10 +18,13 @@ use Rattle.tl_types.specs.History.{database_of, rows_of, is_visible}
 use Rattle.tl_query.specs.declared.ast.AggKind.{AggKind}
 use Rattle.tl_query.specs.declared.typed_queries.AggPlan.{AggPlan}
 use Rattle.tl_query.specs.declared.typed_queries.TypedPred.{TypedPred}
-use Rattle.tl_query.specs.Aggregates.{aggregate_of}
+use Rattle.tl_query.specs.declared.typed_queries.Span.TheVariants as span
+use Rattle.tl_query.specs.Aggregates.{aggregate_of, group_runs, in_group, with_rows}
+use Rattle.tl_query.specs.Ordered.{values_of}
 use Rattle.tl_query.specs.Passing.{passes}
 use Rattle.tl_agg.specs.Kept.{both, size, kept_at}
-use Rattle.tl_agg.specs.Runs.{runs_by, system_runs, start_set}
+use Rattle.tl_agg.specs.Runs.{kept_with, runs_by, system_runs, start_set}
+use Rattle.tl_running.specs.Standing.{Suits}
 use Rattle.tl_range.specs.Dividing.{Follow}
 use Rattle.tl_exec.specs.Pieces.{CanScan, IsAskedOf, AreRunsOver, PutsTogether}
 use Rattle.tl_exec.specs.Bounds.{rows_chosen}
@@ -32,19 +36,30 @@ none_over : (f : ℤ → Field) (from : ℤ) → runs_of f from from ≡ []
 unfolding runs_over
 none_over f from = let e : from -ℤ from ≡ pos 0 = omega (arith, ints) in ap (λ n. runs_over f from (count_of n)) e
 
-none_by : (kind : AggKind) (column by : Option ℕ) (rows : List plain.Row) (keep : List Bool) (from : ℕ) → by ≡ None → runs_by kind column by rows keep from from ≡ []
-none_by kind column by rows keep from is = rw is (none_over (λ moment. aggregate_of kind column (kept_at rows keep moment)) (pos from))
+none_with : (kind : AggKind) (column : Option ℕ) (rows : ℤ → List plain.Row) (value : Cell) (from : ℕ) → group_runs kind column (span.System from from) rows value ≡ []
+none_with kind column rows value from = ap (λ runs. map (in_group value) (with_rows rows runs)) (none_over (λ moment. aggregate_of kind column (rows moment)) (pos from))
+
+none_grouped : (kind : AggKind) (column : Option ℕ) (by : ℕ) (rows : List plain.Row) (keep : List Bool) (from : ℕ) (values : List Cell)
+    → flat_map (λ value. group_runs kind column (span.System from from) (kept_with rows keep by value) value) values ≡ []
+none_grouped kind column by rows keep from [] = refl
+none_grouped kind column by rows keep from (value ∷ values) =
+    ap (λ runs. runs ++ flat_map (λ value. group_runs kind column (span.System from from) (kept_with rows keep by value) value) values) (none_with kind column (kept_with rows keep by value) value from)
+    ∙ none_grouped kind column by rows keep from values
+
+none_by : (kind : AggKind) (column by : Option ℕ) (rows : List plain.Row) (keep : List Bool) (from : ℕ) → runs_by kind column by rows keep from from ≡ []
+none_by kind column None rows keep from = none_over (λ moment. aggregate_of kind column (kept_at rows keep moment)) (pos from)
+none_by kind column (Some by) rows keep from = none_grouped kind column by rows keep from (values_of by rows)
 
 -- a plan has no runs over no versions
-pub no_runs : (plan : AggPlan) (rows : List plain.Row) (keep : List Bool) (from : ℕ) → plan.by ≡ None → system_runs plan rows keep from from ≡ []
-no_runs plan rows keep from is = none_by plan.kind plan.column plan.by rows keep from is
+pub no_runs : (plan : AggPlan) (rows : List plain.Row) (keep : List Bool) (from : ℕ) → system_runs plan rows keep from from ≡ []
+no_runs plan rows keep from = none_by plan.kind plan.column plan.by rows keep from
 
 -- PIECES
 
 -- no parts
 pub none_together : (whole : List Run) → whole ≡ [] → PutsTogether [] whole
-none_together whole is plan rows keep from to [] single follow over = is ∙ sym (no_runs plan rows keep from single) ∙ ap (system_runs plan rows keep from) follow
-none_together whole is plan rows keep from to (piece ∷ pieces) single follow over = let m = over.many in absurd (omega arith)
+none_together whole is plan rows keep from to [] suits follow over = is ∙ sym (no_runs plan rows keep from) ∙ ap (system_runs plan rows keep from) follow
+none_together whole is plan rows keep from to (piece ∷ pieces) suits follow over = let m = over.many in absurd (omega arith)
 
 -- pieces that follow on each other, and the last of them
 pub record HasLast (from to : ℕ) (pieces : List Piece) (n : ℕ) : Type 0 where
@@ -83,10 +98,10 @@ get_last (y ∷ xs) x (suc i) e = get_last xs x i (omega arith)
 
 -- one part more
 pub one_together : (parts : List (List Run)) (old part new : List Run)
-    → ((plan : AggPlan) (rows : List plain.Row) (keep : List Bool) (from middle to : ℕ) → plan.by ≡ None → from ≤ middle → middle ≤ to
+    → ((plan : AggPlan) (rows : List plain.Row) (keep : List Bool) (from middle to : ℕ) → Suits plan.kind plan.column rows → from ≤ middle → middle ≤ to
     → old ≡ system_runs plan rows keep from middle → part ≡ system_runs plan rows keep middle to → new ≡ system_runs plan rows keep from to)
     → PutsTogether parts old → PutsTogether (parts ++ part ∷ []) new
-one_together parts old part new joined was plan rows keep from to pieces single follow over =
+one_together parts old part new joined was plan rows keep from to pieces suits follow over =
     let m = over.many in
     let k = length-append parts (part ∷ []) in
     let h = has_last from to pieces (length parts) (omega arith) follow in
@@ -97,7 +112,7 @@ one_together parts old part new joined was plan rows keep from to pieces single 
       each = λ i piece p there is. each i piece p (get_front h.front (h.last ∷ []) i piece there) (get_front parts (part ∷ []) i p is);
     } in
     let some = h.last.some in
-    let up = joined plan rows keep from h.last.from h.last.to single h.later (omega arith) (was plan rows keep from h.last.from h.front single h.follow before)
+    let up = joined plan rows keep from h.last.from h.last.to suits h.later (omega arith) (was plan rows keep from h.last.from h.front suits h.follow before)
     (each (length parts) h.last part (get_last h.front h.last (length parts) h.many) (get_last parts part (length parts) refl)) in
     up ∙ ap (system_runs plan rows keep from) h.ends
 
@@ -165,10 +180,10 @@ pub piece_steps : (before between after e0 e inside r r2 w w2 s s2 : ℕ) → be
     → inside ≡ e → r2 ≡ r → w2 ≡ w → s2 ≡ s → after ≤ before + (e0 + 5 * e + 3 * r + 5 * w + 4 * s + 2)
 piece_steps before between after e0 e inside r r2 w w2 s s2 start scan es rs ws ss = omega arith
 
-pub if_ok_put : (parts : List (List Run)) (result : Result (List Run) AllocError) (plan : AggPlan) (rows : List plain.Row) (keep : List Bool) (from to : ℕ) (pieces : List Piece) → plan.by ≡ None → Follow from to pieces
+pub if_ok_put : (parts : List (List Run)) (result : Result (List Run) AllocError) (plan : AggPlan) (rows : List plain.Row) (keep : List Bool) (from to : ℕ) (pieces : List Piece) → Suits plan.kind plan.column rows → Follow from to pieces
     → AreRunsOver plan rows keep pieces parts → IfOk result (λ runs. PutsTogether parts runs) → IfOk result (λ runs. runs ≡ system_runs plan rows keep from to)
-if_ok_put parts (Ok runs) plan rows keep from to pieces single follow over put = put plan rows keep from to pieces single follow over
-if_ok_put parts (Err e) plan rows keep from to pieces single follow over put = tt
+if_ok_put parts (Ok runs) plan rows keep from to pieces suits follow over put = put plan rows keep from to pieces suits follow over
+if_ok_put parts (Err e) plan rows keep from to pieces suits follow over put = tt
 
 -- THE RANGE
 

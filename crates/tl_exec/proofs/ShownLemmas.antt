@@ -1,6 +1,6 @@
 -- What is shown of the rows of a set.
 use Rattle.std.proofs.Common.{◌≡◌, ℕ, zero, suc, ◌+◌, ◌-◌, ◌*◌, ◌/◌, ◌<◌, ◌≤◌, Bool, true, false, cond, ℤ, List, [], ◌∷◌, ◌++◌, length, map, take, get_or, Option, Some, slice_get, refl, ap, sym, ◌∙◌, arith}
-use Rattle.std.proofs.lemmas.List.{take_more, map-append, length-append, take_all}
+use Rattle.std.proofs.lemmas.List.{append_assoc, take_more, map-append, length-append, take_all}
 use Rattle.std.proofs.lemmas.Nat.{mul-le}
 use Rattle.tl_lanes.specs.Masks.{words_for}
 use Rattle.std.proofs.lemmas.List.Elements.{filter-append}
@@ -18,6 +18,13 @@ pub item_more : {X Y : Type 0} (f : X → Y) → (xs : List X) (i : ℕ) (d : X)
 item_more f xs i d out new y there was step is =
     step ∙ ap (λ ys. ys ++ y ∷ []) was ∙ ap (λ z. map f (take i xs) ++ z ∷ []) is
     ∙ sym (map-append f (take i xs) (get_or xs i d ∷ [])) ∙ ap (map f) (sym (take_more xs i d there))
+
+-- the same behind items that stand there
+pub item_behind : {X Y : Type 0} (f : X → Y) → (start : List Y) (xs : List X) (i : ℕ) (d : X) (out new : List Y) (y : Y) → i < length xs → out ≡ start ++ map f (take i xs) → new ≡ out ++ y ∷ []
+    → y ≡ f (get_or xs i d) → new ≡ start ++ map f (take (i + 1) xs)
+item_behind f start xs i d out new y there was step is =
+    step ∙ ap (λ ys. ys ++ y ∷ []) was ∙ append_assoc start (map f (take i xs)) (y ∷ [])
+    ∙ ap (λ ys. start ++ ys) (item_more f xs i d (map f (take i xs)) (map f (take i xs) ++ y ∷ []) y there refl refl is)
 
 -- THE ROWS OF A SET
 

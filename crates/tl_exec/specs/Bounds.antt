@@ -1,5 +1,5 @@
 -- How many steps an answer takes at most.
-use Rattle.std.specs.Prelude.{◌≡◌, ℕ, ◌+◌, ◌-◌, ◌*◌, ◌≤◌, List, length}
+use Rattle.std.specs.Prelude.{◌≡◌, ℕ, ℤ, ◌+◌, ◌-◌, ◌*◌, ◌≤◌, List, length}
 use Rattle.std.specs.List.{filter}
 use Rattle.tl_types.specs.declared.commits.Entry.{Entry}
 use Rattle.tl_types.specs.Entries.{commits_of}
@@ -12,10 +12,11 @@ use Rattle.tl_query.specs.declared.typed_queries.Typed.{Typed}
 use Rattle.tl_query.specs.declared.typed_queries.Typed.TheVariants as typed
 use Rattle.tl_query.specs.declared.typed_queries.TypedItem.{TypedItem}
 use Rattle.tl_query.specs.declared.typed_queries.TypedPred.{TypedPred}
+use Rattle.tl_query.specs.Joins.{joined_pairs}
 use Rattle.tl_query.specs.Passing.{passes}
 use Rattle.tl_travel.specs.Bounds.{events_after_mark, begun_words, map_digits}
 use Rattle.tl_filter.specs.Selecting.{tests_in}
-use Rattle.tl_exec.specs.JoinBounds.{join_steps}
+use Rattle.tl_exec.specs.JoinBounds.{columns_of_both, join_steps}
 
 -- how many rows of a table are visible at a version and pass
 abbrev pub rows_chosen : plain.Database → ℕ → ℕ → TypedPred → ℕ
@@ -69,8 +70,28 @@ IsAggWithin entries table pred (span.System from to) workers before after =
 IsAggWithin entries table pred (span.Valid version from to) workers before after =
     after ≤ before + valid_steps entries table pred version
 
--- a query takes no more steps from one count to another than its kind may take, where one worker
--- does it or, for a SELECT, so many; it says nothing of a join over valid time
+-- the most steps that finding the pairs of a join over valid time at a version takes
+abbrev pub valid_pairs_steps : List Entry → ℕ → TypedPred → ℕ → TypedPred → ℕ → ℕ
+valid_pairs_steps entries left left_pred right right_pred version =
+    valid_steps entries left left_pred version + valid_steps entries right right_pred version
+
+-- the most steps that a join over a range takes beside finding its pairs: for each pair as many as
+-- both tables have columns
+abbrev pub pairs_part : List Entry → ℕ → TypedPred → ℕ → TypedPred → ℕ → ℕ → Span → ℕ
+pairs_part entries left left_pred right right_pred left_on right_on over =
+    let db = database_of (commits_of entries) in
+    columns_of_both db left right
+    * length (joined_pairs db left left_pred right right_pred left_on right_on over)
+
+-- the most steps that a join over valid time at a version takes
+abbrev pub valid_join_steps : List Entry → ℕ → TypedPred → ℕ → TypedPred → ℕ → ℕ → ℕ → ℤ → ℤ → ℕ
+valid_join_steps entries left left_pred right right_pred left_on right_on version from to =
+    valid_pairs_steps entries left left_pred right right_pred version
+    + pairs_part entries left left_pred right right_pred left_on right_on
+    (span.Valid version from to)
+
+-- a query takes no more steps from one count to another than its kind may take; an aggregate or a
+-- join over versions where one worker does it, the others with any number of workers
 abbrev pub IsWithinBound : List Entry → Typed → ℕ → ℕ → ℕ → Type 0
 IsWithinBound entries (typed.Select table items pred valid_at version) workers before after =
     after ≤ before + select_steps entries table items pred version
@@ -83,4 +104,6 @@ IsWithinBound entries
     + join_steps entries left left_pred right right_pred left_on right_on from to
 IsWithinBound entries
     (typed.Join left left_pred right right_pred left_on right_on (span.Valid version from to))
-    workers before after = Unit {0}
+    workers before after =
+    after ≤ before
+    + valid_join_steps entries left left_pred right right_pred left_on right_on version from to

@@ -1,4 +1,4 @@
--- How many steps a join takes at most.
+-- How many steps a join over versions takes at most.
 use Rattle.std.specs.Prelude.{ℕ, ◌+◌, ◌-◌, ◌*◌, List, length}
 use Rattle.tl_types.specs.declared.commits.Entry.{Entry}
 use Rattle.tl_types.specs.declared.runs.Piece.{Piece}

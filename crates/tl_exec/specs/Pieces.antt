@@ -1,5 +1,5 @@
 -- Aggregates over versions, piece by piece.
-use Rattle.std.specs.Prelude.{◌≡◌, ℕ, ◌+◌, ◌<◌, ◌≤◌, Bool, List, length, None, Some, slice_get}
+use Rattle.std.specs.Prelude.{◌≡◌, ℕ, ◌+◌, ◌<◌, ◌≤◌, Bool, List, length, Some, slice_get}
 use Rattle.tl_types.specs.declared.commits.Entry.{Entry}
 use Rattle.tl_types.specs.declared.runs.Piece.{Piece}
 use Rattle.tl_types.specs.declared.runs.Run.{Run}
@@ -11,6 +11,7 @@ use Rattle.tl_query.specs.declared.typed_queries.Span.TheVariants as span
 use Rattle.tl_query.specs.declared.typed_queries.TypedPred.{TypedPred}
 use Rattle.tl_query.specs.Aggregates.{aggregate_runs}
 use Rattle.tl_filter.specs.Selecting.{IsTypedPredFor}
+use Rattle.tl_running.specs.Standing.{Suits}
 use Rattle.tl_agg.specs.Runs.{system_runs}
 use Rattle.tl_agg.specs.Scans.{IsPlanFor}
 use Rattle.tl_range.specs.Dividing.{Follow}
@@ -26,11 +27,12 @@ pub record CanScan (entries : List Entry) (plan : AggPlan) (keep : List Bool) (t
   pub few : length keep ≤ 16777216
   pub within : to ≤ (database_of (commits_of entries)).version + 1
 
--- it can be scanned, and the plan has no groups: the runs of pieces of it can be put together
+-- it can be scanned, and the plan suits the rows of its table: the runs of pieces of it can be put
+-- together
 pub record CanDivide (entries : List Entry) (plan : AggPlan) (keep : List Bool) (to : ℕ)
     : Type 0 where
   pub scan : CanScan entries plan keep to
-  pub single : plan.by ≡ None
+  pub suits : Suits plan.kind plan.column (rows_of (database_of (commits_of entries)) plan.table)
 
 -- the plan is one for a table of the database, the predicate is one for that table, and the
 -- versions before an end are there
@@ -67,10 +69,10 @@ pub record AreRunsOver (plan : AggPlan) (rows : List plain.Row) (keep : List Boo
   pub each : (i : ℕ) (piece : Piece) (part : List Run) → slice_get pieces i ≡ Some piece
       → slice_get parts i ≡ Some part → part ≡ system_runs plan rows keep piece.from piece.to
 
--- where the parts are the runs of a plan over pieces that follow on each other, these runs are
--- those over all of the pieces
+-- where the parts are the runs of a plan over pieces that follow on each other, and the plan suits
+-- the rows, these runs are those over all of the pieces
 abbrev pub PutsTogether : List (List Run) → List Run → Type 0
 PutsTogether parts runs =
     (plan : AggPlan) (rows : List plain.Row) (keep : List Bool) (from to : ℕ)
-    (pieces : List Piece) → plan.by ≡ None → Follow from to pieces
+    (pieces : List Piece) → Suits plan.kind plan.column rows → Follow from to pieces
     → AreRunsOver plan rows keep pieces parts → runs ≡ system_runs plan rows keep from to

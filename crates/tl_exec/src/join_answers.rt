@@ -8,19 +8,40 @@ ghost use Rattle.tl_query.specs.TypedFor.{IsTypedFor};
 ghost use Rattle.tl_query.specs.declared.typed_queries.Span.TheVariants as span;
 ghost use Rattle.tl_exec.specs.Bounds.{IsWithinBound};
 ghost use Rattle.tl_exec.specs.JoinBounds.{join_steps};
-ghost use Rattle.tl_exec.specs.JoinsFor.{IsJoinFor};
+ghost use Rattle.tl_exec.specs.JoinsFor.{IsJoinFor, query_of};
 
 use crate::aggregates::passing_rows;
 use crate::joins::{Join, Keeps};
-use crate::rebuilding::answer_over_tables;
-use crate::shown_pairs::fields_of_pairs;
+use crate::moment_joins::{JoinedAt, moment_rows};
+use crate::shown_pairs::rows_of_pairs;
 use std::alloc::AllocGlobal;
 use std::sync::ledger::Ledger;
 use std::thread::Threads;
 use tl_device::Gate;
 use tl_index::Snapshot;
-use tl_query::{JoinPlan, Span, Typed, TypedPred};
-use tl_types::{Answer, Field, NoMemory, Piece, Seq, Steps};
+use tl_query::{JoinPlan, Span, TypedPred};
+use tl_rows::AnswerRows;
+use tl_types::{NoMemory, Piece, Steps};
+
+/// What is asked of two tables: the pairs of rows with equal cells in a column of each that hold
+/// together at a time of a range, of the rows of each that pass.
+#[derive(Clone, Copy)]
+pub(crate) struct AskedPairs<'a> {
+    /// The left table's number.
+    pub(crate) left: u16,
+    /// What its rows pass.
+    pub(crate) left_pred: &'a TypedPred,
+    /// The right table's number.
+    pub(crate) right: u16,
+    /// What its rows pass.
+    pub(crate) right_pred: &'a TypedPred,
+    /// The column of the left table.
+    pub(crate) left_on: u8,
+    /// The column of the right table.
+    pub(crate) right_on: u8,
+    /// The range.
+    pub(crate) span: Span,
+}
 
 /// What is joined: by which plan, over which versions, and which rows of each side.
 #[derive(Clone, Copy)]
@@ -43,7 +64,7 @@ fn join_rows<R: AllocGlobal + Threads + Sync, L: Ledger, G: Gate>(
     workers: u32,
     gate: &G,
     steps: &mut Steps<L>,
-) -> Result<Seq<Seq<Field>>, NoMemory>
+) -> Result<AnswerRows, NoMemory>
     requires join { IsJoinFor (database_of (commits_of snapshot.now)) joined }
     requires some { 0 < workers }
     requires few { workers ≤ 64 }
@@ -51,7 +72,7 @@ fn join_rows<R: AllocGlobal + Threads + Sync, L: Ledger, G: Gate>(
         let plan = joined.entry.plan in
         let from = joined.entry.range.from in
         let to = joined.entry.range.to in
-        IfOk result (λ rows. rows ≡ map (pair_fields (rows_of db plan.left) (rows_of db plan.right))
+        IfOk result (λ a. a.rows ≡ map (pair_fields (rows_of db plan.left) (rows_of db plan.right))
         (joined_pairs db plan.left joined.entry.left_pred.now plan.right
         joined.entry.right_pred.now plan.left_on plan.right_on (span.System from to))) }
     ensures steps { let plan = joined.entry.plan in
@@ -71,28 +92,28 @@ fn join_rows<R: AllocGlobal + Threads + Sync, L: Ledger, G: Gate>(
     };
     let join = Join::new(alloc, snapshot, plan, range, keeps);
     let pairs = join.pairs(rt, workers, gate, steps)?;
-    let rows = fields_of_pairs(alloc, snapshot, &plan, &pairs, steps)?;
+    let rows = rows_of_pairs(alloc, snapshot, &plan, &pairs, steps)?;
     Ok(rows)
 }
 
-/// The answer to a query for pairs of rows. Over versions it is made of pieces for so many workers,
-/// each of which passes the gate; else over the plain tables. The error is `NoMemory`.
+/// The answer to a query for pairs of rows. Over versions it is made of pieces for so many workers
+/// where they are more than one, and then each passes the gate. The error is `NoMemory`.
 pub(crate) fn answer_join<R: AllocGlobal + Threads + Sync, L: Ledger, G: Gate>(
     rt: &R,
     snapshot: &Snapshot,
-    query: &Typed,
+    asked: AskedPairs<'_>,
     workers: u32,
     gate: &G,
     steps: &mut Steps<L>,
-) -> Result<Answer, NoMemory>
-    requires typed { IsTypedFor (database_of (commits_of snapshot.now)) query.now }
+) -> Result<AnswerRows, NoMemory>
+    requires typed { IsTypedFor (database_of (commits_of snapshot.now)) (query_of asked) }
     requires some { 0 < workers }
     requires few { workers ≤ 64 }
-    ensures rows { IfOk result
-        (λ a. a.rows ≡ answer_of (database_of (commits_of snapshot.now)) query.now) }
-    ensures steps { IsWithinBound snapshot.now query.now workers steps.old steps.new }
+    ensures rows { IfOk result (λ a. a.rows
+        ≡ answer_of (database_of (commits_of snapshot.now)) (query_of asked.entry)) }
+    ensures steps { IsWithinBound snapshot.now (query_of asked.entry) workers steps.old steps.new }
 {
-    let Typed::Join {
+    let AskedPairs {
         left,
         left_pred,
         right,
@@ -100,27 +121,41 @@ pub(crate) fn answer_join<R: AllocGlobal + Threads + Sync, L: Ledger, G: Gate>(
         left_on,
         right_on,
         span,
-    } = query
-    else {
-        return answer_over_tables(rt.alloc(), snapshot, query);
-    };
-    let Span::System { from, to } = *span else {
-        return answer_over_tables(rt.alloc(), snapshot, query);
-    };
-    let plan = JoinPlan {
-        left: *left,
-        right: *right,
-        left_on: *left_on,
-        right_on: *right_on,
-        from: i64::from(from),
-        to: i64::from(to),
-    };
-    let joined = Joined {
-        plan,
-        range: Piece { from, to },
-        left_pred,
-        right_pred,
-    };
-    let rows = join_rows(rt, snapshot, joined, workers, gate, steps)?;
-    Ok(Answer { rows })
+    } = asked;
+    match span {
+        Span::System { from, to } => {
+            let plan = JoinPlan {
+                left,
+                right,
+                left_on,
+                right_on,
+                from: i64::from(from),
+                to: i64::from(to),
+            };
+            let joined = Joined {
+                plan,
+                range: Piece { from, to },
+                left_pred,
+                right_pred,
+            };
+            join_rows(rt, snapshot, joined, workers, gate, steps)
+        }
+        Span::Valid { version, from, to } => {
+            let plan = JoinPlan {
+                left,
+                right,
+                left_on,
+                right_on,
+                from,
+                to,
+            };
+            let joined = JoinedAt {
+                plan,
+                version,
+                left_pred,
+                right_pred,
+            };
+            moment_rows(rt.alloc(), snapshot, joined, steps)
+        }
+    }
 }

@@ -1,6 +1,5 @@
-//! Answers to queries over a snapshot, by its index: rows of a version, aggregates over versions
-//! and over valid time, and joins over versions. A join over valid time is answered over the plain
-//! tables of the snapshot's commits. The contract speaks of the definition alone, and of how many
+//! Answers to queries over a snapshot, by its index: rows of a version, and aggregates and joins
+//! over versions and over valid time. The contract speaks of the definition alone, and of how many
 //! steps an answer takes.
 #![tactic(auto)]
 
@@ -10,10 +9,10 @@ mod answers;
 mod fields;
 mod join_answers;
 mod joins;
+mod moment_joins;
 mod moments;
 mod pieces;
 mod ranges;
-mod rebuilding;
 mod selects;
 mod sets;
 mod shown_pairs;

@@ -18,7 +18,7 @@ use tl_query::AggPlan;
 use tl_range::{PieceWork, pieces, run_pieces};
 use tl_types::{NoMemory, Piece, Run, Seq, Steps};
 
-/// A scan of the rows of a snapshot that are kept, by a plan without groups, up to a version.
+/// A scan of the rows of a snapshot that are kept, by a plan, up to a version.
 #[derive(Drop)]
 pub(crate) struct Scan<'a> {
     alloc: Global,

@@ -1,5 +1,5 @@
 //! Aggregates over a range of versions.
-ghost use Rattle.std.specs.Prelude.{◌≡◌, None, true, false, ◌+◌, ◌<◌, ◌≤◌, IfOk};
+ghost use Rattle.std.specs.Prelude.{◌≡◌, ◌+◌, ◌<◌, ◌≤◌, IfOk};
 ghost use Rattle.tl_types.specs.Entries.{commits_of};
 ghost use Rattle.tl_types.specs.History.{database_of};
 ghost use Rattle.tl_exec.specs.Pieces.{IsAskedOf, asked_runs};
@@ -10,7 +10,7 @@ use crate::pieces::Scan;
 use std::alloc::AllocGlobal;
 use std::sync::ledger::Ledger;
 use std::thread::Threads;
-use tl_agg::laws::kept_rows_pass;
+use tl_agg::laws::{kept_rows_pass, plans_suit};
 use tl_device::Gate;
 use tl_index::Snapshot;
 use tl_query::{AggPlan, TypedPred};
@@ -28,19 +28,8 @@ pub(crate) struct AskedRuns<'a> {
     pub(crate) range: Piece,
 }
 
-// Whether so many workers divide the range of a plan: more than one do, unless there are groups.
-fn is_divided(plan: &AggPlan, workers: u32) -> bool
-    ensures single { result ≡ true → plan.now.by ≡ None }
-    ensures one { workers ≡ 1 → result ≡ false }
-{
-    match plan.by {
-        Some(_) => false,
-        None => workers != 1,
-    }
-}
-
-/// The runs that are asked for. So many workers divide the range, where they are more than one and
-/// the plan has no groups; else all of the work counts on `steps`. The error is out of memory.
+/// The runs that are asked for. So many workers divide the range, where they are more than one;
+/// else all of the work counts on `steps`. The error is out of memory.
 pub(crate) fn range_runs<R: AllocGlobal + Threads + Sync, L: Ledger, G: Gate>(
     rt: &R,
     snapshot: &Snapshot,
@@ -61,9 +50,11 @@ pub(crate) fn range_runs<R: AllocGlobal + Threads + Sync, L: Ledger, G: Gate>(
         asked.entry.range.to }
 {
     kept_rows_pass();
+    plans_suit();
+    let _legal = snapshot.has_break();
     let alloc = rt.alloc();
     let keep = passing_rows(alloc, snapshot, asked.plan.table, asked.pred, steps)?;
-    if is_divided(&asked.plan, workers) {
+    if workers != 1 {
         let scan = Scan::new(alloc, snapshot, asked.plan, &keep, asked.range.to);
         return scan.runs_in_pieces(rt, asked.range.from, workers, gate);
     }

@@ -1,5 +1,5 @@
 //! Rows of one table that are asked for.
-ghost use Rattle.std.specs.Prelude.{◌≡◌, ℕ, ◌+◌, ◌*◌, ◌<◌, ◌≤◌, ◌++◌, ◌&&◌, IfOk, OnOk, Some, length, map};
+ghost use Rattle.std.specs.Prelude.{◌≡◌, ℕ, ◌+◌, ◌*◌, ◌<◌, ◌≤◌, ◌++◌, ◌&&◌, [], IfOk, OnOk, Some, length, map};
 ghost use Rattle.tl_types.specs.Entries.{commits_of};
 ghost use Rattle.tl_types.specs.History.{database_of, rows_of};
 ghost use Rattle.tl_types.specs.Plain as plain;
@@ -11,15 +11,16 @@ ghost use Rattle.tl_lanes.specs.Masks.{words_for};
 ghost use Rattle.tl_bits.specs.Sets.{is_member};
 ghost use Rattle.tl_exec.specs.Shown.{HasItems, HasMoment, is_valid_at, rows_in_set, fields_in_set, fields_if_valid};
 
-use crate::fields::row_fields;
+use crate::fields::push_items;
 use crate::sets::chosen_rows;
 use std::alloc::Global;
 use std::sync::ledger::Ledger;
 use tl_bits::RowSet;
 use tl_index::Snapshot;
 use tl_query::{TypedItem, TypedPred};
+use tl_rows::{AnswerRows, RowsWriter};
 use tl_store::Store;
-use tl_types::{Field, NoMemory, Seq, Steps};
+use tl_types::{NoMemory, Steps};
 
 /// What is asked of rows of a table: some items, of the rows that are valid at a moment where one
 /// is given.
@@ -53,11 +54,10 @@ fn is_valid_at<L: Ledger>(asked: Asked<'_>, row: u32, steps: &mut Steps<L>) -> b
     }
 }
 
-// Appends the items of a row, where it is valid at the moment. It takes at most a step for each
-// item and one more. The error is out of memory.
+// Appends the row of the items of a row, where it is valid at the moment. It takes at most a step
+// for each item and one more. The error is out of memory.
 fn add_row<L: Ledger>(
-    alloc: Global,
-    answer: &mut Vec<Seq<Field>>,
+    rows: &mut RowsWriter,
     asked: Asked<'_>,
     row: u32,
     steps: &mut Steps<L>,
@@ -65,15 +65,17 @@ fn add_row<L: Ledger>(
     requires row { row < length (rows_of (database_of asked.store.now) asked.table) }
     requires items { HasItems (database_of asked.store.now) asked.table asked.items.now }
     requires moment { HasMoment (database_of asked.store.now) asked.table asked.valid_at }
+    requires between { rows.old.row ≡ [] }
     ensures value { (r : plain.Row)
         → row_of (database_of asked.entry.store.now) asked.entry.table row ≡ Some r
-        → OnOk result (answer.new.items ≡ answer.old.items
+        → OnOk result (rows.new.rows ≡ rows.old.rows
         ++ fields_if_valid asked.entry.items.now asked.entry.valid_at r) }
+    ensures between { OnOk result (rows.new.row ≡ []) }
     ensures steps { steps.new ≤ steps.old + length asked.entry.items.now + 1 }
 {
     if is_valid_at(asked, row, steps) {
-        let fields = row_fields(alloc, asked.store, asked.table, row, asked.items, steps)?;
-        answer.push(fields)?;
+        push_items(rows, asked.store, asked.table, row, asked.items, steps)?;
+        rows.end_row()?;
     }
     Ok(())
 }
@@ -86,13 +88,13 @@ pub(crate) fn fields_of_set<L: Ledger>(
     asked: Asked<'_>,
     set: &RowSet,
     steps: &mut Steps<L>,
-) -> Result<Vec<Seq<Field>>, NoMemory>
+) -> Result<AnswerRows, NoMemory>
     requires rows { length set.now
         ≡ length (rows_of (database_of asked.store.now) asked.table) }
     requires few { length set.now ≤ 16777216 }
     requires items { HasItems (database_of asked.store.now) asked.table asked.items.now }
     requires moment { HasMoment (database_of asked.store.now) asked.table asked.valid_at }
-    ensures rows { IfOk result (λ answer. answer.items
+    ensures rows { IfOk result (λ answer. answer.rows
         ≡ fields_in_set asked.entry.items.now asked.entry.valid_at set.now
         (rows_of (database_of asked.entry.store.now) asked.entry.table)) }
     ensures steps { let chosen = rows_in_set set.now
@@ -100,13 +102,13 @@ pub(crate) fn fields_of_set<L: Ledger>(
         steps.new ≤ steps.old + words_for (length set.now)
         + (length asked.entry.items.now + 2) * length chosen }
 {
-    let mut answer = Vec::new(alloc);
+    let mut rows = RowsWriter::new(alloc);
     let mut from = 0;
     'members: while let Some(row) = set.next(from, steps) {
-        add_row(alloc, &mut answer, asked, row, steps)?;
+        add_row(&mut rows, asked, row, steps)?;
         from = row + 1;
     }
-    Ok(answer)
+    Ok(rows.finish())
 }
 
 /// The items of the rows of a table that are visible at a version, are valid at the moment where
@@ -118,7 +120,7 @@ pub(crate) fn select_fields<L: Ledger>(
     pred: &TypedPred,
     version: u32,
     steps: &mut Steps<L>,
-) -> Result<Vec<Seq<Field>>, NoMemory>
+) -> Result<AnswerRows, NoMemory>
     requires store { asked.store.now ≡ commits_of snapshot.now }
     requires table { asked.table < length (database_of (commits_of snapshot.now)).tables }
     requires version { version ≤ (database_of (commits_of snapshot.now)).version }
@@ -126,7 +128,7 @@ pub(crate) fn select_fields<L: Ledger>(
     requires items { HasItems (database_of (commits_of snapshot.now)) asked.table asked.items.now }
     requires moment { HasMoment (database_of (commits_of snapshot.now)) asked.table
         asked.valid_at }
-    ensures rows { IfOk result (λ answer. answer.items
+    ensures rows { IfOk result (λ answer. answer.rows
         ≡ selected (database_of (commits_of snapshot.now)) asked.entry.table
         asked.entry.items.now pred.now asked.entry.valid_at version) }
     ensures steps { steps.new ≤ steps.old + select_steps snapshot.now asked.entry.table

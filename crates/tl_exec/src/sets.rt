@@ -11,7 +11,7 @@ ghost use Rattle.tl_filter.specs.Selecting.{tests_in, IsTypedPredFor};
 use std::alloc::Global;
 use std::sync::ledger::Ledger;
 use tl_bits::RowSet;
-use tl_filter::select;
+use tl_filter::select_within;
 use tl_index::Snapshot;
 use tl_query::TypedPred;
 use tl_travel::visible;
@@ -57,10 +57,8 @@ pub(crate) fn chosen_rows<L: Ledger>(
         let s = map_digits db table in
         steps.new ≤ steps.old + p * w + e + 3 * w + 2 * s }
 {
-    let rows = snapshot.store().rows(table);
-    let mut passing = RowSet::none(alloc, rows)?;
-    select(snapshot, table, pred, &mut passing, steps);
+    let _rows = snapshot.store().rows(table);
     let mut set = visible(alloc, snapshot, table, version, steps)?;
-    meet(&mut set, &passing, steps);
+    select_within(snapshot, table, pred, &mut set, steps);
     Ok(set)
 }

@@ -1,57 +1,57 @@
 //! Runs of an aggregate, as the rows of an answer.
-ghost use Rattle.std.specs.Prelude.{◌≡◌, map, IfOk};
+ghost use Rattle.std.specs.Prelude.{◌≡◌, ◌++◌, ◌∷◌, [], map, IfOk, OnOk};
 ghost use Rattle.tl_query.specs.Fields.{cell_field};
 ghost use Rattle.tl_query.specs.Answers.{group_fields, run_fields};
+ghost use Rattle.tl_rows.specs.Fields.{field_shown};
 
 use crate::fields::moment_field;
 use std::alloc::Global;
-use tl_types::{Cell, Field, NoMemory, Run, Seq};
+use tl_rows::{AnswerRows, FieldRef, RowsWriter};
+use tl_types::{Cell, NoMemory, Run};
 
 // A value as a field.
-fn value_field(value: Cell) -> Field
-    ensures { result ≡ cell_field value }
+fn value_field(value: &Cell) -> FieldRef<'_>
+    ensures { field_shown result ≡ cell_field value.now }
 {
     match value {
-        Cell::Int(number) => Field::Number(i128::from(number)),
-        Cell::Text(text) => Field::Text(text),
+        Cell::Int(number) => FieldRef::Number(i128::from(*number)),
+        Cell::Text(text) => FieldRef::Text(text.as_str().as_bytes()),
     }
 }
 
-// The value of a group, where there is one. The error is out of memory.
-fn group_fields(alloc: Global, group: Option<Cell>) -> Result<Vec<Field>, NoMemory>
-    ensures { IfOk result (λ fields. fields.items ≡ group_fields group) }
+// Appends the value of a group, where there is one, to the row that is being written. The error is
+// out of memory.
+fn push_group(rows: &mut RowsWriter, group: &Option<Cell>) -> Result<(), NoMemory>
+    ensures rows { OnOk result (rows.new.rows ≡ rows.old.rows) }
+    ensures row { OnOk result (rows.new.row ≡ rows.old.row ++ group_fields group.now) }
 {
-    let mut fields = Vec::new(alloc);
-    if let Some(value) = group {
-        fields.push(value_field(value))?;
+    match group {
+        Some(value) => rows.push(value_field(value)),
+        None => Ok(()),
     }
-    Ok(fields)
 }
 
-// A run as a row: its group where it has one, its bounds, its value. The error is out of memory.
-fn run_fields(alloc: Global, run: Run) -> Result<Seq<Field>, NoMemory>
-    ensures { IfOk result (λ fields. fields ≡ run_fields run) }
+// Appends a run as a row: its group where it has one, its bounds, its value. The error is out of
+// memory.
+fn add_run(rows: &mut RowsWriter, run: &Run) -> Result<(), NoMemory>
+    requires { rows.old.row ≡ [] }
+    ensures rows { OnOk result (rows.new.rows ≡ rows.old.rows ++ run_fields run.now ∷ []) }
+    ensures between { OnOk result (rows.new.row ≡ []) }
 {
-    let Run {
-        group,
-        from,
-        to,
-        value,
-    } = run;
-    let mut fields = group_fields(alloc, group)?;
-    fields.push(moment_field(from))?;
-    fields.push(moment_field(to))?;
-    fields.push(value)?;
-    Ok(Seq::from_vec(fields))
+    push_group(rows, &run.group)?;
+    rows.push(moment_field(run.from))?;
+    rows.push(moment_field(run.to))?;
+    rows.push_field(&run.value)?;
+    rows.end_row()
 }
 
 /// The runs, each as a row of an answer. The error is out of memory.
-pub(crate) fn fields_of_runs(alloc: Global, runs: Seq<Run>) -> Result<Seq<Seq<Field>>, NoMemory>
-    ensures { IfOk result (λ rows. rows ≡ map run_fields runs) }
+pub(crate) fn rows_of_runs(alloc: Global, runs: &[Run]) -> Result<AnswerRows, NoMemory>
+    ensures { IfOk result (λ answer. answer.rows ≡ map run_fields runs.now) }
 {
-    let mut rows = Vec::new(alloc);
-    for run in runs.into_vec() {
-        rows.push(run_fields(alloc, run)?)?;
+    let mut rows = RowsWriter::new(alloc);
+    for run in runs {
+        add_run(&mut rows, run)?;
     }
-    Ok(Seq::from_vec(rows))
+    Ok(rows.finish())
 }

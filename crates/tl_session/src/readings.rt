@@ -25,8 +25,9 @@ use tl_device::Gate;
 use tl_exec::answer;
 use tl_index::Snapshot;
 use tl_query::{CheckFault, CreateForm, Name, Query, Statement, TextFault, Typed, parse};
+use tl_rows::AnswerRows;
 use tl_store::Store;
-use tl_types::{Answer, Batch, BatchFault, Limits, NoMemory, Steps};
+use tl_types::{Batch, BatchFault, Limits, NoMemory, Steps};
 
 /// What a job is over a list of commits. What a batch becomes is settled after it.
 #[derive(Drop)]
@@ -34,7 +35,7 @@ pub enum JobReading {
     /// It is a batch that reads well.
     Loads(Batch),
     /// It is a query, with its answer.
-    Query(Answer),
+    Query(AnswerRows),
     /// It has this fault, the first one.
     Fault(Refusal),
 }
@@ -107,7 +108,7 @@ fn answer_uncounted<L: Ledger, R: AllocGlobal + Threads + Sync, G: Gate>(
     workers: u32,
     gate: &G,
     blank: Blank,
-) -> Result<Answer, NoMemory>
+) -> Result<AnswerRows, NoMemory>
     requires typed { IsTypedFor (database_of (commits_of snapshot.now)) query.now }
     requires some { 0 < workers }
     requires few { workers ≤ 64 }

@@ -6,7 +6,8 @@ ghost use Rattle.tl_session.specs.Replies.{text_fault_words, check_fault_words, 
 use std::alloc::Global;
 use tl_csv::{CsvFault, answer_bytes};
 use tl_query::{CheckFault, TextFault};
-use tl_types::{Answer, BatchFault, NoMemory};
+use tl_rows::AnswerRows;
+use tl_types::{BatchFault, NoMemory};
 
 /// Why a statement is refused.
 #[derive(Clone, Copy, Debug, PartialEq, Eq)]
@@ -25,7 +26,7 @@ pub enum Refusal {
 #[derive(Drop)]
 pub enum ReplyBody {
     /// The rows of a query.
-    Rows(Answer),
+    Rows(AnswerRows),
     /// A commit was made.
     Done,
     /// The statement is refused, and nothing has changed.
@@ -150,7 +151,7 @@ pub fn put_reply(
     out.extend_from_slice(name)?;
     match &reply.body {
         ReplyBody::Rows(answer) => {
-            let rows = answer.rows.len();
+            let rows = answer.len();
             let line = format!(in alloc; " @{version} rows {rows}\n")?;
             put_text(out, line.as_str())?;
             out.extend_from_slice(answer_bytes(alloc, answer)?.as_slice())?;

@@ -26,6 +26,8 @@ mod plain;
 #[cfg(test)]
 mod records;
 #[cfg(test)]
+mod rows;
+#[cfg(test)]
 mod statements;
 #[cfg(test)]
 mod tables;

@@ -7,8 +7,8 @@ use Rattle.tl_ckpt.proofs.valid_events.gathered.Goals as goal
 pub runs-init : goal.runs-init
 runs-init c = record { within = omega arith; rises = c.requires.changes; sum = refl }
 
-pub merged-requires : goal.merged-requires
-merged-requires c =
+pub merged_with-requires-clause-run : goal.merged_with-requires-clause-run
+merged_with-requires-clause-run c =
     subst Rises (sym (c.as_slice.ensures ∙ c.index-runs-i.is)) (rise_at c.args.runs.now c.runs.i c.index-runs-i.result c.requires.runs (omega arith))
 
 pub runs-preserved : goal.runs-preserved

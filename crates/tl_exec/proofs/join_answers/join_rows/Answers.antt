@@ -24,8 +24,8 @@ returns-clause-steps g c = λ one.
     let are : ArePairsOver join join.range c.in_ok-pairs.pairs = over_same c.new-join.result join c.in_ok-pairs.pairs c.new-join.ensures c.in_ok-pairs.ensures.pairs in
     let three : c.pairs.new.steps ≤ c.passing_rows-2.new.steps + pairs_steps join join.range left_pred right_pred =
     steps_same c.new-join.result join c.passing_rows-2.new.steps c.pairs.new.steps left_pred right_pred c.new-join.ensures between (c.pairs.ensures.steps one left_pred right_pred) in
-    join_within join c.in_ok-pairs.pairs left_pred right_pred c.args.steps.now c.passing_rows.new.steps c.passing_rows-2.new.steps c.pairs.new.steps c.fields_of_pairs.new.steps
-    c.passing_rows.ensures.steps c.passing_rows-2.ensures.steps three c.fields_of_pairs.ensures.steps (all_joined join c.in_ok-pairs.pairs left_pred right_pred between are)
+    join_within join c.in_ok-pairs.pairs left_pred right_pred c.args.steps.now c.passing_rows.new.steps c.passing_rows-2.new.steps c.pairs.new.steps c.rows_of_pairs.new.steps
+    c.passing_rows.ensures.steps c.passing_rows-2.ensures.steps three c.rows_of_pairs.ensures.steps (all_joined join c.in_ok-pairs.pairs left_pred right_pred between are)
 
 pub returns-in_err-pairs-clause-steps : goal.returns-in_err-pairs-clause-steps
 returns-in_err-pairs-clause-steps g c = λ one.
@@ -46,5 +46,5 @@ returns-in_err-rows-clause-steps g c = λ one.
     let are : ArePairsOver join join.range c.in_ok-pairs.pairs = over_same c.new-join.result join c.in_ok-pairs.pairs c.new-join.ensures c.in_ok-pairs.ensures.pairs in
     let three : c.pairs.new.steps ≤ c.passing_rows-2.new.steps + pairs_steps join join.range left_pred right_pred =
     steps_same c.new-join.result join c.passing_rows-2.new.steps c.pairs.new.steps left_pred right_pred c.new-join.ensures between (c.pairs.ensures.steps one left_pred right_pred) in
-    join_within join c.in_ok-pairs.pairs left_pred right_pred c.args.steps.now c.passing_rows.new.steps c.passing_rows-2.new.steps c.pairs.new.steps c.fields_of_pairs.new.steps
-    c.passing_rows.ensures.steps c.passing_rows-2.ensures.steps three c.fields_of_pairs.ensures.steps (all_joined join c.in_ok-pairs.pairs left_pred right_pred between are)
+    join_within join c.in_ok-pairs.pairs left_pred right_pred c.args.steps.now c.passing_rows.new.steps c.passing_rows-2.new.steps c.pairs.new.steps c.rows_of_pairs.new.steps
+    c.passing_rows.ensures.steps c.passing_rows-2.ensures.steps three c.rows_of_pairs.ensures.steps (all_joined join c.in_ok-pairs.pairs left_pred right_pred between are)

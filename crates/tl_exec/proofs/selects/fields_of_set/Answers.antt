@@ -1,4 +1,5 @@
-use Rattle.std.proofs.Common.{◌+◌, length, arith}
+use Rattle.std.proofs.Common.{◌+◌, length, ap, ◌∙◌, arith}
+use Rattle.tl_types.specs.declared.answers.Answer.{Answer}
 use Rattle.tl_types.specs.History.{database_of, rows_of}
 use Rattle.tl_exec.specs.Shown.{rows_in_set}
 use Rattle.tl_exec.proofs.ShownLemmas.{row_there, shown_more, shown_all, count_to, count_more, count_within, member_steps, steps_within, steps_to_end}
@@ -13,8 +14,9 @@ members-preserved g c =
     let there = row_there rows c.in-Some.row (let e = c.requires.rows in omega arith) in
     record {
       within = omega arith;
-      rows = shown_more c.args.asked.items.now c.args.asked.valid_at set rows c.members.from c.in-Some.row there.0 c.members.answer.items c.add_row.new.answer.items
+      rows = shown_more c.args.asked.items.now c.args.asked.valid_at set rows c.members.from c.in-Some.row there.0 c.members.rows.rows c.add_row.new.rows.rows
           next.not_below next.least next.member there.1 c.members.invariant.rows (c.in_ok-add_row.ensures.value there.0 there.1);
+      between = c.in_ok-add_row.ensures.between;
       steps = member_steps c.args.steps.now c.members.steps c.next.new.steps c.add_row.new.steps c.members.from c.in-Some.row (length c.args.asked.items.now)
           (count_to set rows c.members.from) (count_to set rows (c.in-Some.row + 1)) c.members.invariant.steps c.in-Some.ensures.steps_found c.add_row.ensures.steps
           (count_more set rows c.members.from c.in-Some.row there.0 next.not_below next.least next.member there.1);
@@ -35,7 +37,8 @@ returns-in_err-add_row-clause-steps g c =
 
 pub returns-clause-rows : goal.returns-clause-rows
 returns-clause-rows g c =
-    shown_all c.args.asked.items.now c.args.asked.valid_at c.args.set.now (rows_of (database_of c.args.asked.store.now) c.args.asked.table) c.members.from c.members.answer.items
+    ap (λ (a : Answer). a.rows) c.finish.ensures
+    ∙ shown_all c.args.asked.items.now c.args.asked.valid_at c.args.set.now (rows_of (database_of c.args.asked.store.now) c.args.asked.table) c.members.from c.members.rows.rows
     c.members.invariant.within c.in_default.ensures.none c.members.invariant.rows
 
 pub returns-clause-steps : goal.returns-clause-steps

@@ -1,4 +1,4 @@
-use Rattle.std.proofs.Common.{◌≡◌, ◌+◌, ◌-◌, ◌*◌, ◌/◌, ◌≤◌, length}
+use Rattle.std.proofs.Common.{◌≡◌, [], ◌+◌, ◌-◌, ◌*◌, ◌/◌, ◌≤◌, length}
 use Rattle.tl_types.specs.History.{database_of, rows_of}
 use Rattle.tl_exec.proofs.ShownLemmas.{shown_to, count_to}
 use Rattle.tl_exec.proofs.selects.fields_of_set.Given as goal
@@ -6,7 +6,8 @@ use Rattle.tl_exec.proofs.selects.fields_of_set.Given as goal
 abbrev pub invariant-members : goal.invariant-members
 invariant-members g l = record {
   within : l.from ≤ length l.set;
-  rows : l.answer.items ≡ shown_to l.asked.items.now l.asked.valid_at l.set (rows_of (database_of l.asked.store.now) l.asked.table) l.from;
+  rows : l.rows.rows ≡ shown_to l.asked.items.now l.asked.valid_at l.set (rows_of (database_of l.asked.store.now) l.asked.table) l.from;
+  between : l.rows.row ≡ [];
   steps : l.steps ≤ l.initial.steps + l.from / 64 + (length l.asked.items.now + 2) * count_to l.set (rows_of (database_of l.asked.store.now) l.asked.table) l.from;
 }
 

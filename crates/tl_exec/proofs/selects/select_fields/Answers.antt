@@ -20,7 +20,7 @@ returns-clause-rows g c =
     let same : rows_of (database_of c.args.asked.store.now) table ≡ rows_of db table = ap (λ commits. rows_of (database_of commits) table) c.requires.store in
     let shown = ap (fields_in_set c.args.asked.items.now c.args.asked.valid_at c.in_ok-set.set) same
     ∙ selected_shown db table c.args.asked.items.now c.args.pred.now c.args.asked.valid_at c.args.version c.in_ok-set.set c.in_ok-set.ensures.set in
-    subst (λ (rows : List (List Field)). IfOk c.fields_of_set.result (λ answer. answer.items ≡ rows)) shown c.fields_of_set.ensures.rows
+    subst (λ (rows : List (List Field)). IfOk c.fields_of_set.result (λ answer. answer.rows ≡ rows)) shown c.fields_of_set.ensures.rows
 
 pub returns-clause-steps : goal.returns-clause-steps
 returns-clause-steps g c =

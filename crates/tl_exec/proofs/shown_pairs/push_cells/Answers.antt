@@ -6,8 +6,9 @@ use Rattle.tl_exec.proofs.shown_pairs.push_cells.Goals as goal
 
 pub loop-column-preserved : goal.loop-column-preserved
 loop-column-preserved g c = record {
-  cells = λ r there. cell_more (database_of c.args.store.now) c.args.table c.args.row c.loop-column.column r c.args.fields.now.items c.loop-column.fields.items c.push.new.self.items
-      c.in_ok-cell_field.field-0 (cell_shown c.cell-cell.result) there c.cell-cell.ensures.value (c.loop-column.invariant.cells r there) c.in_ok-cell_field.ensures c.in_ok-push.ensures.items;
+  rows = c.in_ok-push.ensures.rows ∙ c.loop-column.invariant.rows;
+  cells = λ r there. cell_more (database_of c.args.store.now) c.args.table c.args.row c.loop-column.column r c.args.rows.now.row c.loop-column.rows.row c.push.new.self.row
+      _ (cell_shown c.cell-cell.result) there c.cell-cell.ensures.value (c.loop-column.invariant.cells r there) c.cell_field.ensures c.in_ok-push.ensures.row;
   steps = let e = c.cell-cell.ensures.ticks in let f = c.loop-column.invariant.steps in omega arith;
 }
 
@@ -17,4 +18,4 @@ returns-clause-cells g c = λ r there.
     let many : length c.columns.result.now ≡ length (columns_of (database_of c.args.store.now) c.args.table) = ap length (c.columns.ensures.value ∙ c.schema.ensures.columns) in
     let few = ap length c.columns.ensures.value in
     let sixteen = c.columns.ensures.few in
-    cells_all c.args.fields.now.items c.loop-column.fields.items r.cells c.loop-column.column (omega arith) (c.loop-column.invariant.cells r there)
+    cells_all c.args.rows.now.row c.loop-column.rows.row r.cells c.loop-column.column (omega arith) (c.loop-column.invariant.cells r there)

@@ -7,6 +7,7 @@ use Rattle.tl_exec.proofs.shown_pairs.push_cells.Given as goal
 
 abbrev pub invariant-loop-column : goal.invariant-loop-column
 invariant-loop-column g l = record {
-  cells : (r : plain.Row) → row_of (database_of l.store) l.table l.row ≡ Some r → l.fields.items ≡ l.initial.fields.items ++ map cell_field (take l.column r.cells);
+  rows : l.rows.rows ≡ l.initial.rows.rows;
+  cells : (r : plain.Row) → row_of (database_of l.store) l.table l.row ≡ Some r → l.rows.row ≡ l.initial.rows.row ++ map cell_field (take l.column r.cells);
   steps : l.steps ≤ l.initial.steps + l.column;
 }

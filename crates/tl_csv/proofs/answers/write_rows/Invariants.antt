@@ -1,0 +1,11 @@
+use Rattle.std.proofs.Common.{◌≡◌, take}
+use Rattle.std.specs.List.{flat_map}
+use Rattle.tl_csv.specs.Answers.{answer_row}
+use Rattle.tl_csv.specs.Writing.{bytes_written, IsWriting}
+use Rattle.tl_csv.proofs.answers.write_rows.Given as goal
+
+abbrev pub invariant-loop-row : goal.invariant-loop-row
+invariant-loop-row l = record {
+  rows : bytes_written l.writer ≡ flat_map answer_row (take l.row l.answer.rows);
+  writing : IsWriting l.writer;
+}

@@ -7,6 +7,8 @@ mod crashes;
 #[cfg(test)]
 mod limits;
 #[cfg(test)]
+mod looks;
+#[cfg(test)]
 mod marks;
 #[cfg(test)]
 mod pieces;

@@ -66,7 +66,7 @@ impl Shareable for PackedEvent {
 /// fewer than 2^32.
 #[derive(Drop)]
 pub struct EventList {
-    events: TickedList<PackedEvent>,
+    events: TickedList<PackedEvent, CHUNK>,
 }
 
 impl Model for EventList {

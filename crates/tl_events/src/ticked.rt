@@ -1,20 +1,20 @@
 //! A shared list that is read in steps.
-ghost use Rattle.std.specs.Prelude.{◌≡◌, ◌+◌, ◌-◌, ◌%◌, ◌<◌, ◌≤◌, ◌++◌, [], length, take, drop, min, slice_index_or, IfOk};
+ghost use Rattle.std.specs.Prelude.{◌≡◌, ◌+◌, ◌-◌, ◌%◌, ◌^◌, ◌<◌, ◌≤◌, ◌++◌, [], length, take, drop, min, slice_index_or, IfOk};
 
 use std::alloc::Global;
 use std::marker::Model;
 use std::sync::ledger::Ledger;
-use tl_shared::{CHUNK, Shareable, SharedList};
+use tl_shared::{CHUNK, ListInChunks, Shareable};
 use tl_types::{NoMemory, Steps};
 
-// A shared list of which no item is seen without a step: who reads one through it takes a step for
-// each. Contracts see it as the list of its items.
+// A shared list, in chunks of `SIZE`, of which no item is seen without a step: who reads one through
+// it takes a step for each. Contracts see it as the list of its items.
 #[derive(Drop)]
-pub(crate) struct TickedList<T> {
-    items: SharedList<T>,
+pub(crate) struct TickedList<T, const SIZE: usize> {
+    items: ListInChunks<T, SIZE>,
 }
 
-impl<T> Model for TickedList<T> {
+impl<T, const SIZE: usize> Model for TickedList<T, SIZE> {
     ghost use Rattle.std.specs.Prelude.{List};
 
     ghost Value = { List T };
@@ -22,13 +22,15 @@ impl<T> Model for TickedList<T> {
     ghost view = { λ l. l.items };
 }
 
-impl<T: Shareable> TickedList<T> {
+impl<T: Shareable, const SIZE: usize> TickedList<T, SIZE> {
     // The list of no items.
-    pub(crate) fn none(alloc: Global) -> TickedList<T>
+    pub(crate) fn none(alloc: Global) -> TickedList<T, SIZE>
+        requires some { 0 < SIZE }
+        requires few { SIZE < 2 ^ 63 }
         ensures { result ≡ [] }
     {
         TickedList {
-            items: SharedList::none(alloc),
+            items: ListInChunks::none(alloc),
         }
     }
 
@@ -40,7 +42,11 @@ impl<T: Shareable> TickedList<T> {
     }
 
     // The list followed by the items.
-    pub(crate) fn push_all(&self, alloc: Global, items: &[T]) -> Result<TickedList<T>, NoMemory>
+    pub(crate) fn push_all(
+        &self,
+        alloc: Global,
+        items: &[T],
+    ) -> Result<TickedList<T, SIZE>, NoMemory>
         ensures { IfOk result (λ list. list ≡ self.now ++ items.now) }
     {
         Ok(TickedList {
@@ -58,6 +64,9 @@ impl<T: Shareable> TickedList<T> {
         self.items.at(at)
     }
 
+}
+
+impl<T: Shareable> TickedList<T, CHUNK> {
     // The items from `from` on, up to the end of the chunk that the first of them is in, and before
     // `to`. It takes a step for each.
     pub(crate) fn run<L: Ledger>(&self, from: u64, to: u64, steps: &mut Steps<L>) -> &[T]
@@ -77,8 +86,8 @@ impl<T: Shareable> TickedList<T> {
     }
 }
 
-impl<T: Shareable> Shareable for TickedList<T> {
-    fn share(&self, alloc: Global) -> Result<TickedList<T>, NoMemory> {
+impl<T: Shareable, const SIZE: usize> Shareable for TickedList<T, SIZE> {
+    fn share(&self, alloc: Global) -> Result<TickedList<T, SIZE>, NoMemory> {
         Ok(TickedList {
             items: self.items.share(alloc)?,
         })

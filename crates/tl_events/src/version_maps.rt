@@ -9,7 +9,7 @@ use crate::ticked::TickedList;
 use std::alloc::Global;
 use std::marker::Model;
 use std::sync::ledger::Ledger;
-use tl_shared::Shareable;
+use tl_shared::{FINE_CHUNK, Shareable};
 use tl_types::{NoMemory, Steps};
 
 /// Where the events of a version end.
@@ -25,13 +25,22 @@ impl Shareable for VersionEnd {
     fn share(&self, _alloc: Global) -> Result<VersionEnd, NoMemory> {
         Ok(*self)
     }
+
+    fn share_onto(
+        _alloc: Global,
+        items: &[VersionEnd],
+        values: &mut Vec<VersionEnd>,
+    ) -> Result<(), NoMemory> {
+        values.extend_from_slice(items)?;
+        Ok(())
+    }
 }
 
 /// The versions that have events, with where these end. A contract sees it as the list of its
 /// entries, whose versions ascend.
 #[derive(Drop)]
 pub struct VersionMap {
-    entries: TickedList<VersionEnd>,
+    entries: TickedList<VersionEnd, FINE_CHUNK>,
 }
 
 impl Model for VersionMap {
@@ -57,7 +66,7 @@ struct Parting {
 
 // Where the entries are parted by the version. It takes a step for each entry that it looks at.
 fn search<L: Ledger>(
-    entries: &TickedList<VersionEnd>,
+    entries: &TickedList<VersionEnd, FINE_CHUNK>,
     version: u32,
     steps: &mut Steps<L>,
 ) -> Parting

@@ -19,7 +19,7 @@ use std::alloc::Global;
 use std::marker::Model;
 use std::sync::ledger::Ledger;
 use tl_query::TypedTest;
-use tl_shared::{CHUNK, Shared, SharedList, share_all};
+use tl_shared::{CHUNK, FineList, Shared, share_all};
 use tl_types::{Body, Cell, Change, Commit, Limits, NoMemory, Period, Schema, Seq, Steps};
 
 /// The commits that were applied, in order, and the tables that they make. Contracts see the list
@@ -28,7 +28,7 @@ use tl_types::{Body, Cell, Change, Commit, Limits, NoMemory, Period, Schema, Seq
 #[derive(Drop)]
 pub struct Store {
     tables: Vec<Shared<TableData>>,
-    log: SharedList<LogEntry>,
+    log: FineList<LogEntry>,
 }
 
 impl Model for Store {
@@ -51,7 +51,7 @@ impl Store {
     {
         Store {
             tables: Vec::new(alloc),
-            log: SharedList::none(alloc),
+            log: FineList::none(alloc),
         }
     }
 

@@ -34,7 +34,7 @@ pub(crate) struct TableData {
     periods: PeriodList,
     from: SharedList<u32>,
     to: FineList<u32>,
-    closed: SharedList<u32>,
+    closed: FineList<u32>,
 }
 
 impl Model for TableData {
@@ -65,7 +65,7 @@ impl TableData {
             periods: PeriodList::none(alloc),
             from: SharedList::none(alloc),
             to: FineList::none(alloc),
-            closed: SharedList::none(alloc),
+            closed: FineList::none(alloc),
         })
     }
 

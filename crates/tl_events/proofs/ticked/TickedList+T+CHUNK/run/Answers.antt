@@ -1,7 +1,7 @@
 use Rattle.std.proofs.Common.{◌≡◌, ◌*◌, ◌/◌, ◌%◌, length, take, drop, min, ap, ◌∙◌, subst, arith}
 use Rattle.std.proofs.lemmas.List.{length-take, length-drop}
 use Rattle.tl_events.proofs.TickedLemmas.{run_part, run_len}
-use Rattle.tl_events.proofs.ticked.TickedList.run.Goals as goal
+use Rattle.tl_events.proofs.ticked.TickedList+T+CHUNK.run.Goals as goal
 
 pub split_at-requires : goal.split_at-requires
 split_at-requires g c =

@@ -3,7 +3,7 @@ use Rattle.std.proofs.Common.{◌≡◌, ℕ, zero, suc, ◌+◌, ◌<◌, ◌�
 use Rattle.std.specs.List.{flat_map}
 use Rattle.std.specs.List.Sorted.{IsPartitionedBy, IsPartitionPoint}
 use Rattle.std.proofs.lemmas.Option.{get_or_from_slice_get}
-use Rattle.std.proofs.lemmas.List.{take_more, append-nil}
+use Rattle.std.proofs.lemmas.List.{take_more, append-nil, drop_all}
 use Rattle.std.proofs.lemmas.Grind.{flat_map-append}
 use Rattle.tl_types.specs.declared.events.ValidEvent.{ValidEvent}
 use Rattle.tl_types.specs.Checkpoints.{comes_before}
@@ -93,3 +93,14 @@ merged_step all changes out new rest left i d l before step =
 pub changes_more : {X Y : Type 0} (f : X → List Y) (xs : List X) (i : ℕ) (x : X) (out new : List Y) → i < length xs → slice_get xs i ≡ Some x → new ≡ out ++ f x → out ≡ flat_map f (take i xs) → new ≡ flat_map f (take (i + 1) xs)
 changes_more f xs i x out new l is step before =
     step ∙ ap (λ ys. ys ++ f x) before ∙ sym (ap (flat_map f) (take_more xs i x l ∙ ap (λ y. take i xs ++ y ∷ []) (get_or_from_slice_get xs i x x is)) ∙ flat_map-append f (take i xs) (x ∷ []) ∙ ap (λ ys. flat_map f (take i xs) ++ ys) (append-nil (f x)))
+
+merged_nothing : (changes : List ValidEvent) → merged [] changes ≡ changes
+merged_nothing [] = refl
+merged_nothing (change ∷ changes) = ap (λ ys. change ∷ ys) (merged_nothing changes)
+
+-- where a merge by steps ends, what is left of one of the lists goes on
+pub rest_goes_on : (all events changes out copied new : List ValidEvent) (i j : ℕ) → (length events ≤ i) ⊎ (length changes ≤ j) → out ++ merged (drop i events) (drop j changes) ≡ all → copied ≡ out ++ drop i events → new ≡ copied ++ drop j changes → new ≡ all
+rest_goes_on all events changes out copied new i j end before copied_is new_is =
+    new_is ∙ ap (λ ys. ys ++ drop j changes) copied_is ∙ append_assoc out (drop i events) (drop j changes)
+    ∙ ap (λ ys. out ++ ys) (elim end [ inl e ↦ ap (λ ys. ys ++ drop j changes) (drop_all i events e) ∙ sym (merged_nothing (drop j changes)) ∙ ap (λ ys. merged ys (drop j changes)) (sym (drop_all i events e)) | inr e ↦ ap (λ ys. drop i events ++ ys) (drop_all j changes e) ∙ append-nil (drop i events) ∙ ap (merged (drop i events)) (sym (drop_all j changes e)) ])
+    ∙ before

@@ -90,8 +90,8 @@ fn pass<'a>(
     Ok(left)
 }
 
-// The events with the changes.
-pub(crate) fn merged(
+// The events with the changes, which are looked up in them one after the other.
+fn merged_by_lookups(
     alloc: Global,
     events: &[ValidEvent],
     changes: &[ValidEvent],
@@ -106,4 +106,56 @@ pub(crate) fn merged(
     }
     out.extend_from_slice(rest)?;
     Ok(out)
+}
+
+// The events with the changes, by one step for each of both.
+fn merged_by_steps(
+    alloc: Global,
+    events: &[ValidEvent],
+    changes: &[ValidEvent],
+) -> Result<Vec<ValidEvent>, NoMemory>
+    ensures { IfOk result (λ out. out.items ≡ merged events.now changes.now) }
+{
+    let mut out = Vec::with_capacity(alloc, events.len() + changes.len())?;
+    let mut i = 0;
+    let mut j = 0;
+    'steps: while i < events.len() && j < changes.len() {
+        let event = &events[i];
+        let change = &changes[j];
+        if event.comes_before(change) {
+            out.push(*event)?;
+            i += 1;
+        } else if change.comes_before(event) {
+            out.push(*change)?;
+            j += 1;
+        } else {
+            i += 1;
+            j += 1;
+        }
+    }
+    let (_, events_left) = events.split_at(i);
+    let (_, changes_left) = changes.split_at(j);
+    out.extend_from_slice(events_left)?;
+    out.extend_from_slice(changes_left)?;
+    Ok(out)
+}
+
+// Where the events are so many times as many as the changes, a change is looked up in fewer steps
+// than it takes to go over the events before it.
+const EVENTS_PER_LOOKUP: usize = 16;
+
+// The events with the changes.
+pub(crate) fn merged(
+    alloc: Global,
+    events: &[ValidEvent],
+    changes: &[ValidEvent],
+) -> Result<Vec<ValidEvent>, NoMemory>
+    requires { Rises events.now }
+    ensures { IfOk result (λ out. out.items ≡ merged events.now changes.now) }
+{
+    if changes.len() < events.len() / EVENTS_PER_LOOKUP {
+        merged_by_lookups(alloc, events, changes)
+    } else {
+        merged_by_steps(alloc, events, changes)
+    }
 }

@@ -63,7 +63,6 @@ impl<T: Shareable, const SIZE: usize> TickedList<T, SIZE> {
         steps.tick();
         self.items.at(at)
     }
-
 }
 
 impl<T: Shareable> TickedList<T, CHUNK> {

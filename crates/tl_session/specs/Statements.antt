@@ -82,7 +82,7 @@ pub record Replied (job : Job) (reply : Reply) (old new : plain.Session) : Type 
   pub ran_out : new.ran_out ≡ old.ran_out
 
 -- and of the table that a commit changed a mark is seen, or a break, or none is due
-pub record Answers (k : ℕ) (job : Job) (old new : plain.Session) : Type 0 where
+pub record AnswersJob (k : ℕ) (job : Job) (old new : plain.Session) : Type 0 where
   pub reply : Reply
   pub replied : Replied job reply old new
   pub tended : HasTended k reply.version reply.body new.access.seen

@@ -8,7 +8,7 @@ ghost use Rattle.tl_engine.specs.Saying.{names_table};
 ghost use Rattle.tl_engine.specs.declared.faults.TendFault.TheVariants as tend_fault;
 ghost use Rattle.tl_session.specs.Jobs.{job_of};
 ghost use Rattle.tl_session.specs.Reading.{block_of, DoesMatch, IsKnown};
-ghost use Rattle.tl_session.specs.Statements.{Answers, IsLook, SeesMore, Settles, Stops, Tells, outcome_of};
+ghost use Rattle.tl_session.specs.Statements.{AnswersJob, IsLook, SeesMore, Settles, Stops, Tells, outcome_of};
 ghost use Rattle.tl_session.specs.Tending.{table_of, reading_table, if_done, IsThere, NamesTable, IsTended};
 
 use crate::access::{Access, Admission};
@@ -269,7 +269,7 @@ pub fn run_statement<D: Disk, J: Named, G: Gate, R: AllocGlobal + Threads + Wait
     requires own { job.now.session ≡ session.old.access.author }
     requires some { 0 < workers }
     requires few { workers ≤ 64 }
-    ensures ok { OnOk result (Answers k (job_of job.now) session.old session.new) }
+    ensures ok { OnOk result (AnswersJob k (job_of job.now) session.old session.new) }
     ensures err { OnErr result (Stops (job_of job.now) session.old session.new) }
 {
     let admission = Admission::at(gate, session.access.author());

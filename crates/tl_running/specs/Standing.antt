@@ -70,6 +70,10 @@ StandsFor kept column rows = Counts kept (map (number_in column) rows)
 
 -- ONE MORE, ONE LESS
 
+-- what is kept, with so many rows
+abbrev pub counting : Kept → ℕ → Kept
+counting kept count = record kept { count = count }
+
 -- there is room for one number more
 pub record HasRoom (kept : Kept) : Type 0 where
   pub count : kept.count < 2 ^ 32 - 1

@@ -8,7 +8,7 @@ ghost use Rattle.tl_bits.specs.Bags.{times, AddsOne};
 ghost use Rattle.tl_query.specs.declared.ast.AggKind.TheVariants as kind;
 ghost use Rattle.tl_running.specs.Heaps.{bag_of, turned};
 ghost use Rattle.tl_query.specs.Aggregates.{total_of, sum_field, average_field, least_field, greatest_field, aggregate_of};
-ghost use Rattle.tl_running.specs.Standing.{is_ordered, Suits, Counts, StandsFor, HasRoom, CanLeave, Enters, Changes, CanChange};
+ghost use Rattle.tl_running.specs.Standing.{is_ordered, Suits, Counts, StandsFor, HasRoom, CanLeave, Enters, Changes, CanChange, counting};
 
 use crate::heaps::Heaps;
 use std::alloc::Global;
@@ -174,6 +174,13 @@ impl Running {
         }
         self.leave(number);
         Ok(())
+    }
+
+    /// Says how many rows there are, where an aggregate that only counts them has counted by itself.
+    pub fn set_count(&mut self, count: u32)
+        ensures { self.new ≡ counting self.old count }
+    {
+        self.count = count;
     }
 
     /// How many rows there are.

@@ -58,6 +58,40 @@ several_ends {A = A} front item count i bytes total le so_far =
     sym so_far ∙ (ap (λ n. prepended front (several item n bytes)) k
     ∙ ap (λ (xs : List A). okay (xs, bytes)) (append-nil front))
 
+-- an item that was put behind those before it
+pub pushed_goes_on : {A : Type 0} (front now : List A) (item : Reader A) (count i : ℕ)
+    (bytes rest : List ℕ) (total : Result (List A × List ℕ) Fault) → i < count
+    → mapped (λ x. front ++ x ∷ []) (item bytes) ≡ Ok (now, rest)
+    → prepended front (several item (count - i) bytes) ≡ total
+    → prepended now (several item (count - (i + 1)) rest) ≡ total
+pushed_goes_on {A = A} front now item count i bytes rest total lt e so_far = by_item (item bytes) refl e where
+  by_item : (r : Result (A × List ℕ) Fault) → item bytes ≡ r
+      → mapped (λ x. front ++ x ∷ []) r ≡ Ok (now, rest)
+      → prepended now (several item (count - (i + 1)) rest) ≡ total
+  by_item (Err f) is g = absurd (cc)
+  by_item (Ok q) is g =
+      subst (λ (z : List A × List ℕ). prepended z.0 (several item (count - (i + 1)) z.1) ≡ total)
+      (same_value {X = List A × List ℕ} (front ++ q.0 ∷ [], q.1) (now, rest) g)
+      (several_goes_on front item count i bytes q.1 q.0 total lt is so_far)
+
+abbrev fault_or : {X : Type 0} → Fault → Result X Fault → Fault
+fault_or d (Ok x) = d
+fault_or d (Err f) = f
+
+fails_before : {A B : Type 0} (e : ReadError) (f : A → B) (r : Result (A × List ℕ) Fault)
+    → Fails e (mapped f r) → Fails e r
+fails_before errors.Memory f r h = tt
+fails_before (errors.Fault x) f (Ok q) h = absurd (cc)
+fails_before (errors.Fault x) f (Err y) h = ap (λ z. Err z) (ap (fault_or x) h)
+
+pub pushed_stops : {A : Type 0} (e : ReadError) (front : List A) (item : Reader A) (count i : ℕ)
+    (bytes : List ℕ) (total : Result (List A × List ℕ) Fault) → i < count
+    → Fails e (mapped (λ x. front ++ x ∷ []) (item bytes))
+    → prepended front (several item (count - i) bytes) ≡ total → Fails e total
+pushed_stops e front item count i bytes total lt h so_far =
+    several_stops e front item count i bytes total lt
+    (fails_before e (λ x. front ++ x ∷ []) (item bytes) h) so_far
+
 -- as many items are read as are said
 pub several_many : {A : Type 0} (item : Reader A) (n : ℕ) (bytes rest : List ℕ) (xs : List A)
     → several item n bytes ≡ Ok (xs, rest) → length xs ≡ n

@@ -12,13 +12,11 @@ length-ids (id ∷ ids) =
     omega (arith, l, a)
 
 -- both ends of a period written behind a byte
-pub two_behind : (out r s t : List ℕ) (from to from' to' : ℤ) → from' ≡ from → to' ≡ to
-    → r ≡ out ++ 1 ∷ [] → s ≡ r ++ signed_number from' → t ≡ s ++ signed_number to'
+pub two_behind : (out s t : List ℕ) (from to from' to' : ℤ) → from' ≡ from → to' ≡ to
+    → s ≡ out ++ (1 ∷ signed_number from') → t ≡ s ++ signed_number to'
     → t ≡ out ++ (1 ∷ signed_number from ++ signed_number to)
-two_behind out r s t from to from' to' p q e f g =
+two_behind out s t from to from' to' p q f g =
     put (signed_number from) (signed_number to)
-    (f ∙ ap (λ i. r ++ signed_number i) p) (g ∙ ap (λ i. s ++ signed_number i) q) where
-      put : (a b : List ℕ) → s ≡ r ++ a → t ≡ s ++ b → t ≡ out ++ (1 ∷ a ++ b)
-      put a b f g =
-          g ∙ (ap (λ l. l ++ b) (f ∙ (ap (λ l. l ++ a) e ∙ append_assoc out (1 ∷ []) a))
-          ∙ append_assoc out (1 ∷ a) b)
+    (f ∙ ap (λ i. out ++ (1 ∷ signed_number i)) p) (g ∙ ap (λ i. s ++ signed_number i) q) where
+      put : (a b : List ℕ) → s ≡ out ++ (1 ∷ a) → t ≡ s ++ b → t ≡ out ++ (1 ∷ a ++ b)
+      put a b f g = g ∙ (ap (λ l. l ++ b) f ∙ append_assoc out (1 ∷ a) b)

@@ -23,6 +23,7 @@ mod encoding;
 mod faults;
 mod lengths;
 mod numbers;
+mod placing;
 mod rows;
 mod tables;
 mod texts;

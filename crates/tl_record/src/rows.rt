@@ -1,8 +1,10 @@
 //! Opened rows of a record: their cells, and their periods.
-ghost use Rattle.std.specs.Prelude.{length, IfOk};
+ghost use Rattle.std.specs.Prelude.{◌≡◌, ◌<◌, ◌+◌, ◌++◌, ◌∷◌, [], length, IfOk, OnOk};
+ghost use Rattle.std.specs.Vec.{vec_len, vec_capacity};
 ghost use Rattle.tl_record.specs.Reading.{
   Gives,
   IsBetween,
+  mapped,
   several,
   cell_of,
   cell_at,
@@ -17,24 +19,45 @@ use crate::{numbers, texts};
 use std::alloc::Global;
 use tl_types::{Cell, Opened, Period, Seq};
 
-fn cell_of(alloc: Global, kind: u8, bytes: &[u8]) -> Result<(Cell, &[u8]), ReadError>
-    ensures { Gives (λ x. (x.0, x.1.now)) result (cell_of kind bytes.now) }
+// Reads a cell of a kind and puts it behind the others, where there is room; gives what follows it.
+fn push_cell_of<'a>(
+    alloc: Global,
+    cells: &mut Vec<Cell>,
+    kind: u8,
+    bytes: &'a [u8],
+) -> Result<&'a [u8], ReadError>
+    requires { vec_len cells.old < vec_capacity cells.old }
+    ensures read { Gives (λ rest. (cells.new.items, rest.now)) result
+        (mapped (λ c. cells.old.items ++ c ∷ []) (cell_of kind bytes.now)) }
+    ensures len { OnOk result (vec_len cells.new ≡ vec_len cells.old + 1) }
+    ensures capacity { vec_capacity cells.new ≡ vec_capacity cells.old }
 {
     if kind == 1 {
         let (value, rest) = numbers::signed(i64::MIN, i64::MAX, bytes)?;
-        return Ok((Cell::Int(value), rest));
+        cells.push_reserved(Cell::Int(value));
+        return Ok(rest);
     }
     let (text, rest) = texts::text(alloc, bytes)?;
-    Ok((Cell::Text(text), rest))
+    cells.push_reserved(Cell::Text(text));
+    Ok(rest)
 }
 
+// Reads a cell and puts it behind the others, where there is room; gives what follows it.
 #[tactic(auto, unfolding(crate::specs::Reading::cell_at))]
-fn cell(alloc: Global, bytes: &[u8]) -> Result<(Cell, &[u8]), ReadError>
-    ensures { Gives (λ x. (x.0, x.1.now)) result (cell_at bytes.now) }
+fn push_cell<'a>(
+    alloc: Global,
+    cells: &mut Vec<Cell>,
+    bytes: &'a [u8],
+) -> Result<&'a [u8], ReadError>
+    requires { vec_len cells.old < vec_capacity cells.old }
+    ensures read { Gives (λ rest. (cells.new.items, rest.now)) result
+        (mapped (λ c. cells.old.items ++ c ∷ []) (cell_at bytes.now)) }
+    ensures len { OnOk result (vec_len cells.new ≡ vec_len cells.old + 1) }
+    ensures capacity { vec_capacity cells.new ≡ vec_capacity cells.old }
 {
     let (kind, rest) = numbers::byte(1, 2, bytes)?;
-    let (cell, rest) = cell_of(alloc, kind, rest)?;
-    Ok((cell, rest))
+    let rest = push_cell_of(alloc, cells, kind, rest)?;
+    Ok(rest)
 }
 
 fn cells_of(alloc: Global, count: u8, bytes: &[u8]) -> Result<(Vec<Cell>, &[u8]), ReadError>
@@ -43,9 +66,7 @@ fn cells_of(alloc: Global, count: u8, bytes: &[u8]) -> Result<(Vec<Cell>, &[u8])
     let mut cells = Vec::with_capacity(alloc, count as usize)?;
     let mut rest = bytes;
     for _ in 0..count {
-        let (cell, behind) = cell(alloc, rest)?;
-        cells.push(cell)?;
-        rest = behind;
+        rest = push_cell(alloc, &mut cells, rest)?;
     }
     Ok((cells, rest))
 }

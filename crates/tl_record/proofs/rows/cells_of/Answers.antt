@@ -1,25 +1,28 @@
+use Rattle.std.proofs.Common.{ap, ◌∙◌, ◌+◌}
 use Rattle.std.proofs.lemmas.Result.{err_from_is_err_and}
 use Rattle.tl_record.specs.Reading.{several, cell_at}
-use Rattle.tl_record.proofs.Loops.{several_goes_on, several_stops, several_ends}
+use Rattle.tl_record.proofs.Loops.{pushed_goes_on, pushed_stops, several_ends}
 use Rattle.tl_record.proofs.rows.cells_of.Goals as goal
 
-pub returns-in_err-cell : goal.returns-in_err-cell
-returns-in_err-cell c =
+pub returns-in_err-rest : goal.returns-in_err-rest
+returns-in_err-rest c =
     let p =
-    err_from_is_err_and c.from_residual-in_err-cell.result c.from_residual-in_err-cell.ensures.1 in
+    err_from_is_err_and c.from_residual-in_err-rest.result c.from_residual-in_err-rest.ensures.1 in
     rw (p.1, p.2)
-    (several_stops c.in_err-cell.field-0.0 c.loop.cells.items cell_at c.args.count c.loop.counter
+    (pushed_stops c.in_err-rest.field-0.0 c.loop.cells.items cell_at c.args.count c.loop.counter
     c.loop.rest.now (several cell_at c.args.count c.args.bytes.now) c.loop-test.true
-    c.in_err-cell.ensures c.loop.invariant)
+    c.in_err-rest.ensures.read c.loop.invariant.0)
 
 pub loop-preserved : goal.loop-preserved
-loop-preserved c =
-    rw c.in_ok-push.ensures.items
-    (several_goes_on c.loop.cells.items cell_at c.args.count c.loop.counter c.loop.rest.now
-    c.in_ok-cell.behind.now c.in_ok-cell.cell (several cell_at c.args.count c.args.bytes.now)
-    c.loop-test.true c.in_ok-cell.ensures c.loop.invariant)
+loop-preserved c = (
+  pushed_goes_on c.loop.cells.items _ cell_at c.args.count c.loop.counter c.loop.rest.now
+      c.in_ok-rest.rest.now (several cell_at c.args.count c.args.bytes.now) c.loop-test.true
+      c.in_ok-rest.ensures.read c.loop.invariant.0,
+  c.in_ok-rest.ensures.len ∙ ap (λ n. n + 1) c.loop.invariant.1,
+  c.push_cell.ensures.capacity ∙ c.loop.invariant.2,
+)
 
 pub returns : goal.returns
 returns c =
     several_ends c.loop.cells.items cell_at c.args.count c.loop.counter c.loop.rest.now
-    (several cell_at c.args.count c.args.bytes.now) c.loop-test.false c.loop.invariant
+    (several cell_at c.args.count c.args.bytes.now) c.loop-test.false c.loop.invariant.0

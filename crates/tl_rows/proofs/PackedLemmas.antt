@@ -1,7 +1,7 @@
 -- Packed fields beside texts and wide numbers that grow.
-use Rattle.std.proofs.Common.{◌≡◌, ℕ, ℤ, pos, ◌+◌, ◌-◌, ◌≤◌, List, [], ◌∷◌, ◌++◌, length, get_or, drop, map, suc, refl, ap, arith, length-append}
+use Rattle.std.proofs.Common.{◌≡◌, ℕ, ℤ, pos, ◌+◌, ◌-◌, ◌≤◌, List, [], ◌∷◌, ◌++◌, length, get_or, drop, take, map, suc, refl, sym, ap, ◌∙◌, arith, length-append}
 use Rattle.std.proofs.Math.ListN.{get_or-append}
-use Rattle.std.proofs.lemmas.List.{drop-append-le, length-drop, map-append, take-append-le}
+use Rattle.std.proofs.lemmas.List.{drop-append-le, drop-map, length-drop, map-append, take-append-le, take-map}
 use Rattle.std.proofs.lemmas.List.Elements.{All-push, All-weaker}
 use Rattle.std.specs.Prelude.{slice_range, All}
 use Rattle.tl_rows.specs.declared.packed.Packed.{Packed}
@@ -81,3 +81,8 @@ one_more texts longer wide wider fields p shown g w s h =
 pub one_more_within : (texts longer : List ℕ) (wide wider : List ℤ) (fields : List Packed) (p : Packed) (shown : Field) → GoesOn texts longer → GoesOn wide wider → StandsFor longer wider p shown → All (IsWithin (length texts) (length wide)) fields → All (IsWithin (length longer) (length wider)) (fields ++ p ∷ [])
 one_more_within texts longer wide wider fields p shown g w s h =
     All-push (IsWithin (length longer) (length wider)) fields p (all_within texts longer wide wider fields g w h) s.within
+
+-- the fields of a range stand for the range of what all stand for
+pub range_shown : (texts : List ℕ) (wide : List ℤ) (fields : List Packed) (start end : ℕ) → map (field_in texts wide) (slice_range fields start end) ≡ take (end - start) (drop start (map (field_in texts wide) fields))
+range_shown texts wide fields start end =
+    sym (ap (take (end - start)) (drop-map (field_in texts wide) start fields) ∙ take-map (field_in texts wide) (end - start) (drop start fields))

@@ -1,8 +1,6 @@
 -- Rows cut at their ends.
-use Rattle.std.proofs.Common.{◌≡◌, ℕ, ◌+◌, ◌-◌, ◌<◌, ◌≤◌, List, [], ◌∷◌, ◌++◌, Some, length, get_or, take, drop, zero, suc, refl, sym, ap, subst, ◌∙◌, arith}
-use Rattle.std.proofs.lemmas.List.{drop_all, drop-append-le, drop-drop, get_or-drop, get_or-take, length-drop, length-take-le, take_all, take-append-le}
-use Rattle.std.proofs.lemmas.Option.{slice_get-get_or}
-use Rattle.std.specs.Prelude.{slice_get}
+use Rattle.std.proofs.Common.{◌≡◌, ℕ, ◌+◌, ◌-◌, ◌<◌, ◌≤◌, List, [], ◌∷◌, ◌++◌, length, get_or, take, drop, zero, suc, refl, subst, ◌∙◌, arith}
+use Rattle.std.proofs.lemmas.List.{drop_all, drop-append-le, drop-drop, length-drop, take_all, take-append-le}
 use Rattle.tl_rows.specs.Rows.{rows_cut, behind_ends, start_of, AreEnds}
 
 -- the last end is past no field
@@ -97,30 +95,7 @@ cut_at_from start (end ∷ ends) fields (suc row) h lt =
     let e : end - start + (get_or (end ∷ ends) row 0 - end) ≡ get_or (end ∷ ends) row 0 - start = omega (arith, b.0, h.0) in
     cut_at_from end ends (drop (end - start) fields) row rest (omega arith) ∙ rw (drop-drop (get_or (end ∷ ends) row 0 - end) (end - start) fields, e) refl
 
-cut_at : {X : Type 0} (ends : List ℕ) (fields : List X) (row : ℕ) → AreEnds 0 ends (length fields) → row < length ends → get_or (rows_cut 0 ends fields) row [] ≡ take (get_or ends row 0 - start_of ends row) (drop (start_of ends row) fields)
+pub cut_at : {X : Type 0} (ends : List ℕ) (fields : List X) (row : ℕ) → AreEnds 0 ends (length fields) → row < length ends → get_or (rows_cut 0 ends fields) row [] ≡ take (get_or ends row 0 - start_of ends row) (drop (start_of ends row) fields)
 cut_at ends fields row h lt =
     let e : start_of ends row - 0 ≡ start_of ends row = omega arith in
     rw e at (cut_at_from 0 ends fields row (ends_more 0 ends _ _ (omega arith) h) lt)
-
-pub row_length : {X : Type 0} (ends : List ℕ) (fields : List X) (row : ℕ) → AreEnds 0 ends (length fields) → row < length ends → length (get_or (rows_cut 0 ends fields) row []) ≡ get_or ends row 0 - start_of ends row
-row_length ends fields row h lt =
-    let b = row_bounds ends (length fields) row h lt in
-    let fits : get_or ends row 0 - start_of ends row ≤ length (drop (start_of ends row) fields) = omega (arith, b.0, b.1, length-drop (start_of ends row) fields) in
-    ap length (cut_at ends fields row h lt) ∙ length-take-le _ (drop (start_of ends row) fields) fits
-
--- a field of a row among all fields
-pub field_place : {X : Type 0} (ends : List ℕ) (fields : List X) (row place : ℕ) → AreEnds 0 ends (length fields) → row < length ends → place < length (get_or (rows_cut 0 ends fields) row []) → start_of ends row + place < length fields
-field_place ends fields row place h lt near =
-    let b = row_bounds ends (length fields) row h lt in
-    omega (arith, b.0, b.1, row_length ends fields row h lt)
-
-pub field_at : {X : Type 0} (ends : List ℕ) (fields : List X) (row place : ℕ) (x : X) → AreEnds 0 ends (length fields) → row < length ends → place < length (get_or (rows_cut 0 ends fields) row []) → slice_get fields (start_of ends row + place) ≡ Some x → slice_get (get_or (rows_cut 0 ends fields) row []) place ≡ Some x
-field_at ends fields row place x h lt near found =
-    let size = row_length ends fields row h lt in
-    let short : place < get_or ends row 0 - start_of ends row = rw size at near in
-    let whole = slice_get-get_or fields (start_of ends row + place) x (field_place ends fields row place h lt near) in
-    let inner = get_or-take (get_or ends row 0 - start_of ends row) (drop (start_of ends row) fields) place x short in
-    slice_get-get_or (get_or (rows_cut 0 ends fields) row []) place x near
-    ∙ ap (λ (r : List _). Some (get_or r place x)) (cut_at ends fields row h lt)
-    ∙ ap (λ y. Some y) (inner ∙ get_or-drop (start_of ends row) fields place x)
-    ∙ sym whole ∙ found

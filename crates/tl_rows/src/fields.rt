@@ -1,4 +1,8 @@
 //! The fields of rows, lent.
+ghost use Rattle.std.specs.Prelude.{◌≡◌};
+ghost use Rattle.tl_rows.specs.Fields.{field_shown};
+
+use tl_types::Field;
 
 /// One field of a row, lent.
 #[derive(Clone, Copy)]
@@ -18,4 +22,21 @@ pub enum FieldRef<'a> {
     Empty,
     /// A valid time without end.
     Forever,
+}
+
+impl<'a> From<&'a Field> for FieldRef<'a> {
+    ghost from_gives = { λ field lent. field_shown lent ≡ field.now };
+
+    fn from(field: &'a Field) -> FieldRef<'a> {
+        match field {
+            Field::Number(number) => FieldRef::Number(*number),
+            Field::Text(text) => FieldRef::Text(text.as_bytes()),
+            Field::Ratio { sum, count } => FieldRef::Ratio {
+                sum: *sum,
+                count: *count,
+            },
+            Field::Empty => FieldRef::Empty,
+            Field::Forever => FieldRef::Forever,
+        }
+    }
 }

@@ -1,5 +1,5 @@
 //! Lists of fields, packed.
-ghost use Rattle.std.specs.Prelude.{◌≡◌, ◌+◌, ℕ, List, ◌<◌, ◌^◌, ◌++◌, ◌∷◌, [], length, IfOk, OnOk, OnErr, Some, slice_get};
+ghost use Rattle.std.specs.Prelude.{◌≡◌, ◌-◌, ℕ, List, ◌<◌, ◌≤◌, ◌^◌, ◌++◌, ◌∷◌, [], drop, length, take, IfOk, OnOk, OnErr, Some, slice_get};
 ghost use Rattle.tl_rows.specs.Fields.{field_shown};
 ghost use Rattle.tl_rows.specs.Packed.{field_in, GoesOn, IsWithin, StandsFor};
 ghost use Rattle.tl_rows.specs.declared.packed.Packed.TheVariants as packed;
@@ -181,15 +181,60 @@ impl PackedFields {
         Ok(())
     }
 
-    // The field so many places behind a start, lent.
-    pub(crate) fn at(&self, start: usize, place: usize) -> FieldRef<'_>
-        requires { start + place < length self.now }
-        ensures { slice_get self.now (start + place) ≡ Some (field_shown result) }
+    // The fields from one place on and before another, lent.
+    pub(crate) fn range(&self, start: usize, end: usize) -> RowFields<'_>
+        requires { (start ≤ end) × (end ≤ length self.now) }
+        ensures { result ≡ take (end - start) (drop start self.now) }
     {
-        lend(
-            self.fields[start + place],
-            self.texts.as_slice(),
-            self.wide.as_slice(),
-        )
+        RowFields {
+            fields: &self.fields[start..end],
+            texts: self.texts.as_slice(),
+            wide: self.wide.as_slice(),
+        }
+    }
+}
+
+/// The fields of a row, lent. A contract sees them as the list.
+#[derive(Drop)]
+pub struct RowFields<'a> {
+    fields: &'a [Packed],
+    texts: &'a [u8],
+    wide: &'a [i128],
+}
+
+impl<'a> Model for RowFields<'a> {
+    ghost use Rattle.std.specs.Prelude.{List, All, length, map};
+    ghost use Rattle.tl_types.specs.declared.answers.Field.{Field};
+    ghost use Rattle.tl_rows.specs.Packed.{field_in, IsWithin};
+
+    ghost Value = { List Field };
+
+    ghost view = { λ r. map (field_in r.texts.now r.wide.now) r.fields.now };
+
+    ghost invariant = { λ r. All (IsWithin (length r.texts.now) (length r.wide.now)) r.fields.now };
+}
+
+// The packed field at a place.
+fn packed_at(fields: &[Packed], place: usize) -> Packed
+    requires { place < length fields.now }
+    ensures { slice_get fields.now place ≡ Some result }
+{
+    fields[place]
+}
+
+impl<'a> RowFields<'a> {
+    /// The number of fields.
+    pub fn len(&self) -> usize
+        ensures { result ≡ length self.now }
+    {
+        self.fields.len()
+    }
+
+    /// A field, lent, by its place.
+    pub fn at(&self, place: usize) -> FieldRef<'a>
+        requires { place < length self.now }
+        ensures { slice_get self.now place ≡ Some (field_shown result) }
+    {
+        lend(packed_at(self.fields, place), self.texts, self.wide)
     }
 }

@@ -3,6 +3,7 @@ ghost use Rattle.std.specs.Prelude.{◌≡◌, ◌++◌, ◌∷◌, [], OnErr, O
 ghost use Rattle.tl_rows.specs.Fields.{field_shown};
 
 use crate::answers::AnswerRows;
+use crate::field_rows::FieldRows;
 use crate::fields::FieldRef;
 use crate::packed::PackedFields;
 use std::alloc::Global;
@@ -60,7 +61,7 @@ impl RowsWriter {
         ensures row { OnOk result (self.new.row ≡ self.old.row ++ field.now ∷ []) }
         ensures err { OnErr result (self.new ≡ self.old) }
     {
-        self.push(lent(field))?;
+        self.push(FieldRef::from(field))?;
         Ok(())
     }
 
@@ -80,22 +81,6 @@ impl RowsWriter {
         ensures { result ≡ record { rows = self.rows } }
     {
         let RowsWriter { fields, ends } = self;
-        AnswerRows::new(fields, ends)
-    }
-}
-
-// A field, lent.
-fn lent(field: &Field) -> FieldRef<'_>
-    ensures { field_shown result ≡ field.now }
-{
-    match field {
-        Field::Number(number) => FieldRef::Number(*number),
-        Field::Text(text) => FieldRef::Text(text.as_bytes()),
-        Field::Ratio { sum, count } => FieldRef::Ratio {
-            sum: *sum,
-            count: *count,
-        },
-        Field::Empty => FieldRef::Empty,
-        Field::Forever => FieldRef::Forever,
+        AnswerRows::of_fields(FieldRows::new(fields, ends))
     }
 }

@@ -1,11 +1,12 @@
 -- Rows, one after the other, field by field.
-use Rattle.std.proofs.Common.{◌≡◌, ◌==◌, ◌+◌, ◌-◌, ◌<◌, ◌^◌, ℕ, Bool, true, false, not, min, List, [], ◌∷◌, ◌++◌, Some, get_or, length, map, take, refl, sym, ap, ◌∙◌, append_assoc, arith, length-append}
+use Rattle.std.proofs.Common.{◌≡◌, ◌≢◌, ◌==◌, ◌+◌, ◌-◌, ◌<◌, ◌^◌, ℕ, Bool, true, false, not, min, List, [], ◌∷◌, ◌++◌, Some, get_or, length, map, take, refl, sym, ap, ◌∙◌, append_assoc, arith, length-append}
 use Rattle.std.proofs.lemmas.List.{append-nil, length-map, length-take-le, map-append, take_more}
 use Rattle.std.proofs.lemmas.Option.{get_or_from_slice_get}
 use Rattle.std.specs.Global.{Vec}
 use Rattle.std.specs.Prelude.{◌&&◌, ◌||◌, slice_get}
 use Rattle.csv.proofs.WriteFacts.{blank-more, row-more}
 use Rattle.csv.specs.Writing.{default_writer, escaped, field_text, fields_text, fields_written, has_written, is_blank, next_sep, row_body, row_text, tail_text, with_flexible, writer_setup}
+use Rattle.csv.specs.declared.writer.QuoteStyle.TheVariants as style
 use Rattle.csv.specs.declared.writer.Writer.{Writer}
 use Rattle.tl_csv.specs.Answers.{field_text as text_of}
 use Rattle.tl_csv.specs.Writing.{any_length, bytes_written, IsWithinRow, IsWriting, WritesField}
@@ -89,6 +90,14 @@ pub one_row : (old new : Writer (Vec ℕ)) (bytes : List ℕ) (row : List (List 
 one_row old new bytes row text q =
     ended (bytes_written old) (bytes_written new) bytes row (has_written old) (fields_written old) q.text q.fields q.blank (rw q.setup at text)
     ∙ ap (λ t. bytes ++ t) (row_same row)
+
+-- a whole row
+pub whole_row : (old new : Writer (Vec ℕ)) (row : List (List ℕ)) → IsWriting old
+    → (fields_written old ≡ 0 → has_written old ≡ false → (writer_setup old).style ≢ style.NonNumeric → bytes_written new ≡ bytes_written old ++ row_text (writer_setup old) row)
+    → bytes_written new ≡ bytes_written old ++ row_text default_writer row
+whole_row old new row q text =
+    let plain : (writer_setup old).style ≢ style.NonNumeric = rw q.setup (λ e. cc e) in
+    (rw q.setup at (text q.fields q.wrote plain)) ∙ ap (λ t. bytes_written old ++ t) (row_same row)
 
 -- one field of an answer's row more
 pub field_more : (old new : Writer (Vec ℕ)) (bytes : List ℕ) (row : List Field) (place : ℕ) (shown : Field) → place < length row → place + 1 < 2 ^ 64 → slice_get row place ≡ Some shown → WritesField old new (text_of shown) → IsWithinRow old bytes (map text_of (take place row)) → IsWithinRow new bytes (map text_of (take (place + 1) row))

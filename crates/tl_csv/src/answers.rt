@@ -1,37 +1,18 @@
 //! The rows of an answer as CSV.
-ghost use Rattle.std.specs.Prelude.{◌≡◌, ℕ, List, ◌<◌, ◌++◌, ◌∷◌, [], codes, length, IfOk, OnOk};
-ghost use Rattle.std.specs.Fmt.{decimal, signed_decimal};
-ghost use Rattle.std.specs.String.{string_bytes};
+ghost use Rattle.std.specs.Prelude.{◌≡◌, ℕ, List, ◌<◌, ◌++◌, ◌∷◌, [], length, map, IfOk, OnOk};
+ghost use Rattle.std.specs.List.{flat_map};
 ghost use Rattle.csv.specs.Writing.{default_writer, row_text};
 ghost use Rattle.tl_csv.specs.Answers.{answer_row, answer_text, field_text};
 ghost use Rattle.tl_csv.specs.Writing.{bytes_written, IsWithinRow, IsWriting, WritesField};
+ghost use Rattle.tl_query.specs.Answers.{run_fields};
 ghost use Rattle.tl_rows.specs.Fields.{field_shown};
-ghost use Rattle.tl_rows.specs.Rows.{row_at};
 
+use crate::field_texts::{FieldText, bound_text, cell_text};
 use csv::{Writer, WriterBuilder};
+use itoa::Buffer;
 use std::alloc::{AllocError, Global};
-use std::fmt::Write;
-use tl_rows::{AnswerRows, FieldRef};
-use tl_types::{Bytes, NoMemory};
-
-// Makes `text` a number in decimal.
-fn write_number(text: &mut String, number: i128) -> Result<(), NoMemory>
-    ensures { OnOk result (string_bytes text.new ≡ signed_decimal number) }
-{
-    text.clear();
-    write!(text, "{number}")?;
-    Ok(())
-}
-
-// Makes `text` a sum, `/` and its count.
-fn write_ratio(text: &mut String, sum: i128, count: u32) -> Result<(), NoMemory>
-    ensures { OnOk result
-        (string_bytes text.new ≡ signed_decimal sum ++ (codes "/" ++ decimal count)) }
-{
-    text.clear();
-    write!(text, "{sum}/{count}")?;
-    Ok(())
-}
+use tl_rows::{AnswerRows, FieldRef, FieldRows, RowFields, RowsRef};
+use tl_types::{Bytes, NoMemory, Run};
 
 // Writes a field of these bytes.
 fn put_bytes(writer: &mut Writer<Vec<u8>>, field: &[u8]) -> Result<(), NoMemory>
@@ -43,39 +24,18 @@ fn put_bytes(writer: &mut Writer<Vec<u8>>, field: &[u8]) -> Result<(), NoMemory>
     Ok(())
 }
 
-// Writes a field. `text` is where a number or a ratio is put together.
+// Writes a field.
 fn put_field(
     writer: &mut Writer<Vec<u8>>,
-    text: &mut String,
+    text: &mut FieldText,
     field: FieldRef<'_>,
 ) -> Result<(), NoMemory>
     ensures { OnOk result
         (WritesField writer.old writer.new (field_text (field_shown field.entry))) }
 {
-    match field {
-        FieldRef::Number(number) => {
-            write_number(text, number)?;
-            put_bytes(writer, text.as_bytes())?;
-            Ok(())
-        }
-        FieldRef::Text(bytes) => {
-            put_bytes(writer, bytes)?;
-            Ok(())
-        }
-        FieldRef::Ratio { sum, count } => {
-            write_ratio(text, sum, count)?;
-            put_bytes(writer, text.as_bytes())?;
-            Ok(())
-        }
-        FieldRef::Empty => {
-            put_bytes(writer, b"".as_slice())?;
-            Ok(())
-        }
-        FieldRef::Forever => {
-            put_bytes(writer, b"FOREVER".as_slice())?;
-            Ok(())
-        }
-    }
+    let bytes = text.of(field)?;
+    put_bytes(writer, bytes)?;
+    Ok(())
 }
 
 // Ends the row whose fields were written.
@@ -92,40 +52,151 @@ fn end_row(writer: &mut Writer<Vec<u8>>) -> Result<(), NoMemory>
     Ok(())
 }
 
-// Writes the row at this place.
+// Writes a row of these fields.
 fn write_row(
     writer: &mut Writer<Vec<u8>>,
-    text: &mut String,
-    answer: &AnswerRows,
-    row: usize,
+    text: &mut FieldText,
+    row: &RowFields<'_>,
 ) -> Result<(), NoMemory>
-    requires writing { IsWriting writer.old }
-    requires there { row < length answer.now.rows }
+    requires { IsWriting writer.old }
     ensures row { OnOk result (bytes_written writer.new
-        ≡ bytes_written writer.old ++ answer_row (row_at answer.now row)) }
+        ≡ bytes_written writer.old ++ answer_row row.now) }
     ensures writing { OnOk result (IsWriting writer.new) }
 {
-    for place in 0..answer.row_len(row) {
-        put_field(writer, text, answer.field(row, place))?;
+    for place in 0..row.len() {
+        put_field(writer, text, row.at(place))?;
     }
     end_row(writer)?;
     Ok(())
 }
 
-// Writes all rows, behind nothing.
+// Writes rows of fields, behind nothing.
 fn write_rows(
     writer: &mut Writer<Vec<u8>>,
-    text: &mut String,
+    text: &mut FieldText,
+    rows: &FieldRows,
+) -> Result<(), NoMemory>
+    requires writing { IsWriting writer.old }
+    requires empty { bytes_written writer.old ≡ [] }
+    ensures { OnOk result (bytes_written writer.new ≡ answer_text rows.now) }
+{
+    for row in 0..rows.len() {
+        write_row(writer, text, &rows.row(row))?;
+    }
+    Ok(())
+}
+
+// Writes a row of the fields that have these bytes.
+fn put_row(writer: &mut Writer<Vec<u8>>, fields: &[&[u8]]) -> Result<(), NoMemory>
+    requires { IsWriting writer.old }
+    ensures row { OnOk result (bytes_written writer.new
+        ≡ bytes_written writer.old ++ row_text default_writer (map (λ f. f.now) fields.now)) }
+    ensures writing { OnOk result (IsWriting writer.new) }
+{
+    let Ok(()) = writer.write_fields(fields) else {
+        return Err(AllocError);
+    };
+    Ok(())
+}
+
+// Writes a row of the bounds and the value of a run.
+fn put_bounds<'a>(
+    writer: &mut Writer<Vec<u8>>,
+    from: &'a [u8],
+    to: &'a [u8],
+    value: &'a [u8],
+) -> Result<(), NoMemory>
+    requires { IsWriting writer.old }
+    ensures row { OnOk result (bytes_written writer.new ≡ bytes_written writer.old
+        ++ row_text default_writer (from.now ∷ to.now ∷ value.now ∷ [])) }
+    ensures writing { OnOk result (IsWriting writer.new) }
+{
+    let fields = [from, to, value];
+    put_row(writer, fields.as_slice())?;
+    Ok(())
+}
+
+// Writes a row of the group, the bounds and the value of a run.
+fn put_group<'a>(
+    writer: &mut Writer<Vec<u8>>,
+    group: &'a [u8],
+    from: &'a [u8],
+    to: &'a [u8],
+    value: &'a [u8],
+) -> Result<(), NoMemory>
+    requires { IsWriting writer.old }
+    ensures row { OnOk result (bytes_written writer.new ≡ bytes_written writer.old
+        ++ row_text default_writer (group.now ∷ from.now ∷ to.now ∷ value.now ∷ [])) }
+    ensures writing { OnOk result (IsWriting writer.new) }
+{
+    let fields = [group, from, to, value];
+    put_row(writer, fields.as_slice())?;
+    Ok(())
+}
+
+// Writes a run as a row: its group where it has one, its bounds, its value.
+fn write_run(writer: &mut Writer<Vec<u8>>, text: &mut FieldText, run: &Run) -> Result<(), NoMemory>
+    requires { IsWriting writer.old }
+    ensures row { OnOk result (bytes_written writer.new
+        ≡ bytes_written writer.old ++ answer_row (run_fields run.now)) }
+    ensures writing { OnOk result (IsWriting writer.new) }
+{
+    let mut from_digits = Buffer::new();
+    let mut to_digits = Buffer::new();
+    let from = bound_text(&mut from_digits, run.from);
+    let to = bound_text(&mut to_digits, run.to);
+    let value = text.of(FieldRef::from(&run.value))?;
+    match &run.group {
+        Some(group) => {
+            let mut group_digits = Buffer::new();
+            let group = cell_text(&mut group_digits, group);
+            put_group(writer, group, from, to, value)?;
+            Ok(())
+        }
+        None => {
+            put_bounds(writer, from, to, value)?;
+            Ok(())
+        }
+    }
+}
+
+// Writes runs as rows, behind nothing.
+fn write_runs(
+    writer: &mut Writer<Vec<u8>>,
+    text: &mut FieldText,
+    runs: &[Run],
+) -> Result<(), NoMemory>
+    requires writing { IsWriting writer.old }
+    requires empty { bytes_written writer.old ≡ [] }
+    ensures { OnOk result
+        (bytes_written writer.new ≡ flat_map answer_row (map run_fields runs.now)) }
+{
+    for run in runs {
+        write_run(writer, text, run)?;
+    }
+    Ok(())
+}
+
+// Writes the rows of an answer, behind nothing.
+fn write_answer(
+    writer: &mut Writer<Vec<u8>>,
+    text: &mut FieldText,
     answer: &AnswerRows,
 ) -> Result<(), NoMemory>
     requires writing { IsWriting writer.old }
     requires empty { bytes_written writer.old ≡ [] }
     ensures { OnOk result (bytes_written writer.new ≡ answer_text answer.now) }
 {
-    for row in 0..answer.len() {
-        write_row(writer, text, answer, row)?;
+    match answer.lend() {
+        RowsRef::Fields(rows) => {
+            write_rows(writer, text, rows)?;
+            Ok(())
+        }
+        RowsRef::Runs(runs) => {
+            write_runs(writer, text, runs)?;
+            Ok(())
+        }
     }
-    Ok(())
 }
 
 // A writer of rows of any length.
@@ -156,7 +227,7 @@ pub fn answer_bytes(alloc: Global, answer: &AnswerRows) -> Result<Bytes, NoMemor
     ensures { IfOk result (λ bytes. bytes ≡ answer_text answer.now) }
 {
     let mut writer = writer_of(alloc);
-    let mut text = String::new(alloc);
-    write_rows(&mut writer, &mut text, answer)?;
+    let mut text = FieldText::new(alloc);
+    write_answer(&mut writer, &mut text, answer)?;
     bytes_of(writer)
 }

@@ -8,6 +8,7 @@ mod batches;
 mod byte_order_marks;
 mod cells;
 mod faults;
+mod field_texts;
 mod headers;
 mod layouts;
 mod needs;

@@ -9,7 +9,6 @@ ghost use Rattle.tl_exec.specs.Bounds.{IsAggWithin};
 
 use crate::moments::{AskedMoments, moment_runs};
 use crate::ranges::{AskedRuns, range_runs};
-use crate::shown_runs::rows_of_runs;
 use std::alloc::AllocGlobal;
 use std::sync::ledger::Ledger;
 use std::thread::Threads;
@@ -92,6 +91,5 @@ pub(crate) fn answer_aggregate<R: AllocGlobal + Threads + Sync, L: Ledger, G: Ga
         asked.entry.span workers steps.old steps.new }
 {
     let runs = span_runs(rt, snapshot, asked, workers, gate, steps)?;
-    let rows = rows_of_runs(rt.alloc(), runs.as_slice())?;
-    Ok(rows)
+    Ok(AnswerRows::of_runs(runs))
 }

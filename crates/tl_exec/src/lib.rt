@@ -16,7 +16,6 @@ mod ranges;
 mod selects;
 mod sets;
 mod shown_pairs;
-mod shown_runs;
 mod sides;
 
 pub use answers::answer;

@@ -5,7 +5,7 @@ use std::alloc::Global;
 use std::test::Fail;
 use tl_csv::answer_bytes;
 use tl_rows::{AnswerRows, FieldRef, RowsWriter};
-use tl_types::{Field, NoMemory};
+use tl_types::{Cell, Field, NoMemory, Period, Run, Seq};
 
 // Writes a row with a field of each kind.
 fn write_each_kind(rows: &mut RowsWriter) -> Result<(), NoMemory>
@@ -66,6 +66,32 @@ fn no_fields_are(alloc: Global, text: &str) -> bool {
     }
 }
 
+// Appends a run of a group, and one without a group or an end.
+fn push_runs(runs: &mut Seq<Run>) -> Result<(), NoMemory> {
+    runs.push(Run {
+        group: Some(Cell::Int(7)),
+        from: 1,
+        to: 5,
+        value: Field::Ratio { sum: -7, count: 2 },
+    })?;
+    runs.push(Run {
+        group: None,
+        from: -3,
+        to: Period::FOREVER,
+        value: Field::Empty,
+    })?;
+    Ok(())
+}
+
+// Whether the text of the two runs is this one.
+fn runs_are(alloc: Global, text: &str) -> bool {
+    let mut runs = Seq::new(alloc);
+    match push_runs(&mut runs) {
+        Ok(()) => rows_are(alloc, AnswerRows::of_runs(runs), 2, text),
+        Err(_) => false,
+    }
+}
+
 #[test]
 fn fields_are_written(rt: HostRuntime) -> Result<(), Fail> {
     let alloc = rt.alloc();
@@ -73,6 +99,7 @@ fn fields_are_written(rt: HostRuntime) -> Result<(), Fail> {
     assert!(rt; each_kind_is(alloc, each));
     assert!(rt; copies_are(alloc, &Field::Number(3), &Field::Forever, "3,FOREVER\n"));
     assert!(rt; no_fields_are(alloc, "\"\"\n"));
+    assert!(rt; runs_are(alloc, "7,1,5,-7/2\n-3,FOREVER,\n"));
     assert!(rt; rows_are(alloc, RowsWriter::new(alloc).finish(), 0, ""));
     Ok(())
 }

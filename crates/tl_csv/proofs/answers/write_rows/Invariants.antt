@@ -6,6 +6,6 @@ use Rattle.tl_csv.proofs.answers.write_rows.Given as goal
 
 abbrev pub invariant-loop-row : goal.invariant-loop-row
 invariant-loop-row l = record {
-  rows : bytes_written l.writer ≡ flat_map answer_row (take l.row l.answer.rows);
+  rows : bytes_written l.writer ≡ flat_map answer_row (take l.row l.rows.rows);
   writing : IsWriting l.writer;
 }

@@ -35,13 +35,12 @@ pub changed_at : (key copy : Cell) (w : Option (List (ℤ × ℤ))) (entries new
 changed_at key copy w entries new all same update view x = grind (arith, found x new, cell_order copy x, cell_sym copy x, found x entries)
 
 -- a period more at one key
-pub period_added : (key : Cell) (from to : ℤ) (cover more : List (ℤ × ℤ)) (before out after : List (Cell × List (ℤ × ℤ))) → cover ≡ cover_at key before → ((x : Cell) → cover_at x out ≡ cond (same_cell x key) [] (cover_at x before))
-    → ((t : ℤ) → is_covered t more ≡ (is_between t from to || is_covered t cover)) → ((x : Cell) → cover_at x after ≡ cond (same_cell x key) more (cover_at x out))
-    → (x : Cell) (t : ℤ) → is_covered t (cover_at x after) ≡ ((same_cell x key && is_between t from to) || is_covered t (cover_at x before))
-period_added key from to cover more before out after taken others added put x t = ap (is_covered t) (put x) ∙ by_test (same_cell x key) refl where
-  by_test : (b : Bool) → same_cell x key ≡ b → is_covered t (cond b more (cover_at x out)) ≡ ((b && is_between t from to) || is_covered t (cover_at x before))
-  by_test true e = grind (arith, finds_same x key before e)
-  by_test false e = grind arith
+pub period_added : (key : Cell) (from to : ℤ) (cover more : List (ℤ × ℤ)) (before after : List (Cell × List (ℤ × ℤ))) → cover ≡ cover_at key before → ((t : ℤ) → is_covered t more ≡ (is_between t from to || is_covered t cover))
+    → ((x : Cell) → cover_at x after ≡ cond (same_cell x key) more (cover_at x before)) → (x : Cell) (t : ℤ) → is_covered t (cover_at x after) ≡ ((same_cell x key && is_between t from to) || is_covered t (cover_at x before))
+period_added key from to cover more before after there added put x t = ap (is_covered t) (put x) ∙ by_test (same_cell x key) refl where
+  by_test : (b : Bool) → same_cell x key ≡ b → is_covered t (cond b more (cover_at x before)) ≡ ((b && is_between t from to) || is_covered t (cover_at x before))
+  by_test true e = grind (arith, finds_same x key before e, added t)
+  by_test false e = refl
 
 -- no line leaves anything of no period
 pub none_left : (lines : List (Option plain.Period)) → cuts true lines None ≡ None ∷ []

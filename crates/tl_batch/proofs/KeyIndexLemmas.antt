@@ -1,10 +1,13 @@
 -- What a map from keys has at each key, after a change at one key.
-use Rattle.std.proofs.Common.{◌≡◌, ℕ, ◌+◌, ◌≤◌, subst, Bool, true, false, ◌&&◌, ◌||◌, not, cond, nat_eq, List, [], ◌∷◌, Option, Some, None, is_some, IfSome, IfNone, refl, sym, ap, ◌∙◌, arith}
-use Rattle.std.specs.List.{list_any, AllByRecursion}
+use Rattle.std.proofs.Common.{◌≡◌, ℕ, ◌+◌, ◌≤◌, subst, Bool, true, false, ◌&&◌, ◌||◌, not, cond, nat_eq, List, [], ◌∷◌, ◌++◌, Option, Some, None, is_some, IfSome, IfNone, refl, sym, ap, ◌∙◌, arith}
+use Rattle.std.specs.List.{list_any, AllByRecursion, dedup, dedup_from}
 use Rattle.std.specs.Map.{lookup}
 use Rattle.std.specs.declared.cmp.Ordering.TheVariants.{Less}
 use Rattle.std.specs.Ordering.{nat_cmp}
-use Rattle.std.specs.List.Sorted.{IsStrictlySortedBy}
+use Rattle.std.specs.List.Sorted.{IsPermutation, IsSorted, IsStrictlySortedBy}
+use Rattle.std.proofs.lemmas.List.Folds.{list_any-append}
+use Rattle.std.proofs.lemmas.List.Sorted.{list_any-IsPermutation}
+use Rattle.std.proofs.lemmas.Map.Keys.{IsStrictlyIncreasing-dedup, sorted_from_strictly_increasing}
 use Rattle.tl_types.specs.Facts.{AscendFrom}
 use Rattle.std.specs.Cmp.{int_eq_equiv, nat_eq_equiv, unsigned_tied}
 use Rattle.std.specs.Cmp.Lexicographic.{nat_list_eq_equiv}
@@ -57,9 +60,6 @@ finds x (e ∷ entries) = grind (arith, eq_is x e.0, finds x entries)
 -- what a map finds at a key
 pub found_at : {X : Type 0} (key : Cell) (o : Option X) (entries all : List (Cell × X)) → o ≡ lookup (equal.eq-value.it key) entries → entries ≡ all → o ≡ lookup (same_cell key) all
 found_at key o entries all e view = e ∙ (finds key entries ∙ ap (lookup (same_cell key)) view)
-
-pub is_found : {X : Type 0} (key : Cell) (b c : Bool) (entries all : List (Cell × X)) → b ≡ is_some (lookup (equal.eq-value.it key) entries) → b ≡ c → entries ≡ all → is_some (lookup (same_cell key) all) ≡ c
-is_found key b c entries all e f view = grind (arith, finds key entries)
 
 -- what a map finds after a change at one key
 pub copied : {X : Type 0} (key copy : Cell) (w : Option X) (before all after : List (Cell × X)) → copy ≡ key → before ≡ all
@@ -127,8 +127,28 @@ from_zero : (keys : List ℕ) → AllByRecursion (λ n. 0 ≤ n) keys
 from_zero [] = tt
 from_zero (k ∷ keys) = (omega arith, from_zero keys)
 
-pub ids_ascend : (keys list : List ℕ) → IsStrictlySortedBy nat_cmp keys → keys ≡ list → AscendFrom 0 list
-ids_ascend keys list sorted view = subst (AscendFrom 0) view (sorted_ascend 0 keys sorted (from_zero keys))
+-- an id at the end
+pub id_pushed : (id : ℕ) (ids more list : List ℕ) → more ≡ ids ++ id ∷ [] → ids ≡ list → (n : ℕ) → has_id more n ≡ (nat_eq n id || has_id list n)
+id_pushed id ids more list e view n = grind (arith, list_any-append (λ m. nat_eq m n) ids (id ∷ []))
+
+-- after a sort and a `dedup` the ids ascend
+pub ids_ascend : (ids list : List ℕ) → IsSorted nat_cmp ids → list ≡ dedup nat_eq ids → AscendFrom 0 list
+ids_ascend ids list sorted e =
+    let rises = sorted_from_strictly_increasing (dedup nat_eq ids) (IsStrictlyIncreasing-dedup ids sorted) in
+    subst (AscendFrom 0) (sym e) (sorted_ascend 0 (dedup nat_eq ids) rises (from_zero (dedup nat_eq ids)))
+
+-- `dedup` keeps each id
+dedup_from_has : (k n : ℕ) (ids : List ℕ) → has_id (dedup_from nat_eq k ids) n ≡ has_id (k ∷ ids) n
+dedup_from_has k n [] = refl
+dedup_from_has k n (id ∷ ids) = grind (arith, dedup_from_has k n ids, dedup_from_has id n ids)
+
+dedup_has : (n : ℕ) (ids : List ℕ) → has_id (dedup nat_eq ids) n ≡ has_id ids n
+dedup_has n [] = refl
+dedup_has n (id ∷ ids) = dedup_from_has id n ids
+
+-- after a sort and a `dedup` the ids are the same
+pub ids_kept : (ids all sorted list : List ℕ) → IsPermutation ids sorted → ids ≡ all → list ≡ dedup nat_eq sorted → (n : ℕ) → has_id list n ≡ has_id all n
+ids_kept ids all sorted list moved view e n = ap (λ is. has_id is n) e ∙ (dedup_has n sorted ∙ (sym (list_any-IsPermutation (λ m. nat_eq m n) ids sorted moved) ∙ ap (λ is. has_id is n) view))
 
 -- FURTHER IDS
 
@@ -159,10 +179,6 @@ shed_none before mid after None same one = λ x n. same x n ∙ one x n
 pub found_further : (key : Cell) (ids : List ℕ) (entries all : List (Cell × List ℕ)) (r : Option ℕ) → Some ids ≡ lookup (same_cell key) entries → entries ≡ all → IfSome r (λ id. has_id ids id ≡ true) → IfSome r (λ id. has_further all key id ≡ true)
 found_further key ids entries all None there view has = tt
 found_further key ids entries all (Some id) there view has = grind arith
-
--- a set of one id at a key that had none
-pub set_fresh : (key : Cell) (id : ℕ) (set : List ℕ) (all : List (Cell × List ℕ)) → ((n : ℕ) → has_id set n ≡ nat_eq n id) → is_some (lookup (same_cell key) all) ≡ false → (n : ℕ) → has_id set n ≡ (nat_eq n id || has_further all key n)
-set_fresh key id set all one none n = grind arith
 
 -- THE IDS IN THE MAP
 
@@ -206,8 +222,3 @@ few_left key id ids left before after further change there fewer x n =
 pub none_left : (key : Cell) (id : ℕ) (ids : FewIds) (before : List (Cell × FewIds)) → Some ids ≡ lookup (same_cell key) before → ((n : ℕ) → false ≡ (not (nat_eq n id) && is_of ids n))
     → (x : Cell) (n : ℕ) → (not (same_cell x key) && is_among_few (lookup (same_cell x) before) n) ≡ (not (same_cell x key && nat_eq n id) && is_among_few (lookup (same_cell x) before) n)
 none_left key id ids before there none x n = grind (arith, finds_same x key before, none n)
-
--- an id was taken away from the further ones and from those in the map
-pub taken_from_both : (key : Cell) (id : ℕ) (few : List (Cell × FewIds)) (before left : List (Cell × List ℕ)) → ((x : Cell) (n : ℕ) → has_further left x n ≡ (not (same_cell x key && nat_eq n id) && has_further before x n))
-    → (x : Cell) (n : ℕ) → ((not (same_cell x key && nat_eq n id) && is_among_few (lookup (same_cell x) few) n) || has_further left x n) ≡ (not (same_cell x key && nat_eq n id) && (is_among_few (lookup (same_cell x) few) n || has_further before x n))
-taken_from_both key id few before left fewer x n = grind (arith, fewer x n)

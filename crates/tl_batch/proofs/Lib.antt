@@ -13,9 +13,11 @@ pub mod HoldLemmas
 pub mod IndexedRows
 pub mod KeyIndexLemmas
 pub mod KeyLemmas
+pub mod LentLemmas
 pub mod LineLemmas
 pub mod AffectLemmas
 pub mod OpenTableLemmas
+pub mod OverlapLemmas
 pub mod RemovalLemmas
 pub mod ResolvedLemmas
 pub mod RowIds

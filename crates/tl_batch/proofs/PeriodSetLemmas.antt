@@ -198,7 +198,7 @@ put_beyond from to low high stretches after alone h k all e f made = grind (arit
 pub put_covers : (t from to low high : ℤ) (stretches after : List (ℤ × ℤ)) → joining from to stretches ≡ None → from <ℤ to → Beyond before_all stretches → low ≡ from → high ≡ to → after ≡ insert_entry int_cmp stretches high low → is_covered t after ≡ (is_between t from to || is_covered t stretches)
 put_covers t from to low high stretches after alone k all e f made = grind (arith, inserted_covers t from to before_all stretches alone k all)
 
-ends_past : (from end : ℤ) → range_contains int_cmp (Excluded from) Unbounded end ≡ int_lt from end
+pub ends_past : (from end : ℤ) → range_contains int_cmp (Excluded from) Unbounded end ≡ int_lt from end
 ends_past from end = grind arith
 
 -- the walk along a range is that along all

@@ -35,7 +35,7 @@ cut_full lines None full h = subst Full (sym (none_cut lines)) tt
 cut_full lines (Some p) full h = apart_full p.from p.to (cuts true lines (Some p)) (cuts_apart lines full p.from p.to p (omega (arith, ints)) h.0 (omega (arith, ints)))
 
 -- a moment in common is a part in common
-affected_at : (t : ℤ) (lines : List (Option plain.Period)) (p : plain.Period) → is_within t (Some p) ≡ true → list_any (is_within t) lines ≡ true → list_any (λ line. affects_period true line (Some p)) lines ≡ true
+pub affected_at : (t : ℤ) (lines : List (Option plain.Period)) (p : plain.Period) → is_within t (Some p) ≡ true → list_any (is_within t) lines ≡ true → list_any (λ line. affects_period true line (Some p)) lines ≡ true
 affected_at t lines p e f = by (list_any (λ line. affects_period true line (Some p)) lines) refl where
   by : (b : Bool) → list_any (λ line. affects_period true line (Some p)) lines ≡ b → b ≡ true
   by true g = refl

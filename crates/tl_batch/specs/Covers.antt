@@ -1,8 +1,7 @@
 -- Stretches of time with something between neighbours, each kept as its end and the moment where it
 -- begins.
-use Rattle.std.specs.Prelude.{◌≡◌, ℤ, negsuc, ◌<ℤ◌, Bool, true, false, ◌&&◌, int_lt, int_le, List, [], ◌∷◌, ◌++◌, Option, Some, None, if◌then◌else◌, slice_get}
+use Rattle.std.specs.Prelude.{◌≡◌, ℤ, negsuc, ◌<ℤ◌, Bool, false, ◌&&◌, int_lt, int_le, List, [], ◌∷◌, ◌++◌, Option, Some, None, if◌then◌else◌, slice_get}
 use Rattle.std.specs.List.{list_any}
-use Rattle.std.specs.Ordering.{int_eq}
 use Rattle.std.specs.Map.{lookup}
 use Rattle.tl_types.specs.declared.cells.Cell.{Cell}
 use Rattle.tl_types.specs.Plain as plain
@@ -67,19 +66,6 @@ pub record HoldLines (covers : List (Cell × List (ℤ × ℤ))) (lines : List B
   pub full : (x : Cell) → Full (periods_with (Some x) lines)
   pub same : (x : Cell) (t : ℤ)
       → is_covered t (cover_at x covers) ≡ list_any (is_within t) (periods_with (Some x) lines)
-
--- the periods are the same
-abbrev pub same_period : Option plain.Period → Option plain.Period → Bool
-same_period None None = true
-same_period None (Some q) = false
-same_period (Some p) None = false
-same_period (Some p) (Some q) = int_eq p.from q.from && int_eq p.to q.to
-
--- the parts of a period are the whole of it
-abbrev pub is_whole : Option plain.Period → List (Option plain.Period) → Bool
-is_whole whole [] = false
-is_whole whole (p ∷ []) = same_period p whole
-is_whole whole (p ∷ q ∷ ps) = false
 
 -- a line has the key
 abbrev pub is_said : Option Cell → List BatchLine → Bool

@@ -1,14 +1,16 @@
 //! The open rows of a table with valid time that lines affect.
-ghost use Rattle.std.specs.Prelude.{◌≡◌, ◌&&◌, ◌||◌, ◌==◌, ℕ, List, true, Some, OnOk, IfOk, slice_get};
+ghost use Rattle.std.specs.Prelude.{◌≡◌, ◌&&◌, ◌||◌, ◌==◌, ℕ, ℤ, List, Option, true, Some, OnOk, IfOk, slice_get};
 ghost use Rattle.std.specs.List.{list_any};
-ghost use Rattle.tl_types.specs.History.{has_id};
+ghost use Rattle.tl_types.specs.Plain as plain;
+ghost use Rattle.tl_types.specs.History.{has_id, is_within};
 ghost use Rattle.tl_types.specs.Resolving.{BatchLine};
-ghost use Rattle.tl_batch.specs.Covers.{HoldLines};
+ghost use Rattle.tl_batch.specs.Covers.{Full, HoldLines, is_covered};
 ghost use Rattle.tl_batch.specs.Lines.{lines_of};
 ghost use Rattle.tl_batch.specs.Pieces.{affects_period, affected_by, is_open_affected, periods_with};
 ghost use Rattle.tl_batch.specs.Standing.{is_open_with};
 
-use crate::ids::IdSet;
+use crate::cover::Cover;
+use crate::id_list::IdList;
 use crate::key_set::KeySet;
 use crate::open_table::OpenTable;
 use crate::periods_by_key::PeriodsByKey;
@@ -16,21 +18,19 @@ use std::alloc::Global;
 use std::sync::ledger::Ledger;
 use tl_types::{Cell, KeyLine, NoMemory, Period, Steps};
 
-// Adds a row of a key with a valid period, where a line of the key overlaps the period.
+// Adds a row with a valid period, where a line of its key, whose moments are given, overlaps it.
 fn add_overlapped(
-    alloc: Global,
-    affected: &mut IdSet,
-    periods: &PeriodsByKey,
-    key: &Cell,
+    affected: &mut IdList,
+    cover: &Cover<'_>,
     row: u32,
     whole: &Option<Period>,
 ) -> Result<(), NoMemory>
-    ensures { OnOk result ((lines : List BatchLine) → HoldLines periods.now lines → (n : ℕ)
-        → has_id affected.new n
-        ≡ (((n == row) && list_any (λ line. affects_period true line whole.now)
-        (periods_with (Some key.now) lines)) || has_id affected.old n)) }
+    ensures { OnOk result ((lines : List (Option plain.Period)) → Full lines
+        → ((t : ℤ) → is_covered t cover.now ≡ list_any (is_within t) lines) → (n : ℕ)
+        → has_id affected.new n ≡ (((n == row)
+        && list_any (λ line. affects_period true line whole.now) lines) || has_id affected.old n)) }
 {
-    let overlapped = periods.affects_period(alloc, key, whole)?;
+    let overlapped = cover.affects(whole);
     if !overlapped {
         return Ok(());
     }
@@ -41,7 +41,7 @@ fn add_overlapped(
 // Adds the open rows of a key that a line of the key overlaps.
 fn add_rows<L: Ledger>(
     alloc: Global,
-    affected: &mut IdSet,
+    affected: &mut IdList,
     periods: &PeriodsByKey,
     key: &Cell,
     table: &OpenTable<'_>,
@@ -55,9 +55,10 @@ fn add_rows<L: Ledger>(
         || has_id affected.old n)) }
 {
     let ids = table.ids(alloc, key)?;
+    let cover = periods.cover(key);
     for row in ids.as_slice() {
         let whole = table.period(*row, steps);
-        add_overlapped(alloc, affected, periods, key, *row, &whole)?;
+        add_overlapped(affected, &cover, *row, &whole)?;
     }
     Ok(())
 }
@@ -70,13 +71,13 @@ pub(crate) fn affected_rows<L: Ledger>(
     lines: &[KeyLine],
     periods: &PeriodsByKey,
     steps: &mut Steps<L>,
-) -> Result<IdSet, NoMemory>
+) -> Result<IdList, NoMemory>
     requires valid { table.now.schema.valid ≡ true }
     requires held { HoldLines periods.now (lines_of lines.now) }
     ensures { IfOk result (λ affected. (n : ℕ) → has_id affected n
         ≡ is_open_affected table.now.schema (lines_of lines.now) (slice_get table.now.rows n)) }
 {
-    let mut affected = IdSet::new(alloc);
+    let mut affected = IdList::new(alloc);
     let mut seen = KeySet::new(alloc);
     for line in lines {
         let fresh = seen.add(&line.key)?;

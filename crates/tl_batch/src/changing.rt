@@ -39,7 +39,7 @@ fn cut_rows<L: Ledger>(
 {
     let periods = covers_of(alloc, lines)?;
     let affected = affected_rows(alloc, table, lines, &periods, steps)?;
-    let closes = affected.listed(alloc)?;
+    let closes = affected.listed();
     let ids = closes.as_slice();
     let opens = old_pieces(alloc, table, &periods, ids, steps)?;
     Ok(RowChanges { closes, opens })

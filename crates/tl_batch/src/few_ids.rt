@@ -3,7 +3,7 @@ ghost use Rattle.std.specs.Prelude.{◌≡◌, ◌||◌, ◌&&◌, not, ◌==◌
 ghost use Rattle.tl_types.specs.History.{has_id};
 ghost use Rattle.tl_batch.specs.KeyIndex.{is_among_few, is_id, is_of};
 
-use crate::ids::IdSet;
+use crate::id_list::IdList;
 use tl_types::NoMemory;
 
 /// One id, or two. A row of a table without valid time and the row that takes its place stand
@@ -80,8 +80,8 @@ impl FewIds {
         ids_of(unless(self.first, gone), other_than(self.second, gone))
     }
 
-    /// Adds the ids to a set. The error is `NoMemory`.
-    pub(crate) fn add_to(&self, ids: &mut IdSet) -> Result<(), NoMemory>
+    /// Adds the ids to a list. The error is `NoMemory`.
+    pub(crate) fn add_to(&self, ids: &mut IdList) -> Result<(), NoMemory>
         ensures { OnOk result ((n : ℕ) → has_id ids.new n
             ≡ (is_of self.now n || has_id ids.old n)) }
     {

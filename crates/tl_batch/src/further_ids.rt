@@ -5,6 +5,7 @@ ghost use Rattle.tl_types.specs.declared.cells.Cell.{Cell};
 ghost use Rattle.tl_types.specs.History.{has_id, same_cell};
 ghost use Rattle.tl_batch.specs.KeyIndex.{has_further, Changes};
 
+use crate::id_list::IdList;
 use crate::ids::IdSet;
 use std::alloc::Global;
 use std::collections::HashMap;
@@ -53,24 +54,9 @@ impl FurtherIds {
         ensures err { OnErr result ((x : Cell) (n : ℕ) → has_further self.new x n
             ≡ has_further self.old x n) }
     {
-        if self.ids.contains_key(key) {
-            self.add_to_set(key, id)?;
-            return Ok(());
-        }
-        let set = one_id(alloc, id)?;
-        self.put(key, set)?;
-        Ok(())
-    }
-
-    // Adds an id of a key that has a set of ids.
-    fn add_to_set(&mut self, key: &Cell, id: u32) -> Result<(), NoMemory>
-        requires { is_some (lookup (same_cell key.now) self.old) ≡ true }
-        ensures ok { OnOk result ((x : Cell) (n : ℕ) → has_further self.new x n
-            ≡ ((same_cell x key.now && (n == id)) || has_further self.old x n)) }
-        ensures err { OnErr result ((x : Cell) (n : ℕ) → has_further self.new x n
-            ≡ has_further self.old x n) }
-    {
         let Some(ids) = self.ids.get_mut(key) else {
+            let set = one_id(alloc, id)?;
+            self.put(key, set)?;
             return Ok(());
         };
         ids.add(id)?;
@@ -170,14 +156,14 @@ impl FurtherIds {
         }
     }
 
-    /// Adds the ids of a key to a set. The error is `NoMemory`.
-    pub(crate) fn add_to(&self, key: &Cell, set: &mut IdSet) -> Result<(), NoMemory>
-        ensures { OnOk result ((n : ℕ) → has_id set.new n
-            ≡ (has_further self.now key.now n || has_id set.old n)) }
+    /// Adds the ids of a key to a list. The error is `NoMemory`.
+    pub(crate) fn add_to(&self, key: &Cell, list: &mut IdList) -> Result<(), NoMemory>
+        ensures { OnOk result ((n : ℕ) → has_id list.new n
+            ≡ (has_further self.now key.now n || has_id list.old n)) }
     {
         match self.ids.get(key) {
             Some(ids) => {
-                set.add_all(ids)?;
+                ids.add_to(list)?;
                 Ok(())
             }
             None => Ok(()),

@@ -1,12 +1,12 @@
 //! Sets of ids.
-ghost use Rattle.std.specs.Prelude.{◌≡◌, ◌||◌, ◌&&◌, not, true, ◌==◌, IsTrue, ◌∷◌, ℕ, [], OnOk, OnErr, IfOk, IfSome, IfNone};
-ghost use Rattle.tl_types.specs.Facts.{AscendFrom};
+ghost use Rattle.std.specs.Prelude.{◌≡◌, ◌||◌, ◌&&◌, not, true, ◌==◌, IsTrue, ◌∷◌, ℕ, [], OnOk, OnErr, IfSome, IfNone};
 ghost use Rattle.tl_types.specs.History.{has_id};
 
+use crate::id_list::IdList;
 use std::alloc::Global;
 use std::collections::BTreeSet;
 use std::marker::Model;
-use tl_types::{NoMemory, Seq};
+use tl_types::NoMemory;
 
 /// A set of ids, which contracts see as the list of them.
 #[derive(Drop)]
@@ -41,13 +41,13 @@ impl IdSet {
         Ok(())
     }
 
-    /// Adds the ids of another set. The error is `NoMemory`.
-    pub(crate) fn add_all(&mut self, others: &IdSet) -> Result<(), NoMemory>
-        ensures { OnOk result ((n : ℕ) → has_id self.new n
-            ≡ (has_id others.now n || has_id self.old n)) }
+    /// Adds the ids to a list. The error is `NoMemory`.
+    pub(crate) fn add_to(&self, list: &mut IdList) -> Result<(), NoMemory>
+        ensures { OnOk result ((n : ℕ) → has_id list.new n
+            ≡ (has_id self.now n || has_id list.old n)) }
     {
-        for id in &others.ids {
-            self.add(*id)?;
+        for id in &self.ids {
+            list.add(*id)?;
         }
         Ok(())
     }
@@ -80,18 +80,5 @@ impl IdSet {
         ensures { IsTrue result → self.now ≡ [] }
     {
         self.ids.is_empty()
-    }
-
-    /// The ids, ascending. The error is `NoMemory`.
-    pub(crate) fn listed(&self, alloc: Global) -> Result<Seq<u32>, NoMemory>
-        ensures value { IfOk result (λ ids. ids ≡ self.now) }
-        ensures ascending { AscendFrom 0 self.now }
-    {
-        let _ = self.ids.len();
-        let mut ids = Seq::new(alloc);
-        for id in &self.ids {
-            ids.push(*id)?;
-        }
-        Ok(ids)
     }
 }

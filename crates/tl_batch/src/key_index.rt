@@ -8,7 +8,7 @@ ghost use Rattle.tl_batch.specs.KeyIndex.{Changes, has_further, has_row, no_ids,
 
 use crate::few_ids::FewIds;
 use crate::further_ids::FurtherIds;
-use crate::ids::IdSet;
+use crate::id_list::IdList;
 use std::alloc::Global;
 use std::collections::HashMap;
 use std::marker::Model;
@@ -99,7 +99,7 @@ impl KeyIndex {
         ensures err { OnErr result ((x : Cell) (n : ℕ) → has_row self.new x n
             ≡ has_row self.old x n) }
     {
-        let Some(ids) = self.few_of(key) else {
+        let Some(ids) = self.few.get_mut(key) else {
             self.insert_id(key, id)?;
             return Ok(());
         };
@@ -107,7 +107,7 @@ impl KeyIndex {
             self.further.add(alloc, key, id)?;
             return Ok(());
         };
-        self.put_few(key, more);
+        *ids = more;
         Ok(())
     }
 
@@ -125,18 +125,21 @@ impl KeyIndex {
         }
     }
 
-    // Takes an id of a key out of the map, under which these stand there.
-    fn remove_few(&mut self, key: &Cell, ids: FewIds, id: u32)
-        requires { Some ids ≡ lookup (same_cell key.now) self.old.few }
+    // Takes an id of a key out of the map.
+    fn remove_few(&mut self, key: &Cell, id: u32)
         ensures { (x : Cell) (n : ℕ) → has_row self.new x n
             ≡ ((not (same_cell x key.now && (n == id))
             && is_among_few (lookup (same_cell x) self.old.few) n)
             || has_further self.old.further x n) }
     {
-        match ids.without(id) {
-            Some(left) => self.put_few(key, left),
-            None => self.refill(key),
-        }
+        let Some(ids) = self.few.get_mut(key) else {
+            return;
+        };
+        let Some(left) = ids.without(id) else {
+            self.refill(key);
+            return;
+        };
+        *ids = left;
     }
 
     /// Takes the id of a row of a key away.
@@ -145,9 +148,7 @@ impl KeyIndex {
             ≡ (not (same_cell x key.now && (n == id)) && has_row self.old x n) }
     {
         self.further.remove(key, id);
-        if let Some(ids) = self.few_of(key) {
-            self.remove_few(key, ids, id);
-        }
+        self.remove_few(key, id);
     }
 
     /// The id of a row of a key, where there is one.
@@ -161,15 +162,15 @@ impl KeyIndex {
         }
     }
 
-    /// Adds the ids of the rows of a key to a set. The error is `NoMemory`.
-    pub(crate) fn add_to(&self, key: &Cell, ids: &mut IdSet) -> Result<(), NoMemory>
+    /// Adds the ids of the rows of a key to a list. The error is `NoMemory`.
+    pub(crate) fn add_to(&self, key: &Cell, ids: &mut IdList) -> Result<(), NoMemory>
         ensures { OnOk result ((n : ℕ) → has_id ids.new n
             ≡ (has_row self.now key.now n || has_id ids.old n)) }
     {
-        self.further.add_to(key, ids)?;
         if let Some(few) = self.few_of(key) {
             few.add_to(ids)?;
         }
+        self.further.add_to(key, ids)?;
         Ok(())
     }
 
@@ -178,9 +179,9 @@ impl KeyIndex {
         ensures ascending { IfOk result (λ ids. AscendFrom 0 ids) }
         ensures members { IfOk result (λ ids. (n : ℕ) → has_id ids n ≡ has_row self.now key.now n) }
     {
-        let mut ids = IdSet::new(alloc);
+        let mut ids = IdList::new(alloc);
         self.add_to(key, &mut ids)?;
-        let listed = ids.listed(alloc)?;
+        let listed = ids.listed();
         Ok(listed)
     }
 }

@@ -4,10 +4,12 @@
 
 mod affected;
 mod changing;
+mod cover;
 mod faults;
 mod few_ids;
 mod following;
 mod further_ids;
+mod id_list;
 mod ids;
 mod key_index;
 mod key_set;

@@ -4,7 +4,7 @@ ghost use Rattle.std.specs.List.{list_any};
 ghost use Rattle.tl_types.specs.Plain as plain;
 ghost use Rattle.tl_types.specs.History.{is_within};
 ghost use Rattle.tl_batch.specs.Covers.{Full, Beyond, before_all, is_between, is_covered, joining, gaps};
-ghost use Rattle.tl_batch.specs.Pieces.{cuts, part};
+ghost use Rattle.tl_batch.specs.Pieces.{affects_period, cuts, part};
 
 use std::alloc::Global;
 use std::collections::BTreeMap;
@@ -104,6 +104,19 @@ impl PeriodSet {
         let (from, to) = absorbed(&mut self.stretches, period);
         self.stretches.insert(to, from)?;
         Ok(())
+    }
+
+    /// Whether a moment of a period is covered.
+    pub(crate) fn overlaps(&self, period: Period) -> bool
+        ensures { (lines : List (Option plain.Period)) → Full lines
+            → ((t : ℤ) → is_covered t self.now ≡ list_any (is_within t) lines)
+            → result ≡ list_any (λ line. affects_period true line (Some period)) lines }
+    {
+        let behind = (Bound::Excluded(period.from()), Bound::Unbounded);
+        match self.stretches.range(behind).next() {
+            Some((_, start)) => moment(start) < period.to(),
+            None => false,
+        }
     }
 
     /// The parts of a period that are not covered. The error is `NoMemory`.

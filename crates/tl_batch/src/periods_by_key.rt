@@ -5,10 +5,11 @@ ghost use Rattle.tl_types.specs.declared.cells.Cell.{Cell};
 ghost use Rattle.tl_types.specs.Plain as plain;
 ghost use Rattle.tl_types.specs.History.{is_within, same_cell};
 ghost use Rattle.tl_types.specs.Resolving.{BatchLine};
-ghost use Rattle.tl_batch.specs.Covers.{Full, HoldLines, cover_at, is_covered, is_whole, same_period, stretches_or};
+ghost use Rattle.tl_batch.specs.Covers.{Full, HoldLines, cover_at, is_covered};
 ghost use Rattle.tl_batch.specs.Pieces.{cuts, affects_period, periods_with};
 ghost use Rattle.tl_batch.specs.Lines.{lines_of};
 
+use crate::cover::Cover;
 use crate::period_set::PeriodSet;
 use std::alloc::Global;
 use std::collections::BTreeMap;
@@ -30,16 +31,6 @@ impl Model for PeriodsByKey {
     ghost view = { λ c. c.covers.entries };
 }
 
-// A cover that is there, or one of no moments.
-fn cover_or_none(alloc: Global, found: Option<PeriodSet>) -> PeriodSet
-    ensures { result ≡ stretches_or found }
-{
-    match found {
-        Some(cover) => cover,
-        None => PeriodSet::new(alloc),
-    }
-}
-
 impl PeriodsByKey {
     /// No moments of any key.
     pub(crate) fn new(alloc: Global) -> PeriodsByKey
@@ -48,16 +39,6 @@ impl PeriodsByKey {
         PeriodsByKey {
             covers: BTreeMap::new(alloc),
         }
-    }
-
-    // Takes the cover of a key out.
-    fn take(&mut self, alloc: Global, key: &Cell) -> PeriodSet
-        ensures taken { result ≡ cover_at key.now self.old }
-        ensures others { (x : Cell) → cover_at x self.new
-            ≡ (if same_cell x key.now then [] else cover_at x self.old) }
-    {
-        let found = self.covers.remove(key);
-        cover_or_none(alloc, found)
     }
 
     // Gives a key a cover. The error is `NoMemory`.
@@ -77,9 +58,13 @@ impl PeriodsByKey {
             || is_covered t (cover_at x self.old))) }
         ensures full { OnOk result (Full (Some period ∷ [])) }
     {
-        let mut cover = self.take(alloc, key);
+        let Some(cover) = self.covers.get_mut(key) else {
+            let mut cover = PeriodSet::new(alloc);
+            cover.add(period)?;
+            self.put(key, cover)?;
+            return Ok(());
+        };
         cover.add(period)?;
-        self.put(key, cover)?;
         Ok(())
     }
 
@@ -150,49 +135,11 @@ impl PeriodsByKey {
         Ok(left)
     }
 
-    /// Whether a line of a key affects a valid period. The error is `NoMemory`.
-    pub(crate) fn affects_period(
-        &self,
-        alloc: Global,
-        key: &Cell,
-        whole: &Option<Period>,
-    ) -> Result<bool, NoMemory>
-        ensures lines { IfOk result (λ affected. (lines : List BatchLine) → HoldLines self.now lines
-            → affected ≡ list_any (λ line. affects_period true line whole.now)
-            (periods_with (Some key.now) lines)) }
-        ensures periods { IfOk result (λ affected. (periods : List (Option plain.Period))
-            → Full periods
-            → ((t : ℤ) → is_covered t (cover_at key.now self.now) ≡ list_any (is_within t) periods)
-            → affected ≡ list_any (λ line. affects_period true line whole.now) periods) }
+    /// The moments that the lines of a key cover.
+    pub(crate) fn cover(&self, key: &Cell) -> Cover<'_>
+        ensures { result ≡ cover_at key.now self.now }
     {
-        let left = self.left(alloc, key, whole)?;
-        Ok(!is_whole(&left, whole))
-    }
-}
-
-// Whether two periods, which may be none, are the same.
-fn same_period(part: &Option<Period>, whole: &Option<Period>) -> bool
-    ensures { result ≡ same_period part.now whole.now }
-{
-    match part {
-        None => match whole {
-            None => true,
-            Some(_) => false,
-        },
-        Some(part) => match whole {
-            None => false,
-            Some(whole) => part.from() == whole.from() && part.to() == whole.to(),
-        },
-    }
-}
-
-// Whether the parts of a period are the whole of it.
-fn is_whole(parts: &[Option<Period>], whole: &Option<Period>) -> bool
-    ensures { result ≡ is_whole whole.now parts.now }
-{
-    match parts {
-        [part] => same_period(part, whole),
-        _ => false,
+        Cover::new(self.covers.get(key))
     }
 }
 
@@ -207,24 +154,18 @@ pub(crate) fn covers_of(alloc: Global, lines: &[KeyLine]) -> Result<PeriodsByKey
     Ok(covers)
 }
 
-// Whether one of some parts affects a period of a key.
-fn affects_part(
-    alloc: Global,
-    rows: &PeriodsByKey,
-    key: &Cell,
-    parts: &[Option<Period>],
-) -> Result<bool, NoMemory>
-    ensures { IfOk result (λ affected. (wholes : List (Option plain.Period)) → Full wholes
-        → ((t : ℤ) → is_covered t (cover_at key.now rows.now) ≡ list_any (is_within t) wholes)
-        → affected ≡ list_any (λ g. list_any (λ p. affects_period true p g) wholes) parts.now) }
+// Whether a period that is covered has a moment of one of some parts.
+fn affects_part(cover: &Cover<'_>, parts: &[Option<Period>]) -> bool
+    ensures { (wholes : List (Option plain.Period)) → Full wholes
+        → ((t : ℤ) → is_covered t cover.now ≡ list_any (is_within t) wholes)
+        → result ≡ list_any (λ g. list_any (λ p. affects_period true p g) wholes) parts.now }
 {
     for part in parts {
-        let affected = rows.affects_period(alloc, key, part)?;
-        if affected {
-            return Ok(true);
+        if cover.affects(part) {
+            return true;
         }
     }
-    Ok(false)
+    false
 }
 
 /// Whether a line of a key affects what earlier lines left of some periods of the key, by the
@@ -243,6 +184,7 @@ pub(crate) fn affects_rest(
         (cuts true (periods_with (Some key.now) lines) p)) wholes) }
 {
     let parts = earlier.left(alloc, key, line)?;
-    let affected = affects_part(alloc, rows, key, &parts)?;
+    let cover = rows.cover(key);
+    let affected = affects_part(&cover, &parts);
     Ok(affected)
 }

@@ -12,7 +12,7 @@ ghost use Rattle.tl_batch.specs.Made.{IsClosed};
 ghost use Rattle.tl_batch.specs.Standing.{rows_match};
 ghost use Rattle.tl_batch.specs.Untimed.{has_open, fault_of_key, row_fault, key_fault, AreFresh};
 
-use crate::ids::IdSet;
+use crate::id_list::IdList;
 use crate::key_index::KeyIndex;
 use crate::key_set::KeySet;
 use crate::open_table::OpenTable;
@@ -118,11 +118,11 @@ pub(crate) fn ids_of_keys(
     ensures members { IfOk result (λ ids. (n : ℕ) → has_id ids n
         ≡ list_any (λ k. has_row index.now k.now n) keys.now) }
 {
-    let mut ids = IdSet::new(alloc);
+    let mut ids = IdList::new(alloc);
     for key in keys {
         index.add_to(key, &mut ids)?;
     }
-    let listed = ids.listed(alloc)?;
+    let listed = ids.listed();
     Ok(listed)
 }
 

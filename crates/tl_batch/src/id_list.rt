@@ -1,0 +1,52 @@
+//! Ids that are collected.
+ghost use Rattle.std.specs.Prelude.{◌≡◌, ◌||◌, ◌==◌, ℕ, [], OnOk};
+ghost use Rattle.tl_types.specs.Facts.{AscendFrom};
+ghost use Rattle.tl_types.specs.History.{has_id};
+
+use std::alloc::Global;
+use std::marker::Model;
+use tl_types::{NoMemory, Seq};
+
+/// Ids in the order in which they were collected, where one may stand more than once.
+#[derive(Drop)]
+pub(crate) struct IdList {
+    ids: Vec<u32>,
+}
+
+impl Model for IdList {
+    ghost use Rattle.std.specs.Prelude.{ℕ, List};
+
+    ghost Value = { List ℕ };
+
+    ghost view = { λ l. l.ids.items };
+}
+
+impl IdList {
+    /// No ids.
+    pub(crate) fn new(alloc: Global) -> IdList
+        ensures { result ≡ [] }
+    {
+        IdList {
+            ids: Vec::new(alloc),
+        }
+    }
+
+    /// Adds an id. The error is `NoMemory`.
+    pub(crate) fn add(&mut self, id: u32) -> Result<(), NoMemory>
+        ensures { OnOk result ((n : ℕ) → has_id self.new n ≡ ((n == id) || has_id self.old n)) }
+    {
+        self.ids.push(id)?;
+        Ok(())
+    }
+
+    /// The ids, each once and ascending.
+    pub(crate) fn listed(self) -> Seq<u32>
+        ensures ascending { AscendFrom 0 result }
+        ensures members { (n : ℕ) → has_id result n ≡ has_id self n }
+    {
+        let mut ids = self.ids;
+        ids.sort_unstable();
+        ids.dedup();
+        Seq::from_vec(ids)
+    }
+}

@@ -4,6 +4,7 @@ pub mod GroupLemmas
 pub mod CellLemmas
 pub mod PlaceLemmas
 pub mod StepLemmas
+pub mod CountLemmas
 pub mod StartLemmas
 pub mod PieceLemmas
 pub mod ByLemmas

@@ -80,10 +80,13 @@ in_both (s ∷ set) (k ∷ keep) (suc row) h = in_both set keep row h
 both_rows : (set keep : List Bool) → length keep ≡ length set → length (both set keep) ≡ length keep
 both_rows set keep e = both_length set keep e ∙ sym e
 
+pub start_long : (rows : List plain.Row) (keep start : List Bool) (from : ℕ) → length keep ≡ length rows → start ≡ start_set rows keep from → length start ≡ length keep
+start_long rows keep start from long start_is = ap length start_is ∙ both_rows (standing rows from) keep (long ∙ sym (length-map rows (is_visible from)))
+
 pub start_within : (scan : ScanOf) (start : List Bool) → IsScan scan → start ≡ start_set (rows_in scan.table) scan.keep scan.from → IsWithin start scan.keep
 start_within scan start is start_is =
     let rows = rows_in scan.table in record {
-      rows = ap length start_is ∙ both_rows (standing rows scan.from) scan.keep (is.keep ∙ sym (length-map rows (is_visible scan.from)));
+      rows = start_long rows scan.keep start scan.from is.keep start_is;
       members = λ row h. in_both (standing rows scan.from) scan.keep row (ap (λ s. is_member s row) (sym start_is) ∙ h);
     }
 

@@ -1,11 +1,11 @@
 -- The rows of the start set enter one by one.
-use Rattle.std.proofs.Common.{◌≡◌, ℕ, zero, suc, ◌+◌, ◌<◌, ◌≤◌, Bool, true, false, cond, List, [], ◌∷◌, length, set, Some, refl, sym, ap, ◌∙◌, arith, subst, slice_get}
-use Rattle.std.proofs.lemmas.List.Sums.{sum_by-append}
+use Rattle.std.proofs.Common.{◌≡◌, ℕ, zero, suc, ◌+◌, ◌<◌, ◌≤◌, ◌==◌, Bool, true, false, cond, List, [], ◌∷◌, length, set, Some, refl, sym, ap, ◌∙◌, arith, subst, slice_get}
+use Rattle.std.proofs.lemmas.List.Sums.{sum_by-append, count_by-le-length}
 use Rattle.tl_types.specs.Plain as plain
 use Rattle.tl_types.specs.Events.{activation}
 use Rattle.tl_types.specs.Walks.{after_event}
 use Rattle.tl_bits.specs.Sets.{is_member, IsFree, IsNext}
-use Rattle.tl_agg.specs.Kept.{below, size}
+use Rattle.tl_agg.specs.Kept.{below, size, IsWhole}
 use Rattle.tl_agg.specs.Scans.{Turns}
 
 pub below_length : (n : ℕ) (bs : List Bool) → length (below n bs) ≡ length bs
@@ -86,3 +86,17 @@ size_below (suc n) (b ∷ bs) =
     let a = size_first b (below n bs) in
     let c = size_first b bs in
     let ih = size_below n bs in omega arith
+
+-- a set that has as many members as it may hold has each row
+pub whole_set : (set : List Bool) → size set ≡ length set → IsWhole set
+whole_set [] all zero l = absurd (omega arith)
+whole_set [] all (suc row) l = absurd (omega arith)
+whole_set (true ∷ bs) all zero l = refl
+whole_set (true ∷ bs) all (suc row) l = let first = size_first true bs in whole_set bs (omega arith) row (omega arith)
+whole_set (false ∷ bs) all row l =
+    absurd (let first = size_first false bs in let most = count_by-le-length (λ (member : Bool). member) bs in omega arith)
+
+pub whole_tested : (set : List Bool) (n m : ℕ) → n ≡ size set → m ≡ length set → (n == m) ≡ true → IsWhole set
+whole_tested set n m n_is m_is same =
+    let e : n ≡ m = grind (arith) in
+    whole_set set (sym n_is ∙ e ∙ m_is)

@@ -1,5 +1,5 @@
 -- The rows that are kept of a table, and the runs of an aggregate of them.
-use Rattle.std.specs.Prelude.{◌≡◌, ℕ, zero, suc, true, false, length, ℤ, pos, negsuc, Bool, ◌&&◌, List, [], ◌∷◌, if◌then◌else◌}
+use Rattle.std.specs.Prelude.{◌≡◌, ℕ, ◌+◌, ◌-◌, ◌<◌, zero, suc, true, false, length, ℤ, pos, negsuc, Bool, ◌&&◌, List, [], ◌∷◌, if◌then◌else◌}
 use Rattle.std.specs.List.{count_by}
 use Rattle.tl_types.specs.Plain as plain
 use Rattle.tl_types.specs.Walks.{standing}
@@ -21,6 +21,15 @@ picked (s ∷ set) (row ∷ rows) = if s then row ∷ picked set rows else picke
 abbrev pub kept_at : List plain.Row → List Bool → ℤ → List plain.Row
 kept_at rows keep (pos version) = picked (both (standing rows version) keep) rows
 kept_at rows keep (negsuc n) = []
+
+-- how many rows there are when one comes where `opens`, and else goes, where it is kept
+abbrev pub count_moved : Bool → Bool → ℕ → ℕ
+count_moved is_kept opens count =
+    if is_kept then (if opens then count + 1 else count - 1) else count
+
+-- each row that the set may hold is in it
+abbrev pub IsWhole : List Bool → Type 0
+IsWhole set = (row : ℕ) → row < length set → is_member set row ≡ true
 
 -- how many members a set has
 abbrev pub size : List Bool → ℕ

@@ -14,7 +14,7 @@ use Rattle.tl_query.specs.declared.typed_queries.AggPlan.{AggPlan}
 use Rattle.tl_store.specs.Reading.{columns_of, IsIntColumn}
 use Rattle.tl_agg.specs.Tables.{TableOf, rows_in}
 use Rattle.tl_agg.specs.Kept.{both}
-use Rattle.tl_agg.specs.Groups.{Asked, Tracks, State, IsNone, IsOne, HoldsIn, Moves, AreAdvanced}
+use Rattle.tl_agg.specs.Groups.{Asked, Tracks, State, IsNone, IsOne, HoldsIn, Moves, AreAdvanced, recounted}
 use Rattle.tl_agg.specs.Values.{Rises}
 use Rattle.tl_keys.specs.Keys.{KeyNumbers, number_in, AreApart}
 use Rattle.tl_running.specs.Standing.{CanChange}
@@ -80,6 +80,10 @@ pub record Groups : Type 0 where
   pub all : State
   pub keys : KeyNumbers
   pub by : List (Cell × State)
+
+-- the groups, where that of all rows has so many
+abbrev pub all_recounted : Groups → ℕ → Groups
+all_recounted groups count = record groups { all = recounted groups.all count }
 
 -- the group of a value, where there is one
 abbrev pub group_of : Groups → Cell → Option State

@@ -10,6 +10,7 @@ ghost use Rattle.tl_agg.specs.Scans.{IsPlanFor};
 ghost use Rattle.tl_agg.specs.Tables.{TableOf, rows_in, search_steps};
 
 use crate::all_groups::Groups;
+use crate::kept::KeptRows;
 use crate::scans::Scan;
 use crate::tables::TimedTable;
 use std::alloc::Global;
@@ -73,7 +74,8 @@ pub fn aggregate<L: Ledger>(
         ≤ steps.old + (5 * e + 3 * r + 2 * words_for (length start.now) + 2 * s + 2) }
 {
     let table = timed_table(snapshot, plan.table);
-    let scan = Scan::new(alloc, table, *plan, keep, piece);
+    let kept = KeptRows::new(keep, steps);
+    let scan = Scan::new(alloc, table, *plan, kept, piece);
     let runs = scan.runs(start, steps)?;
     Ok(Seq::from_vec(runs))
 }

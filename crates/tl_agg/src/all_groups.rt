@@ -7,7 +7,7 @@ ghost use Rattle.tl_store.specs.Reading.{IsShort, cell_shown};
 ghost use Rattle.tl_running.specs.Standing.{CanChange};
 ghost use Rattle.tl_agg.specs.Groups.{IsAdvanced, AreAdvanced, Advances, Shifts};
 ghost use Rattle.tl_query.specs.Aggregates.{in_group};
-ghost use Rattle.tl_agg.specs.Scans.{AreNone, AreNumbered, HasPlace, CanMoveAt, MovesAt, AreAllAdvanced};
+ghost use Rattle.tl_agg.specs.Scans.{AreNone, AreNumbered, HasPlace, CanMoveAt, MovesAt, AreAllAdvanced, all_recounted};
 ghost use Rattle.tl_agg.specs.Values.{Rises};
 
 use crate::groups::Group;
@@ -96,12 +96,21 @@ fn sorted(alloc: Global, groups: Vec<ValueGroup<'_>>) -> Result<BTreeMap<Cell, G
     Ok(sorted)
 }
 
+// How many runs the groups have at most when they are advanced to a version, which is only a hint.
+fn most_runs(groups: &BTreeMap<Cell, Group>) -> usize {
+    let mut most = 0usize;
+    for group in groups.values() {
+        most = most.saturating_add(group.most_runs());
+    }
+    most
+}
+
 // The runs of the groups of all values when they are advanced to a version.
 fn all_runs(alloc: Global, groups: BTreeMap<Cell, Group>, to: u32) -> Result<Vec<Run>, NoMemory>
     ensures runs { IfOk result (λ runs. AreAdvanced groups.entries to runs.items) }
     ensures order { IfOk result (λ _. Rises (map (λ group. group.0) groups.entries)) }
 {
-    let mut all = Vec::new(alloc);
+    let mut all = Vec::with_capacity(alloc, most_runs(&groups))?;
     for (value, group) in groups {
         push_runs(&mut all, &value, advanced(group, to)?)?;
     }
@@ -135,6 +144,20 @@ impl<'a> Groups<'a> {
         ensures { OnOk result (Shifts self.old.all self.new.all opens number) }
     {
         self.all.shift(opens, number)
+    }
+
+    /// How many rows the group of all rows has.
+    pub(crate) fn count(&self) -> u32
+        ensures { result ≡ self.now.all.running.count }
+    {
+        self.all.count()
+    }
+
+    /// Says how many rows the group of all rows has, where they are only counted.
+    pub(crate) fn set_count(&mut self, count: u32)
+        ensures { self.new ≡ all_recounted self.old count }
+    {
+        self.all.set_count(count);
     }
 
     /// The number of a value, which gets one, and a group of no rows since a version, where it has

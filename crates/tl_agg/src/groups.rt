@@ -2,7 +2,7 @@
 ghost use Rattle.std.specs.Prelude.{◌≡◌, pos, true, false, OnOk};
 ghost use Rattle.tl_types.specs.Runs.{stretch_of};
 ghost use Rattle.tl_running.specs.Standing.{CanChange};
-ghost use Rattle.tl_agg.specs.Groups.{State, put_stretch, IsNone, Advances, Shifts, Moves};
+ghost use Rattle.tl_agg.specs.Groups.{State, put_stretch, IsNone, Advances, Shifts, Moves, recounted};
 
 use std::alloc::Global;
 use std::marker::Model;
@@ -103,6 +103,20 @@ impl Group {
         self.running.change(opens, number)
     }
 
+    /// How many rows there are.
+    pub(crate) fn count(&self) -> u32
+        ensures { result ≡ self.now.running.count }
+    {
+        self.running.count()
+    }
+
+    /// Says how many rows there are, where they are only counted.
+    pub(crate) fn set_count(&mut self, count: u32)
+        ensures { self.new ≡ recounted self.old count }
+    {
+        self.running.set_count(count);
+    }
+
     /// A number comes into the group at a version where `opens`, else it goes. The error is
     /// `NoMemory`.
     pub(crate) fn change(&mut self, at: u32, opens: bool, number: i64) -> Result<(), NoMemory>
@@ -111,6 +125,11 @@ impl Group {
     {
         self.advance(at)?;
         self.running.change(opens, number)
+    }
+
+    /// How many runs there are at most when they are made to reach up to a version.
+    pub(crate) fn most_runs(&self) -> usize {
+        self.runs.len().saturating_add(1)
     }
 
     /// The runs.

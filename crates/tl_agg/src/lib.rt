@@ -6,6 +6,7 @@
 mod aggregates;
 mod all_groups;
 mod groups;
+mod kept;
 pub mod laws;
 mod scans;
 mod seams;

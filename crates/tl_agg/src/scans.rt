@@ -1,17 +1,18 @@
 //! The walk along the events of a table.
-ghost use Rattle.std.specs.Prelude.{◌≡◌, None, Some, ◌+◌, ◌-◌, ◌*◌, ◌<◌, ◌≤◌, true, length, take, drop, is_some, OnOk, IfOk, IfSome, IfNone};
+ghost use Rattle.std.specs.Prelude.{◌≡◌, None, Some, ◌+◌, ◌-◌, ◌*◌, ◌^◌, ◌<◌, ◌≤◌, true, false, length, take, drop, is_some, OnOk, IfOk, IfSome, IfNone};
 ghost use Rattle.tl_types.specs.Events.{events_of, place_of};
 ghost use Rattle.tl_types.specs.Walks.{IsQuiet, standing};
 ghost use Rattle.tl_events.specs.Timeline.{Follow};
 ghost use Rattle.tl_bits.specs.Sets.{is_member};
 ghost use Rattle.tl_lanes.specs.Masks.{words_for};
 ghost use Rattle.tl_running.specs.Standing.{IsShort};
-ghost use Rattle.tl_agg.specs.Kept.{below, size, IsWithin};
+ghost use Rattle.tl_agg.specs.Kept.{below, size, IsWithin, count_moved};
 ghost use Rattle.tl_agg.specs.Runs.{system_runs, start_set};
 ghost use Rattle.tl_agg.specs.Tables.{rows_in, ends_in, search_steps, TellsNumber, IsNextEntry};
-ghost use Rattle.tl_agg.specs.Scans.{IsScan, scan_of, AllTrack, IsReady, TakesEvent, set_after};
+ghost use Rattle.tl_agg.specs.Scans.{IsScan, scan_of, AllTrack, IsReady, TakesEvent, set_after, all_recounted};
 
 use crate::all_groups::Groups;
+use crate::kept::KeptRows;
 use crate::tables::TimedTable;
 use std::alloc::Global;
 use std::marker::Model;
@@ -21,13 +22,26 @@ use tl_events::{PackedEvent, VersionEnd};
 use tl_query::AggPlan;
 use tl_types::{Event, NoMemory, Piece, Run, Steps};
 
+// How many rows there are when one comes where `opens`, and else goes, where it is kept.
+fn count_moved(is_kept: bool, opens: bool, count: u32) -> u32
+    requires more { is_kept ≡ true → opens ≡ true → count < 2 ^ 32 - 1 }
+    requires fewer { is_kept ≡ true → opens ≡ false → 0 < count }
+    ensures { result ≡ count_moved is_kept opens count }
+{
+    if is_kept {
+        if opens { count + 1 } else { count - 1 }
+    } else {
+        count
+    }
+}
+
 /// A scan of a table by a plan, for the rows that are kept, over a piece of the versions.
 #[derive(Drop)]
 pub(crate) struct Scan<'a> {
     alloc: Global,
     table: TimedTable<'a>,
     plan: AggPlan,
-    keep: &'a RowSet,
+    keep: KeptRows<'a>,
     piece: Piece,
 }
 
@@ -36,9 +50,9 @@ impl<'a> Model for Scan<'a> {
 
     ghost Value = { ScanOf };
 
-    ghost view = { λ s. scan_of s.table s.plan s.keep.now s.piece.from s.piece.to };
+    ghost view = { λ s. scan_of s.table s.plan s.keep s.piece.from s.piece.to };
 
-    ghost invariant = { λ s. IsScan (scan_of s.table s.plan s.keep.now s.piece.from s.piece.to) };
+    ghost invariant = { λ s. IsScan (scan_of s.table s.plan s.keep s.piece.from s.piece.to) };
 }
 
 impl<'a> Scan<'a> {
@@ -47,11 +61,11 @@ impl<'a> Scan<'a> {
         alloc: Global,
         table: TimedTable<'a>,
         plan: AggPlan,
-        keep: &'a RowSet,
+        keep: KeptRows<'a>,
         piece: Piece,
     ) -> Scan<'a>
-        requires { IsScan (scan_of table plan keep.now piece.from piece.to) }
-        ensures { result ≡ scan_of table.entry plan keep.now piece.from piece.to }
+        requires { IsScan (scan_of table plan keep piece.from piece.to) }
+        ensures { result ≡ scan_of table.entry plan keep.entry piece.from piece.to }
     {
         Scan {
             alloc,
@@ -188,6 +202,67 @@ impl<'a> Scan<'a> {
         Ok(())
     }
 
+    // How many rows are kept, and stand, after some events of the version up to which the runs of
+    // the group of all rows reach, where they are only counted. It takes at most one step for each.
+    fn count_run<L: Ledger>(
+        &self,
+        groups: &Groups<'a>,
+        at: u32,
+        place: u32,
+        events: &[PackedEvent],
+        steps: &mut Steps<L>,
+    ) -> u32
+        requires single { self.now.plan.by ≡ None }
+        requires counts { self.now.plan.column ≡ None }
+        requires events { events.now ≡ take (length events.now)
+            (drop place (events_of (rows_in self.now.table) self.now.table.db.version)) }
+        requires tracks { AllTrack self.now (set_after self.now.table place) at groups.now }
+        requires since { groups.now.all.since ≡ at }
+        ensures tracks { AllTrack self.now
+            (set_after self.now.table (place + length events.now)) at
+            (all_recounted groups.now result) }
+        ensures steps { steps.new ≤ steps.old + length events.now }
+    {
+        let _at = at;
+        let _place = place;
+        let _ = self.table.rows();
+        let mut count = groups.count();
+        for packed in events {
+            let event = packed.event();
+            let is_kept = self.keep.test(event.row, steps);
+            count = count_moved(is_kept, event.opens, count);
+        }
+        count
+    }
+
+    // Some events of the version up to which the runs of the group of all rows reach, which begin at
+    // a place among the table's events, where the rows have one group. It takes at most three steps
+    // for each.
+    fn number_run<L: Ledger>(
+        &self,
+        groups: &mut Groups<'a>,
+        at: u32,
+        place: u32,
+        events: &[PackedEvent],
+        steps: &mut Steps<L>,
+    ) -> Result<(), NoMemory>
+        requires single { self.now.plan.by ≡ None }
+        requires events { events.now ≡ take (length events.now)
+            (drop place (events_of (rows_in self.now.table) self.now.table.db.version)) }
+        requires tracks { AllTrack self.now (set_after self.now.table place) at groups.old }
+        requires since { groups.old.all.since ≡ at }
+        ensures tracks { OnOk result (AllTrack self.now
+            (set_after self.now.table (place + length events.now)) at groups.new) }
+        ensures steps { steps.new ≤ steps.old + 3 * length events.now }
+    {
+        let _place = place;
+        let _ = self.table.rows();
+        for packed in events {
+            self.fold_all(groups, at, packed.event(), steps)?;
+        }
+        Ok(())
+    }
+
     // Some events of a version, which begin at a place among the table's events, where the rows have
     // one group. It takes at most three steps for each.
     fn run_all<L: Ledger>(
@@ -206,13 +281,15 @@ impl<'a> Scan<'a> {
             (set_after self.now.table (place + length events.now)) at groups.new) }
         ensures steps { steps.new ≤ steps.old + 3 * length events.now }
     {
-        let _place = place;
-        let _ = self.table.rows();
         groups.advance(at)?;
-        for packed in events {
-            self.fold_all(groups, at, packed.event(), steps)?;
+        match self.plan.column {
+            None => {
+                let count = self.count_run(groups, at, place, events, steps);
+                groups.set_count(count);
+                Ok(())
+            }
+            Some(_) => self.number_run(groups, at, place, events, steps),
         }
-        Ok(())
     }
 
     // Some events of a version, which begin at a place among those of the table, where a column

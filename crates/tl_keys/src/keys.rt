@@ -4,6 +4,7 @@ ghost use Rattle.tl_store.specs.Reading.{cell_shown};
 ghost use Rattle.tl_types.specs.declared.cells.Cell.TheVariants as cell;
 ghost use Rattle.tl_keys.specs.Keys.{no_keys, number_in, AreApart, KeepsNumbers};
 
+use crate::int_keys::IntKeys;
 use std::alloc::Global;
 use std::collections::HashMap;
 use std::marker::Model;
@@ -14,7 +15,7 @@ use tl_types::NoMemory;
 /// which keys have which number.
 #[derive(Drop)]
 pub struct Keys<'a> {
-    ints: HashMap<i64, u32>,
+    ints: IntKeys,
     texts: HashMap<&'a str, u32>,
     count: u32,
 }
@@ -25,7 +26,7 @@ impl<'a> Model for Keys<'a> {
     ghost Value = { KeyNumbers };
 
     ghost view = { λ k. record {
-      ints = k.ints.entries;
+      ints = k.ints;
       texts = k.texts.entries;
       count = k.count;
     } };
@@ -39,7 +40,7 @@ impl<'a> Keys<'a> {
         ensures apart { AreApart result }
     {
         Keys {
-            ints: HashMap::new(alloc),
+            ints: IntKeys::none(alloc),
             texts: HashMap::new(alloc),
             count: 0,
         }
@@ -62,8 +63,8 @@ impl<'a> Keys<'a> {
         ensures count { OnOk result (self.new.count ≤ self.old.count + 1) }
         ensures same { IfOk result (λ n. n < self.old.count → self.new ≡ self.old) }
     {
-        if let Some(code) = self.ints.get(&key) {
-            return Ok(*code);
+        if let Some(code) = self.ints.get(key) {
+            return Ok(code);
         }
         let code = self.count;
         self.ints.insert(key, code)?;

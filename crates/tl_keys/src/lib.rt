@@ -2,6 +2,7 @@
 //! keys have others.
 #![tactic(auto)]
 
+mod int_keys;
 mod keys;
 
 pub use keys::Keys;

@@ -1,6 +1,6 @@
 use Rattle.std.proofs.Common.{◌≡◌, ◌+◌, ◌*◌, ◌≤◌}
 use Rattle.tl_agg.specs.Scans.{AllTrack, set_after}
-use Rattle.tl_agg.proofs.scans.Scan.run_all.Given as goal
+use Rattle.tl_agg.proofs.scans.Scan.number_run.Given as goal
 
 abbrev pub invariant-loop-packed : goal.invariant-loop-packed
 invariant-loop-packed g l = record {

@@ -203,7 +203,8 @@ impl<'a> Scan<'a> {
     }
 
     // How many rows are kept, and stand, after some events of the version up to which the runs of
-    // the group of all rows reach, where they are only counted. It takes at most one step for each.
+    // the group of all rows reach, where they are only counted. The events begin at a place among
+    // those of the table. It takes at most one step for each.
     fn count_run<L: Ledger>(
         &self,
         groups: &Groups<'a>,
@@ -235,9 +236,9 @@ impl<'a> Scan<'a> {
         count
     }
 
-    // Some events of the version up to which the runs of the group of all rows reach, which begin at
-    // a place among the table's events, where the rows have one group. It takes at most three steps
-    // for each.
+    // Some events of the version up to which the runs of the group of all rows reach, which begin
+    // at a place among the table's events, where the rows have one group. It takes at most three
+    // steps for each.
     fn number_run<L: Ledger>(
         &self,
         groups: &mut Groups<'a>,
@@ -263,8 +264,8 @@ impl<'a> Scan<'a> {
         Ok(())
     }
 
-    // Some events of a version, which begin at a place among the table's events, where the rows have
-    // one group. It takes at most three steps for each.
+    // Some events of a version, which begin at a place among the table's events, where the rows
+    // have one group. It takes at most three steps for each.
     fn run_all<L: Ledger>(
         &self,
         groups: &mut Groups<'a>,

@@ -54,7 +54,7 @@ fn add_rows<L: Ledger>(
         && affected_by true (periods_with (Some key.now) lines) (slice_get table.now.rows n))
         || has_id affected.old n)) }
 {
-    let ids = table.ids(alloc, key)?;
+    let ids = table.id_list(alloc, key)?;
     let cover = periods.cover(key);
     for row in ids.as_slice() {
         let whole = table.period(*row, steps);

@@ -39,6 +39,13 @@ impl IdList {
         Ok(())
     }
 
+    /// The ids in the order in which they were collected.
+    pub(crate) fn as_slice(&self) -> &[u32]
+        ensures { result.now ≡ self.now }
+    {
+        self.ids.as_slice()
+    }
+
     /// The ids, each once and ascending.
     pub(crate) fn listed(self) -> Seq<u32>
         ensures ascending { AscendFrom 0 result }

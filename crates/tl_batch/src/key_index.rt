@@ -174,13 +174,21 @@ impl KeyIndex {
         Ok(())
     }
 
+    /// The ids of the rows of a key, in any order. The error is `NoMemory`.
+    pub(crate) fn id_list(&self, alloc: Global, key: &Cell) -> Result<IdList, NoMemory>
+        ensures { IfOk result (λ ids. (n : ℕ) → has_id ids n ≡ has_row self.now key.now n) }
+    {
+        let mut ids = IdList::new(alloc);
+        self.add_to(key, &mut ids)?;
+        Ok(ids)
+    }
+
     /// The ids of the rows of a key, ascending. The error is `NoMemory`.
     pub(crate) fn ids(&self, alloc: Global, key: &Cell) -> Result<Seq<u32>, NoMemory>
         ensures ascending { IfOk result (λ ids. AscendFrom 0 ids) }
         ensures members { IfOk result (λ ids. (n : ℕ) → has_id ids n ≡ has_row self.now key.now n) }
     {
-        let mut ids = IdList::new(alloc);
-        self.add_to(key, &mut ids)?;
+        let ids = self.id_list(alloc, key)?;
         let listed = ids.listed();
         Ok(listed)
     }

@@ -7,6 +7,7 @@ ghost use Rattle.tl_batch.specs.KeyIndex.{has_row};
 ghost use Rattle.tl_batch.specs.OpenTables.{IsIndexOf};
 ghost use Rattle.tl_batch.specs.Standing.{is_open_with, rows_match, table_has};
 
+use crate::id_list::IdList;
 use crate::key_index::KeyIndex;
 use std::alloc::Global;
 use std::marker::Model;
@@ -74,6 +75,14 @@ impl<'a> OpenTable<'a> {
         ensures few { result ≤ 16777216 }
     {
         self.store.rows(self.number)
+    }
+
+    /// The ids of the open rows of a key, in any order. The error is `NoMemory`.
+    pub(crate) fn id_list(&self, alloc: Global, key: &Cell) -> Result<IdList, NoMemory>
+        ensures { IfOk result (λ ids. (n : ℕ) → has_id ids n
+            ≡ is_open_with self.now.schema.key key.now (slice_get self.now.rows n)) }
+    {
+        self.index.id_list(alloc, key)
     }
 
     /// The ids of the open rows of a key, ascending. The error is `NoMemory`.

@@ -7,8 +7,8 @@ use std::sync::ledger::Ledger;
 use tl_shared::{CHUNK, ListInChunks, Shareable};
 use tl_types::{NoMemory, Steps};
 
-// A shared list, in chunks of `SIZE`, of which no item is seen without a step: who reads one through
-// it takes a step for each. Contracts see it as the list of its items.
+// A shared list, in chunks of `SIZE`, of which no item is seen without a step: who reads one
+// through it takes a step for each. Contracts see it as the list of its items.
 #[derive(Drop)]
 pub(crate) struct TickedList<T, const SIZE: usize> {
     items: ListInChunks<T, SIZE>,

@@ -33,7 +33,7 @@ impl Model for IntKeys {
 }
 
 // One more than the number of a key in the list of small keys, 0 where it has none there.
-fn listed(small: &[u32], key: i64) -> u32
+fn small_number(small: &[u32], key: i64) -> u32
     ensures { (ints : List (ℤ × ℕ)) (n : ℕ) → AreSmall small.now ints → result ≡ suc n
         → int_number ints key ≡ Some n }
 {
@@ -44,7 +44,7 @@ fn listed(small: &[u32], key: i64) -> u32
 }
 
 // Puts the number of a key into the list of small keys, where that has a place for it.
-fn list(small: &mut Vec<u32>, key: i64, number: u32)
+fn put_small(small: &mut Vec<u32>, key: i64, number: u32)
     requires { number + 1 < 2 ^ 32 }
     ensures { (ints : List (ℤ × ℕ)) → int_number ints key ≡ Some number
         → AreSmall small.old.items ints → AreSmall small.new.items ints }
@@ -56,20 +56,25 @@ fn list(small: &mut Vec<u32>, key: i64, number: u32)
 }
 
 // A list of so many small keys, of which none has a number.
-fn unlisted(alloc: Global, count: usize) -> Result<Vec<u32>, NoMemory>
+fn no_small(alloc: Global, count: usize) -> Result<Vec<u32>, NoMemory>
     ensures { IfOk result (λ small. (ints : List (ℤ × ℕ)) → AreSmall small.items ints) }
 {
     let small = vec![in alloc; 0; count]?;
     Ok(small)
 }
 
-// Makes the list of small keys where there is none.
-fn make_list(small: &mut Vec<u32>) -> Result<(), NoMemory>
+// Whether a key is small.
+fn is_small(key: i64) -> bool {
+    (0..SMALL as i64).contains(&key)
+}
+
+// Makes the list of small keys where there is none and the key is small.
+fn make_list(small: &mut Vec<u32>, key: i64) -> Result<(), NoMemory>
     ensures { (ints : List (ℤ × ℕ)) → AreSmall small.old.items ints
         → AreSmall small.new.items ints }
 {
-    if small.is_empty() {
-        *small = unlisted(*small.allocator(), SMALL)?;
+    if small.is_empty() && is_small(key) {
+        *small = no_small(*small.allocator(), SMALL)?;
     }
     Ok(())
 }
@@ -89,7 +94,7 @@ impl IntKeys {
     pub(crate) fn get(&self, key: i64) -> Option<u32>
         ensures { result ≡ int_number self.now key }
     {
-        let after = listed(self.small.as_slice(), key);
+        let after = small_number(self.small.as_slice(), key);
         if after > 0 {
             return Some(after - 1);
         }
@@ -106,9 +111,9 @@ impl IntKeys {
         ensures { OnOk result ((q : ℤ) → int_number self.new q
             ≡ (if int_eq key q then Some number else int_number self.old q)) }
     {
-        make_list(&mut self.small)?;
+        make_list(&mut self.small, key)?;
         self.numbers.insert(key, number)?;
-        list(&mut self.small, key, number);
+        put_small(&mut self.small, key, number);
         Ok(())
     }
 }

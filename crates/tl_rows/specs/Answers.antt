@@ -2,15 +2,15 @@
 use Rattle.std.specs.Prelude.{map}
 use Rattle.tl_types.specs.declared.answers.Answer.{Answer}
 use Rattle.tl_query.specs.Answers.{run_fields}
-use Rattle.tl_rows.specs.declared.answers.Kept.{Kept}
-use Rattle.tl_rows.specs.declared.answers.Kept.TheVariants as kept
+use Rattle.tl_rows.specs.declared.answers.Form.{Form}
+use Rattle.tl_rows.specs.declared.answers.Form.TheVariants as form
 use Rattle.tl_rows.specs.declared.answers.RowsRef.{RowsRef}
 use Rattle.tl_rows.specs.declared.answers.RowsRef.TheVariants as lent
 
--- rows as they are kept
-abbrev pub rows_kept : Kept → Answer
-rows_kept (kept.Fields rows) = rows
-rows_kept (kept.Runs runs) = record { rows = map run_fields runs }
+-- rows in the form in which they are kept
+abbrev pub rows_of_form : Form → Answer
+rows_of_form (form.Fields rows) = rows
+rows_of_form (form.Runs runs) = record { rows = map run_fields runs }
 
 -- rows that are lent
 abbrev pub rows_lent : RowsRef → Answer

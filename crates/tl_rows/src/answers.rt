@@ -9,7 +9,7 @@ use tl_types::{Run, Seq};
 
 // How rows are kept.
 #[derive(Drop)]
-enum Kept {
+enum Form {
     // As lists of fields.
     Fields(FieldRows),
     // As runs of an aggregate, each of which is a row.
@@ -28,25 +28,25 @@ pub enum RowsRef<'a> {
 /// The rows of an answer, in order. A contract sees them as the answer.
 #[derive(Drop)]
 pub struct AnswerRows {
-    kept: Kept,
+    form: Form,
 }
 
 impl Model for AnswerRows {
     ghost use Rattle.tl_types.specs.declared.answers.Answer.{Answer};
-    ghost use Rattle.tl_rows.specs.Answers.{rows_kept};
+    ghost use Rattle.tl_rows.specs.Answers.{rows_of_form};
 
     ghost Value = { Answer };
 
-    ghost view = { λ a. rows_kept a.kept };
+    ghost view = { λ a. rows_of_form a.form };
 }
 
 impl AnswerRows {
-    /// Rows that are lists of fields.
-    pub fn of_fields(rows: FieldRows) -> AnswerRows
+    // Rows that are lists of fields.
+    pub(crate) fn of_fields(rows: FieldRows) -> AnswerRows
         ensures { result ≡ rows }
     {
         AnswerRows {
-            kept: Kept::Fields(rows),
+            form: Form::Fields(rows),
         }
     }
 
@@ -55,7 +55,7 @@ impl AnswerRows {
         ensures { result ≡ record { rows = map run_fields runs } }
     {
         AnswerRows {
-            kept: Kept::Runs(runs),
+            form: Form::Runs(runs),
         }
     }
 
@@ -63,9 +63,9 @@ impl AnswerRows {
     pub fn len(&self) -> usize
         ensures { result ≡ length self.now.rows }
     {
-        match &self.kept {
-            Kept::Fields(rows) => rows.len(),
-            Kept::Runs(runs) => runs.len(),
+        match &self.form {
+            Form::Fields(rows) => rows.len(),
+            Form::Runs(runs) => runs.len(),
         }
     }
 
@@ -73,9 +73,9 @@ impl AnswerRows {
     pub fn lend(&self) -> RowsRef<'_>
         ensures { rows_lent result ≡ self.now }
     {
-        match &self.kept {
-            Kept::Fields(rows) => RowsRef::Fields(rows),
-            Kept::Runs(runs) => RowsRef::Runs(runs.as_slice()),
+        match &self.form {
+            Form::Fields(rows) => RowsRef::Fields(rows),
+            Form::Runs(runs) => RowsRef::Runs(runs.as_slice()),
         }
     }
 }

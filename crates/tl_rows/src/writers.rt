@@ -8,7 +8,7 @@ use crate::fields::FieldRef;
 use crate::packed::PackedFields;
 use std::alloc::Global;
 use std::marker::Model;
-use tl_types::{Field, NoMemory};
+use tl_types::NoMemory;
 
 /// Rows that are written field by field, each ended by a call. A contract sees the rows that are
 /// whole, and the fields of the row that is not ended yet.
@@ -51,17 +51,6 @@ impl RowsWriter {
         ensures err { OnErr result (self.new ≡ self.old) }
     {
         self.fields.push(field)?;
-        Ok(())
-    }
-
-    /// Appends a copy of a field to the row that is not ended. The error is `NoMemory`, and nothing
-    /// changes then.
-    pub fn push_field(&mut self, field: &Field) -> Result<(), NoMemory>
-        ensures rows { OnOk result (self.new.rows ≡ self.old.rows) }
-        ensures row { OnOk result (self.new.row ≡ self.old.row ++ field.now ∷ []) }
-        ensures err { OnErr result (self.new ≡ self.old) }
-    {
-        self.push(FieldRef::from(field))?;
         Ok(())
     }
 

@@ -165,6 +165,7 @@ impl Running {
     }
 
     /// The number of a row comes where `opens`, else it goes. The error is `NoMemory`.
+    #[inline]
     pub fn change(&mut self, opens: bool, number: i64) -> Result<(), NoMemory>
         requires { CanChange opens self.old number }
         ensures { OnOk result (Changes opens self.old self.new number) }
@@ -176,7 +177,7 @@ impl Running {
         Ok(())
     }
 
-    /// Says how many rows there are, where an aggregate that only counts them has counted by itself.
+    /// Puts a number of rows that was counted elsewhere. The sum and the numbers stay.
     pub fn set_count(&mut self, count: u32)
         ensures { self.new ≡ counting self.old count }
     {

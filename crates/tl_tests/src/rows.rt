@@ -25,8 +25,8 @@ fn write_each_kind(rows: &mut RowsWriter) -> Result<(), NoMemory>
 fn write_copies(rows: &mut RowsWriter, first: &Field, second: &Field) -> Result<(), NoMemory>
     ensures { OnOk result (rows.new.row ≡ []) }
 {
-    rows.push_field(first)?;
-    rows.push_field(second)?;
+    rows.push(FieldRef::from(first))?;
+    rows.push(FieldRef::from(second))?;
     rows.end_row()?;
     Ok(())
 }

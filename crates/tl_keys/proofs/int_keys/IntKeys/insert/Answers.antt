@@ -11,5 +11,5 @@ invariant_of-self-2 c =
     let new = c.insert.new.self.entries in
     let none = ap (λ ints. int_number ints c.args.key) c.self.view_is ∙ c.requires.none in
     let more = rw whole at c.in_ok-insert.ensures.updates.0 in
-    let lists = rw whole at c.list.ensures in
+    let lists = rw whole at c.put_small.ensures in
     lists new (has_number old new c.args.number c.args.key more) (more_small c.make_list.new.small.items old new c.args.number c.args.key none more (c.make_list.ensures old c.self.invariant))

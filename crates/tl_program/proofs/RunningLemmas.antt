@@ -1,6 +1,6 @@
 -- The running of phases, one after the other.
 use Rattle.std.proofs.Common.{◌≡◌, inl, inr, ℕ, zero, suc, ◌+◌, ◌<◌, ◌==◌, Bool, true, false, List, [], ◌∷◌, ◌++◌, length, take, map, get_or, All, Option, Some, None, Result, Ok, Err, refl, sym, ap, ◌∙◌, subst, arith, append_assoc, append-nil, length-append}
-use Rattle.std.proofs.lemmas.List.{map-append}
+use Rattle.std.proofs.lemmas.List.{append-nil, length-map, length-take-le, map-append, take_more}
 use mathlib.Core.List.{IsPrefix}
 use Rattle.tl_types.specs.declared.commits.Entry.{Entry}
 use Rattle.tl_device.specs.Known.{append_known, prepend_known, Rose}
@@ -440,6 +440,26 @@ all_unwritten jobs own replies old mid new written faults same seen parts amount
 turns_text : (names : List (List ℕ)) (ts : List Turn) → turns_bytes names ts ≡ replies_bytes names (jobs_of ts) (replies_of ts)
 turns_text names [] = refl
 turns_text names (t ∷ ts) = ap (λ b. turn_bytes names t ++ b) (turns_text names ts)
+
+-- one of a list more is done
+pub one_done : {X : Type 0} (done rest later all : List X) (x : X) → rest ≡ x ∷ later → done ++ rest ≡ all → (done ++ x ∷ []) ++ later ≡ all
+one_done done rest later all x next before = append_assoc done (x ∷ []) later ∙ ap (λ xs. done ++ xs) (sym next) ∙ before
+
+-- one reply more
+replies_more : (names : List (List ℕ)) (jobs : List Job) (done : List Reply) (job : Job) (reply : Reply) → length jobs ≡ length done → replies_bytes names (jobs ++ job ∷ []) (done ++ reply ∷ []) ≡ replies_bytes names jobs done ++ reply_bytes (get_or names job.session []) reply
+replies_more names [] [] job reply l = append-nil (reply_bytes (get_or names job.session []) reply)
+replies_more names [] (r ∷ rs) job reply l = absurd (omega arith)
+replies_more names (j ∷ js) [] job reply l = absurd (omega arith)
+replies_more names (j ∷ js) (r ∷ rs) job reply l = ap (λ b. reply_bytes (get_or names j.session []) r ++ b) (replies_more names js rs job reply (omega arith)) ∙ sym (append_assoc (reply_bytes (get_or names j.session []) r) (replies_bytes names js rs) (reply_bytes (get_or names job.session []) reply))
+
+pub text_more : (names : List (List ℕ)) (jobs : List LentJob) (i : ℕ) (d : LentJob) (done : List Reply) (reply : Reply) (before after given name : List ℕ) → i < length jobs → i ≡ length done → name ≡ get_or names (get_or jobs i d).session [] → given ≡ name → before ≡ replies_bytes names (map job_of (take i jobs)) done → after ≡ before ++ reply_bytes given reply → after ≡ replies_bytes names (map job_of (take (i + 1) jobs)) (done ++ reply ∷ [])
+text_more names jobs i d done reply before after given name there count name_is given_is before_is after_is =
+    let job = get_or jobs i d in
+    let l = length-map (take i jobs) job_of in
+    let k = length-take-le i jobs (omega arith) in
+    after_is ∙ ap (λ b. b ++ reply_bytes given reply) before_is ∙ ap (λ n. replies_bytes names (map job_of (take i jobs)) done ++ reply_bytes n reply) (given_is ∙ name_is)
+    ∙ sym (replies_more names (map job_of (take i jobs)) done (job_of job) reply (omega arith))
+    ∙ ap (λ js. replies_bytes names js (done ++ reply ∷ [])) (sym (ap (map job_of) (take_more jobs i d there) ∙ map-append job_of (take i jobs) (job ∷ [])))
 
 -- all jobs were done, and the replies are written or not
 pub phase_written : (names : List (List ℕ)) (jobs own : List Job) (replies told : List Reply) (text bytes : List ℕ) (old mid new : plain.SharedAccess) (before after : Option (List ℕ)) (first last : ℕ) (why : Option Stop)

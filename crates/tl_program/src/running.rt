@@ -1,10 +1,11 @@
 //! The phases of a run, one after the other: the sessions of each answer its jobs at once, and the
 //! replies are written before the next phase is asked for.
-ghost use Rattle.std.specs.Prelude.{◌≡◌, ◌<◌, ◌≤◌, List, All, IfOk, length, map, option_map, true, Some};
+ghost use Rattle.std.specs.Prelude.{◌≡◌, ◌<◌, ◌≤◌, List, All, IfOk, length, map, option_map, true, Some, OnOk, ◌++◌};
 ghost use Rattle.tl_types.specs.declared.commits.Entry.{Entry};
 ghost use Rattle.tl_types.specs.Limits.{standard_limits};
 ghost use Rattle.tl_session.specs.Jobs.{job_of};
 ghost use Rattle.tl_session.specs.Phases.{HaveRun};
+ghost use Rattle.tl_session.specs.Replies.{reply_bytes};
 ghost use Rattle.tl_program.specs.Coming.{Coming};
 ghost use Rattle.tl_program.specs.Jobs.{asked};
 ghost use Rattle.tl_program.specs.Outside.{streams, Streams};
@@ -67,22 +68,33 @@ fn lent_jobs<'a>(alloc: Global, jobs: &'a [Job]) -> Result<Vec<LentJob<'a>>, NoM
     Ok(lent)
 }
 
-// The bytes of the replies to jobs, each under the name of its session. The error is `NoMemory`.
+// Appends a reply of a session with this name, and lets go of it. The error is `NoMemory`.
+fn put_owned(alloc: Global, text: &mut Vec<u8>, name: &[u8], reply: Reply) -> Result<(), NoMemory>
+    ensures { OnOk result (text.new.items ≡ text.old.items ++ reply_bytes name.now reply) }
+{
+    put_reply(alloc, text, name, &reply)?;
+    Ok(())
+}
+
+// The bytes of the replies to jobs, each under the name of its session. A reply is let go once its
+// bytes stand there. The error is `NoMemory`.
 fn text_of<S: Source, P: Phases<S>>(
     alloc: Global,
     phases: &P,
     jobs: &[LentJob],
-    replies: &[Reply],
+    replies: Vec<Reply>,
 ) -> Result<Vec<u8>, NoMemory>
-    requires each { length replies.now ≡ length jobs.now }
+    requires each { length replies.items ≡ length jobs.now }
     requires sessions { All (λ job. job.session < length (P.coming phases.now).names) jobs.now }
     ensures { IfOk result (λ text. text.items ≡ replies_bytes (P.coming phases.now).names
-        (map job_of jobs.now) replies.now) }
+        (map job_of jobs.now) replies.items) }
 {
     let mut text = Vec::new(alloc);
-    for i in 0..jobs.len() {
+    let mut i = 0;
+    for reply in replies {
         let name = phases.session_name(jobs[i].session);
-        put_reply(alloc, &mut text, name.as_bytes(), &replies[i])?;
+        put_owned(alloc, &mut text, name.as_bytes(), reply)?;
+        i += 1;
     }
     Ok(text)
 }
@@ -116,7 +128,7 @@ fn run_one<
     let Ok(replies) = run_phase(rt, engine, shared, &jobs, pace, gate) else {
         return Some(Stop::NoMemory);
     };
-    let Ok(text) = text_of::<S, P>(alloc, &running.phases, &jobs, &replies) else {
+    let Ok(text) = text_of::<S, P>(alloc, &running.phases, &jobs, replies) else {
         return Some(Stop::NoMemory);
     };
     write_bytes(sink, &text)

@@ -1,4 +1,4 @@
-use Rattle.std.proofs.Common.{rules, map, ◌∙◌}
+use Rattle.std.proofs.Common.{rules, refl, map, ◌∙◌}
 use Rattle.tl_session.specs.Jobs.{job_of}
 use Rattle.tl_program.specs.Jobs.{asked}
 use Rattle.tl_program.proofs.RunningLemmas.{nothing_run, same_sessions, some_run, all_unwritten, phase_written}
@@ -20,4 +20,4 @@ pub returns-in_default-text_of-clause-ran : goal.returns-in_default-text_of-clau
 returns-in_default-text_of-clause-ran g c = all_unwritten (map asked c.args.phase.now.jobs.items) (map job_of c.deref-2.result.now) c.in-Ok-run_phase.replies.items c.args.running.now.shared c.set_count.new.self c.run_phase.new.shared (g.K.Sink.written c.args.sink.now) (g.K.Sink.faults c.args.sink.now) (search rules) c.set_count.ensures.seen c.set_count.ensures.parts c.set_count.ensures.amount c.in-Ok-run_phase.ensures
 
 pub returns-clause-ran : goal.returns-clause-ran
-returns-clause-ran g c = phase_written (g.P.Phases.coming c.args.running.now.phases).names (map asked c.args.phase.now.jobs.items) (map job_of c.deref-2.result.now) c.in-Ok-run_phase.replies.items c.deref-4.result.now c.in-Ok-text_of.text.items c.deref-5.result.now c.args.running.now.shared c.set_count.new.self c.run_phase.new.shared (g.K.Sink.written c.args.sink.now) (g.K.Sink.written c.write_bytes.new.sink) (g.K.Sink.faults c.args.sink.now) (g.K.Sink.faults c.write_bytes.new.sink) c.write_bytes.result (search rules) c.set_count.ensures.seen c.set_count.ensures.parts c.set_count.ensures.amount c.in-Ok-run_phase.ensures c.deref-4.ensures.value (search rules) c.deref-5.ensures.value c.write_bytes.ensures
+returns-clause-ran g c = phase_written (g.P.Phases.coming c.args.running.now.phases).names (map asked c.args.phase.now.jobs.items) (map job_of c.deref-2.result.now) c.in-Ok-run_phase.replies.items c.in-Ok-run_phase.replies.items c.in-Ok-text_of.text.items c.deref-4.result.now c.args.running.now.shared c.set_count.new.self c.run_phase.new.shared (g.K.Sink.written c.args.sink.now) (g.K.Sink.written c.write_bytes.new.sink) (g.K.Sink.faults c.args.sink.now) (g.K.Sink.faults c.write_bytes.new.sink) c.write_bytes.result (search rules) c.set_count.ensures.seen c.set_count.ensures.parts c.set_count.ensures.amount c.in-Ok-run_phase.ensures refl (search rules) c.deref-4.ensures.value c.write_bytes.ensures

@@ -8,7 +8,7 @@ use std::alloc::Global;
 use std::marker::Model;
 use tl_types::NoMemory;
 
-/// A multiset of whole numbers that tells its greatest: a heap of what came, and one of what went of
+/// A multiset of whole numbers that tells its greatest: a heap of what came, one of what went of
 /// it; a number that is the greatest of both is taken out of both, so the greatest of what came did
 /// not go. A contract sees the list of its values, each with how often it is there.
 #[derive(Drop)]

@@ -200,8 +200,8 @@ fn entries_of<'a, L: Ledger>(
 }
 
 /// The entries of the events of the side's rows at a version, in their order. It takes at most
-/// three steps for each. The error is `NoMemory`. A side has at most 33,554,432 events: two for a
-/// of 16,777,216 rows, and so many keys.
+/// three steps for each. The error is `NoMemory`. A side has at most 33,554,432 events, two
+/// for each of 16,777,216 rows, and so many keys.
 pub(crate) fn side_entries<'a, L: Ledger>(
     alloc: Global,
     side: &Side<'a>,

@@ -1,4 +1,5 @@
 pub mod Names
+pub mod Texts
 pub mod Plain
 pub mod Facts
 pub mod Limits

@@ -13,6 +13,13 @@ pub enum Cell {
     Text(Text),
 }
 
+// What stands in the places of a short list that no cell has.
+impl Default for Cell {
+    fn default() -> Self {
+        Cell::Int(0)
+    }
+}
+
 impl Clone for Cell {
     ghost is_clone = { λ v w. w ≡ v };
 

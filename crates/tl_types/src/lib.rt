@@ -21,6 +21,7 @@ mod rows;
 mod runs;
 mod schemas;
 mod sequences;
+mod small_sequences;
 mod steps;
 mod texts;
 
@@ -40,6 +41,7 @@ pub use rows::{OPEN, Opened};
 pub use runs::{Pair, Piece, Run, add_stretch};
 pub use schemas::{Column, Schema};
 pub use sequences::Seq;
+pub use small_sequences::SmallSeq;
 pub use steps::Steps;
 pub use texts::Text;
 

@@ -6,7 +6,7 @@ ghost use Rattle.tl_types.specs.Facts.{IsOpened};
 use crate::NoMemory;
 use crate::cells::Cell;
 use crate::periods::Period;
-use crate::sequences::Seq;
+use crate::small_sequences::SmallSeq;
 use std::marker::Model;
 
 /// The system end of a row that is current: an open end, the greatest version.
@@ -15,7 +15,7 @@ pub const OPEN: u32 = u32::MAX;
 /// A row as a commit opens it: 1 to 16 cells, and a valid period where its table has them.
 #[derive(Debug, Drop, PartialEq, Eq)]
 pub struct Opened {
-    cells: Seq<Cell>,
+    cells: SmallSeq<Cell>,
     period: Option<Period>,
 }
 
@@ -34,7 +34,7 @@ impl Model for Opened {
 
 impl Opened {
     /// A row of these cells, of which there are 1 to 16, and this period.
-    pub fn new(cells: Seq<Cell>, period: Option<Period>) -> Opened
+    pub fn new(cells: SmallSeq<Cell>, period: Option<Period>) -> Opened
         requires { IsOpened (record { cells = cells; period = period }) }
         ensures { result ≡ record { cells = cells; period = period } }
     {

@@ -8,27 +8,41 @@ ghost use Rattle.std.specs.Hash as fed;
 ghost use Rattle.std.proofs.Common.{rules};
 
 use crate::NoMemory;
+use arrayvec::ArrayString;
 use std::alloc::Global;
 use std::cmp::Ordering;
 use std::fmt;
 use std::hash::{Hash, Hasher};
 use std::marker::Model;
 
-/// A text of at most 65,535 bytes of UTF-8. A contract sees it as its bytes.
+// The most bytes of a text that is kept in the value itself.
+const SHORT: usize = 16;
+
+// How a text is kept.
+#[derive(Drop)]
+enum Form {
+    // In the value itself.
+    Short(ArrayString<SHORT>),
+    // In memory of its own.
+    Long(String),
+}
+
+/// A text of at most 65,535 bytes of UTF-8, which takes memory of its own only where it has more
+/// than 16. A contract sees it as its bytes.
 #[derive(Drop)]
 pub struct Text {
-    text: String,
+    form: Form,
 }
 
 impl Model for Text {
     ghost use Rattle.std.specs.Prelude.{ℕ, List, ◌≤◌, length};
-    ghost use Rattle.std.specs.String.{string_bytes};
+    ghost use Rattle.tl_types.specs.Texts.{bytes_of_form};
 
     ghost Value = { List ℕ };
 
-    ghost view = { λ t. string_bytes t.text };
+    ghost view = { λ t. bytes_of_form t.form };
 
-    ghost invariant = { λ t. length (string_bytes t.text) ≤ 65535 };
+    ghost invariant = { λ t. length (bytes_of_form t.form) ≤ 65535 };
 }
 
 impl Text {
@@ -37,9 +51,11 @@ impl Text {
         requires { length text.now ≤ 65535 }
         ensures { IfOk result (λ t. t ≡ text.now) }
     {
-        Ok(Text {
-            text: String::from_str(alloc, text)?,
-        })
+        let form = match ArrayString::from(text) {
+            Ok(short) => Form::Short(short),
+            Err(_) => Form::Long(String::from_str(alloc, text)?),
+        };
+        Ok(Text { form })
     }
 
     /// The text, lent.
@@ -48,7 +64,10 @@ impl Text {
         ensures short { length self.now ≤ 65535 }
         ensures utf8 { IsUtf8 self.now }
     {
-        self.text.as_str()
+        match &self.form {
+            Form::Short(text) => text.as_str(),
+            Form::Long(text) => text.as_str(),
+        }
     }
 
     /// The text's bytes, lent.
@@ -56,7 +75,7 @@ impl Text {
         ensures bytes { result.now ≡ self.now }
         ensures short { length self.now ≤ 65535 }
     {
-        self.text.as_bytes()
+        self.as_str().as_bytes()
     }
 }
 
@@ -64,9 +83,11 @@ impl Clone for Text {
     ghost is_clone = { λ v w. w ≡ v };
 
     fn clone(&self) -> Result<Self, NoMemory> {
-        Ok(Text {
-            text: self.text.clone()?,
-        })
+        let form = match &self.form {
+            Form::Short(text) => Form::Short(*text),
+            Form::Long(text) => Form::Long(text.clone()?),
+        };
+        Ok(Text { form })
     }
 }
 

@@ -21,6 +21,7 @@ use tl_types::{NoMemory, Text};
 pub struct TextColumn {
     codes: SharedList<u32>,
     dictionary: Dictionary,
+    hints: Vec<u32>,
 }
 
 impl Model for TextColumn {
@@ -44,6 +45,7 @@ impl TextColumn {
         TextColumn {
             codes: SharedList::none(alloc),
             dictionary: Dictionary::none(alloc),
+            hints: Vec::new(alloc),
         }
     }
 
@@ -73,10 +75,13 @@ impl TextColumn {
         requires { length self.now + length cells.now < 2 ^ 32 }
         ensures { IfOk result (λ column. column ≡ self.now ++ lent_texts cells.now) }
     {
-        let (dictionary, codes) = coded(alloc, self.dictionary.share(alloc)?, cells)?;
+        let mut hints = self.hints.clone()?;
+        make_hints(&mut hints)?;
+        let (dictionary, codes) = coded(alloc, self.dictionary.share(alloc)?, cells, &mut hints)?;
         Ok(TextColumn {
             codes: self.codes.push_all(alloc, codes.as_slice())?,
             dictionary: dictionary.settle(alloc)?,
+            hints,
         })
     }
 
@@ -166,12 +171,67 @@ impl Shareable for TextColumn {
         Ok(TextColumn {
             codes: self.codes.share(alloc)?,
             dictionary: self.dictionary.share(alloc)?,
+            hints: self.hints.clone()?,
         })
     }
 }
 
+// How many places there are for codes that are found without a look-up.
+const PLACES: usize = 512;
+
+// By what the bytes of a text are multiplied to spread texts over the places.
+const SPREAD: u32 = 2654435769;
+
+// How many numbers of 32 bits share a place.
+const SHARE: usize = 8388608;
+
+// Makes the places where there are none. What stands there is tested before it is used, so any codes
+// are right, here and in `put_hint`.
+fn make_hints(hints: &mut Vec<u32>) -> Result<(), NoMemory> {
+    if hints.is_empty() {
+        *hints = vec![in *hints.allocator(); 0; PLACES]?;
+    }
+    Ok(())
+}
+
+// The place of a text, by its first byte and its last three, or its first and its last where it has
+// three or fewer. Any place is right.
+fn place_of(text: &str) -> usize {
+    let mixed = match text.as_bytes() {
+        [first, .., third, second, last] => u32::from_le_bytes([*last, *second, *third, *first]),
+        [first, .., last] => u32::from_le_bytes([*last, 0, 0, *first]),
+        [only] => u32::from(*only),
+        [] => 0,
+    };
+    mixed.wrapping_mul(SPREAD) as usize / SHARE
+}
+
+// The code at the place of a text, where it is the code of the text.
+fn hinted_code(dictionary: &Dictionary, hints: &[u32], text: &str) -> Option<u32>
+    requires { length dictionary.now < 2 ^ 32 }
+    ensures valid { IfSome result (λ code. code < length dictionary.now) }
+    ensures text { IfSome result (λ code. text_of dictionary.now code ≡ text.now) }
+{
+    let code = match hints.get(place_of(text)) {
+        Some(code) => *code,
+        None => return None,
+    };
+    if code < dictionary.len() && dictionary.text(code) == text {
+        return Some(code);
+    }
+    None
+}
+
+// Puts a code at the place of its text.
+fn put_hint(hints: &mut Vec<u32>, text: &str, code: u32) {
+    let place = place_of(text);
+    if place < hints.len() {
+        hints[place] = code;
+    }
+}
+
 // The code of a text, and the dictionary with it, where some texts of it were looked up already.
-fn coded_text<'a>(
+fn looked_up<'a>(
     alloc: Global,
     dictionary: Dictionary,
     known: &mut HashMap<&'a str, u32>,
@@ -192,12 +252,36 @@ fn coded_text<'a>(
     Ok((dictionary, code))
 }
 
-// The dictionary with the texts of some cells, and the code of each cell. A text is looked up in
-// the dictionary where it stands first among the cells, and nowhere else.
+// The code of a text, by its hint or else looked up, and the dictionary with it.
+fn coded_text<'a>(
+    alloc: Global,
+    dictionary: Dictionary,
+    hints: &mut Vec<u32>,
+    known: &mut HashMap<&'a str, u32>,
+    text: &'a Text,
+) -> Result<(Dictionary, u32), NoMemory>
+    requires few { length dictionary < 2 ^ 32 }
+    requires known { KnowsCodes dictionary known.old }
+    ensures texts { IfOk result (λ found. found.0 ≡ with_text dictionary text.now) }
+    ensures valid { IfOk result (λ found. found.1 < length found.0) }
+    ensures code { IfOk result (λ found. text_of found.0 found.1 ≡ text.now) }
+    ensures known { IfOk result (λ found. KnowsCodes found.0 known.new) }
+{
+    if let Some(code) = hinted_code(&dictionary, hints, text.as_str()) {
+        return Ok((dictionary, code));
+    }
+    let (dictionary, code) = looked_up(alloc, dictionary, known, text)?;
+    put_hint(hints, text.as_str(), code);
+    Ok((dictionary, code))
+}
+
+// The dictionary with the texts of some cells, and the code of each cell. A text whose code stands
+// at its place is not looked up; another one is looked up in the dictionary at most once.
 fn coded(
     alloc: Global,
     dictionary: Dictionary,
     cells: &[&Text],
+    hints: &mut Vec<u32>,
 ) -> Result<(Dictionary, Vec<u32>), NoMemory>
     requires { length dictionary + length cells.now < 2 ^ 32 }
     ensures dictionary { IfOk result
@@ -209,7 +293,7 @@ fn coded(
     let mut known = HashMap::new(alloc);
     let mut codes = Vec::with_capacity(alloc, cells.len())?;
     'coding: for cell in cells {
-        let (next, code) = coded_text(alloc, dictionary, &mut known, cell)?;
+        let (next, code) = coded_text(alloc, dictionary, hints, &mut known, cell)?;
         dictionary = next;
         codes.push(code)?;
     }

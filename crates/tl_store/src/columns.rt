@@ -97,7 +97,7 @@ fn numbers_at(alloc: Global, opens: &[Opened], place: usize) -> Result<Vec<i64>,
 {
     let mut numbers = Vec::with_capacity(alloc, opens.len())?;
     for opened in opens {
-        numbers.push(number_at(opened, place))?;
+        numbers.push_reserved(number_at(opened, place));
     }
     Ok(numbers)
 }
@@ -124,7 +124,7 @@ fn texts_at<'a>(
 {
     let mut texts = Vec::with_capacity(alloc, opens.len())?;
     for opened in opens {
-        texts.push(text_at(opened, place, none))?;
+        texts.push_reserved(text_at(opened, place, none));
     }
     Ok(texts)
 }

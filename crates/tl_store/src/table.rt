@@ -20,8 +20,8 @@ use std::sync::ledger::Ledger;
 use tl_query::TypedTest;
 use tl_shared::{CHUNK, FineList, Shareable, SharedList};
 use tl_types::{
-    Body, Cell, Change, Column, Limits, NoMemory, OPEN, Opened, Period, Schema, Seq, Steps, Text,
-    all_match,
+    Body, Cell, Change, Column, Limits, NoMemory, OPEN, Opened, Period, Schema, Seq, SmallSeq,
+    Steps, Text, all_match,
 };
 
 /// A table: its schema, a column for each of the schema's, the valid periods of its rows where it
@@ -218,7 +218,7 @@ impl TableData {
             (λ opened. Some opened ≡ option_map opened_of (slice_get self.now.rows row)) }
     {
         let cells = cells_at(alloc, self.columns.as_slice(), row)?;
-        Ok(Opened::new(Seq::from_vec(cells), self.periods.get(row)))
+        Ok(Opened::new(SmallSeq::from_vec(cells), self.periods.get(row)))
     }
 
     // A part of the closed ids. It ticks once for each.

@@ -29,7 +29,7 @@ same_as (cell.Text s) (cell.Int j) z e = absurd (cc)
 same_as (cell.Text s) (cell.Text t) (cell.Int k) e = refl
 same_as (cell.Text s) (cell.Text t) (cell.Text u) e = nat_list_eq_equiv.congr s t u e
 
-same_texts : (s t : List ℕ) (texts : List (Bor (List ℕ) × ℕ)) → same_bytes s t ≡ true → text_number texts s ≡ text_number texts t
+pub same_texts : (s t : List ℕ) (texts : List (Bor (List ℕ) × ℕ)) → same_bytes s t ≡ true → text_number texts s ≡ text_number texts t
 same_texts s t [] e = refl
 same_texts s t (x ∷ texts) e = by_test (same_bytes s x.0.now) refl (nat_list_eq_equiv.congr s t x.0.now e) (same_texts s t texts e) where
   by_test : (b : Bool) → same_bytes s x.0.now ≡ b → same_bytes s x.0.now ≡ same_bytes t x.0.now → text_number texts s ≡ text_number texts t → text_number (x ∷ texts) s ≡ text_number (x ∷ texts) t
@@ -108,7 +108,7 @@ module _ (now : KeyNumbers) (before ints : List (ℤ × ℕ)) (texts : List (Bor
   pub int_apart : AreApart (record { ints = ints; texts = texts; count = count + 1 })
   int_apart = apart_new int_old int_new (cell.Int key) int_more refl none (subst AreApart (sym view) apart)
 
-module _ (now : KeyNumbers) (ints : List (ℤ × ℕ)) (before texts : List (Bor (List ℕ) × ℕ)) (count : ℕ) (key : Bor (List ℕ)) (view : record { ints = ints; texts = before; count = count } ≡ now) (apart : AreApart now) (none : text_number before key.now ≡ None) (updates : (q : Bor (List ℕ)) → text_number texts q.now ≡ cond (same_bytes key.now q.now) (Some count) (text_number before q.now)) where
+module _ (now : KeyNumbers) (ints : List (ℤ × ℕ)) (before texts : List (Bor (List ℕ) × ℕ)) (count : ℕ) (key : Bor (List ℕ)) (view : record { ints = ints; texts = before; count = count } ≡ now) (apart : AreApart now) (none : text_number before key.now ≡ None) (updates : (q : List ℕ) → text_number texts q ≡ cond (same_bytes key.now q) (Some count) (text_number before q)) where
   abbrev text_old : KeyNumbers
   text_old = record { ints = ints; texts = before; count = count }
 
@@ -117,7 +117,7 @@ module _ (now : KeyNumbers) (ints : List (ℤ × ℕ)) (before texts : List (Bor
 
   text_more : (q : Cell) → number_in text_new q ≡ cond (same_cell (cell.Text key.now) q) (Some count) (number_in text_old q)
   text_more (cell.Int i) = refl
-  text_more (cell.Text t) = updates (record key { now = t })
+  text_more (cell.Text t) = updates t
 
   pub text_apart : AreApart (record { ints = ints; texts = texts; count = count + 1 })
   text_apart = apart_new text_old text_new (cell.Text key.now) text_more refl none (subst AreApart (sym view) apart)

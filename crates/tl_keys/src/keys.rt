@@ -5,8 +5,8 @@ ghost use Rattle.tl_types.specs.declared.cells.Cell.TheVariants as cell;
 ghost use Rattle.tl_keys.specs.Keys.{no_keys, number_in, AreApart, KeepsNumbers};
 
 use crate::int_keys::IntKeys;
+use crate::text_keys::TextKeys;
 use std::alloc::Global;
-use std::collections::HashMap;
 use std::marker::Model;
 use tl_store::CellRef;
 use tl_types::NoMemory;
@@ -16,7 +16,7 @@ use tl_types::NoMemory;
 #[derive(Drop)]
 pub struct Keys<'a> {
     ints: IntKeys,
-    texts: HashMap<&'a str, u32>,
+    texts: TextKeys<'a>,
     count: u32,
 }
 
@@ -27,7 +27,7 @@ impl<'a> Model for Keys<'a> {
 
     ghost view = { λ k. record {
       ints = k.ints;
-      texts = k.texts.entries;
+      texts = k.texts;
       count = k.count;
     } };
 }
@@ -41,7 +41,7 @@ impl<'a> Keys<'a> {
     {
         Keys {
             ints: IntKeys::none(alloc),
-            texts: HashMap::new(alloc),
+            texts: TextKeys::none(alloc),
             count: 0,
         }
     }
@@ -83,7 +83,7 @@ impl<'a> Keys<'a> {
         ensures same { IfOk result (λ n. n < self.old.count → self.new ≡ self.old) }
     {
         if let Some(code) = self.texts.get(key) {
-            return Ok(*code);
+            return Ok(code);
         }
         let code = self.count;
         self.texts.insert(key, code)?;

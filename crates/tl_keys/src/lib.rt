@@ -4,5 +4,6 @@
 
 mod int_keys;
 mod keys;
+mod text_keys;
 
 pub use keys::Keys;

@@ -5,7 +5,7 @@ use Rattle.std.proofs.lemmas.Str.{IsUtf8-from_is_utf8, is_utf8-from_IsUtf8}
 use Rattle.std.proofs.lemmas.Option.{slice_get_within}
 use Rattle.csv.specs.Records.{field_at}
 use Rattle.tl_csv.specs.declared.faults.CsvFault.{CsvFault}
-use Rattle.tl_csv.specs.Faults.{with_first, each_from, IsUnlessMemory}
+use Rattle.tl_csv.specs.Faults.{with_first, each_from, then_one, IsUnlessMemory}
 
 -- these items, and then the others where there is no fault
 abbrev pub behind : {X : Type 0} → List X → Result (List X) CsvFault → Result (List X) CsvFault
@@ -65,12 +65,19 @@ no_text bs h = by_test (is_utf8 bs) refl where
   by_test true e = absurd (h (IsUtf8-from_is_utf8 bs e))
   by_test false e = e
 
--- one item more, and the others behind it
-pub each_step : {X Y : Type 0} (f : ℕ → X → Result Y CsvFault) (ys new : List Y) (y : Y) (x : X) (xs rest : List X) (all : Result (List Y) CsvFault)
-    → xs ≡ x ∷ rest → f (length ys) x ≡ Ok y → new ≡ ys ++ y ∷ [] → behind ys (each_from f (length ys) xs) ≡ all → behind new (each_from f (length new) rest) ≡ all
-each_step f ys new y x xs rest all e r n h =
-    let counted : length (ys ++ y ∷ []) ≡ length ys + 1 = length-append ys (y ∷ []) in
-    rw (n, counted) (one_behind ys y (f (length ys) x) (each_from f (length ys + 1) rest) all r (rw e at h))
+-- one item more where an item and then the others give all: the others behind it give all
+pub then_others : {X : Type 0} (xs new : List X) (r : Result X CsvFault) (others all : Result (List X) CsvFault) → then_one xs r ≡ Ok new → behind xs (with_first r others) ≡ all → (behind new others ≡ all) × (length new ≡ length xs + 1)
+then_others xs new (Err e) others all h g = absurd (cc)
+then_others xs new (Ok z) others all h g =
+    let more : xs ++ z ∷ [] ≡ new = cc in
+    rw (← more) (one_behind xs z (Ok z) others all refl g, length-append xs (z ∷ []))
+
+-- the next item of all was put behind those before it
+pub then_step : {X Y : Type 0} (f : ℕ → X → Result Y CsvFault) (ys new : List Y) (x : X) (xs rest : List X) (all : Result (List Y) CsvFault)
+    → xs ≡ x ∷ rest → then_one ys (f (length ys) x) ≡ Ok new → behind ys (each_from f (length ys) xs) ≡ all → (behind new (each_from f (length new) rest) ≡ all) × (length new ≡ length ys + 1)
+then_step f ys new x xs rest all e r h =
+    let both = then_others ys new (f (length ys) x) (each_from f (length ys + 1) rest) all r (rw e at h) in
+    (rw both.1 both.0, both.1)
 
 pub ruleset behind_steps = (one_behind, fault_behind)
 

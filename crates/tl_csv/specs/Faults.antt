@@ -1,5 +1,5 @@
 -- The first fault of several things in order.
-use Rattle.std.specs.Prelude.{ℕ, ◌≡◌, ◌≢◌, ◌+◌, List, [], ◌∷◌, Option, Some, None, Result, Ok, Err}
+use Rattle.std.specs.Prelude.{ℕ, ◌≡◌, ◌≢◌, ◌+◌, List, [], ◌∷◌, ◌++◌, Option, Some, None, Result, Ok, Err}
 use Rattle.tl_csv.specs.declared.faults.CsvFault.{CsvFault}
 use Rattle.tl_csv.specs.declared.faults.CsvFault.TheVariants as fault
 
@@ -26,6 +26,11 @@ abbrev pub each_from : {X Y : Type 0} → (ℕ → X → Result Y CsvFault) → 
     → Result (List Y) CsvFault
 each_from f n [] = Ok []
 each_from f n (x ∷ xs) = with_first (f n x) (each_from f (n + 1) xs)
+
+-- these items and then one more, or its fault
+abbrev pub then_one : {X : Type 0} → List X → Result X CsvFault → Result (List X) CsvFault
+then_one xs (Ok x) = Ok (xs ++ x ∷ [])
+then_one xs (Err e) = Err e
 
 -- a value that was written, where there was no error
 abbrev pub with_value : {X Y : Type 0} → X → Result Y CsvFault → Result X CsvFault

@@ -3,7 +3,7 @@ ghost use Rattle.std.specs.Prelude.{◌≡◌, ◌≢◌, ◌≤◌, ◌+◌, If
 ghost use Rattle.std.specs.Prelude.{length, map};
 ghost use Rattle.csv.specs.Records.{fields_of};
 ghost use Rattle.tl_csv.specs.declared.faults.CsvFault.TheVariants as fault;
-ghost use Rattle.tl_csv.specs.Faults.{each_from, IsUnlessMemory};
+ghost use Rattle.tl_csv.specs.Faults.{each_from, with_value, then_one, IsUnlessMemory};
 ghost use Rattle.tl_types.specs.Facts.{are_distinct, names_of};
 ghost use Rattle.tl_csv.specs.Header.{columns_of};
 ghost use Rattle.tl_csv.specs.Block.{batch_of, batch_with, key_line, line_of, records_of, rows_of};
@@ -15,7 +15,7 @@ use crate::headers::layout_of;
 use crate::layouts::Layout;
 use crate::needs::BatchKind;
 use crate::reading::{next_record, reader_of};
-use crate::rows::row_of;
+use crate::rows::{Lines, push_row_of};
 use csv::{ByteRecord, Reader};
 use std::alloc::Global;
 use tl_types::{Batch, Cell, KeyLine, Limits, NoMemory, Opened, Schema, Seq};
@@ -43,27 +43,27 @@ fn room_for(alloc: Global, limits: &Limits, block: &[u8]) -> Result<Seq<Opened>,
     Ok(Seq::from_vec(Vec::with_capacity(alloc, lines)?))
 }
 
-// The row of the record with so many records between the header and it.
-fn line_of(
+// Puts the row of the next record behind those of the records between the header and it.
+fn push_line(
     alloc: Global,
     limits: &Limits,
     layout: &Layout,
-    before: usize,
     row: &ByteRecord,
-    cells: &mut Vec<Cell>,
-) -> Result<Opened, CsvFault>
+    lines: &mut Lines,
+) -> Result<(), CsvFault>
     requires text { limits.now.text ≤ 65535 }
     requires batch { limits.now.batch ≤ 1000000 }
-    requires near { before ≤ limits.now.batch }
-    ensures line { IsUnlessMemory result
-        (line_of limits.now layout.now before (fields_of row.now)) }
-    ensures within { OnOk result (before + 1 ≤ limits.now.batch) }
+    requires near { length lines.old.rows ≤ limits.now.batch }
+    ensures line { IsUnlessMemory (with_value lines.new.rows result) (then_one lines.old.rows
+        (line_of limits.now layout.now (length lines.old.rows) (fields_of row.now))) }
+    ensures within { OnOk result (length lines.old.rows + 1 ≤ limits.now.batch) }
 {
+    let before = lines.rows.len();
     let rec = before as u32 + 2;
     if before as u64 >= limits.batch {
         return Err(CsvFault::BatchTooLong { rec });
     }
-    row_of(alloc, limits, layout, rec, row, cells)
+    push_row_of(alloc, limits, layout, rec, row, lines)
 }
 
 // The rows of the records that the reader has left, put into an empty list.
@@ -82,13 +82,15 @@ fn lines_of(
     ensures { IsUnlessMemory result
         (each_from (line_of limits.now layout.now) 0 (records_left reader.old)) }
 {
-    let mut rows = empty;
     let mut row = ByteRecord::new(alloc);
-    let mut cells = Vec::new(alloc);
-    'lines: while next_record(reader, &mut row)? {
-        rows.push(line_of(alloc, limits, layout, rows.len(), &row, &mut cells)?)?;
+    let mut lines = Lines {
+        rows: empty,
+        cells: Vec::new(alloc),
+    };
+    'records: while next_record(reader, &mut row)? {
+        push_line(alloc, limits, layout, &row, &mut lines)?;
     }
-    Ok(rows)
+    Ok(lines.rows)
 }
 
 fn rows_of(

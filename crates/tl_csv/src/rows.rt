@@ -1,9 +1,9 @@
 //! The row of a record.
-ghost use Rattle.std.specs.Prelude.{◌≡◌, ◌≤◌, ◌<◌, [], length, map, pos, set, true, IfOk};
+ghost use Rattle.std.specs.Prelude.{◌≡◌, ◌≤◌, ◌<◌, [], length, map, pos, set, true, OnOk};
 ghost use Rattle.std.specs.List.{zip};
 ghost use Rattle.csv.specs.Records.{fields_of};
 ghost use Rattle.tl_types.specs.declared.cells.Cell.TheVariants as cell;
-ghost use Rattle.tl_csv.specs.Faults.{each_from, with_value, IsUnlessMemory};
+ghost use Rattle.tl_csv.specs.Faults.{each_from, with_value, then_one, IsUnlessMemory};
 ghost use Rattle.tl_csv.specs.Layouts.{are_distinct_places, are_within, is_period_within};
 ghost use Rattle.tl_csv.specs.Block.{cell_at, cell_in, period_between, period_of, row_of, row_with};
 
@@ -15,7 +15,7 @@ use crate::records::next_field;
 use csv::ByteRecord;
 use std::alloc::Global;
 use std::mem;
-use tl_types::{Cell, Limits, NoMemory, Opened, Period, Seq};
+use tl_types::{Cell, Limits, NoMemory, Opened, Period, Seq, SmallSeq};
 
 // Puts the cells of the record's fields, which are of these kinds, into `cells`, in the order of
 // the record.
@@ -66,27 +66,20 @@ fn take_cell(cells: &mut [Cell], place: usize) -> Cell
 // Takes the cells at these places out of the record's cells and puts them, in the order of the
 // places, into a list that is empty.
 #[tactic(auto, using(crate::proofs::RowLemmas::one_within))]
-fn take_into(cells: &mut [Cell], places: &[usize], empty: Seq<Cell>) -> Result<Seq<Cell>, NoMemory>
-    requires empty { empty ≡ [] }
+fn take_into(
+    cells: &mut [Cell],
+    places: &[usize],
+    taken: &mut SmallSeq<Cell>,
+) -> Result<(), NoMemory>
+    requires empty { taken.old ≡ [] }
     requires distinct { are_distinct_places places.now ≡ true }
     requires within { are_within (length cells.old) places.now ≡ true }
-    ensures { IfOk result (λ taken. taken ≡ map (cell_in cells.old) places.now) }
+    ensures { OnOk result (taken.new ≡ map (cell_in cells.old) places.now) }
 {
-    let mut taken = empty;
     for place in places {
         taken.push(take_cell(cells, *place))?;
     }
-    Ok(taken)
-}
-
-// Takes the cells at these places out of the record's cells, in the order of the places.
-fn take_cells(alloc: Global, cells: &mut [Cell], places: &[usize]) -> Result<Seq<Cell>, NoMemory>
-    requires distinct { are_distinct_places places.now ≡ true }
-    requires within { are_within (length cells.old) places.now ≡ true }
-    ensures { IfOk result (λ taken. taken ≡ map (cell_in cells.old) places.now) }
-{
-    let room = Vec::with_capacity(alloc, places.len())?;
-    take_into(cells, places, Seq::from_vec(room))
+    Ok(())
 }
 
 // The period between two moments, of which the first must be less than the second.
@@ -115,37 +108,59 @@ fn period_of(
     Ok(Some(period))
 }
 
-// The row of a record with these cells, which it takes.
-fn row_with(
+/// The rows of records, one for each, and room for the cells of one record.
+#[derive(Drop)]
+pub(crate) struct Lines {
+    /// The rows.
+    pub(crate) rows: Seq<Opened>,
+    /// The room.
+    pub(crate) cells: Vec<Cell>,
+}
+
+// Puts the row of a record with these cells, which it takes, behind the rows. The error is that of
+// the period, or `NoMemory`.
+fn push_row_with(
     alloc: Global,
     layout: &Layout,
     rec: u32,
     cells: &mut [Cell],
-) -> Result<Opened, CsvFault>
+    rows: &mut Seq<Opened>,
+) -> Result<(), CsvFault>
     requires { length cells.old ≡ length layout.now.kinds }
-    ensures { IsUnlessMemory result (row_with layout.now rec cells.old) }
+    ensures { IsUnlessMemory (with_value rows.new result)
+        (then_one rows.old (row_with layout.now rec cells.old)) }
 {
     let period = period_of(rec, cells, layout.period())?;
-    Ok(Opened::new(take_cells(alloc, cells, layout.columns())?, period))
+    let mut taken = SmallSeq::new(alloc);
+    take_into(cells, layout.columns(), &mut taken)?;
+    rows.push(Opened::new(taken, period))?;
+    Ok(())
 }
 
-/// The row of the record with this number. `cells` is room that is used again for each record. The
-/// error is the record's first fault, or `NoMemory`.
-pub fn row_of(
+/// Puts the row of the record with this number behind the rows. The error is the record's first
+/// fault, or `NoMemory`.
+pub(crate) fn push_row_of(
     alloc: Global,
     limits: &Limits,
     layout: &Layout,
     rec: u32,
     row: &ByteRecord,
-    cells: &mut Vec<Cell>,
-) -> Result<Opened, CsvFault>
+    lines: &mut Lines,
+) -> Result<(), CsvFault>
     requires { limits.now.text ≤ 65535 }
-    ensures { IsUnlessMemory result (row_of limits.now layout.now rec (fields_of row.now)) }
+    ensures { IsUnlessMemory (with_value lines.new.rows result)
+        (then_one lines.old.rows (row_of limits.now layout.now rec (fields_of row.now))) }
 {
     if row.len() != layout.kinds().len() {
         return Err(CsvFault::FieldCount { rec });
     }
-    cells.clear();
-    read_cells(alloc, limits, rec, layout.kinds(), row, cells)?;
-    row_with(alloc, layout, rec, cells)
+    lines.cells.clear();
+    read_cells(alloc, limits, rec, layout.kinds(), row, &mut lines.cells)?;
+    push_row_with(
+        alloc,
+        layout,
+        rec,
+        lines.cells.as_mut_slice(),
+        &mut lines.rows,
+    )
 }

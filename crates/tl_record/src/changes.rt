@@ -47,9 +47,7 @@ fn rows_of(alloc: Global, count: u32, bytes: &[u8]) -> Result<(Vec<Opened>, &[u8
     let mut rows = Vec::with_capacity(alloc, (count as usize).min(bytes.len() / 5))?;
     let mut rest = bytes;
     for _ in 0..count {
-        let (row, behind) = rows::row(alloc, rest)?;
-        rows.push(row)?;
-        rest = behind;
+        rest = rows::push_row(alloc, &mut rows, rest)?;
     }
     Ok((rows, rest))
 }

@@ -1,11 +1,11 @@
 //! Opened rows of a record: their cells, and their periods.
 ghost use Rattle.std.specs.Prelude.{◌≡◌, ◌<◌, ◌+◌, ◌++◌, ◌∷◌, [], length, IfOk, OnOk};
-ghost use Rattle.std.specs.Vec.{vec_len, vec_capacity};
 ghost use Rattle.tl_record.specs.Reading.{
   Gives,
   IsBetween,
   mapped,
   several,
+  prepended,
   cell_of,
   cell_at,
   cells_at,
@@ -17,68 +17,102 @@ ghost use Rattle.tl_record.specs.Reading.{
 use crate::faults::ReadError;
 use crate::{numbers, texts};
 use std::alloc::Global;
-use tl_types::{Cell, Opened, Period, Seq};
+use tl_types::{Cell, NoMemory, Opened, Period, SmallSeq};
 
-// Reads a cell of a kind and puts it behind the others, where there is room; gives what follows it.
-fn push_cell_of<'a>(
-    alloc: Global,
-    cells: &mut Vec<Cell>,
-    kind: u8,
-    bytes: &'a [u8],
-) -> Result<&'a [u8], ReadError>
-    requires { vec_len cells.old < vec_capacity cells.old }
-    ensures read { Gives (λ rest. (cells.new.items, rest.now)) result
-        (mapped (λ c. cells.old.items ++ c ∷ []) (cell_of kind bytes.now)) }
-    ensures len { OnOk result (vec_len cells.new ≡ vec_len cells.old + 1) }
-    ensures capacity { vec_capacity cells.new ≡ vec_capacity cells.old }
+// Reads a number and puts it behind the cells; gives what follows it.
+fn push_int<'a>(cells: &mut SmallSeq<Cell>, bytes: &'a [u8]) -> Result<&'a [u8], ReadError>
+    ensures { Gives (λ rest. (cells.new, rest.now)) result
+        (mapped (λ c. cells.old ++ c ∷ []) (cell_of 1 bytes.now)) }
 {
-    if kind == 1 {
-        let (value, rest) = numbers::signed(i64::MIN, i64::MAX, bytes)?;
-        cells.push_reserved(Cell::Int(value));
-        return Ok(rest);
-    }
-    let (text, rest) = texts::text(alloc, bytes)?;
-    cells.push_reserved(Cell::Text(text));
+    let (value, rest) = numbers::signed(i64::MIN, i64::MAX, bytes)?;
+    cells.push(Cell::Int(value))?;
     Ok(rest)
 }
 
-// Reads a cell and puts it behind the others, where there is room; gives what follows it.
+// Reads a text and puts it behind the cells; gives what follows it.
+fn push_text<'a>(
+    alloc: Global,
+    cells: &mut SmallSeq<Cell>,
+    bytes: &'a [u8],
+) -> Result<&'a [u8], ReadError>
+    ensures { Gives (λ rest. (cells.new, rest.now)) result
+        (mapped (λ c. cells.old ++ c ∷ []) (cell_of 2 bytes.now)) }
+{
+    let (text, rest) = texts::text(alloc, bytes)?;
+    cells.push(Cell::Text(text))?;
+    Ok(rest)
+}
+
+// Reads a cell and puts it behind the others; gives what follows it.
 #[tactic(auto, unfolding(crate::specs::Reading::cell_at))]
 fn push_cell<'a>(
     alloc: Global,
-    cells: &mut Vec<Cell>,
+    cells: &mut SmallSeq<Cell>,
     bytes: &'a [u8],
 ) -> Result<&'a [u8], ReadError>
-    requires { vec_len cells.old < vec_capacity cells.old }
-    ensures read { Gives (λ rest. (cells.new.items, rest.now)) result
-        (mapped (λ c. cells.old.items ++ c ∷ []) (cell_at bytes.now)) }
-    ensures len { OnOk result (vec_len cells.new ≡ vec_len cells.old + 1) }
-    ensures capacity { vec_capacity cells.new ≡ vec_capacity cells.old }
+    ensures { Gives (λ rest. (cells.new, rest.now)) result
+        (mapped (λ c. cells.old ++ c ∷ []) (cell_at bytes.now)) }
 {
     let (kind, rest) = numbers::byte(1, 2, bytes)?;
-    let rest = push_cell_of(alloc, cells, kind, rest)?;
+    if kind == 1 {
+        return push_int(cells, rest);
+    }
+    push_text(alloc, cells, rest)
+}
+
+// Takes memory for so many cells.
+#[inline(never)]
+fn take_room(alloc: Global, cells: &mut SmallSeq<Cell>, count: u8) -> Result<(), NoMemory>
+    requires { cells.old ≡ [] }
+    ensures { OnOk result (cells.new ≡ []) }
+{
+    *cells = SmallSeq::with_capacity(alloc, count as usize)?;
+    Ok(())
+}
+
+// Takes memory for so many cells, where they are more than stand in the value itself.
+fn make_room(alloc: Global, cells: &mut SmallSeq<Cell>, count: u8) -> Result<(), NoMemory>
+    requires { cells.old ≡ [] }
+    ensures { OnOk result (cells.new ≡ []) }
+{
+    if count > 4 {
+        take_room(alloc, cells, count)?;
+    }
+    Ok(())
+}
+
+// Reads so many cells and puts them behind the others; gives what follows them.
+fn push_cells<'a>(
+    alloc: Global,
+    cells: &mut SmallSeq<Cell>,
+    count: u8,
+    bytes: &'a [u8],
+) -> Result<&'a [u8], ReadError>
+    ensures { Gives (λ rest. (cells.new, rest.now)) result
+        (prepended cells.old (several cell_at count bytes.now)) }
+{
+    let mut rest = bytes;
+    for _ in 0..count {
+        rest = push_cell(alloc, cells, rest)?;
+    }
     Ok(rest)
 }
 
-fn cells_of(alloc: Global, count: u8, bytes: &[u8]) -> Result<(Vec<Cell>, &[u8]), ReadError>
-    ensures { Gives (λ x. (x.0.items, x.1.now)) result (several cell_at count bytes.now) }
-{
-    let mut cells = Vec::with_capacity(alloc, count as usize)?;
-    let mut rest = bytes;
-    for _ in 0..count {
-        rest = push_cell(alloc, &mut cells, rest)?;
-    }
-    Ok((cells, rest))
-}
-
-#[tactic(auto, using(crate::proofs::Loops::several_many), unfolding(crate::specs::Reading::cells_at))]
-fn cells(alloc: Global, bytes: &[u8]) -> Result<(Vec<Cell>, &[u8]), ReadError>
-    ensures read { Gives (λ x. (x.0.items, x.1.now)) result (cells_at bytes.now) }
-    ensures within { IfOk result (λ x. IsBetween 1 16 (length x.0.items)) }
+// Reads cells behind their number into a list that is empty; gives what follows them.
+#[tactic(auto, using(crate::proofs::Loops::several_many, crate::proofs::Loops::unstarted), unfolding(crate::specs::Reading::cells_at))]
+fn fill<'a>(
+    alloc: Global,
+    cells: &mut SmallSeq<Cell>,
+    bytes: &'a [u8],
+) -> Result<&'a [u8], ReadError>
+    requires { cells.old ≡ [] }
+    ensures read { Gives (λ rest. (cells.new, rest.now)) result (cells_at bytes.now) }
+    ensures within { OnOk result (IsBetween 1 16 (length cells.new)) }
 {
     let (count, rest) = numbers::byte(1, 16, bytes)?;
-    let (cells, rest) = cells_of(alloc, count, rest)?;
-    Ok((cells, rest))
+    make_room(alloc, cells, count)?;
+    let rest = push_cells(alloc, cells, count, rest)?;
+    Ok(rest)
 }
 
 #[tactic(auto, using(crate::proofs::Loops::ends_behind))]
@@ -104,14 +138,23 @@ fn period(bytes: &[u8]) -> Result<(Option<Period>, &[u8]), ReadError>
     }
 }
 
-/// An opened row, and what follows it.
+/// Reads an opened row and puts it behind the others; gives what follows it.
 #[tactic(auto, unfolding(crate::specs::Reading::row_at))]
-pub fn row(alloc: Global, bytes: &[u8]) -> Result<(Opened, &[u8]), ReadError>
-    ensures { Gives (λ x. (x.0, x.1.now)) result (row_at bytes.now) }
+pub fn push_row<'a>(
+    alloc: Global,
+    rows: &mut Vec<Opened>,
+    bytes: &'a [u8],
+) -> Result<&'a [u8], ReadError>
+    ensures { Gives (λ rest. (rows.new.items, rest.now)) result
+        (mapped (λ r. rows.old.items ++ r ∷ []) (row_at bytes.now)) }
 {
-    let (cells, rest) = cells(alloc, bytes)?;
+    let mut cells = SmallSeq::new(alloc);
+    let rest = fill(alloc, &mut cells, bytes)?;
     match period(rest) {
-        Ok((period, behind)) => Ok((Opened::new(Seq::from_vec(cells), period), behind)),
+        Ok((period, behind)) => {
+            rows.push(Opened::new(cells, period))?;
+            Ok(behind)
+        }
         Err(error) => Err(error),
     }
 }

@@ -1,17 +1,16 @@
-use Rattle.std.proofs.Common.{rules, ◌≡◌, ◌++◌, ◌∷◌, [], length, arith, length-append, Ok}
+use Rattle.std.proofs.Common.{rules, ◌≡◌, ◌∷◌, arith}
 use Rattle.csv.specs.Records.{fields_of}
 use Rattle.tl_csv.specs.Block.{line_of}
 use Rattle.tl_csv.specs.Reading.{records_left}
-use Rattle.tl_csv.proofs.FaultLemmas.{each_step}
+use Rattle.tl_csv.proofs.FaultLemmas.{then_step}
 use Rattle.tl_csv.proofs.batches.lines_of.Goals as goal
 
-pub lines-preserved : goal.lines-preserved
-lines-preserved c =
-    let found : records_left c.lines.reader ≡ fields_of c.next_record.new.row ∷ records_left c.next_record.new.reader = search rules in
-    let pushed : c.push.new.self ≡ c.lines.rows ++ c.in_ok-line_of.field-0 ∷ [] = search rules in
-    let line : line_of c.args.limits.now c.args.layout.now (length c.lines.rows) (fields_of c.next_record.new.row) ≡ Ok c.in_ok-line_of.field-0 = search rules in
+pub records-preserved : goal.records-preserved
+records-preserved c =
+    let found : records_left c.records.reader ≡ fields_of c.next_record.new.row ∷ records_left c.next_record.new.reader = search rules in
+    let step = then_step (line_of c.args.limits.now c.args.layout.now) c.records.lines.rows c.push_line.new.lines.rows (fields_of c.next_record.new.row) (records_left c.records.reader) (records_left c.next_record.new.reader) _ found c.in_ok-push_line.ensures.line c.records.invariant.rows in
     record {
-      rows = each_step (line_of c.args.limits.now c.args.layout.now) c.lines.rows c.push.new.self c.in_ok-line_of.field-0 (fields_of c.next_record.new.row) (records_left c.lines.reader) (records_left c.next_record.new.reader) _ found line pushed c.lines.invariant.rows;
-      few = grind (arith, length-append);
+      rows = step.0;
+      few = (let n = step.1 in let m = c.in_ok-push_line.ensures.within in omega (arith, n, m));
       reading = search rules;
     }

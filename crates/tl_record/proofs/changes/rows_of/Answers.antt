@@ -1,23 +1,22 @@
 use Rattle.std.proofs.lemmas.Result.{err_from_is_err_and}
 use Rattle.tl_record.specs.Reading.{several, row_at}
-use Rattle.tl_record.proofs.Loops.{several_goes_on, several_stops, several_ends}
+use Rattle.tl_record.proofs.Loops.{pushed_goes_on, pushed_stops, several_ends}
 use Rattle.tl_record.proofs.changes.rows_of.Goals as goal
 
-pub returns-in_err-row : goal.returns-in_err-row
-returns-in_err-row c =
+pub returns-in_err-rest : goal.returns-in_err-rest
+returns-in_err-rest c =
     let p =
-    err_from_is_err_and c.from_residual-in_err-row.result c.from_residual-in_err-row.ensures.1 in
+    err_from_is_err_and c.from_residual-in_err-rest.result c.from_residual-in_err-rest.ensures.1 in
     rw (p.1, p.2)
-    (several_stops c.in_err-row.field-0.0 c.loop.rows.items row_at c.args.count c.loop.counter
+    (pushed_stops c.in_err-rest.field-0.0 c.loop.rows.items row_at c.args.count c.loop.counter
     c.loop.rest.now (several row_at c.args.count c.args.bytes.now) c.loop-test.true
-    c.in_err-row.ensures c.loop.invariant)
+    c.in_err-rest.ensures c.loop.invariant)
 
 pub loop-preserved : goal.loop-preserved
 loop-preserved c =
-    rw c.in_ok-push.ensures.items
-    (several_goes_on c.loop.rows.items row_at c.args.count c.loop.counter c.loop.rest.now
-    c.in_ok-row.behind.now c.in_ok-row.row (several row_at c.args.count c.args.bytes.now)
-    c.loop-test.true c.in_ok-row.ensures c.loop.invariant)
+    pushed_goes_on c.loop.rows.items _ row_at c.args.count c.loop.counter c.loop.rest.now
+    c.in_ok-rest.rest.now (several row_at c.args.count c.args.bytes.now) c.loop-test.true
+    c.in_ok-rest.ensures c.loop.invariant
 
 pub returns : goal.returns
 returns c =

@@ -1,5 +1,6 @@
 pub mod Members
 pub mod Merging
 pub mod RunLemmas
+pub mod PieceLemmas
 pub mod Sorted
 pub mod MarkLemmas

@@ -140,7 +140,7 @@ all_step P t ts later p (y ∷ ys) all = by_tests (comes_before y t) (comes_befo
   by_tests false true behind = (p, later (y ∷ ys) all)
   by_tests false false behind = later ys all.1
 
-all_merged : (P : ValidEvent → Type 0) (events changes : List ValidEvent) → AllByRecursion P events → AllByRecursion P changes → AllByRecursion P (merged events changes)
+pub all_merged : (P : ValidEvent → Type 0) (events changes : List ValidEvent) → AllByRecursion P events → AllByRecursion P changes → AllByRecursion P (merged events changes)
 all_merged P events [] all more = all
 all_merged P events (t ∷ ts) all more = all_step P t ts (λ es h. all_merged P es ts h more.1) more.0 events all
 

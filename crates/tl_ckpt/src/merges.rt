@@ -37,8 +37,8 @@ fn front<'a>(events: &'a [ValidEvent], change: &ValidEvent) -> &'a [ValidEvent]
     &events[..count]
 }
 
-// How many of the first events come before the change.
-fn lead(events: &[ValidEvent], change: &ValidEvent) -> usize
+/// How many of the first events come before the change.
+pub(crate) fn lead(events: &[ValidEvent], change: &ValidEvent) -> usize
     requires { Rises events.now }
     ensures count { result ≡ lead change.now events.now }
     ensures within { result ≤ length events.now }
@@ -145,7 +145,7 @@ fn merged_by_steps(
 const EVENTS_PER_LOOKUP: usize = 16;
 
 // The events with the changes.
-pub(crate) fn merged(
+fn merged(
     alloc: Global,
     events: &[ValidEvent],
     changes: &[ValidEvent],
@@ -157,5 +157,23 @@ pub(crate) fn merged(
         merged_by_lookups(alloc, events, changes)
     } else {
         merged_by_steps(alloc, events, changes)
+    }
+}
+
+/// A run with changes. The shorter of the two is the one that is merged into the other.
+#[tactic(auto, using(crate::proofs::RunLemmas::merged_turned))]
+pub(crate) fn merged_with(
+    alloc: Global,
+    run: &[ValidEvent],
+    changes: &[ValidEvent],
+) -> Result<Vec<ValidEvent>, NoMemory>
+    requires run { Rises run.now }
+    requires changes { Rises changes.now }
+    ensures { IfOk result (λ out. out.items ≡ merged run.now changes.now) }
+{
+    if run.len() < changes.len() {
+        merged(alloc, changes, run)
+    } else {
+        merged(alloc, run, changes)
     }
 }

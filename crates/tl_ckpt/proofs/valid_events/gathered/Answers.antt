@@ -1,7 +1,7 @@
 use Rattle.std.proofs.Common.{arith, ◌≡◌, ◌<◌, ◌∙◌, drop, length, refl, subst, sym}
 use Rattle.tl_ckpt.specs.Valid.{Rises, merged}
 use Rattle.tl_ckpt.specs.Runs.{sum_of}
-use Rattle.tl_ckpt.proofs.RunLemmas.{rise_at, taken_so, none_behind}
+use Rattle.tl_ckpt.proofs.RunLemmas.{rise_at, taken_so}
 use Rattle.tl_ckpt.proofs.valid_events.gathered.Goals as goal
 
 pub runs-init : goal.runs-init
@@ -25,7 +25,3 @@ pub returns-clause-sum : goal.returns-clause-sum
 returns-clause-sum c =
     let done : c.runs.i ≡ c.args.count = omega arith in
     subst (λ k. merged (sum_of (drop k c.args.runs.now)) c.runs.out.items ≡ merged (sum_of c.args.runs.now) c.args.changes.items) done c.runs.invariant.sum
-
-pub returns-clause-all : goal.returns-clause-all
-returns-clause-all c = λ all.
-    none_behind c.args.runs.now (merged (sum_of c.args.runs.now) c.args.changes.items) c.runs.out.items c.runs.i c.runs.invariant.rises (omega arith) c.runs.invariant.sum

@@ -1,0 +1,14 @@
+use Rattle.std.proofs.Common.{◌≡◌, ◌≤◌, ◌-◌, length, drop}
+use Rattle.tl_ckpt.specs.Valid.{Rises, merged}
+use Rattle.tl_ckpt.specs.Runs.{sum_of, lent}
+use Rattle.tl_ckpt.proofs.lists.merged_in_turn.Given as goal
+
+abbrev pub invariant-runs : goal.invariant-runs
+invariant-runs l = record {
+  within : l.i ≤ length l.runs;
+  rises : Rises l.out.items;
+  sum : merged (sum_of (drop l.i (lent l.runs))) l.out.items ≡ sum_of (lent l.runs);
+}
+
+abbrev pub decreases-runs : goal.decreases-runs
+decreases-runs l = length l.runs - l.i

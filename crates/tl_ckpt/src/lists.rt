@@ -1,0 +1,121 @@
+//! Lists of events of valid time that are put together from runs.
+ghost use Rattle.std.specs.Prelude.{◌≡◌, ◌∷◌, IfOk};
+ghost use Rattle.tl_ckpt.specs.Valid.{Rises};
+ghost use Rattle.tl_ckpt.specs.Runs.{sum_of, AllRise, lent, fronts, backs};
+
+use crate::merges::{lead, merged_with};
+use std::alloc::Global;
+use tl_shared::Chunk;
+use tl_types::{NoMemory, ValidEvent};
+
+// A list is put together in pieces, of which each has so many events of the longest run. The lists
+// that come and go meanwhile are then small, and take the same memory again and again.
+const PIECE: usize = 4096;
+
+/// The changes and then the runs, all of them lent.
+pub(crate) fn all_lent<'a>(
+    alloc: Global,
+    changes: &'a [ValidEvent],
+    runs: &'a [Chunk<ValidEvent>],
+) -> Result<Vec<&'a [ValidEvent]>, NoMemory>
+    ensures { IfOk result (λ all. lent all.items ≡ changes.now ∷ runs.now) }
+{
+    let mut all = Vec::new(alloc);
+    all.push(changes)?;
+    let mut i = 0;
+    'runs: while i < runs.len() {
+        all.push(runs[i].as_slice())?;
+        i += 1;
+    }
+    Ok(all)
+}
+
+// Of each run what comes before the event, and the rest of each.
+fn cut<'a>(
+    alloc: Global,
+    runs: &[&'a [ValidEvent]],
+    event: &ValidEvent,
+) -> Result<(Vec<&'a [ValidEvent]>, Vec<&'a [ValidEvent]>), NoMemory>
+    requires { AllRise (lent runs.now) }
+    ensures { IfOk result (λ parts. (lent parts.0.items ≡ fronts event.now (lent runs.now))
+        × (lent parts.1.items ≡ backs event.now (lent runs.now))) }
+{
+    let mut before = Vec::with_capacity(alloc, runs.len())?;
+    let mut behind = Vec::with_capacity(alloc, runs.len())?;
+    let mut i = 0;
+    'runs: while i < runs.len() {
+        let run = runs[i];
+        let (front, back) = run.split_at(lead(run, event));
+        before.push(front)?;
+        behind.push(back)?;
+        i += 1;
+    }
+    Ok((before, behind))
+}
+
+// All runs as one list, one after the other.
+fn merged_in_turn(alloc: Global, runs: &[&[ValidEvent]]) -> Result<Vec<ValidEvent>, NoMemory>
+    requires { AllRise (lent runs.now) }
+    ensures { IfOk result (λ out. out.items ≡ sum_of (lent runs.now)) }
+{
+    let mut out = Vec::new(alloc);
+    let mut i = 0;
+    'runs: while i < runs.len() {
+        out = merged_with(alloc, runs[i], &out)?;
+        i += 1;
+    }
+    Ok(out)
+}
+
+// The longest of the runs; no events where there is no run.
+fn longest<'a>(runs: &[&'a [ValidEvent]]) -> &'a [ValidEvent] {
+    let mut longest: &'a [ValidEvent] = &[];
+    for run in runs {
+        if longest.len() < run.len() {
+            longest = run;
+        }
+    }
+    longest
+}
+
+// How many events all runs have.
+fn total(runs: &[&[ValidEvent]]) -> usize {
+    let mut total: usize = 0;
+    for run in runs {
+        total = total.saturating_add(run.len());
+    }
+    total
+}
+
+// All runs as one list, piece by piece.
+fn merged_in_pieces(alloc: Global, runs: Vec<&[ValidEvent]>) -> Result<Vec<ValidEvent>, NoMemory>
+    requires { AllRise (lent runs.items) }
+    ensures { IfOk result (λ out. out.items ≡ sum_of (lent runs.entry.items)) }
+{
+    let longest = longest(&runs);
+    let mut out = Vec::with_capacity(alloc, total(&runs))?;
+    let mut rests = runs;
+    let mut at = PIECE;
+    'pieces: while at < longest.len() {
+        let (before, behind) = cut(alloc, &rests, &longest[at])?;
+        let mut piece = merged_in_turn(alloc, &before)?;
+        out.append(&mut piece)?;
+        rests = behind;
+        at += PIECE;
+    }
+    let mut piece = merged_in_turn(alloc, &rests)?;
+    out.append(&mut piece)?;
+    Ok(out)
+}
+
+/// All runs as one list.
+pub(crate) fn list_of(alloc: Global, runs: Vec<&[ValidEvent]>) -> Result<Vec<ValidEvent>, NoMemory>
+    requires { AllRise (lent runs.items) }
+    ensures { IfOk result (λ out. out.items ≡ sum_of (lent runs.entry.items)) }
+{
+    if runs.len() <= 2 {
+        merged_in_turn(alloc, &runs)
+    } else {
+        merged_in_pieces(alloc, runs)
+    }
+}

@@ -2,12 +2,11 @@
 use Rattle.std.proofs.Common.{arith, ◌≡◌, ℕ, ◌+◌, ◌<◌, ℤ, Bool, true, false, ◌&&◌, ◌||◌, cond, List, [], ◌∷◌, ◌++◌, append-nil, length, take, get_or, Option, Some, None, subst, refl, sym, ap, ◌∙◌}
 use Rattle.std.specs.List.{list_any}
 use Rattle.std.specs.Map.{lookup}
-use Rattle.std.specs.BTreeMap.{is_at}
 use Rattle.std.proofs.Math.Bool.{or_comm}
 use Rattle.std.proofs.lemmas.List.{take_more, map-append}
 use Rattle.std.proofs.lemmas.List.Folds.{list_any-append}
 use Rattle.tl_types.specs.declared.cells.Cell.{Cell}
-use Rattle.tl_types.specs.contracts.cells.CellOrd.TheImpl as cells
+use Rattle.tl_types.specs.contracts.cells.CellPartialEq.TheImpl as equal
 use Rattle.tl_types.specs.Plain as plain
 use Rattle.tl_types.specs.History.{same_cell, is_within}
 use Rattle.tl_types.specs.Resolving.{BatchLine, same_key}
@@ -15,24 +14,19 @@ use Rattle.tl_types.specs.declared.batches.KeyLine.{KeyLine}
 use Rattle.tl_batch.specs.Pieces.{cuts, periods_with}
 use Rattle.tl_batch.specs.Covers.{Full, HoldLines, cover_at, is_between, is_covered, stretches_or}
 use Rattle.tl_batch.specs.Lines.{line_of, lines_of}
-use Rattle.tl_batch.proofs.CellLemmas.{cell_order}
-use Rattle.tl_batch.proofs.KeyIndexLemmas.{cell_sym, finds_same}
+use Rattle.tl_batch.proofs.KeyIndexLemmas.{cell_sym, copied, found_at, finds_same}
 
 -- LOOKING UP A KEY
 
-found : {X : Type 0} (x : Cell) (entries : List (Cell × X)) → lookup (is_at (cells.cmp-value.it x)) entries ≡ lookup (same_cell x) entries
-found x [] = refl
-found x (e ∷ entries) = grind (arith, cell_order x e.0, found x entries)
-
 -- the cover that is found at a key
-pub found_is : (x : Cell) (entries all : List (Cell × List (ℤ × ℤ))) (o : Option (List (ℤ × ℤ))) → o ≡ lookup (is_at (cells.cmp-value.it x)) entries → entries ≡ all → stretches_or o ≡ cover_at x all
-found_is x entries all o e view = ap stretches_or (e ∙ (found x entries ∙ ap (lookup (same_cell x)) view))
+pub found_is : (x : Cell) (entries all : List (Cell × List (ℤ × ℤ))) (o : Option (List (ℤ × ℤ))) → o ≡ lookup (equal.eq-value.it x) entries → entries ≡ all → stretches_or o ≡ cover_at x all
+found_is x entries all o e view = ap stretches_or (found_at x o entries all e view)
 
 -- the covers after a change at one key
 pub changed_at : (key copy : Cell) (w : Option (List (ℤ × ℤ))) (entries new all : List (Cell × List (ℤ × ℤ))) → copy ≡ key
-    → ((q : Cell) → lookup (is_at (cells.cmp-value.it q)) new ≡ cond (is_at (cells.cmp-value.it copy) q) w (lookup (is_at (cells.cmp-value.it q)) entries)) → entries ≡ all
+    → ((q : Cell) → lookup (equal.eq-value.it q) new ≡ cond (equal.eq-value.it copy q) w (lookup (equal.eq-value.it q) entries)) → entries ≡ all
     → (x : Cell) → cover_at x new ≡ cond (same_cell x key) (stretches_or w) (cover_at x all)
-changed_at key copy w entries new all same update view x = grind (arith, found x new, cell_order copy x, cell_sym copy x, found x entries)
+changed_at key copy w entries new all same update view x = grind (arith, cell_sym key x, copied key copy w entries all new same view update x)
 
 -- a period more at one key
 pub period_added : (key : Cell) (from to : ℤ) (cover more : List (ℤ × ℤ)) (before after : List (Cell × List (ℤ × ℤ))) → cover ≡ cover_at key before → ((t : ℤ) → is_covered t more ≡ (is_between t from to || is_covered t cover))

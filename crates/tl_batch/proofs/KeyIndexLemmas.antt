@@ -1,6 +1,6 @@
 -- What a map from keys has at each key, after a change at one key.
-use Rattle.std.proofs.Common.{◌≡◌, ℕ, ◌+◌, ◌≤◌, subst, Bool, true, false, ◌&&◌, ◌||◌, not, cond, nat_eq, List, [], ◌∷◌, ◌++◌, Option, Some, None, is_some, IfSome, IfNone, refl, sym, ap, ◌∙◌, arith}
-use Rattle.std.specs.List.{list_any, AllByRecursion, dedup, dedup_from}
+use Rattle.std.proofs.Common.{◌≡◌, ℕ, zero, suc, slice_get, ◌+◌, ◌≤◌, subst, Bool, true, false, ◌&&◌, ◌||◌, not, cond, nat_eq, List, [], ◌∷◌, ◌++◌, Option, Some, None, is_some, IfSome, IfNone, refl, sym, ap, ◌∙◌, arith}
+use Rattle.std.specs.List.{list_any, remove, AllByRecursion, dedup, dedup_from}
 use Rattle.std.specs.Map.{lookup}
 use Rattle.std.specs.declared.cmp.Ordering.TheVariants.{Less}
 use Rattle.std.specs.Ordering.{nat_cmp}
@@ -131,6 +131,12 @@ from_zero (k ∷ keys) = (omega arith, from_zero keys)
 pub id_pushed : (id : ℕ) (ids more list : List ℕ) → more ≡ ids ++ id ∷ [] → ids ≡ list → (n : ℕ) → has_id more n ≡ (nat_eq n id || has_id list n)
 id_pushed id ids more list e view n = grind (arith, list_any-append (λ m. nat_eq m n) ids (id ∷ []))
 
+-- an id taken from a place, of which the others stay
+pub id_cut : (at id : ℕ) (ids : List ℕ) → slice_get ids at ≡ Some id → (n : ℕ) → (not (nat_eq n id) && has_id (remove ids at) n) ≡ (not (nat_eq n id) && has_id ids n)
+id_cut at id [] e n = absurd (cc)
+id_cut zero id (m ∷ ids) e n = let same : m ≡ id = cc in rw same (grind (arith, nat_eq_equiv.symm id n))
+id_cut (suc at) id (m ∷ ids) e n = grind (arith, id_cut at id ids e n)
+
 -- after a sort and a `dedup` the ids ascend
 pub ids_ascend : (ids list : List ℕ) → IsSorted nat_cmp ids → list ≡ dedup nat_eq ids → AscendFrom 0 list
 ids_ascend ids list sorted e =
@@ -155,10 +161,10 @@ ids_kept ids all sorted list moved view e n = ap (λ is. has_id is n) e ∙ (ded
 pub none_removed : (key : Cell) (id : ℕ) (entries : List (Cell × List ℕ)) → None ≡ lookup (same_cell key) entries → (x : Cell) (n : ℕ) → has_further entries x n ≡ (not (same_cell x key && nat_eq n id) && has_further entries x n)
 none_removed key id entries none x n = grind (arith, finds_same x key entries)
 
-pub drawn_some : (key : Cell) (ids rest : List ℕ) (before after : List (Cell × List ℕ)) (r : Option ℕ) → Changes key (Some rest) before after → Some ids ≡ lookup (same_cell key) before → IfSome r (λ id. ids ≡ id ∷ rest)
+pub drawn_some : (key : Cell) (ids rest : List ℕ) (before after : List (Cell × List ℕ)) (r : Option ℕ) → Changes key (Some rest) before after → Some ids ≡ lookup (same_cell key) before → IfSome r (λ id. (n : ℕ) → has_id ids n ≡ (nat_eq n id || has_id rest n))
     → IfSome r (λ id. (x : Cell) (n : ℕ) → has_further before x n ≡ ((same_cell x key && nat_eq n id) || has_further after x n))
 drawn_some key ids rest before after None change there taken = tt
-drawn_some key ids rest before after (Some id) change there taken = drawn is_among_ids key (Some rest) before after change id (λ n. ap (λ o. is_among_ids o n) (sym there) ∙ id_least id ids rest taken n)
+drawn_some key ids rest before after (Some id) change there taken = drawn is_among_ids key (Some rest) before after change id (λ n. ap (λ o. is_among_ids o n) (sym there) ∙ taken n)
 
 pub drawn_none : (key : Cell) (ids rest : List ℕ) (before after : List (Cell × List ℕ)) (r : Option ℕ) → Changes key (Some rest) before after → Some ids ≡ lookup (same_cell key) before → IfNone r (rest ≡ ids)
     → IfNone r ((x : Cell) (n : ℕ) → has_further after x n ≡ has_further before x n)

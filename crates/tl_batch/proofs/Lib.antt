@@ -6,6 +6,7 @@ pub mod CommitLemmas
 pub mod PeriodSetLemmas
 pub mod Examples
 pub mod FaultLemmas
+pub mod FewPeriodsLemmas
 pub mod FollowLemmas
 pub mod FreshKeys
 pub mod GapLemmas
@@ -17,6 +18,7 @@ pub mod LentLemmas
 pub mod LineLemmas
 pub mod AffectLemmas
 pub mod OpenTableLemmas
+pub mod OpeningLemmas
 pub mod OverlapLemmas
 pub mod RemovalLemmas
 pub mod ResolvedLemmas

@@ -8,7 +8,7 @@ use Rattle.std.proofs.lemmas.Int.{ints}
 use Rattle.tl_types.specs.Plain as plain
 use Rattle.tl_types.specs.History.{is_within}
 use Rattle.tl_batch.specs.Pieces.{affects_period}
-use Rattle.tl_batch.specs.Covers.{is_between, is_covered, Full, Beyond, before_all}
+use Rattle.tl_batch.specs.Covers.{is_between, is_covered, Full, Beyond, before_all, first_begins}
 use Rattle.tl_batch.proofs.GapLemmas.{lt_false, within_true}
 use Rattle.tl_batch.proofs.PeriodSetLemmas.{ends_past}
 use Rattle.tl_batch.proofs.SwapLemmas.{affected_at}
@@ -38,6 +38,10 @@ late from to s stretches h all = by (int_lt s.1 to) refl where
 first_meets : (from to low : ℤ) (stretches : List (ℤ × ℤ)) → Beyond low stretches → begins to (entries_between int_cmp (Excluded from) Unbounded stretches) ≡ meets from to stretches
 first_meets from to low [] all = refl
 first_meets from to low (s ∷ stretches) all = grind (arith, ends_past from s.0, late from to s stretches all.1 all.2, first_meets from to s.0 stretches all.2)
+
+pub first_ended : (from to low : ℤ) (stretches : List (ℤ × ℤ)) → Beyond low stretches → first_begins from to stretches ≡ meets from to stretches
+first_ended from to low [] all = refl
+first_ended from to low (s ∷ stretches) all = grind (arith, late from to s stretches all.1 all.2, first_ended from to s.0 stretches all.2)
 
 -- MOMENTS
 
@@ -91,6 +95,13 @@ pub meets_none : (lines : List (Option plain.Period)) (p : plain.Period) (from :
 meets_none lines p from range stretches all is none same some beyond view full hold =
     sym (ap (begins p.to) none) ∙ (ap (begins p.to) is ∙ (ap (λ z. begins p.to (entries_between int_cmp (Excluded z) Unbounded stretches)) same
     ∙ (first_meets p.from p.to before_all stretches beyond ∙ meets_affects lines p before_all stretches some beyond full (λ t. ap (is_covered t) view ∙ hold t))))
+
+-- the first of few stretches that end after the beginning of the period
+pub meets_few : (lines : List (Option plain.Period)) (p : plain.Period) (found : Bool) (from to : ℤ) (list stretches all : List (ℤ × ℤ)) → found ≡ first_begins from to list
+    → from ≡ p.from → to ≡ p.to → list ≡ stretches → p.from <ℤ p.to → Beyond before_all stretches → stretches ≡ all → Full lines → Hold all lines → found ≡ list_any (λ line. affects_period true line (Some p)) lines
+meets_few lines p found from to list stretches all is first last lent some beyond view full hold =
+    is ∙ (ap (λ z. first_begins z to list) first ∙ (ap (λ z. first_begins p.from z list) last ∙ (ap (first_begins p.from p.to) lent
+    ∙ (first_ended p.from p.to before_all stretches beyond ∙ meets_affects lines p before_all stretches some beyond full (λ t. ap (is_covered t) view ∙ hold t)))))
 
 -- lines without a moment affect nothing
 pub without_moments : (lines : List (Option plain.Period)) (whole : Option plain.Period) → Full lines → Hold [] lines → list_any (λ line. affects_period true line whole) lines ≡ false

@@ -1,6 +1,6 @@
 -- Stretches of time with something between neighbours, each kept as its end and the moment where it
 -- begins.
-use Rattle.std.specs.Prelude.{◌≡◌, ℤ, negsuc, ◌<ℤ◌, Bool, false, ◌&&◌, int_lt, int_le, List, [], ◌∷◌, ◌++◌, Option, Some, None, if◌then◌else◌, slice_get}
+use Rattle.std.specs.Prelude.{◌≡◌, ℕ, suc, ℤ, negsuc, ◌<ℤ◌, Bool, false, ◌&&◌, int_lt, int_le, List, [], ◌∷◌, ◌++◌, Option, Some, None, if◌then◌else◌, slice_get}
 use Rattle.std.specs.List.{list_any}
 use Rattle.std.specs.Map.{lookup}
 use Rattle.tl_types.specs.declared.cells.Cell.{Cell}
@@ -37,6 +37,17 @@ abbrev pub joining : ℤ → ℤ → List (ℤ × ℤ) → Option (ℤ × ℤ)
 joining from to [] = None
 joining from to (s ∷ stretches) =
     if int_lt s.0 from then joining from to stretches else (if int_lt to s.1 then None else Some s)
+
+-- the number of stretches at the front that end before a moment
+abbrev pub ended : ℤ → List (ℤ × ℤ) → ℕ
+ended from [] = 0
+ended from (s ∷ stretches) = if int_lt s.0 from then suc (ended from stretches) else 0
+
+-- the first of the stretches that end after a moment begins before another
+abbrev pub first_begins : ℤ → ℤ → List (ℤ × ℤ) → Bool
+first_begins from to [] = false
+first_begins from to (s ∷ stretches) =
+    if int_lt from s.0 then int_lt s.1 to else first_begins from to stretches
 
 -- the times between two moments that no stretch covers
 abbrev pub gaps : ℤ → ℤ → List (ℤ × ℤ) → List (Option plain.Period)

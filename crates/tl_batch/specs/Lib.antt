@@ -6,6 +6,7 @@ pub mod Untimed
 pub mod Pieces
 pub mod Lines
 pub mod Covers
+pub mod Stretches
 pub mod Faults
 pub mod Made
 pub mod PutRows

@@ -38,10 +38,11 @@ fn add_overlapped(
     Ok(())
 }
 
-// Adds the open rows of a key that a line of the key overlaps.
+// Adds the open rows of a key that a line of the key overlaps. The list of ids is for the rows of
+// the key, whatever it holds.
 fn add_rows<L: Ledger>(
-    alloc: Global,
     affected: &mut IdList,
+    ids: &mut IdList,
     periods: &PeriodsByKey,
     key: &Cell,
     table: &OpenTable<'_>,
@@ -54,7 +55,7 @@ fn add_rows<L: Ledger>(
         && affected_by true (periods_with (Some key.now) lines) (slice_get table.now.rows n))
         || has_id affected.old n)) }
 {
-    let ids = table.id_list(alloc, key)?;
+    table.fill_ids(key, ids)?;
     let cover = periods.cover(key);
     for row in ids.as_slice() {
         let whole = table.period(*row, steps);
@@ -78,11 +79,12 @@ pub(crate) fn affected_rows<L: Ledger>(
         ≡ is_open_affected table.now.schema (lines_of lines.now) (slice_get table.now.rows n)) }
 {
     let mut affected = IdList::new(alloc);
+    let mut ids = IdList::new(alloc);
     let mut seen = KeySet::new(alloc);
     for line in lines {
         let fresh = seen.add(&line.key)?;
         if fresh {
-            add_rows(alloc, &mut affected, periods, &line.key, table, steps)?;
+            add_rows(&mut affected, &mut ids, periods, &line.key, table, steps)?;
         }
     }
     Ok(affected)

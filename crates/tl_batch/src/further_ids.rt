@@ -151,7 +151,7 @@ impl FurtherIds {
         ensures none { IfNone result ((n : ℕ) → has_further self.now key.now n ≡ false) }
     {
         match self.ids.get(key) {
-            Some(ids) => ids.least(),
+            Some(ids) => ids.any(),
             None => None,
         }
     }

@@ -39,6 +39,22 @@ impl IdList {
         Ok(())
     }
 
+    /// Adds ids. The error is `NoMemory`.
+    pub(crate) fn add_all(&mut self, ids: &[u32]) -> Result<(), NoMemory>
+        ensures { OnOk result ((n : ℕ) → has_id self.new n
+            ≡ (has_id ids.now n || has_id self.old n)) }
+    {
+        self.ids.extend_from_slice(ids)?;
+        Ok(())
+    }
+
+    /// Takes all ids away, and keeps the room for them.
+    pub(crate) fn clear(&mut self)
+        ensures { self.new ≡ [] }
+    {
+        self.ids.clear();
+    }
+
     /// The ids in the order in which they were collected.
     pub(crate) fn as_slice(&self) -> &[u32]
         ensures { result.now ≡ self.now }

@@ -1,5 +1,5 @@
 //! Sets of ids.
-ghost use Rattle.std.specs.Prelude.{◌≡◌, ◌||◌, ◌&&◌, not, true, ◌==◌, IsTrue, ◌∷◌, ℕ, [], OnOk, OnErr, IfSome, IfNone};
+ghost use Rattle.std.specs.Prelude.{◌≡◌, ◌<◌, ◌||◌, ◌&&◌, not, true, false, ◌==◌, IsTrue, ℕ, [], Some, OnOk, OnErr, IfSome, IfNone, length, slice_get};
 ghost use Rattle.tl_types.specs.History.{has_id};
 
 use crate::id_list::IdList;
@@ -8,18 +8,121 @@ use std::collections::BTreeSet;
 use std::marker::Model;
 use tl_types::NoMemory;
 
-/// A set of ids, which contracts see as the list of them.
+// So many ids stand in a list at most.
+const MOST: usize = 64;
+
+/// A set of ids, which contracts see as the list of them: a few in a list that is gone through, and
+/// those for which it has no room in a tree.
 #[derive(Drop)]
 pub(crate) struct IdSet {
-    ids: BTreeSet<u32>,
+    few: Vec<u32>,
+    further: BTreeSet<u32>,
 }
 
 impl Model for IdSet {
-    ghost use Rattle.std.specs.Prelude.{ℕ, List};
+    ghost use Rattle.std.specs.Prelude.{ℕ, List, ◌++◌};
 
     ghost Value = { List ℕ };
 
-    ghost view = { λ s. s.ids.keys };
+    ghost view = { λ s. s.few.items ++ s.further.keys };
+}
+
+// Adds an id to a list.
+fn push_id(few: &mut Vec<u32>, id: u32) -> Result<(), NoMemory>
+    ensures ok { OnOk result ((n : ℕ) → has_id few.new.items n
+        ≡ ((n == id) || has_id few.old.items n)) }
+    ensures err { OnErr result (few.new.items ≡ few.old.items) }
+{
+    few.push(id)?;
+    Ok(())
+}
+
+// Adds an id to a tree.
+fn insert_id(further: &mut BTreeSet<u32>, id: u32) -> Result<(), NoMemory>
+    ensures ok { OnOk result ((n : ℕ) → has_id further.new.keys n
+        ≡ ((n == id) || has_id further.old.keys n)) }
+    ensures err { OnErr result (further.new.keys ≡ further.old.keys) }
+{
+    further.insert(id)?;
+    Ok(())
+}
+
+// The place of an id in a list, where it is there.
+fn place_of(few: &[u32], id: u32) -> Option<usize>
+    ensures some { IfSome result (λ at. slice_get few.now at ≡ Some id) }
+    ensures within { IfSome result (λ at. at < length few.now) }
+    ensures none { IfNone result (has_id few.now id ≡ false) }
+{
+    for (i, other) in few.iter().enumerate() {
+        if *other == id {
+            return Some(i);
+        }
+    }
+    None
+}
+
+// Takes an id out of a list, wherever it stands.
+fn take_out(few: &mut Vec<u32>, id: u32)
+    ensures { (n : ℕ) → has_id few.new.items n ≡ (not (n == id) && has_id few.old.items n) }
+{
+    'taking: while let Some(at) = place_of(few.as_slice(), id) {
+        few.remove(at);
+    }
+}
+
+// Takes an id out of a tree.
+fn take_key(further: &mut BTreeSet<u32>, id: u32)
+    ensures { (n : ℕ) → has_id further.new.keys n ≡ (not (n == id) && has_id further.old.keys n) }
+{
+    further.remove(&id);
+}
+
+// Takes the last of the ids out of a list.
+fn pop_id(few: &mut Vec<u32>) -> Option<u32>
+    ensures taken { IfSome result (λ id. (n : ℕ) → has_id few.old.items n
+        ≡ ((n == id) || has_id few.new.items n)) }
+    ensures none { IfNone result (few.new.items ≡ few.old.items) }
+{
+    few.pop()
+}
+
+// Takes the least of the ids out of a tree.
+fn pop_key(further: &mut BTreeSet<u32>) -> Option<u32>
+    ensures taken { IfSome result (λ id. (n : ℕ) → has_id further.old.keys n
+        ≡ ((n == id) || has_id further.new.keys n)) }
+    ensures none { IfNone result (further.new.keys ≡ further.old.keys) }
+{
+    further.pop_first()
+}
+
+// The first of the ids in a list.
+fn first_id(few: &[u32]) -> Option<u32>
+    ensures some { IfSome result (λ id. has_id few.now id ≡ true) }
+    ensures none { IfNone result (few.now ≡ []) }
+{
+    match few {
+        [first, ..] => Some(*first),
+        [] => None,
+    }
+}
+
+// The least of the ids in a tree.
+fn first_key(further: &BTreeSet<u32>) -> Option<u32>
+    ensures some { IfSome result (λ id. has_id further.now.keys id ≡ true) }
+    ensures none { IfNone result (further.now.keys ≡ []) }
+{
+    further.first().copied()
+}
+
+// Adds the ids of a tree to a list.
+fn add_keys(further: &BTreeSet<u32>, list: &mut IdList) -> Result<(), NoMemory>
+    ensures { OnOk result ((n : ℕ) → has_id list.new n
+        ≡ (has_id further.now.keys n || has_id list.old n)) }
+{
+    for id in further {
+        list.add(*id)?;
+    }
+    Ok(())
 }
 
 impl IdSet {
@@ -28,7 +131,8 @@ impl IdSet {
         ensures { result ≡ [] }
     {
         IdSet {
-            ids: BTreeSet::new(alloc),
+            few: Vec::new(alloc),
+            further: BTreeSet::new(alloc),
         }
     }
 
@@ -37,7 +141,11 @@ impl IdSet {
         ensures ok { OnOk result ((n : ℕ) → has_id self.new n ≡ ((n == id) || has_id self.old n)) }
         ensures err { OnErr result (self.new ≡ self.old) }
     {
-        self.ids.insert(id)?;
+        if self.few.len() < MOST {
+            push_id(&mut self.few, id)?;
+            return Ok(());
+        }
+        insert_id(&mut self.further, id)?;
         Ok(())
     }
 
@@ -46,9 +154,8 @@ impl IdSet {
         ensures { OnOk result ((n : ℕ) → has_id list.new n
             ≡ (has_id self.now n || has_id list.old n)) }
     {
-        for id in &self.ids {
-            list.add(*id)?;
-        }
+        list.add_all(self.few.as_slice())?;
+        add_keys(&self.further, list)?;
         Ok(())
     }
 
@@ -56,29 +163,37 @@ impl IdSet {
     pub(crate) fn remove(&mut self, id: u32)
         ensures { (n : ℕ) → has_id self.new n ≡ (not (n == id) && has_id self.old n) }
     {
-        self.ids.remove(&id);
+        take_out(&mut self.few, id);
+        take_key(&mut self.further, id);
     }
 
-    /// Takes the least id out, where there is one.
+    /// Takes one of the ids out, where there is one.
     pub(crate) fn pop(&mut self) -> Option<u32>
-        ensures taken { IfSome result (λ id. self.old ≡ id ∷ self.new) }
+        ensures taken { IfSome result (λ id. (n : ℕ) → has_id self.old n
+            ≡ ((n == id) || has_id self.new n)) }
         ensures none { IfNone result (self.new ≡ self.old) }
     {
-        self.ids.pop_first()
+        if let Some(id) = pop_id(&mut self.few) {
+            return Some(id);
+        }
+        pop_key(&mut self.further)
     }
 
-    /// The least id, where there is one.
-    pub(crate) fn least(&self) -> Option<u32>
+    /// One of the ids, where there is one.
+    pub(crate) fn any(&self) -> Option<u32>
         ensures some { IfSome result (λ id. has_id self.now id ≡ true) }
         ensures none { IfNone result (self.now ≡ []) }
     {
-        self.ids.first().copied()
+        if let Some(id) = first_id(self.few.as_slice()) {
+            return Some(id);
+        }
+        first_key(&self.further)
     }
 
     /// Whether there is no id.
     pub(crate) fn is_empty(&self) -> bool
         ensures { IsTrue result → self.now ≡ [] }
     {
-        self.ids.is_empty()
+        self.few.is_empty() && self.further.is_empty()
     }
 }

@@ -174,13 +174,14 @@ impl KeyIndex {
         Ok(())
     }
 
-    /// The ids of the rows of a key, in any order. The error is `NoMemory`.
-    pub(crate) fn id_list(&self, alloc: Global, key: &Cell) -> Result<IdList, NoMemory>
-        ensures { IfOk result (λ ids. (n : ℕ) → has_id ids n ≡ has_row self.now key.now n) }
+    /// Makes a list that of the ids of the rows of a key, in any order: what the list had is gone,
+    /// and its room is used again. The error is `NoMemory`.
+    pub(crate) fn fill(&self, key: &Cell, ids: &mut IdList) -> Result<(), NoMemory>
+        ensures { OnOk result ((n : ℕ) → has_id ids.new n ≡ has_row self.now key.now n) }
     {
-        let mut ids = IdList::new(alloc);
-        self.add_to(key, &mut ids)?;
-        Ok(ids)
+        ids.clear();
+        self.add_to(key, ids)?;
+        Ok(())
     }
 
     /// The ids of the rows of a key, ascending. The error is `NoMemory`.
@@ -188,7 +189,8 @@ impl KeyIndex {
         ensures ascending { IfOk result (λ ids. AscendFrom 0 ids) }
         ensures members { IfOk result (λ ids. (n : ℕ) → has_id ids n ≡ has_row self.now key.now n) }
     {
-        let ids = self.id_list(alloc, key)?;
+        let mut ids = IdList::new(alloc);
+        self.add_to(key, &mut ids)?;
         let listed = ids.listed();
         Ok(listed)
     }

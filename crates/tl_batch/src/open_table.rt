@@ -1,5 +1,5 @@
 //! A table of a store, with the ids of its open rows by their keys.
-ghost use Rattle.std.specs.Prelude.{◌≡◌, ◌<◌, ◌≤◌, ℕ, true, Some, IfOk, length, slice_get, option_map};
+ghost use Rattle.std.specs.Prelude.{◌≡◌, ◌<◌, ◌≤◌, ℕ, true, Some, IfOk, OnOk, length, slice_get, option_map};
 ghost use Rattle.tl_types.specs.declared.cells.Cell.{Cell};
 ghost use Rattle.tl_types.specs.Facts.{AscendFrom};
 ghost use Rattle.tl_types.specs.History.{database_of, has_id};
@@ -77,12 +77,14 @@ impl<'a> OpenTable<'a> {
         self.store.rows(self.number)
     }
 
-    /// The ids of the open rows of a key, in any order. The error is `NoMemory`.
-    pub(crate) fn id_list(&self, alloc: Global, key: &Cell) -> Result<IdList, NoMemory>
-        ensures { IfOk result (λ ids. (n : ℕ) → has_id ids n
+    /// Makes a list that of the ids of the open rows of a key, in any order: what the list had is
+    /// gone, and its room is used again. The error is `NoMemory`.
+    pub(crate) fn fill_ids(&self, key: &Cell, ids: &mut IdList) -> Result<(), NoMemory>
+        ensures { OnOk result ((n : ℕ) → has_id ids.new n
             ≡ is_open_with self.now.schema.key key.now (slice_get self.now.rows n)) }
     {
-        self.index.id_list(alloc, key)
+        self.index.fill(key, ids)?;
+        Ok(())
     }
 
     /// The ids of the open rows of a key, ascending. The error is `NoMemory`.

@@ -10,7 +10,7 @@ use crate::open_table::OpenTable;
 use crate::periods_by_key::PeriodsByKey;
 use std::alloc::Global;
 use std::sync::ledger::Ledger;
-use tl_types::{Cell, NoMemory, Opened, Period, Schema, Seq, Steps};
+use tl_types::{Cell, NoMemory, Opened, Period, Schema, SmallSeq, Steps};
 
 // Appends a row of the cells, of which there are 1 to 16, over each of the periods.
 fn push_over(
@@ -24,7 +24,7 @@ fn push_over(
     ensures { OnOk result (opens.new.items ≡ opens.old.items ++ over cells.now periods.now) }
 {
     for period in periods {
-        let copy = Seq::from_vec(cells.to_vec(alloc)?);
+        let copy = SmallSeq::from_slice(alloc, cells)?;
         opens.push(Opened::new(copy, *period))?;
     }
     Ok(())

@@ -1,89 +1,96 @@
-//! The moments that periods cover, as stretches with something between neighbours.
-ghost use Rattle.std.specs.Prelude.{◌≡◌, ◌||◌, ◌++◌, ◌<ℤ◌, ℤ, true, List, Option, [], None, Some, IfOk, OnOk};
+//! The moments that periods cover.
+ghost use Rattle.std.specs.Prelude.{◌≡◌, ◌||◌, ◌<ℤ◌, ℤ, true, List, Option, [], Some, IfOk, IfSome, OnOk};
 ghost use Rattle.std.specs.List.{list_any};
 ghost use Rattle.tl_types.specs.Plain as plain;
 ghost use Rattle.tl_types.specs.History.{is_within};
-ghost use Rattle.tl_batch.specs.Covers.{Full, Beyond, before_all, is_between, is_covered, joining, gaps};
-ghost use Rattle.tl_batch.specs.Pieces.{affects_period, cuts, part};
+ghost use Rattle.tl_batch.specs.Covers.{Full, Beyond, before_all, is_between, is_covered, gaps};
+ghost use Rattle.tl_batch.specs.Pieces.{affects_period, cuts};
+ghost use Rattle.tl_batch.specs.Stretches.{stretches_in};
 
+use crate::few_periods::FewPeriods;
+use crate::many_periods::ManyPeriods;
 use std::alloc::Global;
-use std::collections::BTreeMap;
 use std::marker::Model;
-use std::ops::Bound;
 use tl_types::{NoMemory, Period};
 
-/// The moments that periods cover: stretches with something between neighbours, each kept as its
-/// end and the moment where it begins, in order.
+/// The moments that periods cover, as stretches with something between neighbours.
+#[derive(Drop)]
+pub(crate) enum Stretches {
+    /// Stretches that stand in a list.
+    Few(FewPeriods),
+    /// Stretches that stand in a tree.
+    Many(ManyPeriods),
+}
+
+/// The moments that periods cover: a list of stretches while these are few, as they mostly are, and
+/// then a tree. A contract sees the stretches, each as its end and the moment where it begins.
 #[derive(Drop)]
 pub(crate) struct PeriodSet {
-    stretches: BTreeMap<i64, i64>,
+    stretches: Stretches,
 }
 
 impl Model for PeriodSet {
     ghost use Rattle.std.specs.Prelude.{ℤ, List};
-    ghost use Rattle.tl_batch.specs.Covers.{Beyond, before_all};
+    ghost use Rattle.tl_batch.specs.Stretches.{stretches_in};
 
     ghost Value = { List (ℤ × ℤ) };
 
-    ghost view = { λ c. c.stretches.entries };
-
-    ghost invariant = { λ c. Beyond before_all c.stretches.entries };
+    ghost view = { λ c. stretches_in c.stretches };
 }
 
-// A moment that is lent.
-fn moment(lent: &i64) -> i64
-    ensures { result ≡ lent.now }
+// Covers a stretch too, which is not empty.
+fn add_stretch(many: &mut ManyPeriods, stretch: &(i64, i64)) -> Result<(), NoMemory>
+    requires { stretch.now.1 <ℤ stretch.now.0 }
+    ensures { OnOk result ((t : ℤ) → is_covered t many.new
+        ≡ (is_between t stretch.now.1 stretch.now.0 || is_covered t many.old)) }
 {
-    *lent
-}
-
-// Appends the times from one on and before another, where there are any. The error is `NoMemory`.
-fn push_part(parts: &mut Vec<Option<Period>>, from: i64, to: i64) -> Result<(), NoMemory>
-    ensures { OnOk result (parts.new.items ≡ parts.old.items ++ part from to) }
-{
-    if from < to {
-        parts.push(Some(Period::new(from, to)))?;
-    }
+    many.add(Period::new(stretch.1, stretch.0))?;
     Ok(())
 }
 
-// The first of the stretches that overlaps one or is adjacent to it: its end, and where it begins.
-fn joining(stretches: &BTreeMap<i64, i64>, from: i64, to: i64) -> Option<(i64, i64)>
-    requires { Beyond before_all stretches.now.entries }
-    ensures { result ≡ joining from to stretches.now.entries }
+// The moments of a list of stretches, in a tree. The error is `NoMemory`.
+fn many_of(alloc: Global, stretches: &[(i64, i64)]) -> Result<ManyPeriods, NoMemory>
+    requires { Beyond before_all stretches.now }
+    ensures { IfOk result (λ many. (t : ℤ) → is_covered t many
+        ≡ is_covered t stretches.now) }
 {
-    match stretches.range(from..).next() {
-        Some((end, start)) => {
-            let start = moment(start);
-            if start <= to {
-                Some((moment(end), start))
-            } else {
-                None
-            }
-        }
-        None => None,
+    let mut many = ManyPeriods::new(alloc);
+    for stretch in stretches {
+        add_stretch(&mut many, stretch)?;
     }
+    Ok(many)
 }
 
-// Takes away the stretches that overlap one or are adjacent to it, and gives the stretch of all of
-// these.
-fn absorbed(stretches: &mut BTreeMap<i64, i64>, period: Period) -> (i64, i64)
-    requires { Beyond before_all stretches.old.entries }
-    ensures beyond { Beyond before_all stretches.new.entries }
-    ensures order { result.0 <ℤ result.1 }
-    ensures alone { joining result.0 result.1 stretches.new.entries ≡ None }
-    ensures covers { (t : ℤ) → (is_between t result.0 result.1
-        || is_covered t stretches.new.entries)
-        ≡ (is_between t period.from period.to || is_covered t stretches.old.entries) }
+// The tree that takes the place of a list that is full. The error is `NoMemory`.
+fn grown(alloc: Global, stretches: &Stretches) -> Result<Option<ManyPeriods>, NoMemory>
+    ensures { IfOk result (λ grown. IfSome grown (λ many. (t : ℤ) → is_covered t many
+        ≡ is_covered t (stretches_in stretches.now))) }
 {
-    let mut from = period.from();
-    let mut to = period.to();
-    'absorbing: while let Some((end, start)) = joining(stretches, from, to) {
-        stretches.remove(&end);
-        from = from.min(start);
-        to = to.max(end);
+    let Stretches::Few(few) = stretches else {
+        return Ok(None);
+    };
+    if !few.is_full() {
+        return Ok(None);
     }
-    (from, to)
+    let many = many_of(alloc, few.as_slice())?;
+    Ok(Some(many))
+}
+
+// Covers a period too. The error is `NoMemory`.
+fn add_to(stretches: &mut Stretches, period: Period) -> Result<(), NoMemory>
+    ensures { OnOk result ((t : ℤ) → is_covered t (stretches_in stretches.new)
+        ≡ (is_between t period.from period.to || is_covered t (stretches_in stretches.old))) }
+{
+    match stretches {
+        Stretches::Few(few) => {
+            few.add(period)?;
+            Ok(())
+        }
+        Stretches::Many(many) => {
+            many.add(period)?;
+            Ok(())
+        }
+    }
 }
 
 impl PeriodSet {
@@ -92,17 +99,19 @@ impl PeriodSet {
         ensures { result ≡ [] }
     {
         PeriodSet {
-            stretches: BTreeMap::new(alloc),
+            stretches: Stretches::Few(FewPeriods::new(alloc)),
         }
     }
 
     /// Covers a period too. The error is `NoMemory`.
-    pub(crate) fn add(&mut self, period: Period) -> Result<(), NoMemory>
+    pub(crate) fn add(&mut self, alloc: Global, period: Period) -> Result<(), NoMemory>
         ensures { OnOk result ((t : ℤ) → is_covered t self.new
             ≡ (is_between t period.from period.to || is_covered t self.old)) }
     {
-        let (from, to) = absorbed(&mut self.stretches, period);
-        self.stretches.insert(to, from)?;
+        if let Some(many) = grown(alloc, &self.stretches)? {
+            self.stretches = Stretches::Many(many);
+        }
+        add_to(&mut self.stretches, period)?;
         Ok(())
     }
 
@@ -112,10 +121,9 @@ impl PeriodSet {
             → ((t : ℤ) → is_covered t self.now ≡ list_any (is_within t) lines)
             → result ≡ list_any (λ line. affects_period true line (Some period)) lines }
     {
-        let behind = (Bound::Excluded(period.from()), Bound::Unbounded);
-        match self.stretches.range(behind).next() {
-            Some((_, start)) => moment(start) < period.to(),
-            None => false,
+        match &self.stretches {
+            Stretches::Few(few) => few.overlaps(period),
+            Stretches::Many(many) => many.overlaps(period),
         }
     }
 
@@ -131,20 +139,15 @@ impl PeriodSet {
             → ((t : ℤ) → is_covered t self.now ≡ list_any (is_within t) lines) → left.items
             ≡ cuts true lines (Some period)) }
     {
-        let to = period.to();
-        let mut left = Vec::new(alloc);
-        let mut from = period.from();
-        let behind = (Bound::Excluded(from), Bound::Unbounded);
-        for (end, start) in self.stretches.range(behind) {
-            let start = moment(start);
-            if start >= to {
-                push_part(&mut left, from, to)?;
-                return Ok(left);
+        match &self.stretches {
+            Stretches::Few(few) => {
+                let left = few.gaps(alloc, period)?;
+                Ok(left)
             }
-            push_part(&mut left, from, start)?;
-            from = moment(end);
+            Stretches::Many(many) => {
+                let left = many.gaps(alloc, period)?;
+                Ok(left)
+            }
         }
-        push_part(&mut left, from, to)?;
-        Ok(left)
     }
 }

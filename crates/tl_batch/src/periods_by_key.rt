@@ -12,14 +12,14 @@ ghost use Rattle.tl_batch.specs.Lines.{lines_of};
 use crate::cover::Cover;
 use crate::period_set::PeriodSet;
 use std::alloc::Global;
-use std::collections::BTreeMap;
+use std::collections::HashMap;
 use std::marker::Model;
 use tl_types::{Cell, KeyLine, NoMemory, Period};
 
 /// The moments that the lines of each key cover.
 #[derive(Drop)]
 pub(crate) struct PeriodsByKey {
-    covers: BTreeMap<Cell, PeriodSet>,
+    covers: HashMap<Cell, PeriodSet>,
 }
 
 impl Model for PeriodsByKey {
@@ -37,7 +37,7 @@ impl PeriodsByKey {
         ensures { HoldLines result [] }
     {
         PeriodsByKey {
-            covers: BTreeMap::new(alloc),
+            covers: HashMap::new(alloc),
         }
     }
 
@@ -60,11 +60,11 @@ impl PeriodsByKey {
     {
         let Some(cover) = self.covers.get_mut(key) else {
             let mut cover = PeriodSet::new(alloc);
-            cover.add(period)?;
+            cover.add(alloc, period)?;
             self.put(key, cover)?;
             return Ok(());
         };
-        cover.add(period)?;
+        cover.add(alloc, period)?;
         Ok(())
     }
 

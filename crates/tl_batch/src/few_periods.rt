@@ -1,0 +1,206 @@
+//! The moments that few periods cover, as stretches with something between neighbours.
+ghost use Rattle.std.specs.Prelude.{◌≡◌, ◌+◌, ◌<◌, ◌≤◌, ◌||◌, ◌++◌, ◌<ℤ◌, ℤ, true, List, Option, [], None, Some, IfOk, IfSome, IfNone, OnOk, length, slice_get};
+ghost use Rattle.std.specs.List.{list_any};
+ghost use Rattle.tl_types.specs.Plain as plain;
+ghost use Rattle.tl_types.specs.History.{is_within};
+ghost use Rattle.tl_batch.specs.Covers.{Full, Beyond, before_all, is_between, is_covered, joining, gaps, ended, first_begins};
+ghost use Rattle.tl_batch.specs.Pieces.{affects_period, cuts, part};
+
+use std::alloc::Global;
+use std::marker::Model;
+use tl_types::{NoMemory, Period};
+
+// The most stretches that the list is for.
+const MOST: usize = 32;
+
+/// The moments that few periods cover: stretches with something between neighbours, each kept as
+/// its end and the moment where it begins, in order. A call may go through them all, so a set that
+/// is full is to be kept in another way.
+#[derive(Drop)]
+pub(crate) struct FewPeriods {
+    stretches: Vec<(i64, i64)>,
+}
+
+impl Model for FewPeriods {
+    ghost use Rattle.std.specs.Prelude.{ℤ, List};
+    ghost use Rattle.tl_batch.specs.Covers.{Beyond, before_all};
+
+    ghost Value = { List (ℤ × ℤ) };
+
+    ghost view = { λ c. c.stretches.items };
+
+    ghost invariant = { λ c. Beyond before_all c.stretches.items };
+}
+
+// The end of a stretch.
+fn end_of(stretch: &(i64, i64)) -> i64
+    ensures { result ≡ stretch.now.0 }
+{
+    stretch.0
+}
+
+// The moment where a stretch begins.
+fn start_of(stretch: &(i64, i64)) -> i64
+    ensures { result ≡ stretch.now.1 }
+{
+    stretch.1
+}
+
+// The number of stretches at the front that end before a moment.
+fn ended(stretches: &[(i64, i64)], from: i64) -> usize
+    ensures number { result ≡ ended from stretches.now }
+    ensures within { result ≤ length stretches.now }
+{
+    for (i, stretch) in stretches.iter().enumerate() {
+        if from <= end_of(stretch) {
+            return i;
+        }
+    }
+    stretches.len()
+}
+
+// The place of the first of the stretches that overlaps one or is adjacent to it.
+fn joining(stretches: &[(i64, i64)], from: i64, to: i64) -> Option<usize>
+    ensures some { IfSome result (λ at. joining from to stretches.now
+        ≡ slice_get stretches.now at) }
+    ensures within { IfSome result (λ at. at < length stretches.now) }
+    ensures none { IfNone result (joining from to stretches.now ≡ None) }
+{
+    let at = ended(stretches, from);
+    if at >= stretches.len() {
+        return None;
+    }
+    if start_of(&stretches[at]) <= to {
+        return Some(at);
+    }
+    None
+}
+
+// Takes away the stretches that overlap one or are adjacent to it, and gives the stretch of all of
+// these.
+fn absorbed(stretches: &mut Vec<(i64, i64)>, period: Period) -> (i64, i64)
+    requires { Beyond before_all stretches.old.items }
+    ensures beyond { Beyond before_all stretches.new.items }
+    ensures order { result.0 <ℤ result.1 }
+    ensures alone { joining result.0 result.1 stretches.new.items ≡ None }
+    ensures covers { (t : ℤ) → (is_between t result.0 result.1
+        || is_covered t stretches.new.items)
+        ≡ (is_between t period.from period.to || is_covered t stretches.old.items) }
+{
+    let mut from = period.from();
+    let mut to = period.to();
+    'absorbing: while let Some(at) = joining(stretches.as_slice(), from, to) {
+        let taken = stretches.remove(at);
+        from = from.min(start_of(&taken));
+        to = to.max(end_of(&taken));
+    }
+    (from, to)
+}
+
+// Whether the first of the stretches that end after a moment begins before another.
+fn first_begins(stretches: &[(i64, i64)], from: i64, to: i64) -> bool
+    ensures { result ≡ first_begins from to stretches.now }
+{
+    for stretch in stretches {
+        if from < end_of(stretch) {
+            return start_of(stretch) < to;
+        }
+    }
+    false
+}
+
+// Appends the times from one on and before another, where there are any. The error is `NoMemory`.
+fn push_part(parts: &mut Vec<Option<Period>>, from: i64, to: i64) -> Result<(), NoMemory>
+    ensures { OnOk result (parts.new.items ≡ parts.old.items ++ part from to) }
+{
+    if from < to {
+        parts.push(Some(Period::new(from, to)))?;
+    }
+    Ok(())
+}
+
+// The times between two moments that no stretch covers.
+fn gaps_between(
+    alloc: Global,
+    stretches: &[(i64, i64)],
+    from: i64,
+    to: i64,
+) -> Result<Vec<Option<Period>>, NoMemory>
+    ensures { IfOk result (λ left. left.items ≡ gaps from to stretches.now) }
+{
+    let mut left = Vec::new(alloc);
+    let mut start = from;
+    for stretch in stretches {
+        if end_of(stretch) <= start {
+            continue;
+        }
+        if start_of(stretch) >= to {
+            push_part(&mut left, start, to)?;
+            return Ok(left);
+        }
+        push_part(&mut left, start, start_of(stretch))?;
+        start = end_of(stretch);
+    }
+    push_part(&mut left, start, to)?;
+    Ok(left)
+}
+
+impl FewPeriods {
+    /// No moments.
+    pub(crate) fn new(alloc: Global) -> FewPeriods
+        ensures { result ≡ [] }
+    {
+        FewPeriods {
+            stretches: Vec::new(alloc),
+        }
+    }
+
+    /// Whether there are as many stretches as few can be.
+    pub(crate) fn is_full(&self) -> bool {
+        self.stretches.len() >= MOST
+    }
+
+    /// The stretches, each as its end and the moment where it begins.
+    pub(crate) fn as_slice(&self) -> &[(i64, i64)]
+        ensures same { result.now ≡ self.now }
+        ensures beyond { Beyond before_all self.now }
+    {
+        self.stretches.as_slice()
+    }
+
+    /// Covers a period too. The error is `NoMemory`.
+    pub(crate) fn add(&mut self, period: Period) -> Result<(), NoMemory>
+        ensures { OnOk result ((t : ℤ) → is_covered t self.new
+            ≡ (is_between t period.from period.to || is_covered t self.old)) }
+    {
+        let (from, to) = absorbed(&mut self.stretches, period);
+        let at = ended(self.stretches.as_slice(), from);
+        self.stretches.insert(at, (to, from))?;
+        Ok(())
+    }
+
+    /// Whether a moment of a period is covered.
+    pub(crate) fn overlaps(&self, period: Period) -> bool
+        ensures { (lines : List (Option plain.Period)) → Full lines
+            → ((t : ℤ) → is_covered t self.now ≡ list_any (is_within t) lines)
+            → result ≡ list_any (λ line. affects_period true line (Some period)) lines }
+    {
+        first_begins(self.stretches.as_slice(), period.from(), period.to())
+    }
+
+    /// The parts of a period that are not covered. The error is `NoMemory`.
+    pub(crate) fn gaps(
+        &self,
+        alloc: Global,
+        period: Period,
+    ) -> Result<Vec<Option<Period>>, NoMemory>
+        ensures some { period.from <ℤ period.to }
+        ensures value { IfOk result (λ left. left.items ≡ gaps period.from period.to self.now) }
+        ensures lines { IfOk result (λ left. (lines : List (Option plain.Period)) → Full lines
+            → ((t : ℤ) → is_covered t self.now ≡ list_any (is_within t) lines) → left.items
+            ≡ cuts true lines (Some period)) }
+    {
+        let left = gaps_between(alloc, self.stretches.as_slice(), period.from(), period.to())?;
+        Ok(left)
+    }
+}

@@ -45,7 +45,19 @@ fn stretch_of(from: u32, to: u32, value: Field) -> Run
     }
 }
 
+// Makes room for three times as many runs as there are, where there is none: each time that it is
+// full, a list of runs is copied, and a run is large.
+fn make_room(runs: &mut Vec<Run>) -> Result<(), NoMemory>
+    ensures { OnOk result (runs.new.items ≡ runs.old.items) }
+{
+    if runs.len() == runs.capacity() {
+        runs.reserve(runs.len().saturating_mul(3).max(4))?;
+    }
+    Ok(())
+}
+
 // Puts a stretch of so many rows behind runs that have gaps.
+#[inline(always)]
 fn put_touching(runs: &mut Vec<Run>, count: u32, stretch: Run) -> Result<(), NoMemory>
     ensures { OnOk result
         (runs.new.items ≡ put_stretch true count runs.old.items stretch) }
@@ -57,6 +69,7 @@ fn put_touching(runs: &mut Vec<Run>, count: u32, stretch: Run) -> Result<(), NoM
 }
 
 // Puts a stretch of so many rows behind runs.
+#[inline(always)]
 fn put_stretch(runs: &mut Vec<Run>, gaps: bool, count: u32, stretch: Run) -> Result<(), NoMemory>
     ensures { OnOk result
         (runs.new.items ≡ put_stretch gaps count runs.old.items stretch) }
@@ -88,6 +101,7 @@ impl Group {
         if self.since >= to {
             return Ok(());
         }
+        make_room(&mut self.runs)?;
         let stretch = stretch_of(self.since, to, self.running.value());
         put_stretch(&mut self.runs, self.gaps, self.running.count(), stretch)?;
         self.since = to;

@@ -1,11 +1,14 @@
 -- The events up to a moment are the first ones, and stay the same up to the next one.
-use Rattle.std.proofs.Common.{◌≡◌, ℕ, zero, suc, ◌+◌, ◌<◌, ◌≤◌, ℤ, ◌-ℤ◌, ◌<ℤ◌, ◌≤ℤ◌, int_le, int_lt, Bool, true, false, cond, List, [], ◌∷◌, length, take, get_or, Some, None, ◌⊎◌, inl, inr, refl, sym, ap, subst, arith, slice_get}
+use Rattle.std.proofs.Common.{◌≡◌, ℕ, zero, suc, ◌+◌, ◌<◌, ◌≤◌, ℤ, ◌-ℤ◌, ◌<ℤ◌, ◌≤ℤ◌, int_le, int_lt, Bool, true, false, cond, List, [], ◌∷◌, length, take, get_or, Some, None, ◌⊎◌, inl, inr, refl, sym, ap, ◌∙◌, subst, arith, slice_get}
 use Rattle.std.specs.List.{filter}
 use Rattle.std.proofs.lemmas.Int.{ints}
 use Rattle.std.proofs.lemmas.Option.{slice_get_cases, get_or_from_slice_get}
 use Rattle.tl_types.specs.declared.events.ValidEvent.{ValidEvent}
 use Rattle.tl_types.specs.Runs.{count_of}
-use Rattle.tl_types.proofs.RunLemmas.{count_is}
+use Rattle.tl_types.proofs.RunLemmas.{count_is, runs_none, IsMade}
+use Rattle.tl_types.specs.Runs.{runs_of}
+use Rattle.tl_types.specs.declared.answers.Field.{Field}
+use Rattle.tl_types.specs.declared.runs.Run.{Run}
 use Rattle.tl_app.specs.Opening.{InTime, up_to}
 use Rattle.tl_app.specs.Scans.{due_at, next_of, IsCut}
 
@@ -110,3 +113,13 @@ count_less at next to l m =
 
 pub less_true : (a b : ℤ) → int_lt a b ≡ true → a <ℤ b
 less_true a b l = grind (arith, ints)
+
+-- the runs up to a moment that is not before the end of the range are those of the range
+pub made_all : (f : ℤ → Field) (from to at : ℤ) (runs : List Run) → IsMade f from to at runs → to ≤ℤ at → runs ≡ runs_of f from to
+made_all f from to at runs made past = by_within made.within where
+  by_within : (at ≤ℤ to) ⊎ (at ≡ from) → runs ≡ runs_of f from to
+  by_within (inl h) = let e : at ≡ to = omega (arith, ints) in made.made ∙ ap (runs_of f from) e
+  by_within (inr e) = made.made ∙ runs_none f from at (omega (arith, ints)) ∙ sym (runs_none f from to (omega (arith, ints)))
+
+pub less_false : (x y : ℤ) → int_lt x y ≡ false → y ≤ℤ x
+less_false x y h = grind (arith, ints)

@@ -1,5 +1,6 @@
 pub mod SumLemmas
 pub mod OrderLemmas
 pub mod HeapLemmas
+pub mod PileLemmas
 pub mod StandingLemmas
 pub mod TouchLemmas

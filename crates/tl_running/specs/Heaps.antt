@@ -1,5 +1,5 @@
 -- Heaps of whole numbers, and a multiset that is kept as two of them.
-use Rattle.std.specs.Prelude.{◌≡◌, ℕ, ◌+◌, ◌-◌, ◌<◌, ◌≤◌, ℤ, negsuc, ◌-ℤ◌, ◌≤ℤ◌, List, length, map, if◌then◌else◌}
+use Rattle.std.specs.Prelude.{◌≡◌, ℕ, ◌+◌, ◌-◌, ◌<◌, ◌≤◌, ◌⊎◌, ℤ, negsuc, ◌-ℤ◌, ◌≤ℤ◌, Bool, true, List, ◌++◌, length, map, Some, slice_get, if◌then◌else◌}
 use Rattle.std.specs.List.{count_by}
 use Rattle.std.specs.Ordering.{int_eq}
 use Rattle.tl_query.specs.declared.ast.AggKind.{AggKind}
@@ -28,6 +28,74 @@ pub record JoinsHeap (old new : HeapOf) (number : ℤ) : Type 0 where
   pub long : length new.numbers ≡ length old.numbers + 1
   pub counts : (v : ℤ) → count_in v new.numbers
       ≡ count_in v old.numbers + (if int_eq number v then 1 else 0)
+
+-- PILES
+
+-- the numbers near the greatest and those that are far from it
+abbrev pub pile_of : HeapOf → HeapOf → HeapOf
+pile_of near far = record { numbers = near.numbers ++ far.numbers; room = far.room }
+
+-- none of the numbers is above this one
+abbrev pub AreUpTo : List ℤ → ℤ → Type 0
+AreUpTo numbers bound = (v : ℤ) → 0 < count_in v numbers → v ≤ℤ bound
+
+-- the greatest number, where there is one, is not below this one
+abbrev pub Reaches : List ℤ → ℤ → Type 0
+Reaches numbers bound = (x : ℤ) → IsTop numbers x → bound ≤ℤ x
+
+-- no number that is far is above the bound, the greatest of those that are near reaches it, and
+-- there is room for all of them near it
+pub record IsPile (near far : HeapOf) (bound : ℤ) : Type 0 where
+  pub reaches : Reaches near.numbers bound
+  pub below : AreUpTo far.numbers bound
+  pub some : length near.numbers ≡ 0 → length far.numbers ≡ 0
+  pub room : far.room ≤ near.room
+
+-- a number joins a pile
+pub record FillsPile (near far near_new far_new : HeapOf) (number bound : ℤ) : Type 0 where
+  pub joins : JoinsHeap (pile_of near far) (pile_of near_new far_new) number
+  pub pile : IsPile near_new far_new bound
+  pub room : far_new.room ≡ far.room
+
+-- none of the numbers before a place is above that at another one
+abbrev pub AreBeforeUpTo : List ℤ → ℕ → ℕ → Type 0
+AreBeforeUpTo numbers i place =
+    (k : ℕ) → (x y : ℤ) → k < i → slice_get numbers k ≡ Some x
+    → slice_get numbers place ≡ Some y → x ≤ℤ y
+
+-- the place is one of the two, and neither has a number that is above that at the place
+pub record IsGreaterAt (numbers : List ℤ) (first second place : ℕ) : Type 0 where
+  pub one : (place ≡ first) ⊎ (place ≡ second)
+  pub left : (x y : ℤ) → slice_get numbers first ≡ Some x
+      → slice_get numbers place ≡ Some y → x ≤ℤ y
+  pub right : (x y : ℤ) → slice_get numbers second ≡ Some x
+      → slice_get numbers place ≡ Some y → x ≤ℤ y
+
+-- the number at the place is the greatest
+pub record IsGreatestAt (numbers : List ℤ) (place : ℕ) : Type 0 where
+  pub within : place < length numbers
+  pub above : (x : ℤ) → slice_get numbers place ≡ Some x → AreUpTo numbers x
+
+-- some numbers that were far are near
+pub record MovesNear (near far near_new far_new : HeapOf) : Type 0 where
+  pub same : (v : ℤ) → count_in v near_new.numbers + count_in v far_new.numbers
+      ≡ count_in v near.numbers + count_in v far.numbers
+  pub long : length near_new.numbers + length far_new.numbers
+      ≡ length near.numbers + length far.numbers
+  pub kept : (v : ℤ) → count_in v near.numbers ≤ count_in v near_new.numbers
+  pub more : length near.numbers ≤ length near_new.numbers
+  pub near_room : near.room ≤ near_new.room
+  pub far_room : far_new.room ≡ far.room
+
+-- some numbers that were far are near, and both are a pile
+pub record MendsPile (near far near_new far_new : HeapOf) (bound : ℤ) : Type 0 where
+  pub moves : MovesNear near far near_new far_new
+  pub pile : IsPile near_new far_new bound
+
+-- the lower one of two bounds where it holds, else the upper one
+pub record IsLower (holds : Bool) (low top bound : ℤ) : Type 0 where
+  pub upto : bound ≤ℤ top
+  pub one : (bound ≡ top) ⊎ ((holds ≡ true) × (bound ≡ low))
 
 -- TWO HEAPS
 

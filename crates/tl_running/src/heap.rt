@@ -1,5 +1,5 @@
 //! Heaps of whole numbers.
-ghost use Rattle.std.specs.Prelude.{◌≡◌, ◌+◌, ◌<◌, ◌≤◌, length, IsOk, IfSome, IfNone, OnOk, OnErr};
+ghost use Rattle.std.specs.Prelude.{◌≡◌, ◌+◌, ◌<◌, ◌≤◌, length, IfSome, IfNone, OnSome, OnOk};
 ghost use Rattle.tl_running.specs.Heaps.{IsTop, JoinsHeap, none_in};
 
 use std::alloc::Global;
@@ -38,7 +38,7 @@ fn number(number: &i64) -> i64
 impl Heap {
     /// The heap of no number. It takes no memory.
     pub(crate) fn none(alloc: Global) -> Heap
-        ensures { none_in result.numbers }
+        ensures { length result.numbers ≡ 0 }
     {
         Heap {
             numbers: BinaryHeap::new(alloc),
@@ -48,7 +48,7 @@ impl Heap {
     /// How many numbers there are.
     pub(crate) fn len(&self) -> usize
         ensures len { result ≡ length self.now.numbers }
-        ensures few { result < 18446744073709551615 }
+        ensures few { result < 9223372036854775808 }
     {
         self.numbers.len()
     }
@@ -78,15 +78,15 @@ impl Heap {
         self.numbers.reserve(more)
     }
 
-    /// Puts a number in. The error is `NoMemory`, which does not come where there is room.
-    pub(crate) fn push(&mut self, number: i64) -> Result<(), NoMemory>
-        ensures ok { OnOk result (JoinsHeap self.old self.new number) }
-        ensures err { OnErr result (self.new.numbers ≡ self.old.numbers) }
-        ensures sure { length self.old.numbers < self.old.room → IsOk result }
+    /// Puts a number in, for which there is room.
+    pub(crate) fn push(&mut self, number: i64)
+        requires { length self.old.numbers < self.old.room }
+        ensures joins { JoinsHeap self.old self.new number }
         ensures room { self.old.room ≤ self.new.room }
     {
-        self.numbers.push(number)?;
-        Ok(())
+        let Ok(()) = self.numbers.push(number) else {
+            unreachable!()
+        };
     }
 
     /// Takes the greatest number out.
@@ -95,6 +95,8 @@ impl Heap {
         ensures some { IfSome result (JoinsHeap self.new self.old) }
         ensures none { IfNone result (none_in self.old.numbers) }
         ensures room { self.new.room ≡ self.old.room }
+        ensures empty { IfNone result (length self.new.numbers ≡ 0) }
+        ensures spare { OnSome result (length self.new.numbers < self.new.room) }
     {
         let top = self.numbers.pop()?;
         Some(top)

@@ -3,18 +3,18 @@ ghost use Rattle.std.specs.Prelude.{◌≡◌, ℤ, ◌+◌, ◌<◌, ◌≤◌,
 ghost use Rattle.tl_bits.specs.Bags.{times, AddsOne, IsGreatest};
 ghost use Rattle.tl_running.specs.Heaps.{count_in, IsTop, JoinsHeap, AreBelow, SettleTo};
 
-use crate::heap::Heap;
+use crate::pile::Pile;
 use std::alloc::Global;
 use std::marker::Model;
 use tl_types::NoMemory;
 
-/// A multiset of whole numbers that tells its greatest: a heap of what came, one of what went of
+/// A multiset of whole numbers that tells its greatest: a pile of what came, one of what went of
 /// it; a number that is the greatest of both is taken out of both, so the greatest of what came did
 /// not go. A contract sees the list of its values, each with how often it is there.
 #[derive(Drop)]
 pub(crate) struct Heaps {
-    came: Heap,
-    gone: Heap,
+    came: Pile,
+    gone: Pile,
 }
 
 impl Model for Heaps {
@@ -28,8 +28,8 @@ impl Model for Heaps {
     ghost invariant = { λ h. AreHeaps h.came h.gone };
 }
 
-// The greatest number of both heaps, where that is one number.
-fn common_top(came: &Heap, gone: &Heap) -> Option<i64>
+// The greatest number of both piles, where that is one number.
+fn common_top(came: &Pile, gone: &Pile) -> Option<i64>
     requires { AreBelow came.now.numbers gone.now.numbers }
     ensures came { IfSome result (IsTop came.now.numbers) }
     ensures gone { IfSome result (IsTop gone.now.numbers) }
@@ -44,18 +44,18 @@ fn common_top(came: &Heap, gone: &Heap) -> Option<i64>
     None
 }
 
-// Takes the greatest number out of a heap.
-fn drop_top(heap: &mut Heap, top: i64)
-    requires { IsTop heap.old.numbers top }
-    ensures joins { JoinsHeap heap.new heap.old top }
-    ensures room { heap.new.room ≡ heap.old.room }
+// Takes the greatest number out of a pile.
+fn drop_top(pile: &mut Pile, top: i64)
+    requires { IsTop pile.old.numbers top }
+    ensures joins { JoinsHeap pile.new pile.old top }
+    ensures room { pile.new.room ≡ pile.old.room }
 {
     let _top = top;
-    let _ = heap.pop();
+    let _ = pile.pop();
 }
 
-// Takes out of both heaps what is the greatest of both.
-fn settle(came: &mut Heap, gone: &mut Heap)
+// Takes out of both piles what is the greatest of both.
+fn settle(came: &mut Pile, gone: &mut Pile)
     requires { AreBelow came.old.numbers gone.old.numbers }
     ensures { SettleTo came.old gone.old came.new gone.new }
 {
@@ -66,16 +66,17 @@ fn settle(came: &mut Heap, gone: &mut Heap)
 }
 
 // Makes room for more numbers than so many. The error is `NoMemory`.
-fn make_room(heap: &mut Heap, many: usize) -> Result<(), NoMemory>
+#[inline]
+fn make_room(pile: &mut Pile, many: usize) -> Result<(), NoMemory>
     requires { many < 18446744073709551615 }
-    ensures numbers { heap.new.numbers ≡ heap.old.numbers }
-    ensures room { heap.old.room ≤ heap.new.room }
-    ensures ok { OnOk result (many < heap.new.room) }
+    ensures numbers { pile.new.numbers ≡ pile.old.numbers }
+    ensures room { pile.old.room ≤ pile.new.room }
+    ensures ok { OnOk result (many < pile.new.room) }
 {
-    if heap.room() > many {
+    if pile.room() > many {
         return Ok(());
     }
-    heap.reserve(many + 1)
+    pile.reserve(many + 1)
 }
 
 impl Heaps {
@@ -84,8 +85,8 @@ impl Heaps {
         ensures { (v : ℤ) → times result v ≡ 0 }
     {
         Heaps {
-            came: Heap::none(alloc),
-            gone: Heap::none(alloc),
+            came: Pile::none(alloc),
+            gone: Pile::none(alloc),
         }
     }
 
@@ -93,8 +94,10 @@ impl Heaps {
     pub(crate) fn add(&mut self, number: i64) -> Result<(), NoMemory>
         ensures { OnOk result (AddsOne self.old self.new number) }
     {
-        make_room(&mut self.gone, self.came.len())?;
-        self.came.push(number)?;
+        let many = self.came.len();
+        make_room(&mut self.came, many)?;
+        make_room(&mut self.gone, many)?;
+        self.came.push(number);
         Ok(())
     }
 
@@ -103,9 +106,7 @@ impl Heaps {
         requires { 0 < times self.old number }
         ensures { AddsOne self.new self.old number }
     {
-        let Ok(()) = self.gone.push(number) else {
-            unreachable!()
-        };
+        self.gone.push(number);
         settle(&mut self.came, &mut self.gone);
     }
 

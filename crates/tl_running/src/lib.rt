@@ -4,9 +4,11 @@
 //! tells it which number comes and which goes.
 #![tactic(auto)]
 
+mod far;
 mod heap;
 mod heaps;
 pub mod laws;
+mod pile;
 mod running;
 mod touching;
 

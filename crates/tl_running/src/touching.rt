@@ -32,6 +32,7 @@ fn last_goes_on(runs: &[Run], stretch: &Run) -> bool
 /// Puts a stretch of time behind the runs of its group, which may have gaps between them: the last
 /// run goes on up to the stretch's end where it has the same value and ends where the stretch
 /// begins, else the stretch becomes a run. The error is `NoMemory`.
+#[inline(always)]
 pub fn add_touching(runs: &mut Vec<Run>, stretch: Run) -> Result<(), NoMemory>
     ensures { OnOk result (runs.new.items ≡ add_touching runs.old.items stretch) }
 {

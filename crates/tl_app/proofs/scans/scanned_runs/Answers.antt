@@ -6,7 +6,7 @@ use Rattle.tl_query.specs.Aggregates.{aggregate_of}
 use Rattle.tl_running.specs.Standing.{Suits}
 use Rattle.tl_app.specs.Opening.{open_rows}
 use Rattle.tl_app.specs.Scans.{rows_in, next_of, IsCut, value_at}
-use Rattle.tl_app.proofs.CutLemmas.{cut_is, next_after, cut_until, count_less, less_true}
+use Rattle.tl_app.proofs.CutLemmas.{cut_is, next_after, cut_until, count_less, less_true, less_false, made_all}
 use Rattle.tl_app.proofs.HoldLemmas.{holds_none}
 use Rattle.tl_app.proofs.TellLemmas.{has_told, add_all}
 use Rattle.std.specs.List.{AllByRecursion}
@@ -74,3 +74,10 @@ moments-preserved g c =
       front = λ k d l. rw whole (let h = cut.front k d l in let m = after.0 in omega (arith, ints));
       steps = omega arith;
     }
+
+pub returns-clause-runs : goal.returns-clause-runs
+returns-clause-runs g c =
+    let at = to_z w64 c.moments.at-bits in
+    let to = to_z w64 (of_z w64 c.args.to) in
+    let past : to ≤ℤ at = less_false at to c.moments-test.false in
+    rw (to_z-of_z w64 c.args.from c.ranges.from, to_z-of_z w64 c.args.to c.ranges.to) at (made_all _ _ to at c.moments.runs.items c.moments.invariant.made past)

@@ -16,6 +16,11 @@ loop-run-preserved-else-has_row c =
     let fits : SFits w64 c.in-Some.run'.from = search rules in
     run_left (there_at c.args.span (lent c.args.rows.now)) c.args.value.now c.loop-run.yielded c.in-Some.run' (to_z w64 (of_z w64 c.in-Some.run'.from)) c.has_row.result c.args.answer.now.items c.loop-run.answer.items (to_z-of_z w64 c.in-Some.run'.from fits) c.has_row.ensures c.if-has_row.false c.loop-run.invariant
 
+pub loop-run-preserved-else-has_row-2 : goal.loop-run-preserved-else-has_row-2
+loop-run-preserved-else-has_row-2 c =
+    let fits : SFits w64 c.in-Some.run'.from = search rules in
+    run_left (there_at c.args.span (lent c.args.rows.now)) c.args.value.now c.loop-run.yielded c.in-Some.run' (to_z w64 (of_z w64 c.in-Some.run'.from)) c.has_row.result c.args.answer.now.items c.loop-run.answer.items (to_z-of_z w64 c.in-Some.run'.from fits) c.has_row.ensures c.if-has_row.false c.loop-run.invariant
+
 pub loop-run-preserved : goal.loop-run-preserved
 loop-run-preserved c =
     let fits : SFits w64 c.in-Some.run'.from = search rules in

@@ -8,8 +8,8 @@ tops-preserved c =
     let two = c.drop_top-in-Some.ensures.joins in
     let long = one.long in
     let was = c.tops.invariant.long in record {
-      within = both_less c.tops.came c.tops.gone c.drop_top.new.heap c.drop_top-in-Some.new.heap _ c.tops.invariant.within one two;
+      within = both_less c.tops.came c.tops.gone c.drop_top.new.pile c.drop_top-in-Some.new.pile _ c.tops.invariant.within one two;
       room = c.drop_top-in-Some.ensures.room ∙ c.tops.invariant.room;
       long = omega arith;
-      same = both_same c.tops.came c.tops.gone c.drop_top.new.heap c.drop_top-in-Some.new.heap _ c.args.came.now.numbers c.args.gone.now.numbers c.tops.invariant.same one two;
+      same = both_same c.tops.came c.tops.gone c.drop_top.new.pile c.drop_top-in-Some.new.pile _ c.args.came.now.numbers c.args.gone.now.numbers c.tops.invariant.same one two;
     }

@@ -1,6 +1,6 @@
-//! Tests of the crates below: what no clause says, and calls that neither a script of `examples/` nor
-//! a test of another crate reaches, on their happy path. A crate whose tests stand here is proved
-//! once, where one with tests of its own is proved a second time.
+//! Tests of the crates below: what no clause says, and calls that neither a script of `examples/`
+//! nor a test of another crate reaches, on their happy path. A crate whose tests stand here is
+//! proved once, where one with tests of its own is proved a second time.
 #![tactic(auto)]
 
 #[cfg(test)]

@@ -5,7 +5,8 @@ ghost use Rattle.std.specs.Prelude.{◌≤◌, ◌<◌, ◌^◌, length};
 use std::alloc::Global;
 use std::test::Fail;
 use tl_types::{
-    Body, Cell, Change, Column, ColumnKind, Commit, NoMemory, Opened, Period, Schema, Seq, Text,
+    Body, Cell, Change, Column, ColumnKind, Commit, NoMemory, Opened, Period, Schema, Seq,
+    SmallSeq, Text,
 };
 
 pub(crate) fn column(alloc: Global, name: &str, kind: ColumnKind) -> Result<Column, NoMemory>
@@ -53,7 +54,7 @@ pub(crate) fn opened(
     cells.push(Cell::Int(id))?;
     cells.push(Cell::Text(Text::new(alloc, dept)?))?;
     cells.push(Cell::Int(pay))?;
-    Ok(Opened::new(Seq::from_vec(cells), period))
+    Ok(Opened::new(SmallSeq::from_vec(cells), period))
 }
 
 // A change of the first table.

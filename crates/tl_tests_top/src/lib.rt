@@ -1,5 +1,5 @@
-//! Tests that wait or start threads: an engine with low limits, and runs of the top call over a disk
-//! in memory. The tests of the crates below the engine stand in tl_tests.
+//! Tests that wait or start threads: an engine with low limits, and runs of the top call over a
+//! disk in memory. The tests of the crates below the engine stand in tl_tests.
 #![tactic(auto)]
 
 #[cfg(test)]

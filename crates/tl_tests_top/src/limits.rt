@@ -17,8 +17,8 @@ use tl_index::Snapshot;
 use tl_journal::Journal;
 use tl_store::Store;
 use tl_types::{
-    Batch, BatchFault, Cell, Column, ColumnKind, Limits, NoMemory, Opened, Schema, Seq, Text,
-    all_match,
+    Batch, BatchFault, Cell, Column, ColumnKind, Limits, NoMemory, Opened, Schema, Seq, SmallSeq,
+    Text, all_match,
 };
 
 // What a batch does to the table of a name: it makes it, puts a row for each key below a number, or
@@ -52,7 +52,7 @@ fn schema(alloc: Global, name: Text) -> Option<Schema> {
 fn rows(alloc: Global, keys: i64) -> Result<Seq<Opened>, NoMemory> {
     let mut rows = Seq::new(alloc);
     for key in 0..keys {
-        let mut cells = Seq::new(alloc);
+        let mut cells = SmallSeq::with_capacity(alloc, 1)?;
         cells.push(Cell::Int(key))?;
         rows.push(Opened::new(cells, None))?;
     }

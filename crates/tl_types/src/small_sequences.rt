@@ -1,5 +1,5 @@
 //! A short list of items.
-ghost use Rattle.std.specs.Prelude.{◌≡◌, List, [], ◌∷◌, ◌++◌, OnOk, IfOk};
+ghost use Rattle.std.specs.Prelude.{◌≡◌, List, [], ◌∷◌, ◌++◌, OnOk, OnErr, IfOk};
 ghost use Rattle.std.specs.List.{AllZip};
 ghost use Rattle.std.specs.Cmp.Lexicographic.{pointwise, lists_per, lists_equiv};
 ghost use Rattle.std.specs.Cmp.{on_per, on_equiv};
@@ -54,8 +54,8 @@ impl<T: Default + Drop> SmallSeq<T> {
         })
     }
 
-    /// The items of a `Vec`. Where it has room for at most 4 they move into the value itself, else it
-    /// is taken over.
+    /// The items of a `Vec`. Where it has room for at most 4 they move into the value itself, else
+    /// it is taken over.
     pub fn from_vec(items: Vec<T>) -> SmallSeq<T>
         ensures { result ≡ items.items }
     {
@@ -64,10 +64,11 @@ impl<T: Default + Drop> SmallSeq<T> {
         }
     }
 
-    /// Appends an item. The error is `NoMemory`.
+    /// Appends an item. The error is `NoMemory`, and then nothing changes.
     #[inline(always)]
     pub fn push(&mut self, item: T) -> Result<(), NoMemory>
-        ensures { OnOk result (self.new ≡ self.old ++ item ∷ []) }
+        ensures ok { OnOk result (self.new ≡ self.old ++ item ∷ []) }
+        ensures err { OnErr result (self.new ≡ self.old) }
     {
         self.items.push(item)?;
         Ok(())

@@ -18,6 +18,23 @@ use std::marker::Model;
 // The most bytes of a text that is kept in the value itself.
 const SHORT: usize = 16;
 
+// By what the bytes of a text are multiplied to spread texts over places.
+const SPREAD: u32 = 2654435769;
+
+/// A number for a text, by its first byte and its last three, that spreads texts over all numbers
+/// of 32 bits: for tables in which a text is looked for at one place, by the number's upper bits.
+/// Other texts may have the same, so what stands at a place is compared, and any number is right.
+pub fn text_place(text: &str) -> u32 {
+    let mixed = match text.as_bytes() {
+        [first, .., third, second, last] => u32::from_le_bytes([*last, *second, *third, *first]),
+        [first, second, last] => u32::from_le_bytes([*last, *second, 0, *first]),
+        [first, last] => u32::from_le_bytes([*last, 0, 0, *first]),
+        [only] => u32::from(*only),
+        [] => 0,
+    };
+    mixed.wrapping_mul(SPREAD)
+}
+
 // How a text is kept.
 #[derive(Drop)]
 enum Form {

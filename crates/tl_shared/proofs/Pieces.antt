@@ -1,6 +1,7 @@
 -- Pieces of a list, each of `size` items but for the last, which has 1 to `size`.
-use Rattle.std.proofs.Common.{◌≡◌, ℕ, ◌+◌, ◌-◌, ◌*◌, ◌<◌, ◌≤◌, zero, suc, min, List, [], ◌∷◌, ◌++◌, length, get_or, set, take, drop, refl, sym, ap, ◌∙◌, arith, append_assoc, length-append}
-use Rattle.std.proofs.lemmas.List.{append-nil, take-append-drop, drop-drop, drop-take, drop_at, take_at, take_all, drop_all, length-take, length-drop, get_or-take, get_or-drop, set-append_left, set-append_right}
+use Rattle.std.proofs.Common.{◌≡◌, ℕ, ◌+◌, ◌-◌, ◌*◌, ◌/◌, ◌%◌, ◌<◌, ◌≤◌, zero, suc, min, List, [], ◌∷◌, ◌++◌, length, get_or, set, take, drop, refl, sym, ap, ◌∙◌, arith, append_assoc, length-append}
+use Rattle.std.proofs.Math.Nat.{div-add-mod, mod-lt}
+use Rattle.std.proofs.lemmas.List.{length-set, append-nil, take-append-drop, drop-drop, drop-take, drop_at, take_at, take_all, drop_all, length-take, length-drop, get_or-take, get_or-drop, set-append_left, set-append_right}
 use Rattle.std.proofs.lemmas.Grind.{flat_map-append}
 use Rattle.std.proofs.Math.Seq.{take-append-add, take-add}
 use Rattle.tl_shared.specs.Chunks.{flatten, AreFull, IsChunked, piece_or_nil}
@@ -206,3 +207,88 @@ module _ {X : Type 0} (size : ℕ) (ds : List (List X)) (xs : List X) (chunked :
   pub tail_chunked : (q : ℕ) (tail : List (List X)) → 0 < size → size * q ≤ length xs → IsChunked size tail → IsChunked size (take q ds ++ tail)
   tail_chunked q tail some low h =
       chunked_join size (take q ds) tail some (front_full size ds q chunked (omega (arith, ap length is))) h
+
+-- a piece in a block of pieces, where blocks have `size` pieces
+module _ {X : Type 0} (size : ℕ) (bs : List (List (List X))) (cs : List (List X)) (chunked : IsChunked size bs) (is : flatten bs ≡ cs) (some : 0 < size) (i : ℕ) (there : i < length cs) (block : List (List X)) (block_is : block ≡ get_or bs (i / size) block) where
+  place : size * (i / size) + i % size ≡ i
+  place = div-add-mod i size
+
+  low : size * (i / size) + i % size < length cs
+  low = omega (arith, place, there)
+
+  -- the block is there
+  pub block_there : i / size < length bs
+  block_there = piece_within size bs cs chunked is (i / size) (i % size) low
+
+  whole : block ≡ piece_or_nil (i / size) bs
+  whole = same_piece bs (i / size) block block_there block_is
+
+  -- the piece is there in its block
+  pub chunk_there : i % size < length block
+  chunk_there = omega (arith, ap length whole, place_within size bs cs chunked is (i / size) (i % size) (mod-lt i some) low)
+
+  -- the piece by its place in its block
+  pub chunk_is : piece_or_nil (i % size) block ≡ piece_or_nil i cs
+  chunk_is =
+      ap (piece_or_nil (i % size)) whole
+      ∙ item_at size bs cs chunked is (i / size) (i % size) [] (mod-lt i some)
+      ∙ ap (λ n. piece_or_nil n cs) place
+
+  -- the block with another piece in that place
+  module _ (new : List (List X)) (one : List X) (set_there : new ≡ set block (i % size) one) where
+    pub block_chunked : IsChunked size (set bs (i / size) new)
+    block_chunked = chunked_set size bs (i / size) new chunked (ap length set_there ∙ length-set block (i % size) one ∙ ap length whole)
+
+    pub block_list : flatten (set bs (i / size) new) ≡ set cs i one
+    block_list =
+        ap (λ b. flatten (set bs (i / size) b)) (set_there ∙ ap (λ b. set b (i % size) one) whole)
+        ∙ with_list size bs cs chunked is (i / size) (i % size) one (mod-lt i some) low
+        ∙ ap (λ n. set cs n one) place
+
+-- items behind those of the last piece
+module _ {X : Type 0} (size : ℕ) (more : List X) where
+  extend_list : (ds : List (List X)) (i : ℕ) → IsChunked size ds → length (flatten ds) < size * suc i → i < length ds → flatten (set ds i (piece_or_nil i ds ++ more)) ≡ flatten ds ++ more
+  extend_list [] i h short there = absurd (omega arith)
+  extend_list (c ∷ []) zero h short there = append-nil (c ++ more) ∙ ap (λ t. t ++ more) (sym (append-nil c))
+  extend_list (c ∷ []) (suc i) h short there = absurd (omega arith)
+  extend_list (c ∷ d ∷ ds) zero h short there = absurd (omega (arith, length-append c (flatten (d ∷ ds)), h.0))
+  extend_list (c ∷ d ∷ ds) (suc i) h short there =
+      let rest : List X = flatten (d ∷ ds) in
+      let less : length rest < size * suc i = omega (arith, length-append c rest, h.0) in
+      ap (λ t. c ++ t) (extend_list (d ∷ ds) i h.1 less (omega arith)) ∙ sym (append_assoc c rest more)
+
+  extend_chunked : (ds : List (List X)) (i : ℕ) → IsChunked size ds → length (flatten ds) < size * suc i → i < length ds → length (piece_or_nil i ds) + length more ≤ size → IsChunked size (set ds i (piece_or_nil i ds ++ more))
+  extend_chunked [] i h short there room = absurd (omega arith)
+  extend_chunked (c ∷ []) zero h short there room = (omega (arith, length-append c more, h.0), omega (arith, length-append c more, room))
+  extend_chunked (c ∷ []) (suc i) h short there room = absurd (omega arith)
+  extend_chunked (c ∷ d ∷ ds) zero h short there room = absurd (omega (arith, length-append c (flatten (d ∷ ds)), h.0))
+  extend_chunked (c ∷ d ∷ ds) (suc zero) h short there room =
+      (h.0, extend_chunked (d ∷ ds) zero h.1 (omega (arith, length-append c (flatten (d ∷ ds)), h.0)) (omega arith) room)
+  extend_chunked (c ∷ d ∷ ds) (suc (suc i)) h short there room =
+      (h.0, extend_chunked (d ∷ ds) (suc i) h.1 (omega (arith, length-append c (flatten (d ∷ ds)), h.0)) (omega arith) room)
+
+  -- the list that has `len` items, of which the last piece is not full
+  module _ (ds : List (List X)) (xs : List X) (chunked : IsChunked size ds) (is : flatten ds ≡ xs) (some : 0 < size) (len : ℕ) (len_is : len ≡ length xs) (begun : 0 < len % size) (fits : len % size + length more ≤ size) where
+    abbrev pub last : ℕ
+    last = len / size
+
+    parts : size * last + len % size ≡ len
+    parts = div-add-mod len size
+
+    pub last_there : last < length ds
+    last_there = piece_within size ds xs chunked is last 0 (omega (arith, parts, len_is, begun))
+
+    short : length (flatten ds) < size * suc last
+    short = omega (arith, ap length is, parts, len_is, mod-lt len some)
+
+    last_len : length (piece_or_nil last ds) ≡ len % size
+    last_len = omega (arith, piece_len size ds xs chunked is last, parts, len_is, mod-lt len some)
+
+    pub last_room : length (piece_or_nil last ds) + length more ≤ size
+    last_room = omega (arith, last_len, fits)
+
+    pub last_list : flatten (set ds last (piece_or_nil last ds ++ more)) ≡ xs ++ more
+    last_list = extend_list ds last chunked short last_there ∙ ap (λ t. t ++ more) is
+
+    pub last_chunked : IsChunked size (set ds last (piece_or_nil last ds ++ more))
+    last_chunked = extend_chunked ds last chunked short last_there last_room

@@ -1,7 +1,7 @@
 //! Lists of chunks, which are kept in blocks of chunks, so that a longer or changed list copies few
 //! pointers.
-ghost use Rattle.std.specs.Prelude.{◌≡◌, ◌<◌, ◌≤◌, ◌++◌, [], length, take, slice_set, IfOk};
-ghost use Rattle.tl_shared.specs.Chunks.{piece_or_nil};
+ghost use Rattle.std.specs.Prelude.{◌≡◌, ◌+◌, ◌%◌, ◌<◌, ◌≤◌, ◌^◌, ◌++◌, [], length, take, slice_set, All, IfOk};
+ghost use Rattle.tl_shared.specs.Chunks.{piece_or_nil, set_within};
 
 use crate::chunk::{Chunk, chunks_of, items_of_chunk};
 use crate::shareable::{Shareable, share_all};
@@ -76,6 +76,45 @@ impl<T: Shareable> ChunkList<T> {
     {
         let ChunkList { mut blocks } = self;
         blocks[i / BLOCK].set(alloc, i % BLOCK, chunk)?;
+        Ok(ChunkList { blocks })
+    }
+
+    /// The list with the item at the place within its chunk of each of these places of a list in
+    /// chunks of `SIZE`, which are in chunk `i`. What this list owns alone is not copied.
+    pub fn set_within<const SIZE: usize>(
+        self,
+        alloc: Global,
+        i: usize,
+        places: &[u32],
+        item: &T,
+    ) -> Result<ChunkList<T>, NoMemory>
+        requires size { 0 < SIZE }
+        requires there { i < length self }
+        requires places { All (λ place. place % SIZE < length (piece_or_nil i self)) places.now }
+        ensures { IfOk result (λ list. list
+            ≡ slice_set self i (set_within SIZE item.now (piece_or_nil i self) places.now)) }
+    {
+        let ChunkList { mut blocks } = self;
+        blocks[i / BLOCK].set_within_chunk::<SIZE>(alloc, i % BLOCK, places, item)?;
+        Ok(ChunkList { blocks })
+    }
+
+    /// The list with items behind those of chunk `i`, which may have `size` in all. What this list
+    /// owns alone is not copied.
+    pub fn extend_chunk(
+        self,
+        alloc: Global,
+        size: usize,
+        i: usize,
+        more: &[T],
+    ) -> Result<ChunkList<T>, NoMemory>
+        requires there { i < length self }
+        requires room { length (piece_or_nil i self) + length more.now ≤ size }
+        requires small { size < 2 ^ 63 }
+        ensures { IfOk result (λ list. list ≡ slice_set self i (piece_or_nil i self ++ more.now)) }
+    {
+        let ChunkList { mut blocks } = self;
+        blocks[i / BLOCK].extend_chunk(alloc, size, i % BLOCK, more)?;
         Ok(ChunkList { blocks })
     }
 }

@@ -97,8 +97,8 @@ impl<T: Shareable, const SIZE: usize> ListInChunks<T, SIZE> {
     }
 
     /// The list with `item` at each of these places, counted from 0. It shares with this one each
-    /// chunk that has none of the places, and copies a chunk once for places of it that stand next
-    /// to each other. This one stays as it was. The error is `NoMemory`.
+    /// chunk that has none of the places, and copies a chunk once. This one stays as it was. The
+    /// error is `NoMemory`.
     pub fn with_each(
         &self,
         alloc: Global,
@@ -108,11 +108,43 @@ impl<T: Shareable, const SIZE: usize> ListInChunks<T, SIZE> {
         requires { All (λ place. place < length self.now) places.now }
         ensures { IfOk result (λ list. list ≡ set_each item.now self.now places.now) }
     {
-        let chunks = set_in_chunks::<T, SIZE>(alloc, self.chunks.share(alloc)?, places, item)?;
-        Ok(ListInChunks {
-            chunks,
-            len: self.len,
-        })
+        self.share(alloc)?.set_each(alloc, places, item)
+    }
+
+    /// The list with `item` at each of these places, counted from 0, which takes this one over: a
+    /// chunk of which it is the only owner is changed where it stands, and another one is copied
+    /// once. The error is `NoMemory`.
+    pub fn set_each(
+        self,
+        alloc: Global,
+        places: &[u32],
+        item: &T,
+    ) -> Result<ListInChunks<T, SIZE>, NoMemory>
+        requires { All (λ place. place < length self) places.now }
+        ensures { IfOk result (λ list. list ≡ set_each item.now self places.now) }
+    {
+        let ListInChunks { chunks, len } = self;
+        let chunks = set_in_chunks::<T, SIZE>(alloc, chunks, places, item)?;
+        Ok(ListInChunks { chunks, len })
+    }
+
+    /// The list followed by `items`, which takes this one over: where they fit into its last chunk
+    /// and it is the only owner of that, they are put there, and else the list is as `push_all`
+    /// makes it. `NoMemory` comes only where memory is out, or where the items would be 2^64 or
+    /// more.
+    pub fn append(self, alloc: Global, items: &[T]) -> Result<ListInChunks<T, SIZE>, NoMemory>
+        ensures { IfOk result (λ list. list ≡ self ++ items.now) }
+    {
+        let last = (self.len % SIZE as u64) as usize;
+        if last == 0 || items.len() > SIZE - last {
+            return self.push_all(alloc, items);
+        }
+        let Some(len) = self.len.checked_add(items.len() as u64) else {
+            return Err(AllocError);
+        };
+        let full = (self.len / SIZE as u64) as usize;
+        let chunks = self.chunks.extend_chunk(alloc, SIZE, full, items)?;
+        Ok(ListInChunks { chunks, len })
     }
 
     /// The item at `at`, counted from 0.
@@ -169,43 +201,6 @@ fn places_in_chunk<const SIZE: usize>(places: &[u32], i: usize) -> usize
     places.len()
 }
 
-// Puts the item at the place within its chunk of each of these places of a list.
-fn set_within<T: Shareable, const SIZE: usize>(
-    alloc: Global,
-    items: &mut Vec<T>,
-    places: &[u32],
-    item: &T,
-) -> Result<(), NoMemory>
-    requires size { 0 < SIZE }
-    requires places { All (λ place. place % SIZE < length items.old.items) places.now }
-    ensures { IfOk result
-        (λ _. items.new.items ≡ set_within SIZE item.now items.old.items places.now) }
-{
-    for place in places {
-        items[*place as usize % SIZE] = item.share(alloc)?;
-    }
-    Ok(())
-}
-
-// The chunks with the item at each of these places of the list, which are in chunk `i`.
-fn set_in_chunk<T: Shareable, const SIZE: usize>(
-    alloc: Global,
-    chunks: ChunkList<T>,
-    i: usize,
-    places: &[u32],
-    item: &T,
-) -> Result<ChunkList<T>, NoMemory>
-    requires size { 0 < SIZE }
-    requires chunk { i < length chunks }
-    requires places { All (λ place. place % SIZE < length (piece_or_nil i chunks)) places.now }
-    ensures { IfOk result (λ changed. changed
-        ≡ slice_set chunks i (set_within SIZE item.now (piece_or_nil i chunks) places.now)) }
-{
-    let mut items = share_all(alloc, chunks.chunk(i))?;
-    set_within::<T, SIZE>(alloc, &mut items, places, item)?;
-    chunks.with(alloc, i, Chunk::new(alloc, items)?)
-}
-
 // The chunks with the item at each of these places of the list.
 fn set_in_chunks<T: Shareable, const SIZE: usize>(
     alloc: Global,
@@ -225,7 +220,7 @@ fn set_in_chunks<T: Shareable, const SIZE: usize>(
     while let [first, ..] = rest {
         let i = *first as usize / SIZE;
         let (group, after) = rest.split_at(places_in_chunk::<SIZE>(rest, i));
-        chunks = set_in_chunk::<T, SIZE>(alloc, chunks, i, group, item)?;
+        chunks = chunks.set_within::<SIZE>(alloc, i, group, item)?;
         rest = after;
     }
     Ok(chunks)

@@ -39,6 +39,19 @@ impl<T: Drop> Shared<T> {
     }
 }
 
+impl<T: Shareable> Shared<T> {
+    /// The value, taken over where this is its only owner, and else an equal one. `alloc` is the
+    /// memory to take. The error is `NoMemory`.
+    pub fn take(self, alloc: Global) -> Result<T, NoMemory>
+        ensures { IfOk result (λ value. value ≡ self) }
+    {
+        match Arc::try_unwrap(self.value) {
+            Ok(value) => Ok(value),
+            Err(shared) => shared.share(alloc),
+        }
+    }
+}
+
 impl<T: Drop> Shareable for Shared<T> {
     fn share(&self, _alloc: Global) -> Result<Shared<T>, NoMemory> {
         Ok(Shared {

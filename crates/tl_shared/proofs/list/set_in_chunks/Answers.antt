@@ -5,15 +5,15 @@ use Rattle.tl_shared.proofs.Pieces.{piece_within}
 use Rattle.tl_shared.proofs.Groups.{group_within, group_step}
 use Rattle.tl_shared.proofs.list.set_in_chunks.Goals as goal
 
-pub set_in_chunk-requires-clause-chunk : goal.set_in_chunk-requires-clause-chunk
-set_in_chunk-requires-clause-chunk g c =
+pub set_within-requires-clause-there : goal.set_within-requires-clause-there
+set_within-requires-clause-there g c =
     let ds = c.loop-rest.chunks in
     let p = get_or c.loop-rest.rest.now 0 0 in
     let low : p < length (flatten ds) = c.loop-rest.invariant.small 0 0 (omega (arith, c.in-len1-up.len_at_least)) in
     piece_within g.row.SIZE ds (flatten ds) c.loop-rest.invariant.chunked refl (p / g.row.SIZE) (p % g.row.SIZE) (omega (arith, div-add-mod p g.row.SIZE, low))
 
-pub set_in_chunk-requires-clause-places : goal.set_in_chunk-requires-clause-places
-set_in_chunk-requires-clause-places g c =
+pub set_within-requires-clause-places : goal.set_within-requires-clause-places
+set_within-requires-clause-places g c =
     let rest = c.loop-rest.rest.now in
     group_within g.row.SIZE c.loop-rest.chunks rest c.split_at.result.0.now c.places_in_chunk.result (get_or rest 0 0 / g.row.SIZE) c.requires.size c.loop-rest.invariant.chunked c.loop-rest.invariant.small c.places_in_chunk.ensures.inside c.split_at.ensures.front
 

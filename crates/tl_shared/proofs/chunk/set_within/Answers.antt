@@ -1,7 +1,7 @@
 use Rattle.std.proofs.Common.{◌%◌, length, get_or, take, set, sym, ap, ◌∙◌, arith}
 use Rattle.tl_shared.specs.Chunks.{set_within}
 use Rattle.tl_shared.proofs.Groups.{length-set_within, within_more}
-use Rattle.tl_shared.proofs.list.set_within.Goals as goal
+use Rattle.tl_shared.proofs.chunk.set_within.Goals as goal
 
 pub index_mut-requires : goal.index_mut-requires
 index_mut-requires g c =

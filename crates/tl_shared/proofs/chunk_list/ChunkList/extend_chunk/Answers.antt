@@ -1,0 +1,23 @@
+use Rattle.std.proofs.Common.{◌/◌, ◌%◌, ◌++◌, length, set, ap, ◌∙◌, arith}
+use Rattle.tl_shared.proofs.Pieces.{piece_within, chunk_there, chunk_is, block_chunked, block_list}
+use Rattle.tl_shared.proofs.chunk_list.ChunkList.extend_chunk.Goals as goal
+
+pub index_mut-requires : goal.index_mut-requires
+index_mut-requires g c =
+    let bs = c.self.inside.blocks.items in
+    omega (arith, c.self.inside.blocks.ok.0, piece_within 64 bs c.args.self c.self.invariant c.self.view_is (c.args.i / 64) (c.args.i % 64) (omega (arith, c.requires.there)))
+
+pub extend_chunk-requires-clause-there : goal.extend_chunk-requires-clause-there
+extend_chunk-requires-clause-there g c = chunk_there 64 c.self.inside.blocks.items c.args.self c.self.invariant c.self.view_is (omega arith) c.args.i c.requires.there c.index_mut.result.now c.index_mut.ensures.value
+
+pub extend_chunk-requires-clause-room : goal.extend_chunk-requires-clause-room
+extend_chunk-requires-clause-room g c =
+    omega (arith, c.requires.room, ap length (chunk_is 64 c.self.inside.blocks.items c.args.self c.self.invariant c.self.view_is (omega arith) c.args.i c.requires.there c.index_mut.result.now c.index_mut.ensures.value))
+
+pub invariant_of-result : goal.invariant_of-result
+invariant_of-result g c = block_chunked 64 c.self.inside.blocks.items c.args.self c.self.invariant c.self.view_is (omega arith) c.args.i c.requires.there c.index_mut.result.now c.index_mut.ensures.value c.extend_chunk.new.self _ c.in_ok-extend_chunk.ensures
+
+pub returns : goal.returns
+returns g c =
+    block_list 64 c.self.inside.blocks.items c.args.self c.self.invariant c.self.view_is (omega arith) c.args.i c.requires.there c.index_mut.result.now c.index_mut.ensures.value c.extend_chunk.new.self _ c.in_ok-extend_chunk.ensures
+    ∙ ap (λ t. set c.args.self c.args.i (t ++ c.args.more.now)) (chunk_is 64 c.self.inside.blocks.items c.args.self c.self.invariant c.self.view_is (omega arith) c.args.i c.requires.there c.index_mut.result.now c.index_mut.ensures.value)

@@ -51,6 +51,16 @@ impl IntColumn {
         })
     }
 
+    /// The column followed by `cells`, which takes this one over: what has no other owner is not
+    /// copied. The error is `NoMemory`.
+    pub fn append(self, alloc: Global, cells: &[i64]) -> Result<IntColumn, NoMemory>
+        ensures { IfOk result (λ column. column ≡ self ++ cells.now) }
+    {
+        Ok(IntColumn {
+            cells: self.cells.append(alloc, cells)?,
+        })
+    }
+
     /// The cell of row `row`, counted from 0.
     pub fn at(&self, row: u32) -> i64
         requires { row < length self.now }

@@ -11,7 +11,7 @@ use std::collections::HashMap;
 use std::marker::Model;
 use tl_lanes::compare_word_u32;
 use tl_shared::{CHUNK, Shareable, SharedList};
-use tl_types::{NoMemory, Text};
+use tl_types::{NoMemory, Text, text_place};
 
 /// A column of texts. Contracts see it as the list of its cells.
 ///
@@ -75,11 +75,25 @@ impl TextColumn {
         requires { length self.now + length cells.now < 2 ^ 32 }
         ensures { IfOk result (λ column. column ≡ self.now ++ lent_texts cells.now) }
     {
-        let mut hints = self.hints.clone()?;
+        self.share(alloc)?.append_lent(alloc, cells)
+    }
+
+    /// The column followed by cells that are lent, which takes this one over: what has no other
+    /// owner is not copied. It takes copies of those texts alone that are new in it. The error is
+    /// `NoMemory`.
+    pub fn append_lent(self, alloc: Global, cells: &[&Text]) -> Result<TextColumn, NoMemory>
+        requires { length self + length cells.now < 2 ^ 32 }
+        ensures { IfOk result (λ column. column ≡ self ++ lent_texts cells.now) }
+    {
+        let TextColumn {
+            codes,
+            dictionary,
+            mut hints,
+        } = self;
         make_hints(&mut hints)?;
-        let (dictionary, codes) = coded(alloc, self.dictionary.share(alloc)?, cells, &mut hints)?;
+        let (dictionary, more) = coded(alloc, dictionary, cells, &mut hints)?;
         Ok(TextColumn {
-            codes: self.codes.push_all(alloc, codes.as_slice())?,
+            codes: codes.append(alloc, more.as_slice())?,
             dictionary: dictionary.settle(alloc)?,
             hints,
         })
@@ -179,9 +193,6 @@ impl Shareable for TextColumn {
 // How many places there are for codes that are found without a look-up.
 const PLACES: usize = 512;
 
-// By what the bytes of a text are multiplied to spread texts over the places.
-const SPREAD: u32 = 2654435769;
-
 // How many numbers of 32 bits share a place.
 const SHARE: usize = 8388608;
 
@@ -194,25 +205,13 @@ fn make_hints(hints: &mut Vec<u32>) -> Result<(), NoMemory> {
     Ok(())
 }
 
-// The place of a text, by its first byte and its last three, or its first and its last where it has
-// three or fewer. Any place is right.
-fn place_of(text: &str) -> usize {
-    let mixed = match text.as_bytes() {
-        [first, .., third, second, last] => u32::from_le_bytes([*last, *second, *third, *first]),
-        [first, .., last] => u32::from_le_bytes([*last, 0, 0, *first]),
-        [only] => u32::from(*only),
-        [] => 0,
-    };
-    mixed.wrapping_mul(SPREAD) as usize / SHARE
-}
-
 // The code at the place of a text, where it is the code of the text.
 fn hinted_code(dictionary: &Dictionary, hints: &[u32], text: &str) -> Option<u32>
     requires { length dictionary.now < 2 ^ 32 }
     ensures valid { IfSome result (λ code. code < length dictionary.now) }
     ensures text { IfSome result (λ code. text_of dictionary.now code ≡ text.now) }
 {
-    let code = match hints.get(place_of(text)) {
+    let code = match hints.get(text_place(text) as usize / SHARE) {
         Some(code) => *code,
         None => return None,
     };
@@ -224,7 +223,7 @@ fn hinted_code(dictionary: &Dictionary, hints: &[u32], text: &str) -> Option<u32
 
 // Puts a code at the place of its text.
 fn put_hint(hints: &mut Vec<u32>, text: &str, code: u32) {
-    let place = place_of(text);
+    let place = text_place(text) as usize / SHARE;
     if place < hints.len() {
         hints[place] = code;
     }

@@ -1,5 +1,5 @@
 //! Numbers for keys that are whole numbers.
-ghost use Rattle.std.specs.Prelude.{◌≡◌, ℕ, ℤ, suc, ◌+◌, ◌-◌, ◌^◌, ◌<◌, List, [], Some, None, if◌then◌else◌, OnOk, IfOk};
+ghost use Rattle.std.specs.Prelude.{◌≡◌, ℕ, ℤ, suc, ◌+◌, ◌-◌, ◌^◌, ◌<◌, List, [], Some, None, if◌then◌else◌, OnOk, OnErr, IfOk};
 ghost use Rattle.std.specs.Ordering.{int_eq};
 ghost use Rattle.tl_keys.specs.Keys.{int_number};
 ghost use Rattle.tl_keys.specs.Small.{AreSmall};
@@ -104,11 +104,12 @@ impl IntKeys {
         }
     }
 
-    /// Gives a number to a key that has none. The error is `NoMemory`.
+    /// Gives a number to a key that has none. The error is `NoMemory`, and then nothing changes.
     pub(crate) fn insert(&mut self, key: i64, number: u32) -> Result<(), NoMemory>
         requires none { int_number self.old key ≡ None }
         requires room { number + 1 < 2 ^ 32 }
-        ensures { OnOk result ((q : ℤ) → int_number self.new q
+        ensures err { OnErr result (self.new ≡ self.old) }
+        ensures ok { OnOk result ((q : ℤ) → int_number self.new q
             ≡ (if int_eq key q then Some number else int_number self.old q)) }
     {
         make_list(&mut self.small, key)?;

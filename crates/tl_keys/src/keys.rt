@@ -1,5 +1,5 @@
 //! Numbers for the keys of columns.
-ghost use Rattle.std.specs.Prelude.{◌≡◌, ◌+◌, ◌<◌, ◌≤◌, ◌^◌, Some, IfOk, OnOk};
+ghost use Rattle.std.specs.Prelude.{◌≡◌, ◌+◌, ◌<◌, ◌≤◌, ◌^◌, Some, IfOk, OnOk, OnErr};
 ghost use Rattle.tl_store.specs.Reading.{cell_shown};
 ghost use Rattle.tl_types.specs.declared.cells.Cell.TheVariants as cell;
 ghost use Rattle.tl_keys.specs.Keys.{no_keys, number_in, AreApart, KeepsNumbers};
@@ -62,6 +62,7 @@ impl<'a> Keys<'a> {
         ensures kept { OnOk result (KeepsNumbers self.old self.new) }
         ensures count { OnOk result (self.new.count ≤ self.old.count + 1) }
         ensures same { IfOk result (λ n. n < self.old.count → self.new ≡ self.old) }
+        ensures err { OnErr result (self.new ≡ self.old) }
     {
         if let Some(code) = self.ints.get(key) {
             return Ok(code);
@@ -81,6 +82,7 @@ impl<'a> Keys<'a> {
         ensures kept { OnOk result (KeepsNumbers self.old self.new) }
         ensures count { OnOk result (self.new.count ≤ self.old.count + 1) }
         ensures same { IfOk result (λ n. n < self.old.count → self.new ≡ self.old) }
+        ensures err { OnErr result (self.new ≡ self.old) }
     {
         if let Some(code) = self.texts.get(key) {
             return Ok(code);
@@ -92,7 +94,7 @@ impl<'a> Keys<'a> {
     }
 
     /// The number of a key, which it is given here where it has none: then it is as many as had one
-    /// before, and else nothing changes. The error is `NoMemory`.
+    /// before, and else nothing changes. The error is `NoMemory`, and then nothing changes.
     pub fn number(&mut self, key: CellRef<'a>) -> Result<u32, NoMemory>
         requires apart { AreApart self.old }
         requires room { self.old.count + 1 < 2 ^ 32 }
@@ -101,6 +103,7 @@ impl<'a> Keys<'a> {
         ensures kept { OnOk result (KeepsNumbers self.old self.new) }
         ensures count { OnOk result (self.new.count ≤ self.old.count + 1) }
         ensures same { IfOk result (λ n. n < self.old.count → self.new ≡ self.old) }
+        ensures err { OnErr result (self.new ≡ self.old) }
     {
         match key {
             CellRef::Int(number) => Ok(self.number_int(number)?),

@@ -1,5 +1,5 @@
 //! Numbers for keys that are texts.
-ghost use Rattle.std.specs.Prelude.{◌≡◌, ℕ, List, [], Some, None, if◌then◌else◌, OnOk, IfOk, IfSome};
+ghost use Rattle.std.specs.Prelude.{◌≡◌, ℕ, List, [], Some, None, if◌then◌else◌, OnOk, OnErr, IfOk, IfSome};
 ghost use Rattle.std.specs.Borrow.{Bor};
 ghost use Rattle.tl_types.specs.Names.{same_bytes};
 ghost use Rattle.tl_keys.specs.Keys.{text_number};
@@ -8,13 +8,10 @@ ghost use Rattle.tl_keys.specs.Placed.{HasNumber, ArePlaced};
 use std::alloc::Global;
 use std::collections::HashMap;
 use std::marker::Model;
-use tl_types::NoMemory;
+use tl_types::{NoMemory, text_place};
 
 // How many places there are for texts that are found without a hash.
 const PLACES: usize = 1024;
-
-// By what the bytes of a text are multiplied to spread texts over the places.
-const SPREAD: u32 = 2654435769;
 
 // How many numbers of 32 bits share a place.
 const SHARE: usize = 4194304;
@@ -47,24 +44,12 @@ impl<'a> Model for TextKeys<'a> {
     ghost invariant = { λ k. ArePlaced k.placed.items k.numbers.entries };
 }
 
-// The place of a text, by its first byte and its last three, or its first and its last where it has
-// three or fewer. Any place is right.
-fn place_of(text: &str) -> usize {
-    let mixed = match text.as_bytes() {
-        [first, .., third, second, last] => u32::from_le_bytes([*last, *second, *third, *first]),
-        [first, .., last] => u32::from_le_bytes([*last, 0, 0, *first]),
-        [only] => u32::from(*only),
-        [] => 0,
-    };
-    mixed.wrapping_mul(SPREAD) as usize / SHARE
-}
-
 // The number of the text at a place, where it is the key.
 fn placed_number(placed: &[Placed<'_>], key: &str) -> Option<u32>
     ensures { (texts : List (Bor (List ℕ) × ℕ)) → ArePlaced placed.now texts
         → IfSome result (λ n. text_number texts key.now ≡ Some n) }
 {
-    match placed.get(place_of(key)) {
+    match placed.get(text_place(key) as usize / SHARE) {
         Some(there) if there.text == key => Some(there.number),
         _ => None,
     }
@@ -83,20 +68,22 @@ fn all_placed<'a>(
     Ok(placed)
 }
 
-// Puts a text at its place, and at each place where there is none.
-fn put_placed<'a>(placed: &mut Vec<Placed<'a>>, there: Placed<'a>) -> Result<(), NoMemory>
+// Puts a text at its place. Where there are no places yet they are made, and it is put at each;
+// where there is no memory for them, texts are found by their hash alone.
+fn put_placed<'a>(placed: &mut Vec<Placed<'a>>, there: Placed<'a>)
     ensures { (texts : List (Bor (List ℕ) × ℕ)) → HasNumber texts there.entry
         → ArePlaced placed.old.items texts → ArePlaced placed.new.items texts }
 {
     if placed.is_empty() {
-        *placed = all_placed(*placed.allocator(), there, PLACES)?;
-        return Ok(());
+        if let Ok(all) = all_placed(*placed.allocator(), there, PLACES) {
+            *placed = all;
+        }
+        return;
     }
-    let place = place_of(there.text);
+    let place = text_place(there.text) as usize / SHARE;
     if place < placed.len() {
         placed[place] = there;
     }
-    Ok(())
 }
 
 impl<'a> TextKeys<'a> {
@@ -123,14 +110,15 @@ impl<'a> TextKeys<'a> {
         }
     }
 
-    /// Gives a number to a key that has none. The error is `NoMemory`.
+    /// Gives a number to a key that has none. The error is `NoMemory`, and then nothing changes.
     pub(crate) fn insert(&mut self, key: &'a str, number: u32) -> Result<(), NoMemory>
         requires { text_number self.old key.now ≡ None }
-        ensures { OnOk result ((q : List ℕ) → text_number self.new q
+        ensures err { OnErr result (self.new ≡ self.old) }
+        ensures ok { OnOk result ((q : List ℕ) → text_number self.new q
             ≡ (if same_bytes key.now q then Some number else text_number self.old q)) }
     {
         self.numbers.insert(key, number)?;
-        put_placed(&mut self.placed, Placed { text: key, number })?;
+        put_placed(&mut self.placed, Placed { text: key, number });
         Ok(())
     }
 }

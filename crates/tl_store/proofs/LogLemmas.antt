@@ -1,6 +1,6 @@
 -- A log with one commit more.
 use Rattle.std.proofs.Common.{◌≡◌, ◌≢◌, ℕ, zero, suc, ◌+◌, ◌<◌, ◌≤◌, Bool, true, false, ◌&&◌, ◌||◌, not, cond, nat_eq, nat_lt, List, [], ◌∷◌, ◌++◌, length, map, get_or, set, take, drop, fold, Option, Some, refl, sym, ap, ◌∙◌, subst, arith, slice_get, length-append}
-use Rattle.std.specs.List.{list_any, enumerate_from, position_from}
+use Rattle.std.specs.List.{insert, remove, list_any, enumerate_from, position_from}
 use Rattle.std.specs.Option.{option_map}
 use Rattle.std.proofs.lemmas.Option.{slice_get-get_or, slice_get-map}
 use Rattle.std.proofs.lemmas.List.{length-map, length-set, length-drop, length_push, map_push, map-append, map-set, take-map, drop-map, drop_at, take-append-le, drop-append-le, take_all, get_or_append_left, get_or_at, get_or-set_same, get_or-set_other, get_or-map, get_or_default}
@@ -306,6 +306,12 @@ mk_entry author table what = record { author = author; table = table; deed = wha
 
 pub kept_read : (tables : List Kept) (number i : ℕ) (shared kept : Kept) → shared ≡ get_or tables number shared → kept ≡ shared → number ≡ i → kept ≡ get_or tables i kept
 kept_read tables number i shared kept read same at = same ∙ read ∙ ap (λ (k : Kept). get_or tables number k) (sym same) ∙ ap (λ n. get_or tables n kept) at
+
+-- an item that is taken out, and another one put in its place
+pub put_back : {X : Type 0} (xs : List X) (i : ℕ) (x : X) → i < length xs → insert (remove xs i) i x ≡ set xs i x
+put_back [] i x h = absurd (omega arith)
+put_back (y ∷ xs) zero x h = refl
+put_back (y ∷ xs) (suc i) x h = ap (λ t. y ∷ t) (put_back xs i x (omega arith))
 
 pub entry_is : (author number : ℕ) (change : plain.Change) (kept : Kept) (what : Deed) → number ≡ change.table → what ≡ deed_of kept change → mk_entry author number what ≡ mk_entry author change.table (deed_of kept change)
 entry_is author number change kept what at same = rw (at, same) refl

@@ -160,6 +160,10 @@ ints_of_rows rows place cells part n row is shown =
     ∙ ap (take n) (sym (drop-map Some row cells))
     ∙ ap (λ t. take n (drop row t)) (sym is)
 
+-- and all of them
+pub all_ints_of_rows : (rows : List plain.Row) (place : ℕ) (cells : List Cell) (all : List ℤ) → column_cells rows place ≡ map Some cells → map cell.Int all ≡ cells → map some_int all ≡ column_cells rows place
+all_ints_of_rows rows place cells all is shown = sym (map-map Some cell.Int all) ∙ ap (map Some) shown ∙ sym is
+
 -- a column of numbers is there
 pub kind_there : (columns : List Column) (place : ℕ) → IsIntColumn columns place → place < length columns
 kind_there [] place h = absurd cc

@@ -9,7 +9,7 @@ ghost use Rattle.tl_store.specs.Reading.{cell_shown, IsShort};
 use crate::shown::CellRef;
 use std::alloc::Global;
 use tl_column::{IntColumn, TextColumn};
-use tl_shared::CHUNK;
+use tl_shared::{CHUNK, Shareable};
 use tl_types::{Cell, ColumnKind, NoMemory, Opened, Text};
 
 /// A column of a table, by what its cells are.
@@ -33,24 +33,24 @@ impl ColumnData {
     }
 
     /// The column followed by what rows have at its place among the columns.
-    pub fn followed_by(
-        &self,
+    pub fn append(
+        self,
         alloc: Global,
         opens: &[Opened],
         place: usize,
     ) -> Result<ColumnData, NoMemory>
-        requires { column_length self.now + length opens.now < 2 ^ 32 }
-        ensures { IfOk result (λ column. column ≡ longer opens.now place self.now) }
+        requires { column_length self + length opens.now < 2 ^ 32 }
+        ensures { IfOk result (λ column. column ≡ longer opens.now place self) }
     {
         match self {
             ColumnData::Ints(column) => {
                 let numbers = numbers_at(alloc, opens, place)?;
-                Ok(ColumnData::Ints(column.push_all(alloc, numbers.as_slice())?))
+                Ok(ColumnData::Ints(column.append(alloc, numbers.as_slice())?))
             }
             ColumnData::Texts(column) => {
                 let none = Text::new(alloc, "")?;
                 let texts = texts_at(alloc, opens, place, &none)?;
-                Ok(ColumnData::Texts(column.push_lent(alloc, texts.as_slice())?))
+                Ok(ColumnData::Texts(column.append_lent(alloc, texts.as_slice())?))
             }
         }
     }
@@ -67,6 +67,17 @@ impl ColumnData {
         }
     }
 
+    /// The numbers of the column.
+    pub fn ints(&self) -> &IntColumn
+        requires { HoldsKind IntKind self.now }
+        ensures { map cell.Int result.now ≡ cells_in self.now }
+    {
+        match self {
+            ColumnData::Ints(column) => column,
+            ColumnData::Texts(_) => unreachable!(),
+        }
+    }
+
     /// The numbers from a row on, as far as they stand in one piece.
     pub fn ints_from(&self, row: u32) -> &[i64]
         requires row { row < column_length self.now }
@@ -78,6 +89,15 @@ impl ColumnData {
         match self {
             ColumnData::Ints(column) => column.ints_from(row),
             ColumnData::Texts(_) => &[],
+        }
+    }
+}
+
+impl Shareable for ColumnData {
+    fn share(&self, alloc: Global) -> Result<ColumnData, NoMemory> {
+        match self {
+            ColumnData::Ints(column) => Ok(ColumnData::Ints(column.share(alloc)?)),
+            ColumnData::Texts(column) => Ok(ColumnData::Texts(column.share(alloc)?)),
         }
     }
 }
@@ -130,17 +150,18 @@ fn texts_at<'a>(
 }
 
 /// The columns of a table, each followed by what rows have at its place.
-pub(crate) fn all_followed_by(
+pub(crate) fn append_to_all(
     alloc: Global,
-    columns: &[ColumnData],
+    columns: Vec<ColumnData>,
     opens: &[Opened],
 ) -> Result<Vec<ColumnData>, NoMemory>
-    requires { All (λ column. column_length column + length opens.now < 2 ^ 32) columns.now }
-    ensures { IfOk result (λ longer. longer.items ≡ longer_from opens.now 0 columns.now) }
+    requires { All (λ column. column_length column + length opens.now < 2 ^ 32) columns.items }
+    ensures { IfOk result (λ longer. longer.items ≡ longer_from opens.now 0 columns.items) }
 {
     let mut longer = Vec::with_capacity(alloc, columns.len())?;
-    for (place, column) in columns.iter().enumerate() {
-        longer.push(column.followed_by(alloc, opens, place)?)?;
+    for column in columns {
+        let place = longer.len();
+        longer.push(column.append(alloc, opens, place)?)?;
     }
     Ok(longer)
 }

@@ -17,5 +17,5 @@ mod store;
 mod table;
 
 pub use ready::ReadyTest;
-pub use shown::{CellRef, SystemPeriod};
+pub use shown::{CellRef, IntsRef, SystemPeriod};
 pub use store::Store;

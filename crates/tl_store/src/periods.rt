@@ -6,6 +6,7 @@ ghost use Rattle.tl_store.specs.Columns.{periods_of, periods_in, AreEnds};
 use std::alloc::Global;
 use std::marker::Model;
 use tl_column::IntColumn;
+use tl_shared::Shareable;
 use tl_types::{NoMemory, Opened, Period};
 
 /// A list of periods, their two ends each in a column of its own. Contracts see the list of
@@ -41,13 +42,13 @@ impl PeriodList {
     }
 
     /// The list followed by the periods of those rows that have one.
-    pub fn followed_by(&self, alloc: Global, opens: &[Opened]) -> Result<PeriodList, NoMemory>
-        ensures { IfOk result (λ periods. periods ≡ self.now ++ periods_in opens.now) }
+    pub fn append(self, alloc: Global, opens: &[Opened]) -> Result<PeriodList, NoMemory>
+        ensures { IfOk result (λ periods. periods ≡ self ++ periods_in opens.now) }
     {
         let (starts, ends) = ends_in(alloc, opens)?;
         Ok(PeriodList {
-            starts: self.starts.push_all(alloc, starts.as_slice())?,
-            ends: self.ends.push_all(alloc, ends.as_slice())?,
+            starts: self.starts.append(alloc, starts.as_slice())?,
+            ends: self.ends.append(alloc, ends.as_slice())?,
         })
     }
 
@@ -70,6 +71,15 @@ impl PeriodList {
         } else {
             None
         }
+    }
+}
+
+impl Shareable for PeriodList {
+    fn share(&self, alloc: Global) -> Result<PeriodList, NoMemory> {
+        Ok(PeriodList {
+            starts: self.starts.share(alloc)?,
+            ends: self.ends.share(alloc)?,
+        })
     }
 }
 

@@ -1,9 +1,12 @@
 //! What the readers of a store show.
-ghost use Rattle.std.specs.Prelude.{◌≡◌, IfOk};
+ghost use Rattle.std.specs.Prelude.{◌≡◌, ◌+◌, ◌<◌, pos, length, slice_index_or, IfOk};
 ghost use Rattle.tl_store.specs.Reading.{IsShort, cell_shown};
 
 use std::alloc::Global;
-use tl_types::{Cell, NoMemory, Text};
+use std::marker::Model;
+use std::sync::ledger::Ledger;
+use tl_column::IntColumn;
+use tl_types::{Cell, NoMemory, Steps, Text};
 
 /// The versions at which a row stands: from `from` on and before `to`, which is the greatest
 /// number of 32 bits while the row is current.
@@ -34,5 +37,38 @@ impl CellRef<'_> {
             CellRef::Int(number) => Ok(Cell::Int(number)),
             CellRef::Text(text) => Ok(Cell::Text(Text::new(alloc, text)?)),
         }
+    }
+}
+
+/// The cells of a column of whole numbers, lent. A contract sees them as the list.
+#[derive(Drop)]
+pub struct IntsRef<'a> {
+    cells: &'a IntColumn,
+}
+
+impl<'a> Model for IntsRef<'a> {
+    ghost use Rattle.std.specs.Prelude.{List, ℤ};
+
+    ghost Value = { List ℤ };
+
+    ghost view = { λ c. c.cells.now };
+}
+
+impl<'a> IntsRef<'a> {
+    // The cells of a column.
+    pub(crate) fn new(cells: &'a IntColumn) -> IntsRef<'a>
+        ensures { result ≡ cells.now }
+    {
+        IntsRef { cells }
+    }
+
+    /// The cell of a row, by its id. It ticks once.
+    pub fn at<L: Ledger>(&self, row: u32, steps: &mut Steps<L>) -> i64
+        requires { row < length self.now }
+        ensures value { result ≡ slice_index_or self.now row (pos 0) }
+        ensures ticks { steps.new ≡ steps.old + 1 }
+    {
+        steps.tick();
+        self.cells.at(row)
     }
 }

@@ -13,13 +13,13 @@ ghost use Rattle.tl_store.specs.Reading.{columns_of, has_periods, row_of, cell_o
 
 use crate::log::{Deed, LogEntry};
 use crate::ready::ReadyTest;
-use crate::shown::{CellRef, SystemPeriod};
+use crate::shown::{CellRef, IntsRef, SystemPeriod};
 use crate::table::TableData;
 use std::alloc::Global;
 use std::marker::Model;
 use std::sync::ledger::Ledger;
 use tl_query::TypedTest;
-use tl_shared::{CHUNK, FineList, Shared, share_all};
+use tl_shared::{CHUNK, FineList, Shareable, Shared, share_all};
 use tl_types::{Body, Cell, Change, Commit, Limits, NoMemory, Period, Schema, Seq, Steps};
 
 /// The commits that were applied, in order, and the tables that they make. Contracts see the list
@@ -120,6 +120,15 @@ impl Store {
         requires { IsTrue (fits standard_limits (database_of self.now) commit.now) }
         ensures { IfOk result (λ store. store ≡ self.now ++ commit.now ∷ []) }
     {
+        self.share(alloc)?.follow(alloc, commit)
+    }
+
+    /// The store after a commit that fits, which takes this one over: what of it has no other owner
+    /// is not copied. The error is `NoMemory`.
+    pub fn follow(self, alloc: Global, commit: &Commit) -> Result<Store, NoMemory>
+        requires { IsTrue (fits standard_limits (database_of self) commit.now) }
+        ensures { IfOk result (λ store. store ≡ self ++ commit.now ∷ []) }
+    {
         match &commit.body {
             Body::Create(schema) => self.with_table(alloc, commit.author, schema),
             Body::Change(change) => self.with_change(alloc, commit.author, change),
@@ -127,41 +136,42 @@ impl Store {
     }
 
     // The store after the commit of an author that makes a table.
-    fn with_table(&self, alloc: Global, author: u32, schema: &Schema) -> Result<Store, NoMemory>
-        requires { IsTrue (fits standard_limits (database_of self.now)
+    fn with_table(self, alloc: Global, author: u32, schema: &Schema) -> Result<Store, NoMemory>
+        requires { IsTrue (fits standard_limits (database_of self)
             (record { author = author; body = body.Create schema.now })) }
         ensures { IfOk result (λ store. store
-            ≡ self.now ++ record { author = author; body = body.Create schema.now } ∷ []) }
+            ≡ self ++ record { author = author; body = body.Create schema.now } ∷ []) }
     {
+        let Store { mut tables, log } = self;
         let entry = LogEntry {
             author,
-            table: self.tables.len() as u16,
+            table: tables.len() as u16,
             deed: Deed::Create,
         };
-        let mut tables = share_all(alloc, self.tables.as_slice())?;
         tables.push(Shared::new(alloc, TableData::new(alloc, schema)?)?)?;
-        let log = self.log.push_all(alloc, [entry].as_slice())?;
+        let log = log.append(alloc, [entry].as_slice())?;
         Ok(Store { tables, log })
     }
 
     // The store after the commit of an author that changes a table.
-    fn with_change(&self, alloc: Global, author: u32, change: &Change) -> Result<Store, NoMemory>
-        requires { IsTrue (fits standard_limits (database_of self.now)
+    fn with_change(self, alloc: Global, author: u32, change: &Change) -> Result<Store, NoMemory>
+        requires { IsTrue (fits standard_limits (database_of self)
             (record { author = author; body = body.Change change.now })) }
         ensures { IfOk result (λ store. store
-            ≡ self.now ++ record { author = author; body = body.Change change.now } ∷ []) }
+            ≡ self ++ record { author = author; body = body.Change change.now } ∷ []) }
     {
+        let version = self.versions() + 1;
         let number = change.table() as usize;
-        let before = self.tables[number].get();
+        let Store { mut tables, log } = self;
+        let before = tables.remove(number).take(alloc)?;
         let entry = LogEntry {
             author,
             table: change.table(),
-            deed: deed_of(before, change),
+            deed: deed_of(&before, change),
         };
-        let after = before.change(alloc, self.versions() + 1, change)?;
-        let mut tables = share_all(alloc, self.tables.as_slice())?;
-        tables[number] = Shared::new(alloc, after)?;
-        let log = self.log.push_all(alloc, [entry].as_slice())?;
+        let after = before.change(alloc, version, change)?;
+        tables.insert(number, Shared::new(alloc, after)?)?;
+        let log = log.append(alloc, [entry].as_slice())?;
         Ok(Store { tables, log })
     }
 
@@ -226,6 +236,15 @@ impl Store {
             .get()
             .ready_test(column, test)
             .mask_word(i, steps)
+    }
+
+    /// The column of a table at a place, from 0, whose cells are numbers. Each that is read of it
+    /// ticks.
+    pub fn int_column(&self, table: u16, column: u8) -> IntsRef<'_>
+        requires { IsIntColumn (columns_of (database_of self.now) table) column }
+        ensures { map some_int result ≡ column_cells (rows_of (database_of self.now) table) column }
+    {
+        IntsRef::new(self.tables[table as usize].get().ints(column))
     }
 
     /// The numbers of the column of a table at a place, from 0, from a row on, as far as they stand
@@ -297,6 +316,15 @@ impl Store {
         Ok(Commit {
             author: entry.author,
             body: table.body(alloc, entry.table, entry.deed, steps)?,
+        })
+    }
+}
+
+impl Shareable for Store {
+    fn share(&self, alloc: Global) -> Result<Store, NoMemory> {
+        Ok(Store {
+            tables: share_all(alloc, self.tables.as_slice())?,
+            log: self.log.share(alloc)?,
         })
     }
 }

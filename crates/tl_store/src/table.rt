@@ -17,8 +17,9 @@ use std::alloc::Global;
 use std::marker::Model;
 use std::sync::Arc;
 use std::sync::ledger::Ledger;
+use tl_column::IntColumn;
 use tl_query::TypedTest;
-use tl_shared::{CHUNK, FineList, Shareable, SharedList};
+use tl_shared::{CHUNK, FineList, Shareable, SharedList, share_all};
 use tl_types::{
     Body, Cell, Change, Column, Limits, NoMemory, OPEN, Opened, Period, Schema, Seq, SmallSeq,
     Steps, Text, all_match,
@@ -122,29 +123,32 @@ impl TableData {
             && self.rows() as u64 + change.opens().len() as u64 <= limits.rows
     }
 
-    /// The table after the change of a version, which shares with this one what the change leaves
-    /// as it was.
-    pub fn change(
-        &self,
-        alloc: Global,
-        version: u32,
-        change: &Change,
-    ) -> Result<TableData, NoMemory>
-        requires { IsTrue (fits_table standard_limits change.now (Some (table_of self.now))) }
-        ensures { IfOk result (λ table. table ≡ kept_after version change.now self.now) }
+    /// The table after the change of a version, which takes this one over: what of it has no other
+    /// owner is not copied.
+    pub fn change(self, alloc: Global, version: u32, change: &Change) -> Result<TableData, NoMemory>
+        requires { IsTrue (fits_table standard_limits change.now (Some (table_of self))) }
+        ensures { IfOk result (λ table. table ≡ kept_after version change.now self) }
     {
         let opens = change.opens();
         let closes = change.closes();
         let begins = filled(alloc, version, opens.len())?;
         let ends = filled(alloc, OPEN, opens.len())?;
-        let ended = self.to.with_each(alloc, closes, &version)?;
+        let TableData {
+            schema,
+            columns,
+            periods,
+            from,
+            to,
+            closed,
+        } = self;
+        let ended = to.set_each(alloc, closes, &version)?;
         Ok(TableData {
-            schema: Arc::try_clone(&self.schema)?,
-            columns: columns::all_followed_by(alloc, self.columns.as_slice(), opens)?,
-            periods: self.periods.followed_by(alloc, opens)?,
-            from: self.from.push_all(alloc, begins.as_slice())?,
-            to: ended.push_all(alloc, ends.as_slice())?,
-            closed: self.closed.push_all(alloc, closes)?,
+            schema,
+            columns: columns::append_to_all(alloc, columns, opens)?,
+            periods: periods.append(alloc, opens)?,
+            from: from.append(alloc, begins.as_slice())?,
+            to: ended.append(alloc, ends.as_slice())?,
+            closed: closed.append(alloc, closes)?,
         })
     }
 
@@ -178,6 +182,15 @@ impl TableData {
     {
         let column = &self.columns[column as usize];
         ReadyTest::new(column, test)
+    }
+
+    /// The numbers of the column at a place.
+    pub fn ints(&self, column: u8) -> &IntColumn
+        requires { IsIntColumn self.now.schema.columns column }
+        ensures { map some_int result.now ≡ column_cells self.now.rows column }
+    {
+        let column = &self.columns[column as usize];
+        column.ints()
     }
 
     /// The numbers of the column at a place, from a row on, as far as they stand in one piece.
@@ -289,6 +302,19 @@ impl TableData {
                 Ok(Body::Change(Change::new(table, closes, opens)))
             }
         }
+    }
+}
+
+impl Shareable for TableData {
+    fn share(&self, alloc: Global) -> Result<TableData, NoMemory> {
+        Ok(TableData {
+            schema: Arc::try_clone(&self.schema)?,
+            columns: share_all(alloc, self.columns.as_slice())?,
+            periods: self.periods.share(alloc)?,
+            from: self.from.share(alloc)?,
+            to: self.to.share(alloc)?,
+            closed: self.closed.share(alloc)?,
+        })
     }
 }
 

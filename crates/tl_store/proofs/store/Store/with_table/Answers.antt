@@ -19,8 +19,8 @@ invariant_of-result c =
     let number : c.len.result ≡ length tables = omega (arith, c.len.ensures, c.self.inside.tables.ok.0) in
     let fit = subst (λ (cs : List Commit). fits standard_limits (database_of cs) (record { author = c.args.author; body = body.Create schema }) ≡ true) (sym c.self.view_is) c.requires in
     let more : c.push.new.self.items ≡ tables ++ kept_new schema ∷ [] =
-    c.in_ok-push.ensures.items ∙ ap (λ t. t ++ c.in_ok-new-2.field-0 ∷ []) (c.in_ok-tables.ensures ∙ c.as_slice.ensures.value) ∙ ap (λ (k : Kept). tables ++ k ∷ []) (c.in_ok-new-2.ensures ∙ c.in_ok-new.ensures) in
-    let logged : c.in_ok-log.log ≡ log ++ entry ∷ [] = c.in_ok-log.ensures ∙ ap (λ t. log ++ t) c.as_slice-2.ensures in
+    c.in_ok-push.ensures.items ∙ ap (λ (k : Kept). tables ++ k ∷ []) (c.in_ok-new-2.ensures ∙ c.in_ok-new.ensures) in
+    let logged : c.in_ok-log.log ≡ log ++ entry ∷ [] = c.in_ok-log.ensures ∙ ap (λ t. log ++ t) c.as_slice.ensures in
     let same = ap (λ n. record { author = c.args.author; table = n; deed = deed.Create }) number in
     subst (λ l. IsHistory c.push.new.self.items l) (sym logged)
     (created_history tables log c.self.invariant c.args.author schema fit c.push.new.self.items entry more same)
@@ -34,8 +34,8 @@ returns c =
     let number : c.len.result ≡ length tables = omega (arith, c.len.ensures, c.self.inside.tables.ok.0) in
     let fit = subst (λ (cs : List Commit). fits standard_limits (database_of cs) (record { author = c.args.author; body = body.Create schema }) ≡ true) (sym c.self.view_is) c.requires in
     let more : c.push.new.self.items ≡ tables ++ kept_new schema ∷ [] =
-    c.in_ok-push.ensures.items ∙ ap (λ t. t ++ c.in_ok-new-2.field-0 ∷ []) (c.in_ok-tables.ensures ∙ c.as_slice.ensures.value) ∙ ap (λ (k : Kept). tables ++ k ∷ []) (c.in_ok-new-2.ensures ∙ c.in_ok-new.ensures) in
-    let logged : c.in_ok-log.log ≡ log ++ entry ∷ [] = c.in_ok-log.ensures ∙ ap (λ t. log ++ t) c.as_slice-2.ensures in
+    c.in_ok-push.ensures.items ∙ ap (λ (k : Kept). tables ++ k ∷ []) (c.in_ok-new-2.ensures ∙ c.in_ok-new.ensures) in
+    let logged : c.in_ok-log.log ≡ log ++ entry ∷ [] = c.in_ok-log.ensures ∙ ap (λ t. log ++ t) c.as_slice.ensures in
     let same = ap (λ n. record { author = c.args.author; table = n; deed = deed.Create }) number in
     ap (λ l. history_of c.push.new.self.items l) logged
     ∙ created_list tables log c.self.invariant c.args.author schema fit c.push.new.self.items entry more same

@@ -1,5 +1,5 @@
 -- Heaps of whole numbers, and what is left of two of them.
-use Rattle.std.proofs.Common.{◌≡◌, ◌⊎◌, inl, inr, ℕ, zero, suc, ◌+◌, ◌-◌, ◌<◌, ◌≤◌, ℤ, ◌≤ℤ◌, Bool, true, false, cond, List, [], ◌∷◌, length, map, Option, Some, None, refl, sym, ap, ◌∙◌, arith, subst, get_or, w64, of_z}
+use Rattle.std.proofs.Common.{◌≡◌, ◌⊎◌, inl, inr, ℕ, zero, suc, ◌+◌, ◌-◌, ◌<◌, ◌≤◌, ℤ, ◌≤ℤ◌, ◌<ℤ◌, Bool, true, false, cond, List, [], ◌∷◌, length, map, Option, Some, None, refl, sym, ap, ◌∙◌, arith, subst, get_or, w64, of_z}
 use Rattle.std.specs.Prelude.{unwrap_or, int_lt, IfSome, IfNone}
 use Rattle.std.specs.BinaryHeap.{IsUpperBound}
 use Rattle.std.specs.List.Sorted.{IsPermutation}
@@ -14,7 +14,7 @@ use Rattle.tl_types.proofs.ValidEventOrder.{int_before}
 use Rattle.tl_bits.specs.Bags.{times, AddsOne, IsLeast, IsGreatest}
 use Rattle.tl_query.specs.declared.ast.AggKind.{AggKind}
 use Rattle.tl_query.specs.declared.ast.AggKind.TheVariants as kind
-use Rattle.tl_running.specs.Heaps.{bag_of, HeapOf, count_in, none_in, IsTop, JoinsHeap, AreBelow, SettleTo, AreHeaps, left_of, turned}
+use Rattle.tl_running.specs.Heaps.{bag_of, HeapOf, count_in, none_in, IsTop, JoinsHeap, AreUpTo, AreBelow, SettleTo, AreHeaps, left_of, turned}
 use Rattle.tl_running.specs.Standing.{Inserts}
 use Rattle.tl_running.proofs.OrderLemmas.{counted_first, counted_own}
 use Rattle.tl_running.proofs.SumLemmas.{inserts_count, inserts_length}
@@ -228,11 +228,44 @@ takes_room came gone number are some =
     let h = fewer_went gone.numbers came.numbers number are.within (omega arith) in
     let r = are.room in omega arith
 
+-- a number that goes and is below the greatest of what came is not that one
+pub takes_settled : (came gone more : HeapOf) (number : ℤ) → AreHeaps came gone → 0 < times (left_of came.numbers gone.numbers) number → JoinsHeap gone more number
+    → ((x : ℤ) → AreUpTo gone.numbers x → number <ℤ x) → SettleTo came more came more
+takes_settled came gone more number are some joins below = record {
+  within = takes_below came gone more number are some joins;
+  top = λ x top.
+      let c = joins.counts x in
+      let t = are.top x top in
+      let u = apart x (below x (λ v there. top.above v (let w = are.within v in omega arith))) in omega arith;
+  room = refl;
+  long = omega arith;
+  same = λ v. omega arith;
+} where
+  apart : (x : ℤ) → number <ℤ x → cond {A = ℕ} (int_eq number x) 1 0 ≡ 0
+  apart x less = by_test (cases_Bool (int_eq number x)) where
+    by_test : (int_eq number x ≡ true) ⊎ (int_eq number x ≡ false) → cond {A = ℕ} (int_eq number x) 1 0 ≡ 0
+    by_test (inl same) = absurd (let e = (Decides-int_eq number x).0 same in omega (arith, ints))
+    by_test (inr other) = cond-false (int_eq number x) 1 0 other
+
 pub takes_kept : (came gone more less rest : HeapOf) → AreHeaps came gone → gone.room ≤ more.room → SettleTo came more less rest → AreHeaps less rest
 takes_kept came gone more less rest are room settles =
     let l = settles.long in
     let r = settles.room in
     let k = are.room in record { within = settles.within; top = settles.top; room = omega arith }
+
+-- a number came, or went, where it is below the greatest
+pub far_added : (came new gone : HeapOf) (number : ℤ) (is_in : Bool) → AreHeaps came gone → (is_in ≡ true → JoinsHeap came new number) → (is_in ≡ false → new ≡ came) → length came.numbers < gone.room → AreHeaps new gone
+far_added came new gone number is_in are joins same room = by_test (cases_Bool is_in) where
+  by_test : (is_in ≡ true) ⊎ (is_in ≡ false) → AreHeaps new gone
+  by_test (inl done) = adds_kept came new gone gone number are refl (joins done) (let l = (joins done).long in omega arith)
+  by_test (inr left) = subst (λ (h : HeapOf). AreHeaps h gone) (sym (same left)) are
+
+pub far_taken : (came gone more : HeapOf) (number : ℤ) (is_out : Bool) → AreHeaps came gone → 0 < times (left_of came.numbers gone.numbers) number → (is_out ≡ true → JoinsHeap gone more number) → more.room ≡ gone.room
+    → (is_out ≡ true → (x : ℤ) → AreUpTo gone.numbers x → number <ℤ x) → (is_out ≡ false → more ≡ gone) → AreHeaps came more
+far_taken came gone more number is_out are some joins room below same = by_test (cases_Bool is_out) where
+  by_test : (is_out ≡ true) ⊎ (is_out ≡ false) → AreHeaps came more
+  by_test (inl done) = takes_kept came gone more came more are (omega arith) (takes_settled came gone more number are some (joins done) (below done))
+  by_test (inr left) = subst (AreHeaps came) (sym (same left)) are
 
 pub greatest_left : (came gone : HeapOf) (x : ℤ) → AreHeaps came gone → IsTop came.numbers x → IsGreatest (left_of came.numbers gone.numbers) x
 greatest_left came gone x are top =

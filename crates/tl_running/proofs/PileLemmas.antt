@@ -72,7 +72,7 @@ far_fills near far far_new bound number pile low joins room = record {
     reaches = pile.reaches;
     below = joined_upto far far_new number bound joins pile.below low.0;
     some = λ none. absurd (let l = low.1 in omega arith);
-    room = let r = pile.room in omega arith;
+    room = λ any. let r = pile.room (omega arith) in omega arith;
   };
   room = room;
 }
@@ -88,7 +88,7 @@ near_fills near near_new far bound number new pile close joins room low high = r
     reaches = λ x top. below_trans new number x low (top.above number (joined_there near near_new number joins));
     below = λ v some. let up = pile.below v some in high v up (below_trans v bound number up (close (has_near v some)));
     some = λ none. absurd (let l = joins.long in omega arith);
-    room = let r = pile.room in omega arith;
+    room = λ any. let r = pile.room (omega arith) in omega arith;
   };
   room = refl;
 } where
@@ -112,7 +112,7 @@ exchanged near left near_new far far_new bound number top high low pile is took 
     reaches = λ x greatest. greatest.above high (joined_there left near_new high one);
     below = joined_upto far far_new low high two (λ v some. below_trans v top high (below_trans v bound top (pile.below v some) (pile.reaches top is)) up) down;
     some = λ none. absurd (let l = one.long in omega arith);
-    room = let r = pile.room in omega arith;
+    room = λ any. let r = pile.room (omega arith) in omega arith;
   };
   room = two_room;
 }
@@ -188,7 +188,7 @@ pub seen_kept : (old new : List ℤ) (i : ℕ) (b : ℤ) → ((k : ℕ) (x : ℤ
     → (k : ℕ) (x : ℤ) → k < i → slice_get new k ≡ Some x → x ≤ℤ b
 seen_kept old new i b seen same k x lt got = seen k x lt (sym (same k lt) ∙ got)
 
-pub spread_mends : (near far near_new far_new : HeapOf) (top low bound : ℤ) (all : Bool) → 0 < length near.numbers → ((x : ℤ) → IsTop near.numbers x → AreUpTo far.numbers x) → far.room ≤ near.room
+pub spread_mends : (near far near_new far_new : HeapOf) (top low bound : ℤ) (all : Bool) → 0 < length near.numbers → ((x : ℤ) → IsTop near.numbers x → AreUpTo far.numbers x) → 0 < near.room
     → IsTop near.numbers top → MovesNear near far near_new far_new → (all ≡ true → AreUpTo far_new.numbers low) → IsLower all low top bound → MendsPile near far near_new far_new bound
 spread_mends near far near_new far_new top low bound all some above has is moves moved lower = record {
   moves = moves;
@@ -196,7 +196,7 @@ spread_mends near far near_new far_new top low bound all some above has is moves
     reaches = λ x greatest. below_trans bound top x lower.upto (greatest.above top (let a = moves.kept top in let b = is.there in omega arith));
     below = λ v there. by_bound v there lower.one;
     some = λ none. absurd (let a = moves.more in omega arith);
-    room = let a = moves.near_room in let b = moves.far_room in omega arith;
+    room = λ any. let a = moves.near_room in omega arith;
   };
 } where
   by_count : (v : ℤ) (n : ℕ) → count_in v near.numbers ≡ n → 0 < count_in v far_new.numbers → v ≤ℤ top
@@ -207,14 +207,14 @@ spread_mends near far near_new far_new top low bound all some above has is moves
   by_bound v there (inl e) = subst (λ z. v ≤ℤ z) (sym e) (by_count v (count_in v near.numbers) refl there)
   by_bound v there (inr e) = subst (λ z. v ≤ℤ z) (sym e.1) (moved e.0 v there)
 
-pub refill_none : (near far : HeapOf) (bound : ℤ) → far.room ≤ near.room → length far.numbers ≡ 0 → Reaches near.numbers bound → MendsPile near far near far bound
+pub refill_none : (near far : HeapOf) (bound : ℤ) → 0 < near.room → length far.numbers ≡ 0 → Reaches near.numbers bound → MendsPile near far near far bound
 refill_none near far bound spare none reaches = record {
   moves = moves_none near far;
   pile = record {
     reaches = reaches;
     below = λ v some. absurd (let e = none_there far.numbers none v in omega arith);
     some = λ empty. none;
-    room = spare;
+    room = λ any. spare;
   };
 }
 
@@ -229,10 +229,10 @@ refill_mends near far one two near_new far_new number bound out out_room into in
   pile = mends.pile;
 }
 
-pub mend_none : (near far : HeapOf) (bound : ℤ) → AreUpTo far.numbers bound → far.room ≤ near.room → Reaches near.numbers bound → 0 < length near.numbers → MendsPile near far near far bound
+pub mend_none : (near far : HeapOf) (bound : ℤ) → AreUpTo far.numbers bound → 0 < near.room → Reaches near.numbers bound → 0 < length near.numbers → MendsPile near far near far bound
 mend_none near far bound below spare reaches some = record {
   moves = moves_none near far;
-  pile = record { reaches = reaches; below = below; some = λ none. absurd (omega arith); room = spare };
+  pile = record { reaches = reaches; below = below; some = λ none. absurd (omega arith); room = λ any. spare };
 }
 
 -- THE PILE
@@ -242,7 +242,7 @@ empty_pile near far bound one two none = record {
   reaches = λ x top. absurd (let a = none_there near.numbers one x in let b = top.there in omega arith);
   below = λ v some. absurd (let a = none_there far.numbers two v in omega arith);
   some = λ e. two;
-  room = omega arith;
+  room = λ any. absurd (omega arith);
 }
 
 pub none_piled : (near far : HeapOf) → length near.numbers ≡ 0 → length far.numbers ≡ 0 → none_in (near.numbers ++ far.numbers)
@@ -279,5 +279,5 @@ emptied near near_new far bound pile none empty room =
       reaches = λ x top. absurd (let a = none_there near_new.numbers empty x in let b = top.there in omega arith);
       below = λ v some. absurd (let a = none_there far.numbers gone v in omega arith);
       some = λ e. gone;
-      room = let r = pile.room in omega arith;
+      room = λ any. let r = pile.room any in omega arith;
     }

@@ -44,12 +44,12 @@ abbrev pub Reaches : List ℤ → ℤ → Type 0
 Reaches numbers bound = (x : ℤ) → IsTop numbers x → bound ≤ℤ x
 
 -- no number that is far is above the bound, the greatest of those that are near reaches it, and
--- there is room for all of them near it
+-- there is room near it where there is any
 pub record IsPile (near far : HeapOf) (bound : ℤ) : Type 0 where
   pub reaches : Reaches near.numbers bound
   pub below : AreUpTo far.numbers bound
   pub some : length near.numbers ≡ 0 → length far.numbers ≡ 0
-  pub room : far.room ≤ near.room
+  pub room : 0 < far.room → 0 < near.room
 
 -- a number joins a pile
 pub record FillsPile (near far near_new far_new : HeapOf) (number bound : ℤ) : Type 0 where

@@ -63,7 +63,7 @@ impl Far {
     }
 
     /// Makes room for so many numbers, and not for more. The error is `NoMemory`.
-    pub(crate) fn reach(&mut self, room: usize) -> Result<(), NoMemory>
+    pub(crate) fn make_room(&mut self, room: usize) -> Result<(), NoMemory>
         ensures numbers { self.new.numbers ≡ self.old.numbers }
         ensures kept { self.old.room ≤ self.new.room }
         ensures ok { OnOk result (room ≤ self.new.room) }

@@ -69,13 +69,17 @@ impl Heap {
         Some(number(top))
     }
 
-    /// Makes room for so many numbers more. The error is `NoMemory`.
-    pub(crate) fn reserve(&mut self, more: usize) -> Result<(), NoMemory>
+    /// Makes room for so many numbers. The error is `NoMemory`.
+    pub(crate) fn make_room(&mut self, room: usize) -> Result<(), NoMemory>
         ensures numbers { self.new.numbers ≡ self.old.numbers }
-        ensures room { self.old.room ≤ self.new.room }
-        ensures ok { OnOk result (length self.old.numbers + more ≤ self.new.room) }
+        ensures kept { self.old.room ≤ self.new.room }
+        ensures ok { OnOk result (room ≤ self.new.room) }
     {
-        self.numbers.reserve(more)
+        let many = self.numbers.len();
+        if room > many {
+            self.numbers.reserve_exact(room - many)?;
+        }
+        Ok(())
     }
 
     /// Puts a number in, for which there is room.

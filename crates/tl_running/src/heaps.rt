@@ -1,5 +1,5 @@
 //! Multisets of whole numbers that tell their greatest.
-ghost use Rattle.std.specs.Prelude.{◌≡◌, ℤ, ◌+◌, ◌<◌, ◌≤◌, length, IfSome, IfNone, OnOk};
+ghost use Rattle.std.specs.Prelude.{◌≡◌, ℤ, ◌+◌, ◌<◌, ◌≤◌, true, false, length, IfSome, IfNone, OnOk};
 ghost use Rattle.tl_bits.specs.Bags.{times, AddsOne, IsGreatest};
 ghost use Rattle.tl_running.specs.Heaps.{count_in, IsTop, JoinsHeap, AreBelow, SettleTo};
 
@@ -99,6 +99,30 @@ impl Heaps {
         make_room(&mut self.gone, many)?;
         self.came.push(number);
         Ok(())
+    }
+
+    /// May put a number in, where there is room for it and it is far below the greatest; whether it
+    /// is in.
+    #[inline]
+    pub(crate) fn add_far(&mut self, number: i64) -> bool
+        ensures adds { result ≡ true → AddsOne self.old self.new number }
+        ensures same { result ≡ false → self.new ≡ self.old }
+    {
+        let many = self.came.len();
+        if many >= self.came.room() || many >= self.gone.room() {
+            return false;
+        }
+        self.came.push_far(number)
+    }
+
+    /// May take a number out once, where it is far below the greatest; whether it is out.
+    #[inline]
+    pub(crate) fn remove_far(&mut self, number: i64) -> bool
+        requires { 0 < times self.old number }
+        ensures takes { result ≡ true → AddsOne self.new self.old number }
+        ensures same { result ≡ false → self.new ≡ self.old }
+    {
+        self.gone.push_far(number)
     }
 
     /// Takes a number out once.

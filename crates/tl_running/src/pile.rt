@@ -1,5 +1,5 @@
 //! Piles of whole numbers, each of which tells its greatest.
-ghost use Rattle.std.specs.Prelude.{◌≡◌, ℤ, ◌≤ℤ◌, ◌+◌, ◌<◌, ◌≤◌, true, false, length, IfSome, IfNone, OnOk};
+ghost use Rattle.std.specs.Prelude.{◌≡◌, ℤ, ◌≤ℤ◌, ◌<ℤ◌, ◌+◌, ◌<◌, ◌≤◌, true, false, length, IfSome, IfNone, OnOk};
 ghost use Rattle.tl_running.specs.Heaps.{IsTop, JoinsHeap, none_in, count_in, AreUpTo, Reaches, IsPile, FillsPile, IsGreaterAt, IsGreatestAt, MovesNear, MendsPile, IsLower};
 
 use crate::far::Far;
@@ -30,8 +30,16 @@ impl Model for Pile {
     ghost invariant = { λ p. IsPile p.near p.far p.bound };
 }
 
-// How many numbers are near the greatest at most, where few are far from it.
+// How many numbers there is room for at least, where there is room for any, and how many more than
+// a share of the room may come near the greatest.
 const FEW: usize = 8;
+
+// One in so many of the numbers that there is room for may come near the greatest; more may move
+// there from among those that are far.
+const NEAR_SHARE: usize = 4;
+
+// By how much the room grows when it is full: the numbers are moved then.
+const GROWTH: usize = 4;
 
 // Into how many parts numbers are divided, of each of which one is looked at.
 const PARTS: usize = 8;
@@ -99,11 +107,34 @@ fn move_near(near: &mut Heap, far: &mut Far, bound: i64) -> bool
 }
 
 // Whether a number is far from the greatest: below the bound, where there is a greatest.
+#[inline]
 fn is_far(near: &Heap, bound: i64, number: i64) -> bool
+    requires { Reaches near.now.numbers bound }
     ensures far { result ≡ true → (number ≤ℤ bound) × (0 < length near.now.numbers) }
+    ensures below { result ≡ true → (x : ℤ) → AreUpTo near.now.numbers x → number <ℤ x }
     ensures close { result ≡ false → 0 < length near.now.numbers → bound ≤ℤ number }
 {
-    number < bound && near.len() > 0
+    match near.top() {
+        Some(_top) => number < bound,
+        None => false,
+    }
+}
+
+// Puts a number where it is far from the greatest; whether it is.
+#[inline]
+fn put_far(near: &Heap, far: &mut Far, bound: i64, number: i64) -> bool
+    requires pile { IsPile near.now far.old bound }
+    requires room { length near.now.numbers + length far.old.numbers < far.old.room }
+    ensures fills { result ≡ true → FillsPile near.now far.old near.now far.new number bound }
+    ensures below { result ≡ true → (x : ℤ) → AreUpTo near.now.numbers x → number <ℤ x }
+    ensures close { result ≡ false → 0 < length near.now.numbers → bound ≤ℤ number }
+    ensures same { result ≡ false → far.new ≡ far.old }
+{
+    let is_far = is_far(near, bound, number);
+    if is_far {
+        far.push(number);
+    }
+    is_far
 }
 
 // Puts the greater one of a number and the greatest near the top, in place of the latter, and the
@@ -136,7 +167,7 @@ fn put_near(near: &mut Heap, far: &mut Far, bound: i64, number: i64) -> i64
     requires room { length near.old.numbers + length far.old.numbers < far.old.room }
     ensures fills { FillsPile near.old far.old near.new far.new number result }
 {
-    if near.len() >= FEW + far.len() / 4 {
+    if near.len() >= near.room() || near.len() >= near.room() / NEAR_SHARE + FEW {
         return exchange(near, far, bound, number);
     }
     near.push(number);
@@ -153,8 +184,8 @@ fn put(near: &mut Heap, far: &mut Far, bound: i64, number: i64) -> i64
     requires room { length near.old.numbers + length far.old.numbers < far.old.room }
     ensures fills { FillsPile near.old far.old near.new far.new number result }
 {
-    if is_far(near, bound, number) {
-        far.push(number);
+    let is_put = put_far(near, far, bound, number);
+    if is_put {
         return bound;
     }
     put_near(near, far, bound, number)
@@ -207,7 +238,7 @@ fn move_share(near: &mut Heap, far: &mut Far, low: i64) -> (bool, i64)
 fn spread(near: &mut Heap, far: &mut Far) -> i64
     requires some { 0 < length near.old.numbers }
     requires above { (x : ℤ) → IsTop near.old.numbers x → AreUpTo far.old.numbers x }
-    requires room { far.old.room ≤ near.old.room }
+    requires room { 0 < near.old.room }
     ensures mends { MendsPile near.old far.old near.new far.new result }
 {
     let Some(top) = near.top() else {
@@ -223,7 +254,7 @@ fn spread(near: &mut Heap, far: &mut Far) -> i64
 #[inline(never)]
 fn refill(near: &mut Heap, far: &mut Far) -> i64
     requires spare { length near.old.numbers < near.old.room }
-    requires room { far.old.room ≤ near.old.room }
+    requires room { 0 < near.old.room }
     ensures mends { MendsPile near.old far.old near.new far.new result }
 {
     if far.len() == 0 {
@@ -240,7 +271,7 @@ fn refill(near: &mut Heap, far: &mut Far) -> i64
 fn mend(near: &mut Heap, far: &mut Far, bound: i64) -> i64
     requires below { AreUpTo far.old.numbers bound }
     requires spare { length near.old.numbers < near.old.room }
-    requires room { far.old.room ≤ near.old.room }
+    requires room { 0 < near.old.room }
     ensures mends { MendsPile near.old far.old near.new far.new result }
 {
     if reaches(near, bound) {
@@ -284,17 +315,17 @@ impl Pile {
         self.near.top()
     }
 
-    /// Makes room for so many numbers, near the greatest and far from it: no other call takes memory.
-    /// The error is `NoMemory`.
+    /// Makes room for so many numbers, near the greatest and far from it: no other call takes
+    /// memory. The error is `NoMemory`.
     #[inline(never)]
     pub(crate) fn reserve(&mut self, many: usize) -> Result<(), NoMemory>
         ensures numbers { self.new.numbers ≡ self.old.numbers }
         ensures room { self.old.room ≤ self.new.room }
         ensures ok { OnOk result (many ≤ self.new.room) }
     {
-        let room = self.far.room().saturating_mul(2).max(many).max(FEW);
-        self.near.reserve(room)?;
-        self.far.reach(room)?;
+        let room = self.far.room().saturating_mul(GROWTH).max(many).max(FEW);
+        self.near.make_room(room)?;
+        self.far.make_room(room)?;
         Ok(())
     }
 
@@ -306,6 +337,18 @@ impl Pile {
         ensures room { self.new.room ≡ self.old.room }
     {
         self.bound = put(&mut self.near, &mut self.far, self.bound, number);
+    }
+
+    /// Puts a number in where it is far from the greatest, which is above it; whether it is.
+    #[inline]
+    pub(crate) fn push_far(&mut self, number: i64) -> bool
+        requires { length self.old.numbers < self.old.room }
+        ensures joins { result ≡ true → JoinsHeap self.old self.new number }
+        ensures below { result ≡ true → (x : ℤ) → AreUpTo self.old.numbers x → number <ℤ x }
+        ensures same { result ≡ false → self.new ≡ self.old }
+        ensures room { self.new.room ≡ self.old.room }
+    {
+        put_far(&self.near, &mut self.far, self.bound, number)
     }
 
     /// Takes the greatest number out.

@@ -1,5 +1,5 @@
 //! An aggregate that is kept while rows come and go.
-ghost use Rattle.std.specs.Prelude.{◌≡◌, ◌<◌, ℕ, ℤ, true, Option, List, [], length, OnOk};
+ghost use Rattle.std.specs.Prelude.{◌≡◌, ◌+◌, ◌-◌, ◌<◌, ◌^◌, ℕ, ℤ, pos, neg_ℤ, ◌+ℤ◌, ◌-ℤ◌, ◌≤ℤ◌, true, false, Option, List, [], length, OnOk};
 ghost use Rattle.std.specs.List.{count_by};
 ghost use Rattle.std.specs.Ordering.{int_eq};
 ghost use Rattle.tl_types.specs.declared.answers.Field.TheVariants as field;
@@ -96,6 +96,13 @@ fn greatest_field(heaps: &Heaps) -> Field
     }
 }
 
+// Whether the kind asks for the order of the numbers.
+fn is_ordered(kind: AggKind) -> bool
+    ensures { result ≡ is_ordered kind }
+{
+    matches!(kind, AggKind::Min | AggKind::Max)
+}
+
 // Puts the number in, where the kind asks for the order of the numbers.
 fn put_in(heaps: &mut Heaps, kind: AggKind, number: i64) -> Result<(), NoMemory>
     ensures { OnOk result (is_ordered kind ≡ true
@@ -111,6 +118,37 @@ fn put_in(heaps: &mut Heaps, kind: AggKind, number: i64) -> Result<(), NoMemory>
             Ok(())
         }
         _ => Ok(()),
+    }
+}
+
+// May put the number in, where the kind asks for the order of the numbers, there is room, and it is
+// far behind the first; whether it is in.
+#[inline]
+fn put_in_far(heaps: &mut Heaps, kind: AggKind, number: i64) -> bool
+    ensures adds { result ≡ true
+        → AddsOne (bag_of kind heaps.old) (bag_of kind heaps.new) number }
+    ensures same { result ≡ false → heaps.new ≡ heaps.old }
+{
+    match kind {
+        AggKind::Min => heaps.add_far(turned(number)),
+        AggKind::Max => heaps.add_far(number),
+        _ => false,
+    }
+}
+
+// May take the number out, where the kind asks for the order of the numbers and it is far behind
+// the first; whether it is out.
+#[inline]
+fn take_out_far(heaps: &mut Heaps, kind: AggKind, number: i64) -> bool
+    requires { is_ordered kind ≡ true → 0 < times (bag_of kind heaps.old) number }
+    ensures takes { result ≡ true
+        → AddsOne (bag_of kind heaps.new) (bag_of kind heaps.old) number }
+    ensures same { result ≡ false → heaps.new ≡ heaps.old }
+{
+    match kind {
+        AggKind::Min => heaps.remove_far(turned(number)),
+        AggKind::Max => heaps.remove_far(number),
+        _ => false,
     }
 }
 
@@ -141,6 +179,34 @@ impl Running {
         }
     }
 
+    // Counts a number that comes; what is kept by size stays.
+    #[inline]
+    fn count_in(&mut self, number: i64)
+        requires { HasRoom self.old }
+        ensures { self.new ≡ record self.old {
+          count = self.old.count + 1;
+          sum = self.old.sum +ℤ number;
+        } }
+    {
+        self.count += 1;
+        self.sum += i128::from(number);
+    }
+
+    // Counts a number that goes; what is kept by size stays.
+    #[inline]
+    fn count_out(&mut self, number: i64)
+        requires some { 0 < self.old.count }
+        requires low { neg_ℤ (pos (2 ^ 96)) ≤ℤ self.old.sum }
+        requires high { self.old.sum ≤ℤ pos (2 ^ 96) }
+        ensures { self.new ≡ record self.old {
+          count = self.old.count - 1;
+          sum = self.old.sum -ℤ number;
+        } }
+    {
+        self.count -= 1;
+        self.sum -= i128::from(number);
+    }
+
     /// The number of a row comes. Where this stood for rows, it then stands for them and that row.
     /// The error is `NoMemory`.
     pub fn enter(&mut self, number: i64) -> Result<(), NoMemory>
@@ -148,8 +214,7 @@ impl Running {
         ensures { OnOk result (Enters self.old self.new number) }
     {
         put_in(&mut self.heaps, self.kind, number)?;
-        self.count += 1;
-        self.sum += i128::from(number);
+        self.count_in(number);
         Ok(())
     }
 
@@ -160,13 +225,55 @@ impl Running {
         ensures { Enters self.new self.old number }
     {
         take_out(&mut self.heaps, self.kind, number);
-        self.count -= 1;
-        self.sum -= i128::from(number);
+        self.count_out(number);
     }
 
-    /// The number of a row comes where `opens`, else it goes. The error is `NoMemory`.
+    // The number of a row may come, where it is far behind the first; whether it came.
     #[inline]
-    pub fn change(&mut self, opens: bool, number: i64) -> Result<(), NoMemory>
+    fn enter_far(&mut self, number: i64) -> bool
+        requires { HasRoom self.old }
+        ensures enters { result ≡ true → Enters self.old self.new number }
+        ensures same { result ≡ false → self.new ≡ self.old }
+    {
+        let is_in = put_in_far(&mut self.heaps, self.kind, number);
+        if is_in {
+            self.count_in(number);
+        }
+        is_in
+    }
+
+    // The number of a row may go, where it is far behind the first; whether it went.
+    #[inline]
+    fn leave_far(&mut self, number: i64) -> bool
+        requires { CanLeave self.old number }
+        ensures leaves { result ≡ true → Enters self.new self.old number }
+        ensures same { result ≡ false → self.new ≡ self.old }
+    {
+        let is_out = take_out_far(&mut self.heaps, self.kind, number);
+        if is_out {
+            self.count_out(number);
+        }
+        is_out
+    }
+
+    // The number of a row may come where `opens`, and else go, where it is far behind the first;
+    // whether that was done.
+    #[inline]
+    fn change_far(&mut self, opens: bool, number: i64) -> bool
+        requires { CanChange opens self.old number }
+        ensures changes { result ≡ true → Changes opens self.old self.new number }
+        ensures same { result ≡ false → self.new ≡ self.old }
+    {
+        if opens {
+            self.enter_far(number)
+        } else {
+            self.leave_far(number)
+        }
+    }
+
+    // The number of a row comes where `opens`, else it goes, for any kind.
+    #[inline(never)]
+    fn change_near(&mut self, opens: bool, number: i64) -> Result<(), NoMemory>
         requires { CanChange opens self.old number }
         ensures { OnOk result (Changes opens self.old self.new number) }
     {
@@ -174,6 +281,46 @@ impl Running {
             return self.enter(number);
         }
         self.leave(number);
+        Ok(())
+    }
+
+    // The number of a row comes where `opens`, else it goes, for a kind that asks for the order.
+    #[inline(never)]
+    fn change_in_order(&mut self, opens: bool, number: i64) -> Result<(), NoMemory>
+        requires { CanChange opens self.old number }
+        ensures { OnOk result (Changes opens self.old self.new number) }
+    {
+        let is_done = self.change_far(opens, number);
+        if is_done {
+            return Ok(());
+        }
+        self.change_near(opens, number)
+    }
+
+    // The number of a row comes where `opens`, else it goes, for a kind that asks for no order.
+    #[inline(always)]
+    fn change_sum(&mut self, opens: bool, number: i64)
+        requires kind { is_ordered self.old.kind ≡ false }
+        requires can { CanChange opens self.old number }
+        ensures { Changes opens self.old self.new number }
+    {
+        if opens {
+            self.count_in(number);
+        } else {
+            self.count_out(number);
+        }
+    }
+
+    /// The number of a row comes where `opens`, else it goes. The error is `NoMemory`.
+    #[inline(always)]
+    pub fn change(&mut self, opens: bool, number: i64) -> Result<(), NoMemory>
+        requires { CanChange opens self.old number }
+        ensures { OnOk result (Changes opens self.old self.new number) }
+    {
+        if is_ordered(self.kind) {
+            return self.change_in_order(opens, number);
+        }
+        self.change_sum(opens, number);
         Ok(())
     }
 

@@ -4,3 +4,4 @@ pub mod RunLemmas
 pub mod PieceLemmas
 pub mod Sorted
 pub mod MarkLemmas
+pub mod ChoiceLemmas

@@ -10,7 +10,7 @@ use Rattle.tl_ckpt.specs.Valid.{Rises, passed, left_of, merged, lead}
 use Rattle.tl_ckpt.specs.Runs.{sum_of, AllRise, lent, fronts, backs}
 use Rattle.tl_ckpt.proofs.Members.{Above, all_merged}
 use Rattle.tl_ckpt.proofs.Merging.{drop_step}
-use Rattle.tl_ckpt.proofs.RunLemmas.{rises_front, rise_at, taken_in}
+use Rattle.tl_ckpt.proofs.RunLemmas.{rises_front, rise_at}
 
 -- all come before the event
 abbrev Lows : ValidEvent → List ValidEvent → Type 0
@@ -107,7 +107,7 @@ high_sum : (e : ValidEvent) (runs : List (List ValidEvent)) → AllRise runs →
 high_sum e [] up = tt
 high_sum e (run ∷ runs) up = all_merged (λ x. comes_before x e ≡ false) (sum_of (backs e runs)) (drop (lead e run) run) (high_sum e runs up.1) (high_back e run up.0)
 
-sum_cut : (e : ValidEvent) (runs : List (List ValidEvent)) → AllRise runs → sum_of runs ≡ sum_of (fronts e runs) ++ sum_of (backs e runs)
+pub sum_cut : (e : ValidEvent) (runs : List (List ValidEvent)) → AllRise runs → sum_of runs ≡ sum_of (fronts e runs) ++ sum_of (backs e runs)
 sum_cut e [] up = refl
 sum_cut e (run ∷ runs) up =
     ap (λ zs. merged zs run) (sum_cut e runs up.1)
@@ -127,19 +127,9 @@ pub backs_rise : (e : ValidEvent) (runs : List (List ValidEvent)) → AllRise ru
 backs_rise e [] up = tt
 backs_rise e (run ∷ runs) up = (rises_back (lead e run) run up.0, backs_rise e runs up.1)
 
--- one piece more is out
-pub piece_more : (e : ValidEvent) (all out piece new : List ValidEvent) (rests before behind : List (List ValidEvent)) → AllRise rests → before ≡ fronts e rests → behind ≡ backs e rests → piece ≡ sum_of before → new ≡ out ++ piece → out ++ sum_of rests ≡ all → (new ++ sum_of behind ≡ all) × AllRise behind
-piece_more e all out piece new rests before behind up before_is behind_is piece_is new_is was = (
-  ap (λ zs. zs ++ sum_of behind) (new_is ∙ ap (λ zs. out ++ zs) (piece_is ∙ ap sum_of before_is))
-      ∙ append_assoc out (sum_of (fronts e rests)) (sum_of behind)
-      ∙ ap (λ rs. out ++ (sum_of (fronts e rests) ++ sum_of rs)) behind_is
-      ∙ ap (λ zs. out ++ zs) (sym (sum_cut e rests up)) ∙ was,
-  subst AllRise (sym behind_is) (backs_rise e rests up),
-)
-
 -- LENT RUNS
 
-lent_at : (runs : List (Bor (List ValidEvent))) (i : ℕ) (d : Bor (List ValidEvent)) → get_or (lent runs) i d.now ≡ (slice_index_or runs i d).now
+pub lent_at : (runs : List (Bor (List ValidEvent))) (i : ℕ) (d : Bor (List ValidEvent)) → get_or (lent runs) i d.now ≡ (slice_index_or runs i d).now
 lent_at [] i d = refl
 lent_at (run ∷ runs) zero d = refl
 lent_at (run ∷ runs) (suc i) d = lent_at runs i d
@@ -152,12 +142,6 @@ pub lent_rises : (runs : List (Bor (List ValidEvent))) (i : ℕ) (d : Bor (List 
 lent_rises runs i d up l =
     let all = lent_length runs in
     subst Rises (lent_at runs i d) (rise_at (lent runs) i d.now up (omega (arith, all, l)))
-
--- one run is taken in
-pub lent_taken : (runs : List (Bor (List ValidEvent))) (all now new : List ValidEvent) (i : ℕ) (d : Bor (List ValidEvent)) → AllRise (lent runs) → Rises now → i < length runs → new ≡ merged (slice_index_or runs i d).now now → merged (sum_of (drop i (lent runs))) now ≡ all → (merged (sum_of (drop (i + 1) (lent runs))) new ≡ all) × Rises new
-lent_taken runs all now new i d up rises l is was =
-    let same = lent_length runs in
-    taken_in (lent runs) all now new i d.now up rises (omega (arith, same, l)) (is ∙ ap (λ xs. merged xs now) (sym (lent_at runs i d))) was
 
 lent_step : (runs : List (Bor (List ValidEvent))) (i : ℕ) (d : Bor (List ValidEvent)) → i < length runs → drop i (lent runs) ≡ (slice_index_or runs i d).now ∷ drop (i + 1) (lent runs)
 lent_step runs i d l =

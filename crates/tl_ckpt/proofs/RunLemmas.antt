@@ -1,5 +1,5 @@
 -- Runs of changes.
-use Rattle.std.proofs.Common.{◌≡◌, ℕ, zero, suc, ◌+◌, ◌-◌, ◌<◌, ◌≤◌, Bool, true, false, cond, List, [], ◌∷◌, length, take, drop, get_or, refl, sym, ap, ◌∙◌, subst, arith}
+use Rattle.std.proofs.Common.{◌≡◌, ℕ, zero, suc, ◌+◌, ◌-◌, ◌<◌, Bool, true, false, cond, List, [], ◌∷◌, length, take, drop, get_or, refl, sym, ap, ◌∙◌, subst, arith}
 use Rattle.tl_types.specs.declared.events.ValidEvent.{ValidEvent}
 use Rattle.tl_types.specs.Checkpoints.{comes_before}
 use Rattle.tl_ckpt.specs.Valid.{Rises, merged, lead}
@@ -76,15 +76,6 @@ taken_in runs all now new i d up rises l is before =
 pub taken_so : (runs : List (List ValidEvent)) (all now lent mine new : List ValidEvent) (i : ℕ) (d : List ValidEvent) → AllRise runs → Rises now → i < length runs → d ≡ get_or runs i d → mine ≡ d → lent ≡ now → new ≡ merged mine lent → merged (sum_of (drop i runs)) now ≡ all → (merged (sum_of (drop (i + 1) runs)) new ≡ all) × Rises new
 taken_so runs all now lent mine new i d up rises l read mine_is lent_is is before =
     taken_in runs all now new i d up rises l (is ∙ ap (merged mine) lent_is ∙ ap (λ r. merged r now) (mine_is ∙ read)) before
-
--- all are taken in
-pub none_behind : (runs : List (List ValidEvent)) (all now : List ValidEvent) (i : ℕ) → Rises now → length runs ≤ i → merged (sum_of (drop i runs)) now ≡ all → now ≡ all
-none_behind runs all now i rises l is = sym (merged_none now rises) ∙ ap (λ rs. merged (sum_of rs) now) (sym (gone runs i l)) ∙ is where
-  gone : {X : Type 0} (xs : List X) (i : ℕ) → length xs ≤ i → drop i xs ≡ []
-  gone [] zero l = refl
-  gone [] (suc i) l = refl
-  gone (x ∷ xs) zero l = absurd (omega arith)
-  gone (x ∷ xs) (suc i) l = gone xs i (omega arith)
 
 -- WINDOWS
 

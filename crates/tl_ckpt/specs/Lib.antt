@@ -1,3 +1,4 @@
 pub mod Marks
 pub mod Valid
 pub mod Runs
+pub mod Choices

@@ -1,8 +1,10 @@
 //! Lists of events of valid time that are put together from runs.
-ghost use Rattle.std.specs.Prelude.{◌≡◌, ◌∷◌, IfOk};
-ghost use Rattle.tl_ckpt.specs.Valid.{Rises};
+ghost use Rattle.std.specs.Prelude.{◌≡◌, ◌++◌, ◌∷◌, [], IfOk, OnOk};
+ghost use Rattle.tl_ckpt.specs.Choices.{chosen, masked};
+ghost use Rattle.tl_ckpt.specs.Valid.{Rises, merged};
 ghost use Rattle.tl_ckpt.specs.Runs.{sum_of, AllRise, lent, fronts, backs};
 
+use crate::choices::{Choice, has_bit};
 use crate::merges::{lead, merged_with};
 use std::alloc::Global;
 use tl_shared::Chunk;
@@ -53,15 +55,83 @@ fn cut<'a>(
     Ok((before, behind))
 }
 
-// All runs as one list, one after the other.
-fn merged_in_turn(alloc: Global, runs: &[&[ValidEvent]]) -> Result<Vec<ValidEvent>, NoMemory>
+// Puts the event behind the others, where the bit of its row is set.
+fn push_masked(out: &mut Vec<ValidEvent>, event: ValidEvent, mask: &[u64]) -> Result<(), NoMemory>
+    ensures { OnOk result (out.new.items ≡ out.old.items ++ masked mask.now (event ∷ [])) }
+{
+    if has_bit(mask, event.row) {
+        out.push(event)?;
+    }
+    Ok(())
+}
+
+// Of the events those of rows whose bits are set.
+fn masked_events(
+    alloc: Global,
+    events: &[ValidEvent],
+    mask: &[u64],
+) -> Result<Vec<ValidEvent>, NoMemory>
+    ensures { IfOk result (λ out. out.items ≡ masked mask.now events.now) }
+{
+    let mut out = Vec::new(alloc);
+    for event in events {
+        push_masked(&mut out, *event, mask)?;
+    }
+    Ok(out)
+}
+
+// A part with changes. Where one of them has no event, the other is handed on.
+fn joined(
+    alloc: Global,
+    part: Vec<ValidEvent>,
+    changes: Vec<ValidEvent>,
+) -> Result<Vec<ValidEvent>, NoMemory>
+    requires part { Rises part.items }
+    requires changes { Rises changes.items }
+    ensures { IfOk result (λ out. out.items ≡ merged part.items changes.items) }
+{
+    if part.is_empty() {
+        return Ok(changes);
+    }
+    if changes.is_empty() {
+        return Ok(part);
+    }
+    merged_with(alloc, &part, &changes)
+}
+
+// The events of a run that are of chosen rows, with changes.
+fn chosen_with(
+    alloc: Global,
+    run: &[ValidEvent],
+    choice: &Choice,
+    changes: Vec<ValidEvent>,
+) -> Result<Vec<ValidEvent>, NoMemory>
+    requires run { Rises run.now }
+    requires changes { Rises changes.items }
+    ensures { IfOk result (λ out. out.items ≡ merged (chosen choice.now run.now) changes.items) }
+{
+    if choice.is_all() {
+        let out = merged_with(alloc, run, &changes)?;
+        return Ok(out);
+    }
+    let part = masked_events(alloc, run, choice.mask())?;
+    let out = joined(alloc, part, changes)?;
+    Ok(out)
+}
+
+// The events of chosen rows of all runs as one list, one run after the other.
+fn merged_in_turn(
+    alloc: Global,
+    runs: &[&[ValidEvent]],
+    choice: &Choice,
+) -> Result<Vec<ValidEvent>, NoMemory>
     requires { AllRise (lent runs.now) }
-    ensures { IfOk result (λ out. out.items ≡ sum_of (lent runs.now)) }
+    ensures { IfOk result (λ out. out.items ≡ chosen choice.now (sum_of (lent runs.now))) }
 {
     let mut out = Vec::new(alloc);
     let mut i = 0;
     'runs: while i < runs.len() {
-        out = merged_with(alloc, runs[i], &out)?;
+        out = chosen_with(alloc, runs[i], choice, out)?;
         i += 1;
     }
     Ok(out)
@@ -87,10 +157,14 @@ fn total(runs: &[&[ValidEvent]]) -> usize {
     total
 }
 
-// All runs as one list, piece by piece.
-fn merged_in_pieces(alloc: Global, runs: Vec<&[ValidEvent]>) -> Result<Vec<ValidEvent>, NoMemory>
+// The events of chosen rows of all runs as one list, piece by piece.
+fn merged_in_pieces(
+    alloc: Global,
+    runs: Vec<&[ValidEvent]>,
+    choice: &Choice,
+) -> Result<Vec<ValidEvent>, NoMemory>
     requires { AllRise (lent runs.items) }
-    ensures { IfOk result (λ out. out.items ≡ sum_of (lent runs.entry.items)) }
+    ensures { IfOk result (λ out. out.items ≡ chosen choice.now (sum_of (lent runs.entry.items))) }
 {
     let longest = longest(&runs);
     let mut out = Vec::with_capacity(alloc, total(&runs))?;
@@ -98,24 +172,28 @@ fn merged_in_pieces(alloc: Global, runs: Vec<&[ValidEvent]>) -> Result<Vec<Valid
     let mut at = PIECE;
     'pieces: while at < longest.len() {
         let (before, behind) = cut(alloc, &rests, &longest[at])?;
-        let mut piece = merged_in_turn(alloc, &before)?;
+        let mut piece = merged_in_turn(alloc, &before, choice)?;
         out.append(&mut piece)?;
         rests = behind;
         at += PIECE;
     }
-    let mut piece = merged_in_turn(alloc, &rests)?;
+    let mut piece = merged_in_turn(alloc, &rests, choice)?;
     out.append(&mut piece)?;
     Ok(out)
 }
 
-/// All runs as one list.
-pub(crate) fn list_of(alloc: Global, runs: Vec<&[ValidEvent]>) -> Result<Vec<ValidEvent>, NoMemory>
+/// The events of chosen rows of all runs as one list.
+pub(crate) fn list_of(
+    alloc: Global,
+    runs: Vec<&[ValidEvent]>,
+    choice: &Choice,
+) -> Result<Vec<ValidEvent>, NoMemory>
     requires { AllRise (lent runs.items) }
-    ensures { IfOk result (λ out. out.items ≡ sum_of (lent runs.entry.items)) }
+    ensures { IfOk result (λ out. out.items ≡ chosen choice.now (sum_of (lent runs.entry.items))) }
 {
     if runs.len() <= 2 {
-        merged_in_turn(alloc, &runs)
+        merged_in_turn(alloc, &runs, choice)
     } else {
-        merged_in_pieces(alloc, runs)
+        merged_in_pieces(alloc, runs, choice)
     }
 }

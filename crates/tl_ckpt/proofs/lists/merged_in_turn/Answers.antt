@@ -1,14 +1,14 @@
-use Rattle.std.proofs.Common.{arith, ◌<◌, ◌∙◌, length, ap, slice_index_or, List, []}
+use Rattle.std.proofs.Common.{arith, ◌<◌, length, List, []}
 use Rattle.std.specs.Borrow.{Bor}
 use Rattle.tl_types.specs.declared.events.ValidEvent.{ValidEvent}
-use Rattle.tl_ckpt.specs.Valid.{merged}
+use Rattle.tl_ckpt.specs.Choices.{chosen}
 use Rattle.tl_ckpt.specs.Runs.{sum_of, lent}
-use Rattle.tl_ckpt.proofs.PieceLemmas.{lent_rises, lent_taken, lent_length}
-use Rattle.tl_ckpt.proofs.RunLemmas.{none_behind}
+use Rattle.tl_ckpt.proofs.PieceLemmas.{lent_rises, lent_length}
+use Rattle.tl_ckpt.proofs.ChoiceLemmas.{chosen_taken, chosen_behind}
 use Rattle.tl_ckpt.proofs.lists.merged_in_turn.Goals as goal
 
-pub merged_with-requires-clause-run : goal.merged_with-requires-clause-run
-merged_with-requires-clause-run c =
+pub chosen_with-requires-clause-run : goal.chosen_with-requires-clause-run
+chosen_with-requires-clause-run c =
     let here : c.runs.i < length c.args.runs.now = omega arith in
     lent_rises c.args.runs.now c.runs.i (record { ref_ptr = (0, 0); now = [] }) c.requires here
 
@@ -17,10 +17,10 @@ runs-preserved c =
     let here : c.runs.i < length c.args.runs.now = omega arith in
     let d : Bor (List ValidEvent) = record { ref_ptr = (0, 0); now = [] } in
     let was = c.runs.invariant in
-    let step = lent_taken c.args.runs.now (sum_of (lent c.args.runs.now)) c.runs.out.items c.in_ok-out.out.items c.runs.i d c.requires was.rises here (c.in_ok-out.ensures ∙ ap (merged (slice_index_or c.args.runs.now c.runs.i d).now) c.deref.ensures.value) was.sum in
+    let step = chosen_taken c.args.choice.now c.args.runs.now (chosen c.args.choice.now (sum_of (lent c.args.runs.now))) c.runs.out.items c.in_ok-out.out.items c.runs.i d c.requires was.rises here c.in_ok-out.ensures was.sum in
     record { within = omega arith; rises = step.1; sum = step.0 }
 
 pub returns : goal.returns
 returns c =
     let all = lent_length c.args.runs.now in
-    none_behind (lent c.args.runs.now) (sum_of (lent c.args.runs.now)) c.runs.out.items c.runs.i c.runs.invariant.rises (omega arith) c.runs.invariant.sum
+    chosen_behind c.args.choice.now (lent c.args.runs.now) (chosen c.args.choice.now (sum_of (lent c.args.runs.now))) c.runs.out.items c.runs.i c.runs.invariant.rises (omega arith) c.runs.invariant.sum

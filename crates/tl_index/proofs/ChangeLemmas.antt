@@ -5,6 +5,7 @@ use Rattle.std.specs.Ordering.{int_eq}
 use Rattle.std.specs.List.{flat_map, filter, list_any, enumerate_from}
 use Rattle.std.proofs.lemmas.Bool.{ne_eqb, eqb-true}
 use Rattle.std.proofs.lemmas.Bool.Decides.{nat_tests}
+use Rattle.std.proofs.lemmas.List.Elements.{filter-append}
 use Rattle.std.proofs.lemmas.List.Folds.{list_any-append}
 use Rattle.tl_types.specs.Plain as plain
 use Rattle.tl_types.specs.declared.events.Event.{Event}
@@ -18,7 +19,9 @@ use Rattle.tl_types.proofs.ValidEventOrder.{same_event}
 use Rattle.tl_ckpt.specs.Valid.{Rises, merged}
 use Rattle.tl_ckpt.proofs.Members.{has, xor, Distinct, has_in_order, rises_in_order, good_merged, members_same}
 use Rattle.tl_ckpt.proofs.Merging.{equal_or_less}
-use Rattle.tl_index.specs.Changes.{differs, change_of_row, change_of}
+use Rattle.tl_ckpt.specs.Choices.{Choice, is_chosen, chosen}
+use Rattle.tl_ckpt.proofs.ChoiceLemmas.{rises_filter, has_filter, both_pass}
+use Rattle.tl_index.specs.Changes.{differs, change_of_row, change_of, chosen_change_of}
 
 has_append : (z : ValidEvent) (xs ys : List ValidEvent) → has (xs ++ ys) z ≡ (has xs z || has ys z)
 has_append z xs ys = list_any-append (λ y. same_event y z) xs ys
@@ -234,15 +237,71 @@ all_seen rows old new z l = by_row (slice_get rows z.row) refl where
 
 -- THE HEART
 
--- the events at a version, with the changes of rows that have an event behind it, are those at a later version
-pub later_valid : (rows : List plain.Row) (old new : ℕ) (changes : List ValidEvent) → old ≤ new → Rises changes → ((z : ValidEvent) → has changes z ≡ has (flat_map (change_of rows old new) (events_between rows old new)) z) → merged (valid_events_in rows old) changes ≡ valid_events_in rows new
-later_valid rows old new changes l up is =
-    let good = good_merged (valid_events_in rows old) changes (rises_valid rows old) up in
-    members_same (merged (valid_events_in rows old) changes) (valid_events_in rows new) good.rises (rises_valid rows new) (λ z.
-    good.members z ∙ ap (λ b. xor b (has changes z)) (has_valid rows old z) ∙ ap (xor (end_at (slice_get rows z.row) old z)) (is z ∙ has_changes rows old new (events_between rows old new) z ∙ all_seen rows old new z l)
-    ∙ sym (both_ends (slice_get rows z.row) old new z) ∙ sym (has_valid rows new z))
+-- what is in one of the two lists of events alone is a change
+later_has : (rows : List plain.Row) (old new : ℕ) (z : ValidEvent) → old ≤ new → xor (has (valid_events_in rows old) z) (has (flat_map (change_of rows old new) (events_between rows old new)) z) ≡ has (valid_events_in rows new) z
+later_has rows old new z l =
+    ap (λ b. xor b (has (flat_map (change_of rows old new) (events_between rows old new)) z)) (has_valid rows old z)
+    ∙ ap (xor (end_at (slice_get rows z.row) old z)) (has_changes rows old new (events_between rows old new) z ∙ all_seen rows old new z l)
+    ∙ sym (both_ends (slice_get rows z.row) old new z) ∙ sym (has_valid rows new z)
 
--- the same, as the code has it
-pub later_all : (rows : List plain.Row) (old new : ℕ) (events : List Event) (given once : List ValidEvent) → old ≤ new → events ≡ events_between rows old new → given ≡ flat_map (change_of rows old new) events → Rises once → ((z : ValidEvent) → has once z ≡ has given z) → merged (valid_events_in rows old) once ≡ valid_events_in rows new
-later_all rows old new events given once l events_is given_is up same =
-    later_valid rows old new once l up (λ z. same z ∙ ap (λ xs. has xs z) (given_is ∙ ap (flat_map (change_of rows old new)) events_is))
+-- OF CHOSEN ROWS
+
+both_same : (b : Bool) (xs : List ValidEvent) → cond b xs xs ≡ xs
+both_same true xs = refl
+both_same false xs = refl
+
+chosen_row : (choice : Choice) (old new id : ℕ) (o : Option plain.Row) → cond (is_chosen choice id) (change_of_row old new id o) [] ≡ chosen choice (change_of_row old new id o)
+chosen_row choice old new id None = both_same (is_chosen choice id) []
+chosen_row choice old new id (Some r) = by_tests (differs old new r) r.period where
+  ends : (p : Option plain.Period) → cond (is_chosen choice id) (ends_of id p) [] ≡ chosen choice (ends_of id p)
+  ends None = both_same (is_chosen choice id) []
+  ends (Some p) = by_test (is_chosen choice id) where
+    first : ValidEvent
+    first = record { time = p.from; opens = true; row = id }
+
+    second : ValidEvent
+    second = record { time = p.to; opens = false; row = id }
+
+    by_test : (b : Bool) → cond b (first ∷ second ∷ []) [] ≡ cond b (first ∷ cond b (second ∷ []) []) (cond b (second ∷ []) [])
+    by_test true = refl
+    by_test false = refl
+
+  by_tests : (b : Bool) (p : Option plain.Period) → cond (is_chosen choice id) (cond b (ends_of id p) []) [] ≡ chosen choice (cond b (ends_of id p) [])
+  by_tests true p = ends p
+  by_tests false p = ends None
+
+-- the changes of chosen rows are those of the changes that are of chosen rows
+chosen_changes : (choice : Choice) (rows : List plain.Row) (old new : ℕ) (events : List Event) → flat_map (chosen_change_of choice rows old new) events ≡ chosen choice (flat_map (change_of rows old new) events)
+chosen_changes choice rows old new [] = refl
+chosen_changes choice rows old new (e ∷ es) =
+    let P : ValidEvent → Bool = λ event. is_chosen choice event.row in
+    ap (λ xs. xs ++ flat_map (chosen_change_of choice rows old new) es) (chosen_row choice old new e.row (slice_get rows e.row))
+    ∙ ap (λ xs. chosen choice (change_of rows old new e) ++ xs) (chosen_changes choice rows old new es)
+    ∙ sym (filter-append P (change_of rows old new e) (flat_map (change_of rows old new) es))
+
+module _ (choice : Choice) (rows : List plain.Row) (old new : ℕ) (given once : List ValidEvent) (is : given ≡ flat_map (chosen_change_of choice rows old new) (events_between rows old new)) (up : Rises once) (same : (z : ValidEvent) → has once z ≡ has given z) where
+  once_has : (z : ValidEvent) → has once z ≡ (has (flat_map (change_of rows old new) (events_between rows old new)) z && is_chosen choice z.row)
+  once_has z = same z ∙ ap (λ xs. has xs z) (is ∙ chosen_changes choice rows old new (events_between rows old new)) ∙ has_filter (λ event. is_chosen choice event.row) z (flat_map (change_of rows old new) (events_between rows old new))
+
+  -- with the changes of chosen rows their events at a version are those at a later one
+  pub later_chosen : old ≤ new → merged (chosen choice (valid_events_in rows old)) once ≡ chosen choice (valid_events_in rows new)
+  later_chosen l =
+      let P : ValidEvent → Bool = λ event. is_chosen choice event.row in
+      let all = flat_map (change_of rows old new) (events_between rows old new) in
+      let first = valid_events_in rows old in
+      let last = valid_events_in rows new in
+      let good = good_merged (chosen choice first) once (rises_filter P first (rises_valid rows old)) up in
+      members_same (merged (chosen choice first) once) (chosen choice last) good.rises (rises_filter P last (rises_valid rows new)) (λ z.
+      good.members z ∙ ap (λ b. xor b (has once z)) (has_filter P z first) ∙ ap (xor (has first z && P z)) (once_has z) ∙ sym (both_pass (has first z) (has all z) (P z))
+      ∙ ap (λ b. b && P z) (later_has rows old new z l) ∙ sym (has_filter P z last))
+
+  -- and they are of chosen rows alone
+  pub once_chosen : chosen choice once ≡ once
+  once_chosen =
+      let P : ValidEvent → Bool = λ event. is_chosen choice event.row in
+      members_same (chosen choice once) once (rises_filter P once up) up (λ z.
+      has_filter P z once ∙ ap (λ b. b && P z) (once_has z) ∙ twice (has (flat_map (change_of rows old new) (events_between rows old new)) z) (P z) ∙ sym (once_has z)) where
+        twice : (a b : Bool) → ((a && b) && b) ≡ (a && b)
+        twice true true = refl
+        twice true false = refl
+        twice false b = refl

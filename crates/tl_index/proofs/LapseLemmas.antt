@@ -6,17 +6,12 @@ use Rattle.std.proofs.lemmas.List.{drop_all, length-take-le}
 use Rattle.std.proofs.lemmas.List.Elements.{All-take, All-drop}
 use Rattle.tl_types.specs.Plain as plain
 use Rattle.tl_types.specs.declared.events.Event.{Event}
-use Rattle.tl_types.specs.declared.events.ValidEvent.{ValidEvent}
 use Rattle.tl_types.specs.Events.{events_of, place_of}
-use Rattle.tl_types.specs.Checkpoints.{valid_events_in}
 use Rattle.tl_types.specs.Walks.{events_between}
 use Rattle.tl_types.proofs.EventLemmas.{place_grows, events_before, events_within}
-use Rattle.tl_ckpt.specs.Valid.{Rises, merged}
-use Rattle.tl_ckpt.proofs.Members.{has}
 use Rattle.tl_index.specs.declared.changes.Lapse.{Lapse}
 use Rattle.tl_index.specs.Tables.{TableOf, rows_in}
-use Rattle.tl_index.specs.Changes.{change_of, IsLapseOf}
-use Rattle.tl_index.proofs.ChangeLemmas.{later_all}
+use Rattle.tl_index.specs.Changes.{IsLapseOf}
 use Rattle.tl_index.proofs.WalkLemmas.{run_more}
 
 -- what the places of a lapse are among the events of its table
@@ -56,7 +51,3 @@ changes_more f events run from at n out new o l is step before =
 -- at the end all changes are taken
 pub all_taken : {X Y : Type 0} (f : X → List Y) (xs between : List X) (from to at : ℕ) (out : List Y) → out ≡ flat_map f (drop from (take at xs)) → at ≡ to → drop from (take to xs) ≡ between → out ≡ flat_map f between
 all_taken f xs between from to at out is end between_is = is ∙ ap (λ n. flat_map f (drop from (take n xs))) end ∙ ap (flat_map f) between_is
-
--- the changes in order, each once, lead from the events at the one version to those at the other
-pub changes_lead : (rows : List plain.Row) (old new : ℕ) (given once : List ValidEvent) → old ≤ new → given ≡ flat_map (change_of rows old new) (events_between rows old new) → Rises once → ((z : ValidEvent) → has once z ≡ has given z) → merged (valid_events_in rows old) once ≡ valid_events_in rows new
-changes_lead rows old new given once l given_is up members = later_all rows old new (events_between rows old new) given once l refl given_is up members

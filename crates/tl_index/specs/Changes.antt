@@ -7,6 +7,7 @@ use Rattle.tl_types.specs.declared.events.ValidEvent.{ValidEvent}
 use Rattle.tl_types.specs.Checkpoints.{ends_of}
 use Rattle.tl_types.specs.Events.{place_of}
 use Rattle.tl_types.specs.History.{is_visible}
+use Rattle.tl_ckpt.specs.Choices.{Choice, is_chosen}
 use Rattle.tl_index.specs.declared.changes.Lapse.{Lapse}
 use Rattle.tl_index.specs.Tables.{TableOf, rows_in}
 
@@ -22,6 +23,11 @@ change_of_row old new id (Some row) = if differs old new row then ends_of id row
 -- those of the row of an event
 abbrev pub change_of : List plain.Row → ℕ → ℕ → Event → List ValidEvent
 change_of rows old new event = change_of_row old new event.row (slice_get rows event.row)
+
+-- those of the row of an event where it is chosen
+abbrev pub chosen_change_of : Choice → List plain.Row → ℕ → ℕ → Event → List ValidEvent
+chosen_change_of choice rows old new event =
+    if is_chosen choice event.row then change_of rows old new event else []
 
 -- the lapse is from a version of the table to one that is not before it, with the places at which
 -- their events end

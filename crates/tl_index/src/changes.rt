@@ -6,13 +6,15 @@ ghost use Rattle.tl_types.specs.History.{is_visible};
 ghost use Rattle.tl_types.specs.Checkpoints.{ends_of, valid_events_in};
 ghost use Rattle.tl_types.specs.Walks.{events_between};
 ghost use Rattle.tl_store.specs.Reading.{has_periods};
+ghost use Rattle.tl_ckpt.specs.Choices.{chosen};
 ghost use Rattle.tl_ckpt.specs.Valid.{Rises, merged};
 ghost use Rattle.tl_index.specs.Tables.{rows_in};
-ghost use Rattle.tl_index.specs.Changes.{differs, change_of, IsLapseOf};
+ghost use Rattle.tl_index.specs.Changes.{differs, change_of, chosen_change_of, IsLapseOf};
 
 use crate::tables::TimedTable;
 use std::alloc::Global;
 use std::sync::ledger::Ledger;
+use tl_ckpt::Choice;
 use tl_events::PackedEvent;
 use tl_types::{Event, NoMemory, Period, Steps, ValidEvent};
 
@@ -87,38 +89,62 @@ fn push_change<L: Ledger>(
     Ok(())
 }
 
+// The same where the event's row is chosen.
+fn push_chosen<L: Ledger>(
+    changes: &mut Vec<ValidEvent>,
+    table: &TimedTable<'_>,
+    event: Event,
+    lapse: &Lapse,
+    choice: &Choice,
+    steps: &mut Steps<L>,
+) -> Result<(), NoMemory>
+    requires row { event.row < length (rows_in table.now) }
+    requires valid { IsTrue (has_periods table.now.db table.now.number) }
+    ensures list { OnOk result (changes.new.items ≡ changes.old.items
+        ++ chosen_change_of choice.now (rows_in table.now) lapse.now.old lapse.now.new event) }
+    ensures steps { steps.new ≤ steps.old + 2 }
+{
+    if choice.has(event.row) {
+        push_change(changes, table, event, lapse, steps)?;
+    }
+    Ok(())
+}
+
 // The same for each event of a run.
 fn push_changes<L: Ledger>(
     changes: &mut Vec<ValidEvent>,
     table: &TimedTable<'_>,
     events: &[PackedEvent],
     lapse: &Lapse,
+    choice: &Choice,
     steps: &mut Steps<L>,
 ) -> Result<(), NoMemory>
     requires rows { All (λ event. event.row < length (rows_in table.now)) events.now }
     requires valid { IsTrue (has_periods table.now.db table.now.number) }
     ensures list { OnOk result (changes.new.items ≡ changes.old.items
-        ++ flat_map (change_of (rows_in table.now) lapse.now.old lapse.now.new) events.now) }
+        ++ flat_map (chosen_change_of choice.now (rows_in table.now) lapse.now.old lapse.now.new)
+        events.now) }
     ensures steps { steps.new ≤ steps.old + 2 * length events.now }
 {
     for packed in events {
-        push_change(changes, table, packed.event(), lapse, steps)?;
+        push_chosen(changes, table, packed.event(), lapse, choice, steps)?;
     }
     Ok(())
 }
 
-// The ends of the periods of the rows of the events of a lapse that stand at one of its versions
-// alone.
+// The ends of the periods of the chosen rows of the events of a lapse that stand at one of its
+// versions alone.
 fn changes_of<L: Ledger>(
     alloc: Global,
     table: &TimedTable<'_>,
     lapse: &Lapse,
+    choice: &Choice,
     steps: &mut Steps<L>,
 ) -> Result<Vec<ValidEvent>, NoMemory>
     requires lapse { IsLapseOf table.now lapse.now }
     requires valid { IsTrue (has_periods table.now.db table.now.number) }
     ensures list { IfOk result (λ changes. changes.items
-        ≡ flat_map (change_of (rows_in table.now) lapse.now.old lapse.now.new)
+        ≡ flat_map (chosen_change_of choice.now (rows_in table.now) lapse.now.old lapse.now.new)
         (events_between (rows_in table.now) lapse.now.old lapse.now.new)) }
     ensures steps { steps.new + 3 * lapse.now.from ≤ steps.old + 3 * lapse.now.to }
 {
@@ -127,30 +153,32 @@ fn changes_of<L: Ledger>(
     let mut at = lapse.from;
     'runs: while at < lapse.to {
         let run = events.run(at, lapse.to, steps);
-        push_changes(&mut changes, table, run, lapse, steps)?;
+        push_changes(&mut changes, table, run, lapse, choice, steps)?;
         at += run.len() as u32;
     }
     Ok(changes)
 }
 
-// The changes from a version to a later one, in order: with them the events at the one are those
-// at the other. It reads the versions of the row of each event between them, and the valid period
-// of a row that stands at one of the two versions alone.
+// The changes of chosen rows from a version to a later one, in order: with them their events at the
+// one are those at the other. It reads the versions of the row of each event between them that is
+// of a chosen row, and the valid period of such a row that stands at one of the two versions alone.
 pub(crate) fn changes_between<L: Ledger>(
     alloc: Global,
     table: &TimedTable<'_>,
     lapse: &Lapse,
+    choice: &Choice,
     steps: &mut Steps<L>,
 ) -> Result<Vec<ValidEvent>, NoMemory>
     requires lapse { IsLapseOf table.now lapse.now }
     requires valid { IsTrue (has_periods table.now.db table.now.number) }
     ensures rises { IfOk result (λ changes. Rises changes.items) }
+    ensures chosen { IfOk result (λ changes. chosen choice.now changes.items ≡ changes.items) }
     ensures lead { IfOk result (λ changes.
-        merged (valid_events_in (rows_in table.now) lapse.now.old) changes.items
-        ≡ valid_events_in (rows_in table.now) lapse.now.new) }
+        merged (chosen choice.now (valid_events_in (rows_in table.now) lapse.now.old)) changes.items
+        ≡ chosen choice.now (valid_events_in (rows_in table.now) lapse.now.new)) }
     ensures steps { steps.new + 3 * lapse.now.from ≤ steps.old + 3 * lapse.now.to }
 {
-    let mut changes = changes_of(alloc, table, lapse, steps)?;
+    let mut changes = changes_of(alloc, table, lapse, choice, steps)?;
     changes.sort()?;
     changes.dedup();
     Ok(changes)

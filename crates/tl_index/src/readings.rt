@@ -7,6 +7,7 @@ ghost use Rattle.tl_types.specs.History.{database_of, rows_of};
 ghost use Rattle.tl_types.specs.Walks.{standing};
 ghost use Rattle.tl_events.specs.Timeline.{ends_of, binary_digits};
 ghost use Rattle.tl_store.specs.Reading.{has_periods};
+ghost use Rattle.tl_ckpt.specs.Choices.{chosen};
 ghost use Rattle.tl_index.specs.Nearest.{IsNearest};
 ghost use Rattle.tl_index.specs.Snapshots.{mark_before};
 
@@ -17,7 +18,7 @@ use crate::walks::{rows_after, rows_from_first};
 use std::alloc::Global;
 use std::sync::ledger::Ledger;
 use tl_bits::RowSet;
-use tl_ckpt::{Checkpoint, ValidEvents};
+use tl_ckpt::{Checkpoint, Choice, ValidEvents};
 use tl_types::{NoMemory, Steps, ValidEvent};
 
 impl Snapshot {
@@ -98,18 +99,21 @@ impl Snapshot {
         }
     }
 
-    /// The same as one list.
+    /// The events of valid time of chosen rows of a table at a version, in order, as one list. The
+    /// rows of the table have valid periods, and the version is not after the snapshot's. It takes at
+    /// most as many steps as `valid_events`, whatever the choice. The error is `NoMemory`.
     pub fn valid_list<L: Ledger>(
         &self,
         alloc: Global,
         table: u16,
         version: u32,
+        choice: &Choice,
         steps: &mut Steps<L>,
     ) -> Result<Vec<ValidEvent>, NoMemory>
         requires valid { IsTrue (has_periods (database_of (commits_of self.now)) table) }
         requires version { version ≤ (database_of (commits_of self.now)).version }
         ensures list { let rows = rows_of (database_of (commits_of self.now)) table in
-            IfOk result (λ list. list.items ≡ valid_events_in rows version) }
+            IfOk result (λ list. list.items ≡ chosen choice.now (valid_events_in rows version)) }
         ensures steps { let db = database_of (commits_of self.now) in
             let rows = rows_of db table in
             let search = binary_digits (length (ends_of rows db.version) + 1) in
@@ -118,8 +122,8 @@ impl Snapshot {
     {
         let timed = self.timed(table);
         match self.nearest(table, version) {
-            Some(mark) => list_after(alloc, &timed, mark, version, steps),
-            None => list_from_first(alloc, &timed, version, steps),
+            Some(mark) => list_after(alloc, &timed, mark, version, choice, steps),
+            None => list_from_first(alloc, &timed, version, choice, steps),
         }
     }
 

@@ -73,18 +73,31 @@ impl Snapshot {
             (database_of (commits_of self.now)) commit.now) }
         ensures { IfOk result (λ snapshot. snapshot ≡ self.now ++ commit_entry commit.now ∷ []) }
     {
-        let store = self.store.get().apply(alloc, commit)?;
-        let timelines = timelines_after(
-            alloc,
-            self.store.get(),
-            self.timelines.get().as_slice(),
-            commit,
-        )?;
-        let marks = self.marks.share(alloc)?;
+        self.share()?.follow(alloc, commit)
+    }
+
+    /// The snapshot after a commit that fits, where there is no break, which takes this one over:
+    /// what of its store has no other owner is not copied. The error is `NoMemory`.
+    pub fn follow(self, alloc: Global, commit: &Commit) -> Result<Snapshot, NoMemory>
+        requires whole { has_break self ≡ false }
+        requires fit { IsTrue (fits standard_limits
+            (database_of (commits_of self)) commit.now) }
+        ensures { IfOk result (λ snapshot. snapshot ≡ self ++ commit_entry commit.now ∷ []) }
+    {
+        let Snapshot {
+            store,
+            timelines,
+            log,
+            marks,
+            broken: _,
+            alloc: _,
+        } = self;
+        let after = timelines_after(alloc, store.get(), timelines.get().as_slice(), commit)?;
+        let next = store.take(alloc)?.follow(alloc, commit)?;
         Ok(Snapshot {
-            store: Shared::new(alloc, store)?,
-            timelines: Shared::new(alloc, timelines)?,
-            log: self.log.share(alloc)?,
+            store: Shared::new(alloc, next)?,
+            timelines: Shared::new(alloc, after)?,
+            log,
             marks,
             broken: None,
             alloc,

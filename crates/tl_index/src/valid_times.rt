@@ -3,6 +3,7 @@ ghost use Rattle.std.specs.Prelude.{◌≡◌, ◌+◌, ◌*◌, ◌≤◌, IsTr
 ghost use Rattle.tl_types.specs.Checkpoints.{checkpoint_at, valid_events_in};
 ghost use Rattle.tl_types.specs.Events.{place_of};
 ghost use Rattle.tl_store.specs.Reading.{has_periods};
+ghost use Rattle.tl_ckpt.specs.Choices.{chosen};
 ghost use Rattle.tl_ckpt.specs.Valid.{Rises, merged};
 ghost use Rattle.tl_index.specs.Tables.{rows_in, search_steps};
 ghost use Rattle.tl_index.specs.Changes.{IsLapseOf};
@@ -11,7 +12,7 @@ use crate::changes::{Lapse, changes_between};
 use crate::tables::TimedTable;
 use std::alloc::Global;
 use std::sync::ledger::Ledger;
-use tl_ckpt::{Checkpoint, ValidEvents};
+use tl_ckpt::{Checkpoint, Choice, ValidEvents};
 use tl_types::{NoMemory, Steps, ValidEvent};
 
 // The lapse from the version of a mark to one that is not before it.
@@ -40,12 +41,14 @@ fn lapse_after<L: Ledger>(
     }
 }
 
-// The changes of the events of valid time from a mark to a version that is not before it.
+// The changes of the events of valid time of chosen rows from a mark to a version that is not
+// before it.
 fn changes_after<L: Ledger>(
     alloc: Global,
     table: &TimedTable<'_>,
     mark: &Checkpoint,
     version: u32,
+    choice: &Choice,
     steps: &mut Steps<L>,
 ) -> Result<Vec<ValidEvent>, NoMemory>
     requires version { version ≤ table.now.db.version }
@@ -53,13 +56,15 @@ fn changes_after<L: Ledger>(
     requires before { mark.now.version ≤ version }
     requires mark { mark.now ≡ checkpoint_at table.now.db table.now.number mark.now.version }
     ensures rises { IfOk result (λ changes. Rises changes.items) }
-    ensures lead { IfOk result (λ changes. merged mark.now.valid_events changes.items
-        ≡ valid_events_in (rows_in table.now) version) }
+    ensures chosen { IfOk result (λ changes. chosen choice.now changes.items ≡ changes.items) }
+    ensures lead { IfOk result (λ changes.
+        merged (chosen choice.now mark.now.valid_events) changes.items
+        ≡ chosen choice.now (valid_events_in (rows_in table.now) version)) }
     ensures steps { steps.new + 3 * place_of (rows_in table.now) mark.now.version
         ≤ steps.old + 3 * place_of (rows_in table.now) version + search_steps table.now }
 {
     let lapse = lapse_after(table, mark, version, steps);
-    let changes = changes_between(alloc, table, &lapse, steps)?;
+    let changes = changes_between(alloc, table, &lapse, choice, steps)?;
     Ok(changes)
 }
 
@@ -80,17 +85,19 @@ pub(crate) fn events_after<L: Ledger>(
     ensures steps { steps.new + 3 * place_of (rows_in table.now) mark.now.version
         ≤ steps.old + 3 * place_of (rows_in table.now) version + search_steps table.now }
 {
-    let changes = changes_after(alloc, table, mark, version, steps)?;
+    let all = Choice::all(alloc);
+    let changes = changes_after(alloc, table, mark, version, &all, steps)?;
     let events = mark.valid_events().with_changes(alloc, changes)?;
     Ok(events)
 }
 
-/// The same as one list.
+/// Those of chosen rows as one list.
 pub(crate) fn list_after<L: Ledger>(
     alloc: Global,
     table: &TimedTable<'_>,
     mark: &Checkpoint,
     version: u32,
+    choice: &Choice,
     steps: &mut Steps<L>,
 ) -> Result<Vec<ValidEvent>, NoMemory>
     requires version { version ≤ table.now.db.version }
@@ -98,27 +105,29 @@ pub(crate) fn list_after<L: Ledger>(
     requires before { mark.now.version ≤ version }
     requires mark { mark.now ≡ checkpoint_at table.now.db table.now.number mark.now.version }
     ensures list { IfOk result (λ list. list.items
-        ≡ valid_events_in (rows_in table.now) version) }
+        ≡ chosen choice.now (valid_events_in (rows_in table.now) version)) }
     ensures steps { steps.new + 3 * place_of (rows_in table.now) mark.now.version
         ≤ steps.old + 3 * place_of (rows_in table.now) version + search_steps table.now }
 {
-    let changes = changes_after(alloc, table, mark, version, steps)?;
-    let list = mark.valid_events().list_with(alloc, changes)?;
+    let changes = changes_after(alloc, table, mark, version, choice, steps)?;
+    let list = mark.valid_events().list_with(alloc, changes, choice)?;
     Ok(list)
 }
 
-/// The events of valid time at a version as one list, from the first event of the table on.
+/// The events of valid time of chosen rows at a version as one list, from the first event of the
+/// table on.
 pub(crate) fn list_from_first<L: Ledger>(
     alloc: Global,
     table: &TimedTable<'_>,
     version: u32,
+    choice: &Choice,
     steps: &mut Steps<L>,
 ) -> Result<Vec<ValidEvent>, NoMemory>
     requires version { version ≤ table.now.db.version }
     requires valid { IsTrue (has_periods table.now.db table.now.number) }
     ensures rises { IfOk result (λ list. Rises list.items) }
     ensures list { IfOk result (λ list. list.items
-        ≡ valid_events_in (rows_in table.now) version) }
+        ≡ chosen choice.now (valid_events_in (rows_in table.now) version)) }
     ensures steps { steps.new
         ≤ steps.old + 3 * place_of (rows_in table.now) version + search_steps table.now }
 {
@@ -130,7 +139,7 @@ pub(crate) fn list_from_first<L: Ledger>(
         new: version,
         to,
     };
-    let changes = changes_between(alloc, table, &lapse, steps)?;
+    let changes = changes_between(alloc, table, &lapse, choice, steps)?;
     Ok(changes)
 }
 
@@ -148,7 +157,8 @@ pub(crate) fn events_from_first<L: Ledger>(
     ensures steps { steps.new
         ≤ steps.old + 3 * place_of (rows_in table.now) version + search_steps table.now }
 {
-    let list = list_from_first(alloc, table, version, steps)?;
+    let all = Choice::all(alloc);
+    let list = list_from_first(alloc, table, version, &all, steps)?;
     let events = ValidEvents::none(alloc).with_changes(alloc, list)?;
     Ok(events)
 }

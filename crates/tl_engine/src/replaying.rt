@@ -70,19 +70,13 @@ fn with_mark(alloc: Global, snapshot: &Snapshot, table: u16) -> Result<Snapshot,
 }
 
 // The snapshot after a commit that fits, with its mark where that is due. The error is `NoMemory`.
-fn stepped(
-    alloc: Global,
-    snapshot: &Snapshot,
-    commit: &Commit,
-    k: u32,
-) -> Result<Snapshot, NoMemory>
-    requires whole { has_break snapshot.now ≡ false }
-    requires fit { IsTrue
-        (fits standard_limits (database_of (commits_of snapshot.now)) commit.now) }
-    ensures { IfOk result (λ s. s ≡ paced_step k snapshot.now commit.now) }
+fn stepped(alloc: Global, snapshot: Snapshot, commit: &Commit, k: u32) -> Result<Snapshot, NoMemory>
+    requires whole { has_break snapshot ≡ false }
+    requires fit { IsTrue (fits standard_limits (database_of (commits_of snapshot)) commit.now) }
+    ensures { IfOk result (λ s. s ≡ paced_step k snapshot commit.now) }
 {
     let table = table_in(snapshot.store(), commit);
-    let next = snapshot.apply(alloc, commit)?;
+    let next = snapshot.follow(alloc, commit)?;
     let is_due = next.due(table, k);
     if !is_due {
         return Ok(next);
@@ -101,77 +95,76 @@ impl Replay {
         })
     }
 
-    // Appends a commit that fits, and its mark where that is due. The error is `NoMemory`, and
-    // leaves all as it was.
-    fn push(&mut self, alloc: Global, commit: &Commit, k: u32) -> Result<(), NoMemory>
-        requires { IsTrue (fits standard_limits (database_of (commits_of self.old)) commit.now) }
-        ensures ok { OnOk result (self.new ≡ paced_step k self.old commit.now) }
-        ensures err { OnErr result (self.new ≡ self.old) }
+    // Appends a commit that fits, and its mark where that is due. The error is `NoMemory`.
+    fn push(self, alloc: Global, commit: &Commit, k: u32) -> Result<Replay, NoMemory>
+        requires { IsTrue (fits standard_limits (database_of (commits_of self)) commit.now) }
+        ensures { IfOk result (λ r. r ≡ paced_step k self commit.now) }
     {
-        let snapshot = stepped(alloc, &self.snapshot, commit, k)?;
-        self.keys.follow(alloc, self.snapshot.store(), commit)?;
-        self.snapshot = snapshot;
-        Ok(())
+        let Replay { snapshot, mut keys } = self;
+        keys.follow(alloc, snapshot.store(), commit)?;
+        let snapshot = stepped(alloc, snapshot, commit, k)?;
+        Ok(Replay { snapshot, keys })
     }
 
     // Appends a commit, with its mark where that is due, if it fits with the limits, and answers
-    // whether it does. The error is
-    // `NoMemory`, and leaves all as it was.
+    // whether it does. The error is `NoMemory`.
     fn push_fitting(
-        &mut self,
+        self,
         alloc: Global,
         commit: &Commit,
         limits: &Limits,
         k: u32,
-    ) -> Result<bool, NoMemory>
+    ) -> Result<(Replay, bool), NoMemory>
         requires { AreWithin limits.now standard_limits }
-        ensures ok { IfOk result (IsApplied limits.now k self.old self.new commit.now) }
-        ensures err { OnErr result (self.new ≡ self.old) }
+        ensures { IfOk result (λ r. IsApplied limits.now k self r.0 commit.now r.1) }
     {
         if !self.snapshot.store().fits(commit, limits) {
-            return Ok(false);
+            return Ok((self, false));
         }
-        self.push(alloc, commit, k)?;
-        Ok(true)
+        let replay = self.push(alloc, commit, k)?;
+        Ok((replay, true))
     }
 }
 
 // Applies the commits, each with its mark where that is due, up to the first one that does not fit
-// with the limits, and answers the offset of that one's gate, or `None` where all are applied.
+// with the limits, and answers what was applied and the offset of that one's gate, or `None` where
+// all are applied.
 fn replay_fitting<D: Disk>(
     alloc: Global,
     found_commits: &mut FoundCommits<D>,
-    replay: &mut Replay,
+    replay: Replay,
     limits: &Limits,
     k: u32,
-) -> Result<Option<u64>, JournalFault>
-    requires pace { replay.old ≡ paced (commits_of replay.old) k }
+) -> Result<(Replay, Option<u64>), JournalFault>
+    requires pace { replay ≡ paced (commits_of replay) k }
     requires within { AreWithin limits.now standard_limits }
-    requires read { HasRead (commits_of replay.old) found_commits.old }
-    requires fitting { FitInTurn limits.now (commits_of replay.old) }
+    requires read { HasRead (commits_of replay) found_commits.old }
+    requires fitting { FitInTurn limits.now (commits_of replay) }
     ensures disk { found_commits.new.disk ≡ found_commits.old.disk }
     ensures image { found_commits.new.image ≡ found_commits.old.image }
-    ensures pace { replay.new ≡ paced (commits_of replay.new) k }
-    ensures fitting { FitInTurn limits.now (commits_of replay.new) }
-    ensures read { result ≡ Ok None → HasRead (commits_of replay.new) found_commits.new }
-    ensures end { result ≡ Ok None → IsAtClosedGate found_commits.new }
-    ensures whole { result ≡ Ok None →
-        ImageStandsOnlyFor (commits_of replay.new) found_commits.old.image }
-    ensures unfit { IfOk result (λ o. IfSome o
-        (IsFirstUnfit limits.now (commits_of replay.new) found_commits.new)) }
+    ensures pace { IfOk result (λ r. r.0 ≡ paced (commits_of r.0) k) }
+    ensures fitting { IfOk result (λ r. FitInTurn limits.now (commits_of r.0)) }
+    ensures read { IfOk result (λ r. r.1 ≡ None → HasRead (commits_of r.0) found_commits.new) }
+    ensures end { IfOk result (λ r. r.1 ≡ None → IsAtClosedGate found_commits.new) }
+    ensures whole { IfOk result (λ r. r.1 ≡ None →
+        ImageStandsOnlyFor (commits_of r.0) found_commits.old.image) }
+    ensures unfit { IfOk result (λ r. IfSome r.1
+        (IsFirstUnfit limits.now (commits_of r.0) found_commits.new)) }
     ensures damaged { (at : ℕ) → result ≡ Err (journal_fault.Damaged at) →
         IsDamagedOnlyAt at found_commits.old.image }
     ensures kinds { IfErr result IsDamagedOrMemoryThere }
 {
+    let mut replay = replay;
     'commits: while let Some(found) = found_commits.next(alloc)? {
-        let Ok(fits) = replay.push_fitting(alloc, &found.commit, limits, k) else {
+        let Ok((next, fits)) = replay.push_fitting(alloc, &found.commit, limits, k) else {
             return Err(JournalFault::NoMemory);
         };
+        replay = next;
         if !fits {
-            return Ok(Some(found.at));
+            return Ok((replay, Some(found.at)));
         }
     }
-    Ok(None)
+    Ok((replay, None))
 }
 
 // Passes over the commits that are left, so that a gate that no record follows is found.
@@ -217,10 +210,11 @@ pub(crate) fn replay_all<D: Disk>(
         IsDamaged limits.now at found_commits.old.image }
     ensures kinds { IfErr result IsDamagedOrMemoryThere }
 {
-    let Ok(mut replay) = Replay::new(alloc) else {
+    let Ok(replay) = Replay::new(alloc) else {
         return Err(JournalFault::NoMemory);
     };
-    match replay_fitting(alloc, found_commits, &mut replay, limits, k)? {
+    let (replay, unfit) = replay_fitting(alloc, found_commits, replay, limits, k)?;
+    match unfit {
         None => Ok(replay),
         Some(at) => {
             pass_over(alloc, found_commits)?;

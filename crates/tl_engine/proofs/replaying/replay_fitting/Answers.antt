@@ -11,9 +11,9 @@ use Rattle.tl_engine.proofs.replaying.replay_fitting.Goals as goal
 
 pub returns-then-not-fits-clause-unfit : goal.returns-then-not-fits-clause-unfit
 returns-then-not-fits-clause-unfit g c =
-    first_unfit c.args.limits.now c.args.k c.commits.found_commits c.next.new.self c.commits.replay c.push_fitting.new.self c.in_ok-found.field-0 c.in-Some.found c.in-Some.is
+    first_unfit c.args.limits.now c.args.k c.commits.found_commits c.next.new.self c.commits.replay c.in-Ok.next c.in_ok-found.field-0 c.in-Some.found c.in-Some.is
     c.commits.invariant.read c.in_ok-found.ensures.gate (c.in_ok-found.ensures.found (commits_of c.commits.replay) c.commits.invariant.read)
-    (subst (λ b. IsApplied c.args.limits.now c.args.k c.commits.replay c.push_fitting.new.self c.in-Some.found.commit b) c.if-not-fits.true c.in-Ok.ensures.ok)
+    (subst (λ b. IsApplied c.args.limits.now c.args.k c.commits.replay c.in-Ok.next c.in-Some.found.commit b) c.if-not-fits.true c.in-Ok.ensures)
 
 pub commits-smaller-else-not-fits : goal.commits-smaller-else-not-fits
 commits-smaller-else-not-fits g c =
@@ -27,26 +27,26 @@ commits-smaller g c =
 
 pub commits-preserved-else-not-fits : goal.commits-preserved-else-not-fits
 commits-preserved-else-not-fits g c =
-    let fits = subst (λ b. IsApplied c.args.limits.now c.args.k c.commits.replay c.push_fitting.new.self c.in-Some.found.commit b) c.if-not-fits.false c.in-Ok.ensures.ok in
+    let fits = subst (λ b. IsApplied c.args.limits.now c.args.k c.commits.replay c.in-Ok.next c.in-Some.found.commit b) c.if-not-fits.false c.in-Ok.ensures in
     record {
       disk = c.next.ensures.disk ∙ c.commits.invariant.disk;
       image = c.next.ensures.image ∙ c.commits.invariant.image;
-      read = applied_next c.args.limits.now c.args.k c.next.new.self c.commits.replay c.push_fitting.new.self c.in_ok-found.field-0 c.in-Some.found c.in-Some.is
+      read = applied_next c.args.limits.now c.args.k c.next.new.self c.commits.replay c.in-Ok.next c.in_ok-found.field-0 c.in-Some.found c.in-Some.is
           (c.in_ok-found.ensures.found (commits_of c.commits.replay) c.commits.invariant.read) fits;
-      pace = pace_on c.args.k c.commits.replay c.push_fitting.new.self c.in-Some.found.commit c.commits.invariant.pace fits.1;
-      fitting = applied_fit c.args.limits.now c.args.k c.commits.replay c.push_fitting.new.self c.in-Some.found.commit c.commits.invariant.fitting fits;
+      pace = pace_on c.args.k c.commits.replay c.in-Ok.next c.in-Some.found.commit c.commits.invariant.pace fits.1;
+      fitting = applied_fit c.args.limits.now c.args.k c.commits.replay c.in-Ok.next c.in-Some.found.commit c.commits.invariant.fitting fits;
     }
 
 pub commits-preserved : goal.commits-preserved
 commits-preserved g c =
-    let fits = subst (λ b. IsApplied c.args.limits.now c.args.k c.commits.replay c.push_fitting.new.self c.in-Some.found.commit b) c.if-not-fits.false c.in-Ok.ensures.ok in
+    let fits = subst (λ b. IsApplied c.args.limits.now c.args.k c.commits.replay c.in-Ok.next c.in-Some.found.commit b) c.if-not-fits.false c.in-Ok.ensures in
     record {
       disk = c.next.ensures.disk ∙ c.commits.invariant.disk;
       image = c.next.ensures.image ∙ c.commits.invariant.image;
-      read = applied_next c.args.limits.now c.args.k c.next.new.self c.commits.replay c.push_fitting.new.self c.in_ok-found.field-0 c.in-Some.found c.in-Some.is
+      read = applied_next c.args.limits.now c.args.k c.next.new.self c.commits.replay c.in-Ok.next c.in_ok-found.field-0 c.in-Some.found c.in-Some.is
           (c.in_ok-found.ensures.found (commits_of c.commits.replay) c.commits.invariant.read) fits;
-      pace = pace_on c.args.k c.commits.replay c.push_fitting.new.self c.in-Some.found.commit c.commits.invariant.pace fits.1;
-      fitting = applied_fit c.args.limits.now c.args.k c.commits.replay c.push_fitting.new.self c.in-Some.found.commit c.commits.invariant.fitting fits;
+      pace = pace_on c.args.k c.commits.replay c.in-Ok.next c.in-Some.found.commit c.commits.invariant.pace fits.1;
+      fitting = applied_fit c.args.limits.now c.args.k c.commits.replay c.in-Ok.next c.in-Some.found.commit c.commits.invariant.fitting fits;
     }
 
 pub returns-in_err-found-clause-damaged : goal.returns-in_err-found-clause-damaged

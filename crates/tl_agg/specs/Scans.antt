@@ -12,7 +12,7 @@ use Rattle.tl_query.specs.declared.ast.AggKind.{AggKind}
 use Rattle.tl_query.specs.declared.ast.AggKind.TheVariants as kind
 use Rattle.tl_query.specs.declared.typed_queries.AggPlan.{AggPlan}
 use Rattle.tl_store.specs.Reading.{columns_of, IsIntColumn}
-use Rattle.tl_agg.specs.Tables.{TableOf, rows_in}
+use Rattle.tl_agg.specs.Tables.{TableOf, rows_in, AreNumbers}
 use Rattle.tl_agg.specs.Kept.{both}
 use Rattle.tl_agg.specs.Groups.{Asked, Tracks, State, IsNone, IsOne, HoldsIn, Moves, AreAdvanced, recounted}
 use Rattle.tl_agg.specs.Values.{Rises}
@@ -62,6 +62,11 @@ pub record IsScan (scan : ScanOf) : Type 0 where
   pub keep : length scan.keep ≡ length (rows_in scan.table)
   pub within : scan.to ≤ scan.table.db.version + 1
   pub later : scan.from < scan.to
+
+-- it is a scan, and these are the numbers of the column that it is over, where there is one
+pub record ReadsNumbers (scan : ScanOf) (numbers : Option (List ℤ)) : Type 0 where
+  pub is_scan : IsScan scan
+  pub are : AreNumbers (rows_in scan.table) scan.plan.column numbers
 
 -- the event is of a row of the set, and changes it
 pub record Turns (rows : List plain.Row) (set : List Bool) (event : Event) : Type 0 where

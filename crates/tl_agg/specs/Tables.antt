@@ -1,5 +1,5 @@
 -- A table of a store, with its timeline.
-use Rattle.std.specs.Prelude.{◌≡◌, ℕ, ℤ, ◌+◌, ◌<◌, ◌≤◌, List, [], ◌∷◌, length, Option, Some, slice_get}
+use Rattle.std.specs.Prelude.{◌≡◌, ℕ, ℤ, ◌+◌, ◌<◌, ◌≤◌, List, [], ◌∷◌, length, map, Option, None, Some, slice_get}
 use Rattle.tl_types.specs.declared.events.Event.{Event}
 use Rattle.tl_types.specs.Plain as plain
 use Rattle.tl_types.specs.Events.{events_at, events_of, place_of}
@@ -10,6 +10,7 @@ use Rattle.tl_types.specs.WellFormed.{AreWellFormed}
 use Rattle.tl_events.specs.declared.version_maps.VersionEnd.{VersionEnd}
 use Rattle.tl_events.specs.Timeline.{ends_of, Follow, binary_digits}
 use Rattle.tl_query.specs.declared.ast.AggKind.{AggKind}
+use Rattle.tl_store.specs.Reading.{column_cells, some_int}
 use Rattle.tl_running.specs.Standing.{number_in, Suits}
 
 -- the table with a number of a database
@@ -43,6 +44,13 @@ abbrev pub TellsNumber : AggKind → Option ℕ → List plain.Row → ℕ → �
 TellsNumber kind column rows id number =
     (row : plain.Row) → slice_get rows id ≡ Some row
     → (number_in column row ≡ number) × Suits kind column (row ∷ [])
+
+-- these are the numbers of the rows in the column, where one is asked for
+abbrev pub AreNumbers : List plain.Row → Option ℕ → Option (List ℤ) → Type 0
+AreNumbers rows None None = Unit {0}
+AreNumbers rows None (Some numbers) = ⊥
+AreNumbers rows (Some column) None = ⊥
+AreNumbers rows (Some column) (Some numbers) = map some_int numbers ≡ column_cells rows column
 
 -- the row with this id has this cell in the column
 pub record HasKey (rows : List plain.Row) (id column : ℕ) (key : Cell) : Type 0 where

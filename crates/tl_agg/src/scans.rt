@@ -20,6 +20,7 @@ use std::sync::ledger::Ledger;
 use tl_bits::RowSet;
 use tl_events::{PackedEvent, VersionEnd};
 use tl_query::AggPlan;
+use tl_store::IntsRef;
 use tl_types::{Event, NoMemory, Piece, Run, Steps};
 
 // How many rows there are when one comes where `opens`, and else goes, where it is kept.
@@ -41,18 +42,21 @@ pub(crate) struct Scan<'a> {
     alloc: Global,
     table: TimedTable<'a>,
     plan: AggPlan,
+    numbers: Option<IntsRef<'a>>,
     keep: KeptRows<'a>,
     piece: Piece,
 }
 
 impl<'a> Model for Scan<'a> {
-    ghost use Rattle.tl_agg.specs.Scans.{ScanOf, IsScan, scan_of};
+    ghost use Rattle.tl_agg.specs.Scans.{ScanOf, ReadsNumbers, scan_of};
 
     ghost Value = { ScanOf };
 
     ghost view = { λ s. scan_of s.table s.plan s.keep s.piece.from s.piece.to };
 
-    ghost invariant = { λ s. IsScan (scan_of s.table s.plan s.keep s.piece.from s.piece.to) };
+    ghost invariant = { λ s. ReadsNumbers
+        (scan_of s.table s.plan s.keep s.piece.from s.piece.to)
+        s.numbers };
 }
 
 impl<'a> Scan<'a> {
@@ -67,10 +71,12 @@ impl<'a> Scan<'a> {
         requires { IsScan (scan_of table plan keep piece.from piece.to) }
         ensures { result ≡ scan_of table.entry plan keep.entry piece.from piece.to }
     {
+        let numbers = table.numbers(plan.column);
         Scan {
             alloc,
             table,
             plan,
+            numbers,
             keep,
             piece,
         }
@@ -84,8 +90,8 @@ impl<'a> Scan<'a> {
         ensures short { IsShort result }
         ensures steps { steps.new ≤ steps.old + 1 }
     {
-        match self.plan.column {
-            Some(column) => self.table.number(column, row, steps),
+        match &self.numbers {
+            Some(cells) => cells.at(row, steps),
             None => 0,
         }
     }

@@ -5,14 +5,12 @@ ghost use Rattle.tl_types.specs.History.{database_of};
 ghost use Rattle.tl_types.specs.WellFormed.{AreWellFormed};
 ghost use Rattle.tl_events.specs.Timeline.{IsSplit, Follow};
 ghost use Rattle.tl_store.specs.Reading.{columns_of, IsIntColumn, cell_shown, IsShort as IsShortCell};
-ghost use Rattle.tl_running.specs.Standing.{IsShort};
-ghost use Rattle.tl_query.specs.declared.ast.AggKind.{AggKind};
-ghost use Rattle.tl_agg.specs.Tables.{rows_in, ends_in, HasTimeline, search_steps, TellsNumber, HasKey};
+ghost use Rattle.tl_agg.specs.Tables.{rows_in, ends_in, HasTimeline, search_steps, HasKey, AreNumbers};
 
 use std::marker::Model;
 use std::sync::ledger::Ledger;
 use tl_events::{EventList, PackedEvent, VersionEnd, VersionMap};
-use tl_store::{CellRef, Store};
+use tl_store::{CellRef, IntsRef, Store};
 use tl_types::Steps;
 
 /// A table of a store with its timeline: its events, and where those of its versions end. A
@@ -115,15 +113,16 @@ impl<'a> TimedTable<'a> {
         self.events.run(from, to, steps)
     }
 
-    /// The number of a row in a column of numbers. It takes one step.
-    pub(crate) fn number<L: Ledger>(&self, column: u8, row: u32, steps: &mut Steps<L>) -> i64
-        requires column { IsIntColumn (columns_of self.now.db self.now.number) column }
-        requires row { row < length (rows_in self.now) }
-        ensures number { (kind : AggKind)
-            → TellsNumber kind (Some column) (rows_in self.now) row result }
-        ensures steps { steps.new ≡ steps.old + 1 }
+    /// The numbers of the rows in a column of numbers, where one is asked for.
+    pub(crate) fn numbers(&self, column: Option<u8>) -> Option<IntsRef<'a>>
+        requires { IfSome column
+            (λ place. IsIntColumn (columns_of self.now.db self.now.number) place) }
+        ensures { AreNumbers (rows_in self.now) column result }
     {
-        first(self.store.ints_from(self.number, row, column, steps))
+        match column {
+            Some(place) => Some(self.store.int_column(self.number, place)),
+            None => None,
+        }
     }
 
     /// The cell of a row in a column. It takes one step.
@@ -136,12 +135,4 @@ impl<'a> TimedTable<'a> {
     {
         self.store.cell(self.number, row, column, steps)
     }
-}
-
-// The first of some numbers.
-fn first(numbers: &[i64]) -> i64
-    requires { 0 < length numbers.now }
-    ensures { slice_get numbers.now 0 ≡ Some result }
-{
-    numbers[0]
 }

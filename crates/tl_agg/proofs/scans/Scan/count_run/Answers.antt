@@ -16,7 +16,7 @@ test-is_kept-requires g c =
     let groups = all_recounted c.args.groups.now c.loop-packed.count in
     let ready = run_ready c.args.self.now c.args.at c.args.place c.loop-packed.packed-index c.args.events.now c.event-event.result groups formed c.requires.events is c.loop-packed.invariant.tracks in
     let keep = ap (λ (s : ScanOf). length s.keep) c.self.view_is in
-    subst (λ n. c.event-event.result.row < n) (sym keep) (kept_inside c.args.self.now c.args.at c.event-event.result groups (subst IsScan c.self.view_is c.self.invariant) ready)
+    subst (λ n. c.event-event.result.row < n) (sym keep) (kept_inside c.args.self.now c.args.at c.event-event.result groups (subst IsScan c.self.view_is c.self.invariant.is_scan) ready)
 
 pub count_moved-count-requires-clause-more : goal.count_moved-count-requires-clause-more
 count_moved-count-requires-clause-more g c =
@@ -29,7 +29,7 @@ count_moved-count-requires-clause-more g c =
     let n = c.rows.ensures.number in
     let m = c.rows.ensures.few in
     let keep = ap (λ (s : ScanOf). is_member s.keep c.event-event.result.row) c.self.view_is in
-    λ kept. (can_count c.args.self.now c.args.at c.event-event.result c.args.groups.now c.loop-packed.count c.requires.single c.requires.counts (subst IsScan c.self.view_is c.self.invariant) (omega arith) (sym keep ∙ sym c.test-is_kept.ensures.member ∙ kept) ready).0
+    λ kept. (can_count c.args.self.now c.args.at c.event-event.result c.args.groups.now c.loop-packed.count c.requires.single c.requires.counts (subst IsScan c.self.view_is c.self.invariant.is_scan) (omega arith) (sym keep ∙ sym c.test-is_kept.ensures.member ∙ kept) ready).0
 
 pub count_moved-count-requires-clause-fewer : goal.count_moved-count-requires-clause-fewer
 count_moved-count-requires-clause-fewer g c =
@@ -42,7 +42,7 @@ count_moved-count-requires-clause-fewer g c =
     let n = c.rows.ensures.number in
     let m = c.rows.ensures.few in
     let keep = ap (λ (s : ScanOf). is_member s.keep c.event-event.result.row) c.self.view_is in
-    λ kept. (can_count c.args.self.now c.args.at c.event-event.result c.args.groups.now c.loop-packed.count c.requires.single c.requires.counts (subst IsScan c.self.view_is c.self.invariant) (omega arith) (sym keep ∙ sym c.test-is_kept.ensures.member ∙ kept) ready).1
+    λ kept. (can_count c.args.self.now c.args.at c.event-event.result c.args.groups.now c.loop-packed.count c.requires.single c.requires.counts (subst IsScan c.self.view_is c.self.invariant.is_scan) (omega arith) (sym keep ∙ sym c.test-is_kept.ensures.member ∙ kept) ready).1
 
 pub loop-packed-preserved : goal.loop-packed-preserved
 loop-packed-preserved g c =
@@ -56,6 +56,6 @@ loop-packed-preserved g c =
     let s = c.loop-packed.invariant.steps in
     let u = c.test-is_kept.ensures.steps in record {
       tracks = count_taken c.args.self.now c.args.at c.args.place c.loop-packed.packed-index c.args.events.now c.event-event.result c.args.groups.now c.loop-packed.count c.count_moved-count.result c.test-is_kept.result c.requires.single c.requires.counts
-          (subst IsScan c.self.view_is c.self.invariant) (omega arith) formed c.requires.events is c.requires.since (c.test-is_kept.ensures.member ∙ keep) c.count_moved-count.ensures c.loop-packed.invariant.tracks;
+          (subst IsScan c.self.view_is c.self.invariant.is_scan) (omega arith) formed c.requires.events is c.requires.since (c.test-is_kept.ensures.member ∙ keep) c.count_moved-count.ensures c.loop-packed.invariant.tracks;
       steps = omega arith;
     }

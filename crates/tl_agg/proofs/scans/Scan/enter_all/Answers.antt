@@ -17,7 +17,7 @@ members-init g c =
 
 pub move_row-requires-clause-ready : goal.move_row-requires-clause-ready
 move_row-requires-clause-ready g c =
-    let scan = subst IsScan c.self.view_is c.self.invariant in
+    let scan = subst IsScan c.self.view_is c.self.invariant.is_scan in
     let from = ap (λ (s : ScanOf). s.from) c.self.view_is in
     subst (λ at. IsReady c.args.self.now at (activation c.in-Some.row) c.members.groups) (sym from)
     (start_ready c.args.self.now c.args.self.now.from c.members.from c.in-Some.row c.args.start.now c.members.groups (c.requires.members.rows ∙ scan.keep) c.in-Some.ensures.found c.members.invariant.tracks)
@@ -40,7 +40,7 @@ returns-in_err-move_row-clause-steps g c =
 
 pub overflow_add-from : goal.overflow_add-from
 overflow_add-from g c =
-    let scan = subst IsScan c.self.view_is c.self.invariant in
+    let scan = subst IsScan c.self.view_is c.self.invariant.is_scan in
     let inside = c.in-Some.ensures.found.inside in
     let rows = c.requires.members.rows in
     let keep = scan.keep in
@@ -51,7 +51,7 @@ overflow_add-from g c =
 
 pub members-preserved : goal.members-preserved
 members-preserved g c =
-    let scan = subst IsScan c.self.view_is c.self.invariant in
+    let scan = subst IsScan c.self.view_is c.self.invariant.is_scan in
     let from = ap (λ (s : ScanOf). s.from) c.self.view_is in
     let next = c.in-Some.ensures.found in
     let inside = next.inside in

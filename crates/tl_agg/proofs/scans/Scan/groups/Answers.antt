@@ -8,7 +8,7 @@ use Rattle.tl_agg.proofs.PieceLemmas.{start_tracks, start_within, start_stands}
 use Rattle.tl_agg.proofs.scans.Scan.groups.Goals as goal
 
 pub enter_all-requires-clause-members : goal.enter_all-requires-clause-members
-enter_all-requires-clause-members g c = start_within c.args.self.now c.args.start.now (subst IsScan c.self.view_is c.self.invariant) c.requires
+enter_all-requires-clause-members g c = start_within c.args.self.now c.args.start.now (subst IsScan c.self.view_is c.self.invariant.is_scan) c.requires
 
 pub enter_all-requires-clause-tracks : goal.enter_all-requires-clause-tracks
 enter_all-requires-clause-tracks g c =
@@ -27,7 +27,7 @@ enter_all-requires-clause-tracks g c =
 
 pub walk-requires-clause-follow : goal.walk-requires-clause-follow
 walk-requires-clause-follow g c =
-    let scan = subst IsScan c.self.view_is c.self.invariant in
+    let scan = subst IsScan c.self.view_is c.self.invariant.is_scan in
     let within = scan.within in
     let later = scan.later in
     let from = ap (λ (s : ScanOf). s.from) c.self.view_is in

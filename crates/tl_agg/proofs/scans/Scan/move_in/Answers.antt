@@ -16,7 +16,7 @@ change_at-requires g c =
     let table = ap (λ (s : ScanOf). length (rows_in s.table)) c.self.view_is in
     let n = c.rows.ensures.number in
     let m = c.rows.ensures.few in
-    let is = subst IsScan c.self.view_is c.self.invariant in
+    let is = subst IsScan c.self.view_is c.self.invariant.is_scan in
     let has = subst (λ (s : ScanOf). HasKey (rows_in s.table) c.args.event.row c.args.by (cell_shown c.cell-value.result)) c.self.view_is c.cell-value.ensures.key in
     let place = subst (λ (s : ScanOf). HasPlace c.args.groups.now c.number.new.self (cell_shown c.cell-value.result) s.plan.kind s.from c.in_ok-n.n) c.self.view_is c.in_ok-n.ensures in
     rw whole (can_take_in c.args.self.now c.args.by c.args.at c.args.event c.args.groups.now c.number.new.self (cell_shown c.cell-value.result) c.in_ok-n.n c.requires.by is (omega arith) c.requires.kept has place c.requires.ready c.number_in-number.result c.number_in-number.ensures.number)
@@ -25,7 +25,7 @@ pub returns-clause-takes : goal.returns-clause-takes
 returns-clause-takes g c =
     let fits : SFits w64 c.number_in-number.result = search rules in
     let whole = to_z-of_z w64 c.number_in-number.result fits in
-    let is = subst IsScan c.self.view_is c.self.invariant in
+    let is = subst IsScan c.self.view_is c.self.invariant.is_scan in
     let has = subst (λ (s : ScanOf). HasKey (rows_in s.table) c.args.event.row c.args.by (cell_shown c.cell-value.result)) c.self.view_is c.cell-value.ensures.key in
     let place = subst (λ (s : ScanOf). HasPlace c.args.groups.now c.number.new.self (cell_shown c.cell-value.result) s.plan.kind s.from c.in_ok-n.n) c.self.view_is c.in_ok-n.ensures in
     let moved = subst (λ n. MovesAt c.number.new.self.by c.change_at.new.self.by c.in_ok-n.n c.args.at c.args.event.opens n) whole c.in_ok-change_at.ensures.moves in

@@ -16,7 +16,7 @@ returns-in_ok-runs-in-None c =
 
 pub returns-in_ok-runs-in-Some : goal.returns-in_ok-runs-in-Some
 returns-in_ok-runs-in-Some c =
-    let scan = subst IsScan c.self.view_is c.self.invariant in
+    let scan = subst IsScan c.self.view_is c.self.invariant.is_scan in
     let later = scan.later in
     let to = ap (λ (s : ScanOf). s.to) c.self.view_is in
     let by = sym (ap (λ (s : ScanOf). s.plan.by) c.self.view_is) ∙ c.in-Some.is in

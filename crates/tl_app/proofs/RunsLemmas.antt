@@ -15,6 +15,7 @@ use Rattle.tl_query.specs.declared.typed_queries.AggPlan.{AggPlan}
 use Rattle.tl_query.specs.declared.typed_queries.Span.TheVariants as span
 use Rattle.tl_query.specs.declared.typed_queries.TypedPred.{TypedPred}
 use Rattle.tl_bits.specs.Sets.{is_member}
+use Rattle.tl_ckpt.specs.Choices.{Choice, is_chosen, chosen}
 use Rattle.tl_app.specs.Opening.{open_rows, up_to, Alternate}
 use Rattle.tl_app.specs.Parts.{kept_events, part_of, AreEventsOf, IsPart, planned_runs}
 use Rattle.tl_app.specs.Scans.{value_at}
@@ -31,6 +32,13 @@ kept_part rows keep events kept are is = record {
   chooses = is_member keep;
   are = is ∙ ap (kept_events keep) are.are;
 }
+
+pub kept_part_at : (rows : List plain.Row) (keep : List Bool) (version : ℕ) (kept : List ValidEvent) → kept ≡ kept_events keep (valid_events_in rows version) → IsPart rows kept
+kept_part_at rows keep version kept is = record { version = version; chooses = is_member keep; are = is }
+
+-- the events of chosen rows, where these are the rows of a set
+pub chosen_kept : (choice : Choice) (keep : List Bool) (events : List ValidEvent) → ((row : ℕ) → is_chosen choice row ≡ is_member keep row) → chosen choice events ≡ kept_events keep events
+chosen_kept choice keep events same = ap (λ p. filter p events) (fun_ext (λ (event : ValidEvent). same event.row))
 
 pub filter_few : {X : Type 0} (p : X → Bool) (xs : List X) → length (filter p xs) ≤ length xs
 filter_few p [] = omega arith

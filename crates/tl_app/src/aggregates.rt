@@ -1,8 +1,12 @@
 //! Aggregates over valid time.
-ghost use Rattle.std.specs.Prelude.{◌≡◌, ℕ, ◌+◌, ◌*◌, ◌≤◌, ◌<ℤ◌, Bool, List, Some, None, length, map, IfOk};
+ghost use Rattle.std.specs.Prelude.{◌≡◌, ℕ, ◌+◌, ◌-◌, ◌*◌, ◌≤◌, ◌<ℤ◌, Bool, List, Some, None, length, map, IfOk};
 ghost use Rattle.tl_types.specs.Entries.{commits_of};
 ghost use Rattle.tl_types.specs.Checkpoints.{valid_events_in};
-ghost use Rattle.tl_types.specs.History.{database_of};
+ghost use Rattle.tl_types.specs.History.{database_of, rows_of};
+ghost use Rattle.tl_types.specs.Events.{place_of};
+ghost use Rattle.tl_events.specs.Timeline.{ends_of, binary_digits};
+ghost use Rattle.tl_lanes.specs.Masks.{words_for};
+ghost use Rattle.tl_index.specs.Snapshots.{mark_before};
 ghost use Rattle.tl_query.specs.Passing.{passes};
 ghost use Rattle.tl_query.specs.declared.typed_queries.Span.TheVariants as span;
 ghost use Rattle.tl_query.specs.declared.typed_queries.TypedPred.{TypedPred};
@@ -10,7 +14,7 @@ ghost use Rattle.tl_app.specs.Parts.{AreEventsOf, IsPart, kept_events, planned_r
 ghost use Rattle.tl_app.specs.Scans.{IsPlanFor, rows_in};
 
 use crate::groups::{Groups, runs_of_groups};
-use crate::kept::kept_events;
+use crate::kept::{events_kept_at, kept_events};
 use crate::keyed::{KeyColumn, groups_of};
 use crate::scans::{Scan, scanned_runs};
 use std::alloc::Global;
@@ -157,6 +161,55 @@ pub fn valid_runs<L: Ledger>(
 {
     let store = snapshot.store();
     let kept = list_kept(alloc, store, plan, events, keep, steps)?;
+    let scan = Scan {
+        store,
+        plan,
+        events: kept.as_slice(),
+    };
+    let runs = runs_of_plan(alloc, &scan, from, to, steps)?;
+    Ok(Seq::from_vec(runs))
+}
+
+/// The maximal runs of an aggregate by a plan over the moments from `from` on and before `to` of
+/// valid time, at a version, of the rows that are in `keep`, which has a bit for each row of the
+/// plan's table; separated by a column, those of each value that the column has, in order, where
+/// they have a row. The version is not after the snapshot's, and `from` is before `to`. The events
+/// of rows that are not in `keep` are left out before the others are put in order, so no list of all
+/// is made.
+///
+/// With e events from the version of the nearest mark that is not after it up to this one, w begun
+/// 64s of rows, as many versions with events, and one more, as a number of s binary digits tells,
+/// and n events of valid time at the version, it takes at most 3e + w + s + 3n steps, also where it
+/// fails. The error is `NoMemory`.
+pub fn valid_runs_at<L: Ledger>(
+    alloc: Global,
+    snapshot: &Snapshot,
+    plan: &AggPlan,
+    version: u32,
+    from: i64,
+    to: i64,
+    keep: &RowSet,
+    steps: &mut Steps<L>,
+) -> Result<Seq<Run>, NoMemory>
+    requires plan { IsPlanFor (database_of (commits_of snapshot.now)) plan.now }
+    requires version { version ≤ (database_of (commits_of snapshot.now)).version }
+    requires some { from <ℤ to }
+    requires keep { length keep.now ≡ length (rows_in (commits_of snapshot.now) plan.now) }
+    ensures runs { (pred : TypedPred)
+        → keep.now ≡ map (passes pred) (rows_in (commits_of snapshot.now) plan.now)
+        → IfOk result (λ runs. runs ≡ planned_runs (database_of (commits_of snapshot.now))
+        plan.now pred (span.Valid version from to)) }
+    ensures steps { let db = database_of (commits_of snapshot.now) in
+        let table = plan.now.table in
+        let rows = rows_of db table in
+        let e = place_of rows version - place_of rows (mark_before snapshot.now table version) in
+        let w = words_for (length rows) in
+        let s = binary_digits (length (ends_of rows db.version) + 1) in
+        let n = length (valid_events_in rows version) in
+        steps.new ≤ steps.old + (3 * e + w + s + 3 * n) }
+{
+    let store = snapshot.store();
+    let kept = events_kept_at(alloc, snapshot, plan.table, version, keep, steps)?;
     let scan = Scan {
         store,
         plan,

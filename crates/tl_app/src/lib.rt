@@ -10,5 +10,5 @@ mod keyed;
 pub mod laws;
 mod scans;
 
-pub use aggregates::valid_runs;
+pub use aggregates::{valid_runs, valid_runs_at};
 pub use corrected::valid_events;

@@ -43,9 +43,8 @@ events_few db table version =
     let b = rows_few (visible_rows db table version) in
     omega arith
 
-pub moment_steps : (before kept listed after p w e e2 s s2 w2 n n2 : ℕ) → kept ≤ before + p * w → listed ≤ kept + (4 * e2 + w2 + 2 * s2) → after ≤ listed + (4 * n2 + 2)
-    → e2 ≡ e → s2 ≡ s → w2 ≡ w → n2 ≤ n → after ≤ before + (p * w + 4 * e + 2 * w + 2 * s + 4 * n + 2)
-moment_steps before kept listed after p w e e2 s s2 w2 n n2 first second third es ss ws few = omega arith
+pub moment_steps : (before kept after p w e e2 s s2 w2 n n2 : ℕ) → kept ≤ before + p * w → after ≤ kept + (3 * e2 + w2 + s2 + 3 * n2) → e2 ≡ e → s2 ≡ s → w2 ≡ w → n2 ≤ n → after ≤ before + (p * w + 4 * e + 2 * w + 2 * s + 4 * n + 2)
+moment_steps before kept after p w e e2 s s2 w2 n n2 first second es ss ws few = omega arith
 
 -- runs over moments by another name
 pub same_moments : (db : plain.Database) (plan : AggPlan) (pred : TypedPred) (version : ℕ) (result : Result (List Run) AllocError) (first last from to : ℤ) → first ≡ from → last ≡ to

@@ -10,7 +10,7 @@ ghost use Rattle.tl_exec.specs.Bounds.{valid_steps};
 use crate::aggregates::passing_rows;
 use std::alloc::Global;
 use std::sync::ledger::Ledger;
-use tl_app::{valid_events, valid_runs};
+use tl_app::valid_runs_at;
 use tl_index::Snapshot;
 use tl_query::{AggPlan, TypedPred};
 use tl_types::{NoMemory, Run, Seq, Steps};
@@ -47,8 +47,13 @@ pub(crate) fn moment_runs<L: Ledger>(
     ensures steps { steps.new ≤ steps.old + valid_steps snapshot.now asked.entry.plan.table
         asked.entry.pred.now asked.entry.version }
 {
-    let AskedMoments { plan, from, to, .. } = asked;
+    let AskedMoments {
+        plan,
+        version,
+        from,
+        to,
+        ..
+    } = asked;
     let keep = passing_rows(alloc, snapshot, plan.table, asked.pred, steps)?;
-    let events = valid_events(alloc, snapshot, plan.table, asked.version, steps)?;
-    valid_runs(alloc, snapshot, &plan, from, to, &events, &keep, steps)
+    valid_runs_at(alloc, snapshot, &plan, version, from, to, &keep, steps)
 }

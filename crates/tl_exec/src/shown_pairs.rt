@@ -95,6 +95,23 @@ fn add_pair<L: Ledger>(
     rows.end_row()
 }
 
+// No rows, with room for so many pairs of a join by a plan. The error is out of memory.
+fn room_for(
+    alloc: Global,
+    store: &Store,
+    plan: &JoinPlan,
+    pairs: usize,
+) -> Result<RowsWriter, NoMemory>
+    requires left { plan.now.left < length (database_of store.now).tables }
+    requires right { plan.now.right < length (database_of store.now).tables }
+    ensures { IfOk result (λ rows. rows ≡ record { rows = []; row = [] }) }
+{
+    let left = store.schema(plan.left).columns().len();
+    let right = store.schema(plan.right).columns().len();
+    let fields = left.saturating_add(right).saturating_add(2);
+    RowsWriter::with_room(alloc, pairs, pairs.saturating_mul(fields))
+}
+
 // The pairs of a join by a plan, each as a row. It takes for each at most a step for each column of
 // both tables. The error is out of memory.
 fn pairs_as_rows<L: Ledger>(
@@ -114,7 +131,7 @@ fn pairs_as_rows<L: Ledger>(
         + (length (columns_of (database_of store.now) plan.now.left)
         + length (columns_of (database_of store.now) plan.now.right)) * length pairs.now }
 {
-    let mut rows = RowsWriter::new(alloc);
+    let mut rows = room_for(alloc, store, plan, pairs.len())?;
     for pair in pairs {
         add_pair(&mut rows, store, plan, *pair, steps)?;
     }

@@ -65,6 +65,7 @@ fn keep_wide(wide: &mut Vec<i128>, number: i128) -> Result<usize, NoMemory>
 
 // Packs a number, which is appended to the wide ones where it does not fit 64 bits.
 #[tactic(auto, using(crate::proofs::PackedLemmas::number_stands, crate::proofs::PackedLemmas::wide_stands))]
+#[inline(always)]
 fn pack_number(wide: &mut Vec<i128>, number: i128) -> Result<Packed, NoMemory>
     ensures packed { IfOk result (λ p. (texts : List ℕ) →
         StandsFor texts wide.new.items p (field.Number number)) }
@@ -88,6 +89,7 @@ fn pack_ratio(wide: &mut Vec<i128>, sum: i128, count: u32) -> Result<Packed, NoM
 }
 
 // Packs a field, whose text or wide number is appended.
+#[inline(always)]
 fn pack(texts: &mut Vec<u8>, wide: &mut Vec<i128>, field: FieldRef<'_>) -> Result<Packed, NoMemory>
     ensures packed { IfOk result (λ p.
         StandsFor texts.new.items wide.new.items p (field_shown field.entry)) }
@@ -130,6 +132,20 @@ fn lend<'a>(packed: Packed, texts: &'a [u8], wide: &[i128]) -> FieldRef<'a>
     }
 }
 
+// Appends a packed field. A list that is full gets room for three times as many more, since it is
+// copied then.
+#[inline]
+fn push_packed(fields: &mut Vec<Packed>, packed: Packed) -> Result<(), NoMemory>
+    ensures ok { OnOk result (fields.new.items ≡ fields.old.items ++ packed ∷ []) }
+    ensures err { OnErr result (fields.new.items ≡ fields.old.items) }
+{
+    if fields.len() == fields.capacity() {
+        fields.reserve(fields.len().saturating_mul(3).max(16))?;
+    }
+    fields.push(packed)?;
+    Ok(())
+}
+
 // A list of fields. A contract sees it as the list.
 #[derive(Drop)]
 pub(crate) struct PackedFields {
@@ -163,6 +179,17 @@ impl PackedFields {
         }
     }
 
+    // The list without fields, with room for so many.
+    pub(crate) fn with_room(alloc: Global, fields: usize) -> Result<PackedFields, NoMemory>
+        ensures { IfOk result (λ list. list ≡ []) }
+    {
+        Ok(PackedFields {
+            fields: Vec::with_capacity(alloc, fields)?,
+            texts: Vec::new(alloc),
+            wide: Vec::new(alloc),
+        })
+    }
+
     // The number of fields.
     pub(crate) fn len(&self) -> usize
         ensures number { result ≡ length self.now }
@@ -172,12 +199,13 @@ impl PackedFields {
     }
 
     // Appends a field.
+    #[inline(always)]
     pub(crate) fn push(&mut self, field: FieldRef<'_>) -> Result<(), NoMemory>
         ensures ok { OnOk result (self.new ≡ self.old ++ field_shown field.entry ∷ []) }
         ensures err { OnErr result (self.new ≡ self.old) }
     {
         let packed = pack(&mut self.texts, &mut self.wide, field)?;
-        self.fields.push(packed)?;
+        push_packed(&mut self.fields, packed)?;
         Ok(())
     }
 

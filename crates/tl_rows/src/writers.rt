@@ -1,5 +1,5 @@
 //! Rows while they are written.
-ghost use Rattle.std.specs.Prelude.{◌≡◌, ◌++◌, ◌∷◌, [], OnErr, OnOk};
+ghost use Rattle.std.specs.Prelude.{◌≡◌, ◌++◌, ◌∷◌, [], IfOk, OnErr, OnOk};
 ghost use Rattle.tl_rows.specs.Fields.{field_shown};
 
 use crate::answers::AnswerRows;
@@ -43,8 +43,20 @@ impl RowsWriter {
         }
     }
 
+    /// No rows, and a row without fields that is not ended, with room for so many rows and so many
+    /// fields of all rows together. The error is `NoMemory`.
+    pub fn with_room(alloc: Global, rows: usize, fields: usize) -> Result<RowsWriter, NoMemory>
+        ensures { IfOk result (λ writer. writer ≡ record { rows = []; row = [] }) }
+    {
+        Ok(RowsWriter {
+            fields: PackedFields::with_room(alloc, fields)?,
+            ends: Vec::with_capacity(alloc, rows)?,
+        })
+    }
+
     /// Appends a field to the row that is not ended. The error is `NoMemory`, and comes too where
     /// the field is a text of 2^32 bytes or more; nothing changes then.
+    #[inline(always)]
     pub fn push(&mut self, field: FieldRef<'_>) -> Result<(), NoMemory>
         ensures rows { OnOk result (self.new.rows ≡ self.old.rows) }
         ensures row { OnOk result (self.new.row ≡ self.old.row ++ field_shown field.entry ∷ []) }

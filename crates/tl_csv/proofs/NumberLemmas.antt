@@ -1,10 +1,15 @@
 -- Numbers that fields spell.
-use Rattle.std.proofs.Common.{◌≡◌, ◌≢◌, ℕ, ◌^◌, ◌<◌, ◌≤◌, nat_lt, nat_le, ◌==◌, ℤ, pos, neg_ℤ, Bool, true, false, cond, ◌&&◌, List, [], ◌∷◌, length, Some, None, Result, Ok, Err, refl, ap, arith}
+use Rattle.std.proofs.Common.{◌≡◌, ◌≢◌, ℕ, ◌^◌, ◌<◌, ◌≤◌, nat_lt, nat_le, ◌==◌, ℤ, pos, neg_ℤ, Bool, true, false, cond, ◌&&◌, List, [], ◌∷◌, length, Some, None, Result, Ok, Err, IsUtf8, codes, ◌∙◌, refl, ap, arith}
 use Rattle.std.specs.Int.{w64}
 use Rattle.std.specs.Result.{OkIff, result_ok}
-use Rattle.std.specs.Str.{all_ascii_digits}
+use Rattle.std.specs.Char.{is_ascii_digit}
+use Rattle.std.specs.Str.{all_ascii_digits, chars, is_utf8}
 use Rattle.std.specs.Str.Parse.{ParsesSigned, digits_value}
 use Rattle.std.proofs.lemmas.Str.Parse.{IsNumeralModel, numerals_by_value, tells_all_ascii_digits, parse_signed_minus, parse_signed_plain, parse_signed_plus}
+use Rattle.std.proofs.lemmas.Str.{IsUtf8-append, IsUtf8-from_ascii, IsUtf8-from_is_utf8, is_utf8-from_IsUtf8}
+use Rattle.std.proofs.lemmas.Fmt.{IsAscii-from_digits}
+use Rattle.tl_types.specs.Names.{same_bytes}
+use Rattle.tl_types.proofs.FoundTables.{same_names}
 use Rattle.std.proofs.lemmas.Bool.{ltb-true}
 use Rattle.std.proofs.lemmas.Bool.Decides.{nat_tests}
 use Rattle.std.proofs.lemmas.Grind.{common_steps}
@@ -26,6 +31,11 @@ both_tests true true true h = (refl, refl, refl)
 both_tests true true false h = absurd (cc)
 both_tests true false c h = absurd (cc)
 both_tests false b c h = absurd (cc)
+
+both_digits : (a b : Bool) → (a && b) ≡ true → (a ≡ true) × (b ≡ true)
+both_digits true true h = (refl, refl)
+both_digits true false h = absurd (cc)
+both_digits false b h = absurd (cc)
 
 pub all_tests : (a b c : Bool) → a ≡ true → b ≡ true → c ≡ true → (a && b && c) ≡ true
 all_tests a b c p q r = cc
@@ -75,3 +85,59 @@ integer_parsed (b ∷ bs) r h = by_minus (b == 45) refl where
   by_minus : (t : Bool) → (b == 45) ≡ t → result_ok r ≡ integer_of (b ∷ bs)
   by_minus true e = rw e (parsed_negative bs r (parse_signed_minus own w64 (b ∷ bs) r h (eq_true b 45 e)))
   by_minus false e = by_plus (b == 43) refl e
+
+-- WHAT DIGITS ALONE TELL
+
+chosen : {X : Type 0} (t : Bool) (x y : X) → t ≡ true → cond t x y ≡ x
+chosen t x y h = rw h refl
+
+-- digits of a number below 2 ^ 63
+read_positive : (ds : List ℕ) (n : ℕ) → are_digits ds ≡ true → digits_value 10 ds ≡ n → n < 2 ^ 63 → positive ds ≡ Some (pos n)
+read_positive ds n d v l =
+    let small : nat_lt (digits_value 10 ds) (2 ^ 63) ≡ true = lt_true _ _ (rw v l) in
+    let both = both_digits (nat_lt 0 (length ds)) (all_ascii_digits ds) d in
+    chosen _ (Some (pos (digits_value 10 ds))) None (all_tests (nat_lt 0 (length ds)) (all_ascii_digits ds) (nat_lt (digits_value 10 ds) (2 ^ 63)) both.0 both.1 small) ∙ ap (λ k. Some (pos k)) v
+
+read_negative : (ds : List ℕ) (n : ℕ) → are_digits ds ≡ true → digits_value 10 ds ≡ n → n < 2 ^ 63 → negative ds ≡ Some (neg_ℤ (pos n))
+read_negative ds n d v l =
+    let small : nat_le (digits_value 10 ds) (2 ^ 63) ≡ true = le_true _ _ (rw v (omega (arith, l))) in
+    let both = both_digits (nat_lt 0 (length ds)) (all_ascii_digits ds) d in
+    chosen _ (Some (neg_ℤ (pos (digits_value 10 ds)))) None (all_tests (nat_lt 0 (length ds)) (all_ascii_digits ds) (nat_le (digits_value 10 ds) (2 ^ 63)) both.0 both.1 small) ∙ ap (λ k. Some (neg_ℤ (pos k))) v
+
+-- a digit is no sign
+no_sign : (b : ℕ) → is_ascii_digit b ≡ true → ((b == 45) ≡ false) × ((b == 43) ≡ false)
+no_sign b h = (grind (arith, nat_tests), grind (arith, nat_tests))
+
+pub spells_positive : (field : List ℕ) (n : ℕ) → are_digits field ≡ true → digits_value 10 field ≡ n → n < 2 ^ 63 → integer_of field ≡ Some (pos n)
+spells_positive [] n d v l = absurd (cc)
+spells_positive (b ∷ bs) n d v l =
+    let digit = both_digits (is_ascii_digit b) (all_ascii_digits bs) (both_digits (nat_lt 0 (length (b ∷ bs))) (all_ascii_digits (b ∷ bs)) d).1 in
+    let sign = no_sign b digit.0 in
+    rw (sign.0, sign.1) (read_positive (b ∷ bs) n d v l)
+
+pub spells_negative : (field digits : List ℕ) (first n : ℕ) → field ≡ first ∷ digits → first ≡ 45 → are_digits digits ≡ true → digits_value 10 digits ≡ n → n < 2 ^ 63 → integer_of field ≡ Some (neg_ℤ (pos n))
+spells_negative field digits first n f m d v l = rw (f, m) (read_negative digits n d v l)
+
+-- digits are text, also behind a minus
+digits_utf8 : (ds : List ℕ) → are_digits ds ≡ true → IsUtf8 ds
+digits_utf8 ds d = IsUtf8-from_ascii ds (IsAscii-from_digits ds (own.to ds (both_digits (nat_lt 0 (length ds)) (all_ascii_digits ds) d).1))
+
+minus_is_utf8 : is_utf8 (45 ∷ []) ≡ true
+unfolding is_utf8 chars lib.Utf8.encode
+minus_is_utf8 = refl
+
+pub digits_are_text : (ds : List ℕ) → are_digits ds ≡ true → is_utf8 ds ≡ true
+digits_are_text ds d = is_utf8-from_IsUtf8 ds (digits_utf8 ds d)
+
+pub negative_is_text : (field digits : List ℕ) (first : ℕ) → field ≡ first ∷ digits → first ≡ 45 → are_digits digits ≡ true → is_utf8 field ≡ true
+negative_is_text field digits first f m d =
+    rw (f, m) (is_utf8-from_IsUtf8 (45 ∷ digits) (IsUtf8-append (45 ∷ []) digits (IsUtf8-from_is_utf8 (45 ∷ []) minus_is_utf8) (digits_utf8 digits d)))
+
+forever_is_utf8 : is_utf8 (codes "FOREVER") ≡ true
+unfolding is_utf8 chars lib.Utf8.encode
+forever_is_utf8 = refl
+
+pub forever_is_text : (field : List ℕ) → same_bytes field (codes "FOREVER") ≡ true → is_utf8 field ≡ true
+forever_is_text field h = rw (same_names field (codes "FOREVER") h) forever_is_utf8
+
+pub ruleset plain_integers = (spells_positive, spells_negative, digits_are_text, negative_is_text)

@@ -199,21 +199,23 @@ fn write_answer(
     }
 }
 
-// A writer of rows of any length.
-fn writer_of(alloc: Global) -> Writer<Vec<u8>>
-    ensures empty { bytes_written result ≡ [] }
-    ensures writing { IsWriting result }
+// A writer of rows of any length. It goes into a box where it is made: its buffer is 8 KB, which
+// each function that holds a writer among its locals would clear at its start.
+fn writer_of(alloc: Global) -> Result<Box<Writer<Vec<u8>>>, NoMemory>
+    ensures empty { IfOk result (λ writer. bytes_written writer.value ≡ []) }
+    ensures writing { IfOk result (λ writer. IsWriting writer.value) }
 {
-    WriterBuilder::new()
+    let writer = WriterBuilder::new()
         .flexible(true)
-        .from_writer(Vec::new(alloc))
+        .from_writer(Vec::new(alloc));
+    Ok(Box::new(alloc, writer)?)
 }
 
 // All bytes that were written.
-fn bytes_of(writer: Writer<Vec<u8>>) -> Result<Bytes, NoMemory>
-    ensures { IfOk result (λ bytes. bytes ≡ bytes_written writer) }
+fn bytes_of(writer: Box<Writer<Vec<u8>>>) -> Result<Bytes, NoMemory>
+    ensures { IfOk result (λ bytes. bytes ≡ bytes_written writer.value) }
 {
-    match writer.into_inner() {
+    match Box::into_inner(writer).into_inner() {
         Ok(text) => Ok(Bytes::from_vec(text)),
         Err(_) => Err(AllocError),
     }
@@ -226,7 +228,7 @@ fn bytes_of(writer: Writer<Vec<u8>>) -> Result<Bytes, NoMemory>
 pub fn answer_bytes(alloc: Global, answer: &AnswerRows) -> Result<Bytes, NoMemory>
     ensures { IfOk result (λ bytes. bytes ≡ answer_text answer.now) }
 {
-    let mut writer = writer_of(alloc);
+    let mut writer = writer_of(alloc)?;
     let mut text = FieldText::new(alloc);
     write_answer(&mut writer, &mut text, answer)?;
     bytes_of(writer)

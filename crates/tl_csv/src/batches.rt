@@ -20,27 +20,44 @@ use csv::{ByteRecord, Reader};
 use std::alloc::Global;
 use tl_types::{Batch, Cell, KeyLine, Limits, NoMemory, Opened, Schema, Seq};
 
-// The number of LFs of a block.
-fn lines_in(block: &[u8]) -> usize
-    ensures { result ≤ length block.now }
+// How many bytes of a block are looked at to tell how long its lines are.
+const FRONT: usize = 1024;
+
+// The number of lines of some bytes that are not empty.
+fn lines_in(bytes: &[u8]) -> usize
+    ensures { result ≤ length bytes.now }
 {
     let mut lines = 0;
-    for byte in block {
-        if *byte == b'\n' {
+    let mut last = b'\n';
+    for byte in bytes {
+        if *byte == b'\n' && last != b'\n' {
             lines += 1;
         }
+        last = *byte;
     }
     lines
 }
 
-// A list without rows, with room for as many as the block has lines, and for no more than the limit
-// of records.
-fn room_for(alloc: Global, limits: &Limits, block: &[u8]) -> Result<Seq<Opened>, NoMemory>
+// How many lines a block has if all are as long as the first ones. It only says how much room is
+// taken ahead.
+fn likely_lines(block: &[u8]) -> usize {
+    let (front, rest) = block.split_at(block.len().min(FRONT));
+    let lines = lines_in(front) + 1;
+    let pieces = rest.len().div_ceil(FRONT);
+    lines.saturating_add(lines.saturating_mul(pieces))
+}
+
+// A list without rows, with room for as many as the block is likely to have lines, and for no more
+// than the limit of records, where there is memory for that.
+fn room_for(alloc: Global, limits: &Limits, block: &[u8]) -> Seq<Opened>
     requires { limits.now.batch ≤ 1000000 }
-    ensures { IfOk result (λ rows. rows ≡ []) }
+    ensures { result ≡ [] }
 {
-    let lines = lines_in(block).min(limits.batch as usize);
-    Ok(Seq::from_vec(Vec::with_capacity(alloc, lines)?))
+    let lines = likely_lines(block).min(limits.batch as usize);
+    match Vec::with_capacity(alloc, lines) {
+        Ok(rows) => Seq::from_vec(rows),
+        Err(_) => Seq::new(alloc),
+    }
 }
 
 // Puts the row of the next record behind those of the records between the header and it.
@@ -113,7 +130,7 @@ fn rows_of(
         return Err(CsvFault::HeaderMissing { column: 1 });
     }
     let layout = layout_of(alloc, schema, kind, &header)?;
-    let room = room_for(alloc, limits, block)?;
+    let room = room_for(alloc, limits, block);
     lines_of(alloc, limits, &layout, &mut reader, room)
 }
 

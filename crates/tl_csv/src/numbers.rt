@@ -1,8 +1,9 @@
 //! The integers that fields spell.
-ghost use Rattle.std.specs.Prelude.{◌≡◌};
-ghost use Rattle.tl_csv.specs.Numbers.{integer_of, end_of};
-
-use tl_types::Period;
+ghost use Rattle.std.specs.Prelude.{◌≡◌, ◌+◌, ◌*◌, ◌<◌, ◌^◌, Some, IfSome, true};
+ghost use Rattle.std.specs.Char.{digit_value, is_ascii_digit};
+ghost use Rattle.std.specs.Str.{is_utf8};
+ghost use Rattle.std.specs.Str.Parse.{digits_value};
+ghost use Rattle.tl_csv.specs.Numbers.{are_digits, integer_of};
 
 /// The integer that a field spells: an optional `-` or `+` and one or more digits, within 64 bits.
 #[tactic(auto, using(crate::proofs::NumberLemmas::integer_parsed))]
@@ -12,12 +13,46 @@ pub fn integer_of(field: &str) -> Option<i64>
     field.parse::<i64>().ok()
 }
 
-/// The end of a period that a field spells: an integer as above, or `FOREVER`.
-pub fn end_of(field: &str) -> Option<i64>
-    ensures { result ≡ end_of field.now }
+// The number of which the digits of a number and one more are the digits. None where the byte is no
+// digit, or the number may have 2 ^ 63 or more.
+fn with_digit(number: u64, byte: u8) -> Option<u64>
+    ensures { IfSome result (λ n. (is_ascii_digit byte ≡ true)
+        × (n ≡ number * 10 + digit_value byte) × (n < 2 ^ 63)) }
 {
-    if field == "FOREVER" {
-        return Some(Period::FOREVER);
+    if byte.is_ascii_digit() && number < 922_337_203_685_477_580 {
+        return Some(number * 10 + (byte - b'0') as u64);
     }
-    integer_of(field)
+    None
+}
+
+// The number that one or more digits spell. None where a byte is no digit, or the number may have
+// 2 ^ 63 or more.
+fn plain_number(digits: &[u8]) -> Option<u64>
+    ensures { IfSome result (λ n. (are_digits digits.now ≡ true)
+        × (digits_value 10 digits.now ≡ n) × (n < 2 ^ 63)) }
+{
+    if digits.is_empty() {
+        return None;
+    }
+    let mut number = 0;
+    for byte in digits {
+        number = with_digit(number, *byte)?;
+    }
+    Some(number)
+}
+
+/// The integer that a field spells, as above, by its digits alone, where it has no `+` and few
+/// enough of them. Where it gives none, the field may spell one all the same.
+#[tactic(auto, using(crate::proofs::NumberLemmas::plain_integers))]
+pub fn plain_integer(field: &[u8]) -> Option<i64>
+    ensures spelled { IfSome result (λ number. integer_of field.now ≡ Some number) }
+    ensures text { IfSome result (λ number. is_utf8 field.now ≡ true) }
+{
+    let (first, digits) = field.split_first()?;
+    if *first == b'-' {
+        let number = plain_number(digits)?;
+        return Some(-(number as i64));
+    }
+    let number = plain_number(field)?;
+    Some(number as i64)
 }

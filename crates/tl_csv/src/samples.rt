@@ -1,9 +1,11 @@
 //! The blocks of the sample: as many lines as are asked for, with numbers of a linear congruential
 //! generator.
 ghost use Rattle.std.specs.Prelude.{◌≡◌, ◌≤◌, ◌<◌, ◌+◌, ◌-◌, ◌++◌, ◌^◌, IfOk, OnOk, OnErr};
+ghost use Rattle.std.specs.Fmt.{decimal};
 ghost use Rattle.tl_csv.specs.Sample.{block_end, block_of, nth_number, id_of, line_text};
 ghost use Rattle.tl_csv.specs.Sample.{lines_from};
 
+use itoa::Buffer;
 use std::alloc::Global;
 use std::marker::Model;
 use tl_types::{Bytes, NoMemory};
@@ -54,28 +56,43 @@ fn id_of(line: u32) -> u32
     5_000 * (line / LINES_OF_A_BLOCK) + line % LINES_OF_A_BLOCK
 }
 
-fn put_line(alloc: Global, out: &mut Vec<u8>, id: u32, value: u32) -> Result<(), NoMemory>
+// Appends a number in decimal, and a byte.
+fn put_number(
+    out: &mut Vec<u8>,
+    digits: &mut Buffer,
+    number: u32,
+    behind: &[u8],
+) -> Result<(), NoMemory>
+    ensures { OnOk result (out.new.items ≡ out.old.items ++ (decimal number ++ behind.now)) }
+{
+    out.extend_from_slice(digits.format(number).as_bytes())?;
+    out.extend_from_slice(behind)?;
+    Ok(())
+}
+
+fn put_line(out: &mut Vec<u8>, digits: &mut Buffer, id: u32, value: u32) -> Result<(), NoMemory>
     ensures { OnOk result (out.new.items ≡ out.old.items ++ line_text id value) }
 {
-    let group = value % 8;
-    let text = format!(in alloc; "{id},{group},{value}\n")?;
-    out.extend_from_slice(text.as_bytes())?;
+    put_number(out, digits, id, b",".as_slice())?;
+    put_number(out, digits, value % 8, b",".as_slice())?;
+    put_number(out, digits, value, b"\n".as_slice())?;
     Ok(())
 }
 
 // Appends the lines up to line `to`, which is not one of them.
 #[tactic(auto, using(crate::proofs::SampleLemmas::one_line, crate::proofs::SampleLemmas::no_line))]
-fn put_lines(alloc: Global, out: &mut Vec<u8>, draw: &mut Draw, to: u32) -> Result<(), NoMemory>
+fn put_lines(out: &mut Vec<u8>, draw: &mut Draw, to: u32) -> Result<(), NoMemory>
     requires { draw.old.count ≤ to }
     ensures lines { OnOk result (out.new.items
         ≡ out.old.items ++ lines_from draw.old.start draw.old.count (to - draw.old.count)) }
     ensures count { OnOk result (draw.new.count ≡ to) }
     ensures start { OnOk result (draw.new.start ≡ draw.old.start) }
 {
+    let mut digits = Buffer::new();
     'lines: while draw.count < to {
         let id = id_of(draw.count);
         let value = draw.next() / 65_536;
-        put_line(alloc, out, id, value)?;
+        put_line(out, &mut digits, id, value)?;
     }
     Ok(())
 }
@@ -138,7 +155,7 @@ impl Sample {
         let mut draw = self.draw;
         let mut text = Vec::new(alloc);
         text.extend_from_slice(b"id,grp,val\n")?;
-        put_lines(alloc, &mut text, &mut draw, end)?;
+        put_lines(&mut text, &mut draw, end)?;
         self.draw = draw;
         Ok(Some(Bytes::from_vec(text)))
     }

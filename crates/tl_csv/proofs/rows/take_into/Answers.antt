@@ -10,7 +10,7 @@ loop-place-preserved c =
     let i = c.loop-place.place-index in
     let took = c.take_cell.ensures in
     let kept = c.loop-place.invariant in
-    let put : c.push.new.self ≡ c.loop-place.taken ++ cell_in c.loop-place.cells (get_or places i 0) ∷ [] = rw took.taken at c.in_ok-push.ensures in
+    let put : c.push.new.self ≡ c.loop-place.taken ++ cell_in c.loop-place.cells (get_or places i 0) ∷ [] = rw took.taken at c.in_ok-push.ensures.ok in
     let sized : length c.take_cell.new.cells ≡ length c.loop-place.cells = ap length took.left ∙ length-set c.loop-place.cells (get_or places i 0) nothing in
     record {
       taken = one_taken c.loop-place.cells c.take_cell.new.cells places i c.loop-place.taken c.push.new.self _ c.loop-place-test.true took.left kept.distinct put kept.taken;

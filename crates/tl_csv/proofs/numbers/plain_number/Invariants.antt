@@ -1,0 +1,11 @@
+use Rattle.std.proofs.Common.{◌≡◌, ◌<◌, ◌^◌, drop}
+use Rattle.std.specs.Str.{all_ascii_digits}
+use Rattle.std.specs.Str.Parse.{digits_value, digits_value_after}
+use Rattle.tl_csv.proofs.numbers.plain_number.Given as goal
+
+abbrev pub invariant-loop-byte : goal.invariant-loop-byte
+invariant-loop-byte l = record {
+  value : digits_value_after 10 l.number (drop l.byte-index l.digits) ≡ digits_value 10 l.digits;
+  digits : all_ascii_digits (drop l.byte-index l.digits) ≡ all_ascii_digits l.digits;
+  small : l.number < 2 ^ 63;
+}

@@ -2,7 +2,6 @@
 use Rattle.std.proofs.Common.{◌≡◌, inl, inr, ℕ, true, false, true≢false, List, length, take, Some, None, IfSome, Result, Ok, Err, refl, sym, ap, ◌∙◌, subst, arith}
 use Rattle.std.proofs.lemmas.List.{take_all}
 use mathlib.Core.List.{IsPrefix}
-use Rattle.tl_types.specs.declared.answers.Answer.{Answer}
 use Rattle.tl_types.specs.declared.batches.Batch.{Batch}
 use Rattle.tl_types.specs.declared.commits.Commit.{Commit}
 use Rattle.tl_types.specs.declared.commits.Entry.{Entry}
@@ -18,6 +17,7 @@ use Rattle.tl_engine.specs.Saying.{Adds, CommitSays, becomes, names_table}
 use Rattle.tl_session.proofs.TendingLemmas.{adds_later, done_names}
 use Rattle.tl_session.specs.declared.readings.JobReading.{JobReading}
 use Rattle.tl_session.specs.declared.readings.JobReading.TheVariants as reading
+use Rattle.tl_session.specs.declared.replies.AnswerText.{AnswerText}
 use Rattle.tl_session.specs.declared.replies.Refusal.{Refusal}
 use Rattle.tl_session.specs.declared.replies.Refusal.TheVariants as refusal
 use Rattle.tl_session.specs.declared.replies.ReplyBody.{ReplyBody}
@@ -119,7 +119,7 @@ not_well : (job : Job) (v : ℕ) (read : JobReading) (y : plain.Access) → IsLo
 not_well job v read y look other well = other well.0 (one_reading (commits_of y.seen) job read (reading.Loads well.0) look.reads (subst (λ l. Reads l job (reading.Loads well.0)) (all_taken y.seen v look.version_is) well.1))
 
 -- a query
-pub tells_rows : (job : Job) (v : ℕ) (answer : Answer) (x y : plain.Access) → SeesMore x y → IsLook job v (reading.Query answer) y → Tells job v (body.Rows answer) x y
+pub tells_rows : (job : Job) (v : ℕ) (answer : AnswerText) (x y : plain.Access) → SeesMore x y → IsLook job v (reading.Query answer) y → Tells job v (body.Rows answer) x y
 tells_rows job v answer x y more look = record {
   same = more.same;
   says = (looked_now x.seen y.seen v more.later look.version_is, subst (λ l. Reads l job (reading.Query answer)) (sym (all_taken y.seen v look.version_is)) look.reads);

@@ -32,7 +32,7 @@ row n = record { cells = cell.Int (pos n) ∷ []; period = None }
 abbrev read_of : List Commit → ℕ → JobReading
 read_of commits n =
     if n == 1 then Loads (batch.Create emp)
-    else (if n == 4 then Query (record { rows = [] }) else Loads (batch.Put (codes "emp") (row n ∷ [])))
+    else (if n == 4 then Query (record { rows = 0; bytes = [] }) else Loads (batch.Put (codes "emp") (row n ∷ [])))
 
 abbrev simple : Meaning
 simple = record { reads = λ commits job read. read_of commits job.line ≡ read }
@@ -52,7 +52,7 @@ abbrev making : List Turn
 making = turn 0 1 1 body.Done ∷ []
 
 abbrev breaking : List Turn
-breaking = turn 0 2 1 body.DeviceFault ∷ turn 1 3 1 body.BrokenJournal ∷ turn 1 4 1 (body.Rows (record { rows = [] })) ∷ []
+breaking = turn 0 2 1 body.DeviceFault ∷ turn 1 3 1 body.BrokenJournal ∷ turn 1 4 1 (body.Rows (record { rows = 0; bytes = [] })) ∷ []
 
 abbrev whole : List Entry
 whole = entry.Commit first ∷ []
@@ -76,12 +76,12 @@ breaks (suc zero) = (
   (((entry.Break second ∷ [], refl), refl, refl, (batch.Put (codes "emp") (row 3 ∷ []), refl)), refl, λ is well. refl),
   (
     broken,
-    (((([], refl), omega arith, omega arith), refl), refl, λ is well. let e : Query (record { rows = [] }) ≡ Loads well.0 = well.1 in absurd (cc)),
+    (((([], refl), omega arith, omega arith), refl), refl, λ is well. let e : Query (record { rows = 0; bytes = [] }) ≡ Loads well.0 = well.1 in absurd (cc)),
     ([], refl),
   ),
 )
 breaks (suc (suc s)) =
-    let rows = turn 1 4 1 (body.Rows (record { rows = [] })) in
+    let rows = turn 1 4 1 (body.Rows (record { rows = 0; bytes = [] })) in
     let told = turn 1 3 1 body.BrokenJournal in
     let none = not_its (suc (suc s)) (turn 0 2 1 body.DeviceFault) (told ∷ rows ∷ []) (omega arith) ∙ not_its (suc (suc s)) told (rows ∷ []) (omega arith) ∙ not_its (suc (suc s)) rows [] (omega arith) in
     subst (λ ts. Chain simple whole ts broken) (sym none) (entry.Break second ∷ [], refl)

@@ -5,6 +5,7 @@ use Rattle.tl_types.specs.declared.commits.Commit.{Commit}
 use Rattle.tl_types.specs.declared.batches.Batch.{Batch}
 use Rattle.tl_types.specs.declared.batches.Batch.TheVariants as batch
 use Rattle.tl_types.specs.declared.batches.BatchFault.TheVariants as batch_fault
+use Rattle.tl_types.specs.declared.answers.Answer.{Answer}
 use Rattle.tl_types.specs.Limits.{standard_limits}
 use Rattle.tl_types.specs.Plain as plain
 use Rattle.tl_types.specs.History.{database_of}
@@ -15,6 +16,7 @@ use Rattle.tl_csv.specs.declared.faults.CsvFault.{CsvFault}
 use Rattle.tl_csv.specs.declared.faults.CsvFault.TheVariants as csv_fault
 use Rattle.tl_csv.specs.declared.needs.BatchKind.{BatchKind}
 use Rattle.tl_csv.specs.declared.needs.BatchKind.TheVariants.{PutKind, RemoveKind}
+use Rattle.tl_csv.specs.Answers.{answer_text}
 use Rattle.tl_csv.specs.Block.{batch_of}
 use Rattle.tl_query.specs.declared.faults.TextFault.{TextFault}
 use Rattle.tl_query.specs.declared.faults.TextFault.TheVariants as text_fault
@@ -27,6 +29,7 @@ use Rattle.tl_query.specs.Answers.{answer_of}
 use Rattle.tl_query.specs.Checking.{checked_create}
 use Rattle.tl_query.specs.CheckingQueries.{checked}
 use Rattle.tl_query.specs.Texts.{Spells, IsFault}
+use Rattle.tl_session.specs.declared.replies.AnswerText.{AnswerText}
 use Rattle.tl_session.specs.declared.replies.Refusal.{Refusal}
 use Rattle.tl_session.specs.declared.replies.Refusal.TheVariants as refusal
 use Rattle.tl_session.specs.declared.readings.JobReading.{JobReading}
@@ -54,11 +57,15 @@ abbrev pub load_reading : List Commit → List ℕ → BatchKind → List ℕ �
 load_reading commits name kind block =
     load_into (find_table name (database_of commits).tables) kind block
 
+-- how many rows an answer has, and these as CSV
+abbrev pub text_of_answer : Answer → AnswerText
+text_of_answer answer = record { rows = length answer.rows; bytes = answer_text answer }
+
 -- the answer to a query over the tables that the commits make, or the fault of its check
 abbrev pub query_reading : List Commit → Result Typed CheckFault → JobReading
 query_reading commits (Err f) = reading.Fault (refusal.CheckFault f)
 query_reading commits (Ok typed) =
-    reading.Query (record { rows = answer_of (database_of commits) typed })
+    reading.Query (text_of_answer (record { rows = answer_of (database_of commits) typed }))
 
 -- the bytes of a block, none where there is no block
 abbrev pub block_of : Option (List ℕ) → List ℕ

@@ -1,5 +1,5 @@
 -- How replies are spelled.
-use Rattle.std.specs.Prelude.{ℕ, List, [], ◌++◌, length, codes}
+use Rattle.std.specs.Prelude.{ℕ, List, [], ◌++◌, codes}
 use Rattle.std.specs.Fmt.{decimal}
 use Rattle.tl_types.specs.declared.batches.BatchFault.{BatchFault}
 use Rattle.tl_types.specs.declared.batches.BatchFault.TheVariants as batch
@@ -9,7 +9,6 @@ use Rattle.tl_query.specs.declared.check_faults.CheckFault.{CheckFault}
 use Rattle.tl_query.specs.declared.check_faults.CheckFault.TheVariants as check
 use Rattle.tl_csv.specs.declared.faults.CsvFault.{CsvFault}
 use Rattle.tl_csv.specs.declared.faults.CsvFault.TheVariants as csv
-use Rattle.tl_csv.specs.Answers.{answer_text}
 use Rattle.tl_session.specs.declared.replies.Refusal.{Refusal}
 use Rattle.tl_session.specs.declared.replies.Refusal.TheVariants as refusal
 use Rattle.tl_session.specs.declared.replies.ReplyBody.{ReplyBody}
@@ -86,7 +85,7 @@ version_words version words =
 abbrev pub body_bytes : List ℕ → ℕ → ReplyBody → List ℕ
 body_bytes name version (body.Rows answer) =
     name
-    ++ (version_words version (codes "rows " ++ decimal (length answer.rows)) ++ answer_text answer)
+    ++ (version_words version (codes "rows " ++ decimal answer.rows) ++ answer.bytes)
 body_bytes name version body.Done = name ++ version_words version (codes "ok")
 body_bytes name version (body.Refused r) =
     name ++ version_words version (codes "! " ++ refusal_words r)

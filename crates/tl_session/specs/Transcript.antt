@@ -2,8 +2,8 @@
 -- any sessions, in the order of their jobs. A version v is that of the first v commits.
 use Rattle.std.specs.Prelude.{◌≡◌, ℕ, ◌+◌, ◌<◌, ◌≤◌, Bool, true, false, ◌||◌, ◌==◌, if◌then◌else◌, List, [], ◌∷◌, length, take, max, Option, Some, None, slice_get}
 use Rattle.tl_types.specs.declared.commits.Commit.{Commit}
-use Rattle.tl_types.specs.declared.answers.Answer.{Answer}
 use Rattle.tl_session.specs.declared.readings.JobReading.TheVariants.{Query}
+use Rattle.tl_session.specs.declared.replies.AnswerText.{AnswerText}
 use Rattle.tl_session.specs.declared.replies.Refusal.{Refusal}
 use Rattle.tl_session.specs.declared.replies.ReplyBody.{ReplyBody}
 use Rattle.tl_session.specs.declared.replies.ReplyBody.TheVariants as body
@@ -27,7 +27,7 @@ OwnLine t = t.reply.line ≡ t.job.line
 -- a reply with rows is the answer to its query over the commits of its version
 abbrev pub RowsRight : Meaning → List Commit → Turn → Type 0
 RowsRight m all t =
-    (answer : Answer) → t.reply.body ≡ body.Rows answer
+    (answer : AnswerText) → t.reply.body ≡ body.Rows answer
     → m.reads (take t.reply.version all) t.job (Query answer)
 
 -- a refusal tells the job's fault over the commits of its version

@@ -19,7 +19,7 @@ pub use jobs::LentJob;
 pub use paces::Pace;
 pub use phases::{SharedAccess, run_phase};
 pub use readings::{JobReading, read_job};
-pub use replies::{Refusal, Reply, ReplyBody, put_reply};
+pub use replies::{AnswerText, Refusal, Reply, ReplyBody, put_reply};
 pub use runs::run_all;
 pub use sessions::Session;
 pub use statements::run_statement;

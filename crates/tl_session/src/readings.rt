@@ -11,16 +11,16 @@ ghost use Rattle.tl_query.specs.TypedFor.{IsTypedFor};
 ghost use Rattle.tl_query.specs.declared.check_faults.CheckFault.TheVariants as check_fault;
 ghost use Rattle.tl_query.specs.declared.faults.TextFault.TheVariants as text_fault;
 ghost use Rattle.tl_csv.specs.declared.faults.CsvFault.TheVariants as csv_fault;
-ghost use Rattle.tl_session.specs.Reading.{IsReading, IsFaultTold, DoesMatch, IsKnown, create_reading, load_reading, query_reading, statement_reading};
+ghost use Rattle.tl_session.specs.Reading.{IsReading, IsFaultTold, DoesMatch, IsKnown, create_reading, load_reading, query_reading, statement_reading, text_of_answer};
 ghost use Rattle.tl_session.specs.declared.replies.Refusal.TheVariants as refusal;
 
-use crate::replies::Refusal;
+use crate::replies::{AnswerText, Refusal};
 use std::alloc::{AllocError, Global};
 use std::marker::Brand;
 use std::sync::ledger::{Blank, Ledger};
 use std::thread::Threads;
 use tl_check::{check, check_create};
-use tl_csv::{BatchKind, CsvFault, read_batch};
+use tl_csv::{BatchKind, CsvFault, answer_bytes, read_batch};
 use tl_device::Gate;
 use tl_exec::answer;
 use tl_index::Snapshot;
@@ -34,8 +34,8 @@ use tl_types::{Batch, BatchFault, Limits, NoMemory, Steps};
 pub enum JobReading {
     /// It is a batch that reads well.
     Loads(Batch),
-    /// It is a query, with its answer.
-    Query(AnswerRows),
+    /// It is a query, with its answer as CSV.
+    Query(AnswerText),
     /// It has this fault, the first one.
     Fault(Refusal),
 }
@@ -122,6 +122,17 @@ fn answer_uncounted<L: Ledger, R: AllocGlobal + Threads + Sync, G: Gate>(
     answer(rt, snapshot, query, workers, gate, &mut steps)
 }
 
+// The rows of an answer as CSV. The answer is let go. The error is `NoMemory`.
+fn text_of_answer(alloc: Global, answer: AnswerRows) -> Result<AnswerText, NoMemory>
+    ensures { IfOk result (λ text. text ≡ text_of_answer answer) }
+{
+    let bytes = answer_bytes(alloc, &answer)?;
+    Ok(AnswerText {
+        rows: answer.len(),
+        bytes,
+    })
+}
+
 // What a query is: the rows that answer it over the tables.
 fn ask<R: AllocGlobal + Threads + Sync, G: Gate>(
     rt: &R,
@@ -144,7 +155,7 @@ fn ask<R: AllocGlobal + Threads + Sync, G: Gate>(
     };
     let blank = Blank::new(1);
     let answer = answer_uncounted::<Brand, R, G>(rt, snapshot, &typed, workers, gate, blank)?;
-    Ok(JobReading::Query(answer))
+    Ok(JobReading::Query(text_of_answer(rt.alloc(), answer)?))
 }
 
 // What a statement is.

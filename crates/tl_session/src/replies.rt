@@ -4,10 +4,9 @@ ghost use Rattle.std.specs.String.{string_bytes};
 ghost use Rattle.tl_session.specs.Replies.{text_fault_words, check_fault_words, csv_fault_words, batch_fault_words, refusal_words, version_words, reply_bytes};
 
 use std::alloc::Global;
-use tl_csv::{CsvFault, answer_bytes};
+use tl_csv::CsvFault;
 use tl_query::{CheckFault, TextFault};
-use tl_rows::AnswerRows;
-use tl_types::{BatchFault, NoMemory};
+use tl_types::{BatchFault, Bytes, NoMemory};
 
 /// Why a statement is refused.
 #[derive(Clone, Copy, Debug, PartialEq, Eq)]
@@ -22,11 +21,20 @@ pub enum Refusal {
     BatchFault(BatchFault),
 }
 
+/// The rows that answer a query, as CSV.
+#[derive(Drop)]
+pub struct AnswerText {
+    /// The number of rows.
+    pub rows: usize,
+    /// The bytes of all rows, one behind the other.
+    pub bytes: Bytes,
+}
+
 /// What a statement is answered with.
 #[derive(Drop)]
 pub enum ReplyBody {
     /// The rows of a query.
-    Rows(AnswerRows),
+    Rows(AnswerText),
     /// A commit was made.
     Done,
     /// The statement is refused, and nothing has changed.
@@ -151,10 +159,10 @@ pub fn put_reply(
     out.extend_from_slice(name)?;
     match &reply.body {
         ReplyBody::Rows(answer) => {
-            let rows = answer.len();
+            let rows = answer.rows;
             let line = format!(in alloc; " @{version} rows {rows}\n")?;
             put_text(out, line.as_str())?;
-            out.extend_from_slice(answer_bytes(alloc, answer)?.as_slice())?;
+            out.extend_from_slice(answer.bytes.as_slice())?;
         }
         ReplyBody::Done => put_words(alloc, out, version, "ok")?,
         ReplyBody::Refused(refusal) => {

@@ -21,7 +21,7 @@ use std::thread::Threads;
 use tl_device::{Disk, Gate, Sink, Source};
 use tl_engine::{Engine, Named};
 use tl_script::{Job, Phase};
-use tl_session::{LentJob, Pace, Reply, SharedAccess, put_reply, run_phase};
+use tl_session::{LentJob, Pace, Reply, ReplyBody, SharedAccess, put_reply, run_phase};
 use tl_types::{Bytes, NoMemory};
 
 /// A run: the engine over its journal, what the sessions of its phases share, the phases that are
@@ -76,6 +76,26 @@ fn put_owned(alloc: Global, text: &mut Vec<u8>, name: &[u8], reply: Reply) -> Re
     Ok(())
 }
 
+// How much room is made for the line of a reply.
+const LINE_ROOM: usize = 64;
+
+// The room that is made for the bytes of a reply.
+fn reply_room(reply: &Reply) -> usize {
+    match &reply.body {
+        ReplyBody::Rows(answer) => answer.bytes.len().saturating_add(LINE_ROOM),
+        _ => LINE_ROOM,
+    }
+}
+
+// The room that is made for the bytes of replies.
+fn replies_room(replies: &[Reply]) -> usize {
+    let mut room = 0usize;
+    for reply in replies {
+        room = room.saturating_add(reply_room(reply));
+    }
+    room
+}
+
 // The bytes of the replies to jobs, each under the name of its session. A reply is let go once its
 // bytes stand there. The error is `NoMemory`.
 fn text_of<S: Source, P: Phases<S>>(
@@ -90,6 +110,7 @@ fn text_of<S: Source, P: Phases<S>>(
         (map job_of jobs.now) replies.items) }
 {
     let mut text = Vec::new(alloc);
+    text.reserve(replies_room(&replies))?;
     let mut i = 0;
     for reply in replies {
         let name = phases.session_name(jobs[i].session);

@@ -9,4 +9,5 @@ pub mod EventLemmas
 pub mod WalkLemmas
 pub mod ValidEventOrder
 pub mod MarkLemmas
+pub mod TextLemmas
 mod Examples

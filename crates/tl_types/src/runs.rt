@@ -62,6 +62,7 @@ fn ends_with_value(runs: &[Run], value: &Field) -> bool
 /// Puts a stretch of time behind runs: the last run goes on up to the stretch's end where it has
 /// the same value, else the stretch becomes a run. The runs are of one group, and the stretch
 /// begins where they end. The error is `NoMemory`.
+#[inline(always)]
 pub fn add_stretch(runs: &mut Vec<Run>, stretch: Run) -> Result<(), NoMemory>
     ensures { OnOk result (runs.new.items ≡ add_stretch runs.old.items stretch) }
 {

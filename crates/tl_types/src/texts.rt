@@ -1,5 +1,6 @@
 //! Short texts: names, and the cells of TEXT columns.
-ghost use Rattle.std.specs.Prelude.{◌≡◌, ◌≤◌, ◌<◌, length, IfOk, IsUtf8, Some, refl, nat_eq};
+ghost use Rattle.std.specs.Prelude.{◌≡◌, ◌≤◌, ◌<◌, length, true, false, IfOk, IfSome, IfNone, IsUtf8, Some, refl, nat_eq};
+ghost use Rattle.std.specs.Str.{is_utf8};
 ghost use Rattle.std.specs.Ordering.{nat_cmp};
 ghost use Rattle.std.specs.Cmp.Lexicographic.{pointwise, slice_cmp, nat_list_eq_equiv, nat_list_cmp_total, texts_ties, texts_po};
 ghost use Rattle.std.specs.Cmp.{partial_equiv_from_equiv};
@@ -33,6 +34,33 @@ pub fn text_place(text: &str) -> u32 {
         [] => 0,
     };
     mixed.wrapping_mul(SPREAD)
+}
+
+// Bytes that are not all ASCII as a text, where they are UTF-8.
+#[tactic(auto, using(crate::proofs::TextLemmas::utf8_yes, crate::proofs::TextLemmas::utf8_no))]
+#[inline(never)]
+fn as_wide_text(bytes: &[u8]) -> Option<&str>
+    ensures some { IfSome result (λ text. (text.now ≡ bytes.now) × (is_utf8 bytes.now ≡ true)) }
+    ensures none { IfNone result (is_utf8 bytes.now ≡ false) }
+{
+    match str::from_utf8(bytes) {
+        Ok(text) => Some(text),
+        Err(_) => None,
+    }
+}
+
+/// Bytes as a text, where they are UTF-8. Most texts are ASCII, for which one pass over the bytes
+/// is enough.
+#[tactic(auto, using(crate::proofs::TextLemmas::ascii_yes, crate::proofs::TextLemmas::ascii_test))]
+#[inline]
+pub fn as_text(bytes: &[u8]) -> Option<&str>
+    ensures some { IfSome result (λ text. (text.now ≡ bytes.now) × (is_utf8 bytes.now ≡ true)) }
+    ensures none { IfNone result (is_utf8 bytes.now ≡ false) }
+{
+    if bytes.is_ascii() {
+        return Some(unsafe { str::from_utf8_unchecked(bytes) });
+    }
+    as_wide_text(bytes)
 }
 
 // How a text is kept.

@@ -1,9 +1,8 @@
 -- Pieces of a list, each of `size` items but for the last, which has 1 to `size`.
-use Rattle.std.proofs.Common.{◌≡◌, ℕ, ◌+◌, ◌-◌, ◌*◌, ◌/◌, ◌%◌, ◌<◌, ◌≤◌, zero, suc, min, List, [], ◌∷◌, ◌++◌, length, get_or, set, take, drop, refl, sym, ap, ◌∙◌, arith, append_assoc, length-append}
-use Rattle.std.proofs.Math.Nat.{div-add-mod, mod-lt}
+use Rattle.std.proofs.Common.{◌≡◌, ℕ, ◌+◌, ◌-◌, ◌*◌, ◌/◌, ◌%◌, ◌<◌, ◌≤◌, zero, suc, min, List, [], ◌∷◌, ◌++◌, length, get_or, set, take, drop, sym, ap, subst, ◌∙◌, arith, append_assoc, length-append}
+use Rattle.std.proofs.Math.Nat.{div-add-mod, mod-lt, mul-mod_right}
 use Rattle.std.proofs.lemmas.List.{length-set, append-nil, take-append-drop, drop-drop, drop-take, drop_at, take_at, take_all, drop_all, length-take, length-drop, get_or-take, get_or-drop, set-append_left, set-append_right}
 use Rattle.std.proofs.lemmas.Grind.{flat_map-append}
-use Rattle.std.proofs.Math.Seq.{take-append-add, take-add}
 use Rattle.tl_shared.specs.Chunks.{flatten, AreFull, IsChunked, piece_or_nil}
 
 -- the two parts of a list that was split
@@ -16,16 +15,6 @@ same_piece [] i d h is = absurd (omega arith)
 same_piece (c ∷ ds) zero d h is = is
 same_piece (c ∷ ds) (suc i) d h is = same_piece ds i d (omega arith) is
 
--- items stand in some piece
-pub some_pieces : {X : Type 0} (ds : List (List X)) → 0 < length (flatten ds) → 0 < length ds
-some_pieces [] h = h
-some_pieces (d ∷ ds) h = omega arith
-
--- no pieces are all full
-full_none : (X : Type 0) (size i : ℕ) (none : List (List X)) → none ≡ [] → AreFull size (take i none)
-full_none X size zero none e = tt
-full_none X size (suc i) none e = rw e tt
-
 module _ {X : Type 0} (size : ℕ) where
   -- one more full piece
   pub full_more : (ds : List (List X)) (c : List X) → AreFull size ds → length c ≡ size → AreFull size (ds ++ c ∷ [])
@@ -37,13 +26,6 @@ module _ {X : Type 0} (size : ℕ) where
   piece_more [] c h some most = (some, most)
   piece_more (d ∷ []) c h some most = (h.0, (some, most))
   piece_more (d ∷ e ∷ ds) c h some most = (h.0, piece_more (e ∷ ds) c h.1 some most)
-
-  -- pieces behind full ones
-  pub chunked_join : (ds cs : List (List X)) → 0 < size → AreFull size ds → IsChunked size cs → IsChunked size (ds ++ cs)
-  chunked_join [] cs some h k = k
-  chunked_join (d ∷ []) [] some h k = (omega (arith, h.0), omega (arith, h.0))
-  chunked_join (d ∷ []) (c ∷ cs) some h k = (h.0, k)
-  chunked_join (d ∷ e ∷ ds) cs some h k = (h.0, chunked_join (e ∷ ds) cs some h.1 k)
 
   pub flatten_more : (ds : List (List X)) (c : List X) → flatten (ds ++ c ∷ []) ≡ flatten ds ++ c
   flatten_more ds c = flat_map-append (λ piece. piece) ds (c ∷ []) ∙ ap (λ t. flatten ds ++ t) (append-nil c)
@@ -78,19 +60,6 @@ module _ {X : Type 0} (size : ℕ) where
   piece_at (c ∷ d ∷ ds) (suc i) h =
       piece_at (d ∷ ds) i h.1 ∙ sym (ap (λ t. take size t) (skip_piece c (flatten (d ∷ ds)) i h.0))
 
-  -- the first pieces hold the first items
-  pub front_at : (ds : List (List X)) (i : ℕ) → IsChunked size ds → flatten (take i ds) ≡ take (size * i) (flatten ds)
-  front_at [] zero h = sym (take_nothing (size * 0))
-  front_at [] (suc i) h = sym (take_nothing (size * suc i))
-  front_at (c ∷ ds) zero h = let none : size * 0 ≡ 0 = omega arith in sym (ap (λ n. take n (flatten (c ∷ ds))) none)
-  front_at (c ∷ []) (suc i) h =
-      let all : length (c ++ []) ≤ size * suc i = omega (arith, length-append c [], h.1) in
-      ap (λ ps. c ++ flatten ps) (take_all i [] (omega arith)) ∙ sym (take_all (size * suc i) (c ++ []) all)
-  front_at (c ∷ d ∷ ds) (suc i) h =
-      let more : size * suc i ≡ length c + size * i = omega (arith, h.0) in
-      ap (λ t. c ++ t) (front_at (d ∷ ds) i h.1)
-      ∙ sym (ap (λ n. take n (c ++ flatten (d ∷ ds))) more ∙ take-append-add c (flatten (d ∷ ds)) (size * i))
-
   -- a piece is there where its first place is, and where all places before it are taken
   pub piece_there : (ds : List (List X)) (i : ℕ) → IsChunked size ds → size * i < length (flatten ds) → i < length ds
   piece_there [] i h low = absurd (omega arith)
@@ -98,22 +67,6 @@ module _ {X : Type 0} (size : ℕ) where
   piece_there (c ∷ []) (suc i) h low = absurd (omega (arith, length-append c [], h.1))
   piece_there (c ∷ d ∷ ds) (suc i) h low =
       let later = piece_there (d ∷ ds) i h.1 (omega (arith, length-append c (flatten (d ∷ ds)), h.0)) in omega arith
-
-  pub front_there : (ds : List (List X)) (i : ℕ) → 0 < size → IsChunked size ds → size * i ≤ length (flatten ds) → i ≤ length ds
-  front_there ds zero some h low = omega arith
-  front_there [] (suc i) some h low = absurd (omega arith)
-  front_there (c ∷ []) (suc zero) some h low = omega arith
-  front_there (c ∷ []) (suc (suc i)) some h low = absurd (omega (arith, length-append c [], h.1))
-  front_there (c ∷ d ∷ ds) (suc i) some h low =
-      let later = front_there (d ∷ ds) i some h.1 (omega (arith, length-append c (flatten (d ∷ ds)), h.0)) in omega arith
-
-  -- the pieces whose places are all taken are full
-  pub front_full : (ds : List (List X)) (i : ℕ) → IsChunked size ds → size * i ≤ length (flatten ds) → AreFull size (take i ds)
-  front_full [] i h most = full_none X size i [] refl
-  front_full (c ∷ ds) zero h most = tt
-  front_full (c ∷ []) (suc i) h most = (omega (arith, length-append c [], h.1), full_none X size i [] refl)
-  front_full (c ∷ d ∷ ds) (suc i) h most =
-      (h.0, front_full (d ∷ ds) i h.1 (omega (arith, length-append c (flatten (d ∷ ds)), h.0)))
 
   -- a changed item in one piece is one in the list
   pub flatten_set : (ds : List (List X)) (i j : ℕ) (x : X) → IsChunked size ds → i < length ds → j < length (piece_or_nil i ds) → flatten (set ds i (set (piece_or_nil i ds) j x)) ≡ set (flatten ds) (size * i + j) x
@@ -173,40 +126,6 @@ module _ {X : Type 0} (size : ℕ) (ds : List (List X)) (xs : List X) (chunked :
   with_list q r x low h =
       flatten_set size ds q r x chunked (piece_within q r h) (place_within q r low h)
       ∙ ap (λ t. set t (size * q + r) x) is
-
-  -- the first items, by the pieces that they fill and the first items of the next
-  pub prefix_is : (q r : ℕ) → r ≤ size → flatten (take q ds) ++ take r (piece_or_nil q ds) ≡ take (size * q + r) xs
-  prefix_is q r h =
-      let rest = drop (size * q) xs in
-      let inner : take r (take size rest) ≡ take r rest = take_twice r size rest h in
-      ap (λ t. t ++ take r (piece_or_nil q ds)) (front_at size ds q chunked ∙ ap (λ t. take (size * q) t) is)
-      ∙ ap (λ t. take (size * q) xs ++ take r t) (piece_is q)
-      ∙ ap (λ t. take (size * q) xs ++ t) inner
-      ∙ sym (take-add (size * q) r xs) where
-        take_twice : (n m : ℕ) (ys : List X) → n ≤ m → take n (take m ys) ≡ take n ys
-        take_twice zero m ys l = refl
-        take_twice (suc n) zero ys l = absurd (omega arith)
-        take_twice (suc n) (suc m) [] l = refl
-        take_twice (suc n) (suc m) (y ∷ ys) l = ap (λ t. y ∷ t) (take_twice n m ys (omega arith))
-
-  -- all items, where only the piece behind full ones is not full
-  pub all_is : (q : ℕ) → length xs < size * q + size → flatten (take q ds) ++ piece_or_nil q ds ≡ xs
-  all_is q h =
-      ap (λ t. t ++ piece_or_nil q ds) (front_at size ds q chunked ∙ ap (λ t. take (size * q) t) is)
-      ∙ ap (λ t. take (size * q) xs ++ t) (piece_is q ∙ take_all size (drop (size * q) xs) (omega (arith, length-drop (size * q) xs)))
-      ∙ take-append-drop (size * q) xs
-
-  -- pieces of further items in place of those behind the first `q`
-  pub tail_list : (q : ℕ) (tail : List (List X)) (kept more ys : List X) → flatten (take q ds) ++ kept ≡ ys → flatten tail ≡ kept ++ more → flatten (take q ds ++ tail) ≡ ys ++ more
-  tail_list q tail kept more ys all e =
-      flat_map-append (λ piece. piece) (take q ds) tail
-      ∙ ap (λ t. flatten (take q ds) ++ t) e
-      ∙ sym (append_assoc (flatten (take q ds)) kept more)
-      ∙ ap (λ t. t ++ more) all
-
-  pub tail_chunked : (q : ℕ) (tail : List (List X)) → 0 < size → size * q ≤ length xs → IsChunked size tail → IsChunked size (take q ds ++ tail)
-  tail_chunked q tail some low h =
-      chunked_join size (take q ds) tail some (front_full size ds q chunked (omega (arith, ap length is))) h
 
 -- a piece in a block of pieces, where blocks have `size` pieces
 module _ {X : Type 0} (size : ℕ) (bs : List (List (List X))) (cs : List (List X)) (chunked : IsChunked size bs) (is : flatten bs ≡ cs) (some : 0 < size) (i : ℕ) (there : i < length cs) (block : List (List X)) (block_is : block ≡ get_or bs (i / size) block) where
@@ -292,3 +211,65 @@ module _ {X : Type 0} (size : ℕ) (more : List X) where
 
     pub last_chunked : IsChunked size (set ds last (piece_or_nil last ds ++ more))
     last_chunked = extend_chunked ds last chunked short last_there last_room
+
+-- one piece more behind others
+pub record IsPushed {X : Type 0} (size : ℕ) (old new : List (List X)) (more : List X) : Type 0 where
+  pub list : flatten new ≡ flatten old ++ more
+  pub chunked : IsChunked size new
+
+module _ {X : Type 0} (size : ℕ) where
+  -- those before the last one are full
+  before_last : (ds : List (List X)) (c : List X) → IsChunked size (ds ++ c ∷ []) → AreFull size ds
+  before_last [] c h = tt
+  before_last (d ∷ []) c h = (h.0, tt)
+  before_last (d ∷ e ∷ ds) c h = (h.0, before_last (e ∷ ds) c h.1)
+
+  the_last : (ds : List (List X)) (c : List X) → IsChunked size (ds ++ c ∷ []) → (0 < length c) × (length c ≤ size)
+  the_last [] c h = h
+  the_last (d ∷ []) c h = h.1
+  the_last (d ∷ e ∷ ds) c h = the_last (e ∷ ds) c h.1
+
+  -- items behind those of the last piece
+  pub pushed_onto : (old rest new : List (List X)) (c longer more : List X) → IsChunked size old → old ≡ rest ++ c ∷ [] → new ≡ rest ++ longer ∷ [] → longer ≡ c ++ more → length c + length more ≤ size → IsPushed size old new more
+  pushed_onto old rest new c longer more chunked is made grown room =
+      let last = the_last rest c (subst (IsChunked size) is chunked) in
+      let long = ap length grown ∙ length-append c more in record {
+        list =
+            ap flatten made
+            ∙ flatten_more size rest longer
+            ∙ ap (λ t. flatten rest ++ t) grown
+            ∙ sym (append_assoc (flatten rest) c more)
+            ∙ ap (λ t. t ++ more) (sym (flatten_more size rest c) ∙ ap flatten (sym is));
+        chunked = subst (IsChunked size) (sym made) (piece_more size rest longer (before_last rest c (subst (IsChunked size) is chunked)) (omega (arith, long, last.0)) (omega (arith, long, room)));
+      }
+
+  -- a piece behind a last one that is full
+  pub pushed_behind : (old rest both new : List (List X)) (c more : List X) → IsChunked size old → old ≡ rest ++ c ∷ [] → both ≡ rest ++ c ∷ [] → new ≡ both ++ more ∷ [] → size ≤ length c → 0 < length more → length more ≤ size → IsPushed size old new more
+  pushed_behind old rest both new c more chunked is same made full some most =
+      let last = the_last rest c (subst (IsChunked size) is chunked) in
+      let all : AreFull size both = subst (AreFull size) (sym same) (full_more size rest c (before_last rest c (subst (IsChunked size) is chunked)) (omega (arith, last.1, full))) in record {
+        list = ap flatten made ∙ flatten_more size both more ∙ ap (λ t. flatten t ++ more) (same ∙ sym is);
+        chunked = subst (IsChunked size) (sym made) (piece_more size both more all some most);
+      }
+
+  -- pieces are full where the last item ends one
+  pub all_full : (ds : List (List X)) (n : ℕ) → IsChunked size ds → length (flatten ds) ≡ size * n → AreFull size ds
+  all_full [] n h e = tt
+  all_full (c ∷ []) zero h e = absurd (omega (arith, length-append c [], h.0, e))
+  all_full (c ∷ []) (suc zero) h e = (omega (arith, length-append c [], e), tt)
+  all_full (c ∷ []) (suc (suc n)) h e = absurd (omega (arith, length-append c [], h.0, h.1, e))
+  all_full (c ∷ d ∷ ds) zero h e = (h.0, all_full (d ∷ ds) zero h.1 (omega (arith, length-append c (flatten (d ∷ ds)), h.0, e)))
+  all_full (c ∷ d ∷ ds) (suc n) h e = (h.0, all_full (d ∷ ds) n h.1 (omega (arith, length-append c (flatten (d ∷ ds)), h.0, e)))
+
+  -- pieces of a list that has `len` items, of which the last ends a piece
+  pub ends_full : (ds : List (List X)) (len : ℕ) → IsChunked size ds → length (flatten ds) ≡ len → len % size ≡ 0 → AreFull size ds
+  ends_full ds len h is whole =
+      all_full ds (len / size) h (is ∙ sym (div-add-mod len size) ∙ ap (λ r. size * (len / size) + r) whole ∙ omega arith)
+
+-- what fills up a piece ends it
+pub filled_up : (size n : ℕ) → 0 < size → (n + (size - n % size)) % size ≡ 0
+filled_up size n some =
+    let low = mod-lt n some in
+    let parts = div-add-mod n size in
+    let all : n + (size - n % size) ≡ size * suc (n / size) = omega (arith, low, parts) in
+    ap (λ t. t % size) all ∙ mul-mod_right size (suc (n / size))

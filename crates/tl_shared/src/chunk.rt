@@ -1,6 +1,6 @@
 //! Chunks: parts of a list, each of which may be a part of further lists.
 ghost use Rattle.std.specs.Prelude.{◌≡◌, ◌+◌, ◌-◌, ◌%◌, ◌<◌, ◌≤◌, ◌^◌, ◌++◌, [], length, slice_set, All, IfOk, IfErr};
-ghost use Rattle.tl_shared.specs.Chunks.{flatten, AreFull, IsChunked, piece_or_nil, set_within};
+ghost use Rattle.tl_shared.specs.Chunks.{piece_or_nil, set_within};
 
 use crate::shareable::{Shareable, share_all};
 use std::alloc::Global;
@@ -62,8 +62,8 @@ impl<T: Shareable> Chunk<T> {
 
 impl<T: Shareable> Chunk<T> {
     // Puts the item at the place within this chunk of each of these places of a list in chunks of
-    // `SIZE`. A chunk with further owners is copied first; one that has this owner alone is not, and
-    // after an error may be changed in part. The error is `NoMemory`.
+    // `SIZE`. A chunk with further owners is copied first; one that has this owner alone is not,
+    // and after an error may be changed in part. The error is `NoMemory`.
     pub(crate) fn set_within<const SIZE: usize>(
         &mut self,
         alloc: Global,
@@ -206,49 +206,4 @@ fn joined_chunk<T: Shareable>(
     T::share_onto(alloc, unfilled, &mut items)?;
     T::share_onto(alloc, more, &mut items)?;
     Chunk::new(alloc, items)
-}
-
-// Puts chunks of the items behind full ones: each but the last has `size` items.
-fn push_chunks<T: Shareable>(
-    alloc: Global,
-    size: usize,
-    chunks: &mut Vec<Chunk<T>>,
-    items: &[T],
-) -> Result<(), NoMemory>
-    requires size { 0 < size }
-    requires small { size < 2 ^ 63 }
-    requires chunked { IsChunked size chunks.old.items }
-    requires full { 0 < length items.now → AreFull size chunks.old.items }
-    ensures list { IfOk result
-        (λ _. flatten chunks.new.items ≡ flatten chunks.old.items ++ items.now) }
-    ensures chunked { IfOk result (λ _. IsChunked size chunks.new.items) }
-{
-    let mut rest = items;
-    while !rest.is_empty() {
-        let (piece, after) = rest.split_at(rest.len().min(size));
-        chunks.push(joined_chunk(alloc, &[], piece)?)?;
-        rest = after;
-    }
-    Ok(())
-}
-
-// The items of a chunk that is not full and then further items, in chunks of which each but the
-// last has `size` items.
-pub(crate) fn chunks_of<T: Shareable>(
-    alloc: Global,
-    size: usize,
-    unfilled: &[T],
-    items: &[T],
-) -> Result<Vec<Chunk<T>>, NoMemory>
-    requires small { size < 2 ^ 63 }
-    requires room { length unfilled.now < size }
-    requires some { 0 < length items.now }
-    ensures list { IfOk result (λ chunks. flatten chunks.items ≡ unfilled.now ++ items.now) }
-    ensures chunked { IfOk result (λ chunks. IsChunked size chunks.items) }
-{
-    let mut chunks = Vec::new(alloc);
-    let (first, rest) = items.split_at(items.len().min(size - unfilled.len()));
-    chunks.push(joined_chunk(alloc, unfilled, first)?)?;
-    push_chunks(alloc, size, &mut chunks, rest)?;
-    Ok(chunks)
 }

@@ -1,9 +1,9 @@
 //! Lists of chunks, which are kept in blocks of chunks, so that a longer or changed list copies few
 //! pointers.
-ghost use Rattle.std.specs.Prelude.{◌≡◌, ◌+◌, ◌%◌, ◌<◌, ◌≤◌, ◌^◌, ◌++◌, [], length, take, slice_set, All, IfOk};
-ghost use Rattle.tl_shared.specs.Chunks.{piece_or_nil, set_within};
+ghost use Rattle.std.specs.Prelude.{◌≡◌, ◌+◌, ◌%◌, ◌<◌, ◌≤◌, ◌^◌, ◌++◌, ◌∷◌, [], length, take, slice_set, All, IfOk};
+ghost use Rattle.tl_shared.specs.Chunks.{flatten, IsChunked, piece_or_nil, set_within};
 
-use crate::chunk::{Chunk, chunks_of, items_of_chunk};
+use crate::chunk::{Chunk, items_of_chunk};
 use crate::shareable::{Shareable, share_all};
 use std::alloc::Global;
 use std::marker::Model;
@@ -47,23 +47,12 @@ impl<T: Shareable> ChunkList<T> {
         items_of_chunk(block, i % BLOCK)
     }
 
-    /// The first `keep` chunks and then further ones. It shares each full block of those that are
-    /// kept.
-    pub fn with_tail(
-        &self,
-        alloc: Global,
-        keep: usize,
-        more: &[Chunk<T>],
-    ) -> Result<ChunkList<T>, NoMemory>
-        requires keep { keep ≤ length self.now }
-        requires some { 0 < length more.now }
-        ensures { IfOk result (λ list. list ≡ take keep self.now ++ more.now) }
+    /// The list followed by `chunk`. What this list owns alone is not copied.
+    pub fn push(self, alloc: Global, chunk: Chunk<T>) -> Result<ChunkList<T>, NoMemory>
+        ensures { IfOk result (λ list. list ≡ self ++ chunk ∷ []) }
     {
-        let full = keep / BLOCK;
-        let kept = &items_of_chunk(self.blocks.as_slice(), full)[..keep % BLOCK];
-        let mut tail = chunks_of(alloc, BLOCK, kept, more)?;
-        let mut blocks = share_all(alloc, &self.blocks[..full])?;
-        blocks.append(&mut tail)?;
+        let ChunkList { mut blocks } = self;
+        push_chunk(alloc, &mut blocks, chunk)?;
         Ok(ChunkList { blocks })
     }
 
@@ -125,4 +114,41 @@ impl<T: Shareable> Shareable for ChunkList<T> {
             blocks: share_all(alloc, self.blocks.as_slice())?,
         })
     }
+}
+
+// Puts a chunk behind those of the blocks. What these own alone is not copied.
+fn push_chunk<T: Shareable>(
+    alloc: Global,
+    blocks: &mut Vec<Chunk<Chunk<T>>>,
+    chunk: Chunk<T>,
+) -> Result<(), NoMemory>
+    requires { IsChunked 64 blocks.old.items }
+    ensures list { IfOk result
+        (λ _. flatten blocks.new.items ≡ flatten blocks.old.items ++ chunk ∷ []) }
+    ensures chunked { IfOk result (λ _. IsChunked 64 blocks.new.items) }
+{
+    match blocks.pop() {
+        None => {
+            blocks.push(block_of(alloc, chunk)?)?;
+            Ok(())
+        }
+        Some(last) if last.as_slice().len() < BLOCK => {
+            let mut last = last;
+            last.extend(alloc, BLOCK, [chunk].as_slice())?;
+            blocks.push(last)?;
+            Ok(())
+        }
+        Some(last) => {
+            blocks.push(last)?;
+            blocks.push(block_of(alloc, chunk)?)?;
+            Ok(())
+        }
+    }
+}
+
+// A block of one chunk.
+fn block_of<T: Drop>(alloc: Global, chunk: Chunk<T>) -> Result<Chunk<Chunk<T>>, NoMemory>
+    ensures { IfOk result (λ block. block ≡ chunk ∷ []) }
+{
+    Ok(Chunk::new(alloc, vec![in alloc; chunk]?)?)
 }

@@ -1,8 +1,8 @@
 //! The list.
 ghost use Rattle.std.specs.Prelude.{◌≡◌, ◌+◌, ◌-◌, ◌*◌, ◌/◌, ◌%◌, ◌<◌, ◌≤◌, ◌^◌, ◌++◌, [], length, take, drop, slice_index, slice_index_or, slice_set, All, IfOk};
-ghost use Rattle.tl_shared.specs.Chunks.{flatten, IsChunked, piece_or_nil, set_each, set_within};
+ghost use Rattle.tl_shared.specs.Chunks.{flatten, AreFull, IsChunked, piece_or_nil, set_each, set_within};
 
-use crate::chunk::{Chunk, chunks_of};
+use crate::chunk::Chunk;
 use crate::chunk_list::ChunkList;
 use crate::shareable::{Shareable, share_all};
 use std::alloc::{AllocError, Global};
@@ -66,16 +66,7 @@ impl<T: Shareable, const SIZE: usize> ListInChunks<T, SIZE> {
     pub fn push_all(&self, alloc: Global, items: &[T]) -> Result<ListInChunks<T, SIZE>, NoMemory>
         ensures { IfOk result (λ list. list ≡ self.now ++ items.now) }
     {
-        if items.is_empty() {
-            return self.share(alloc);
-        }
-        let Some(len) = self.len.checked_add(items.len() as u64) else {
-            return Err(AllocError);
-        };
-        let full = (self.len / SIZE as u64) as usize;
-        let tail = chunks_of(alloc, SIZE, self.chunks.chunk(full), items)?;
-        let chunks = self.chunks.with_tail(alloc, full, tail.as_slice())?;
-        Ok(ListInChunks { chunks, len })
+        self.share(alloc)?.append(alloc, items)
     }
 
     /// The list with `item` in place of the item at `at`, counted from 0. It shares every other
@@ -128,23 +119,51 @@ impl<T: Shareable, const SIZE: usize> ListInChunks<T, SIZE> {
         Ok(ListInChunks { chunks, len })
     }
 
-    /// The list followed by `items`, which takes this one over: where they fit into its last chunk
-    /// and it is the only owner of that, they are put there, and else the list is as `push_all`
-    /// makes it. `NoMemory` comes only where memory is out, or where the items would be 2^64 or
-    /// more.
-    pub fn append(self, alloc: Global, items: &[T]) -> Result<ListInChunks<T, SIZE>, NoMemory>
+    // The list followed by items for which its last chunk has room.
+    fn fill(self, alloc: Global, items: &[T]) -> Result<ListInChunks<T, SIZE>, NoMemory>
+        requires begun { 0 < length self % SIZE }
+        requires room { length self % SIZE + length items.now ≤ SIZE }
         ensures { IfOk result (λ list. list ≡ self ++ items.now) }
     {
-        let last = (self.len % SIZE as u64) as usize;
-        if last == 0 || items.len() > SIZE - last {
-            return self.push_all(alloc, items);
-        }
         let Some(len) = self.len.checked_add(items.len() as u64) else {
             return Err(AllocError);
         };
         let full = (self.len / SIZE as u64) as usize;
         let chunks = self.chunks.extend_chunk(alloc, SIZE, full, items)?;
         Ok(ListInChunks { chunks, len })
+    }
+
+    // The list, whose chunks are full, followed by items in chunks of their own.
+    fn append_chunks(self, alloc: Global, items: &[T]) -> Result<ListInChunks<T, SIZE>, NoMemory>
+        requires full { length self % SIZE ≡ 0 }
+        ensures { IfOk result (λ list. list ≡ self ++ items.now) }
+    {
+        let Some(len) = self.len.checked_add(items.len() as u64) else {
+            return Err(AllocError);
+        };
+        let chunks = push_chunks::<T, SIZE>(alloc, self.chunks, items)?;
+        Ok(ListInChunks { chunks, len })
+    }
+
+    /// The list followed by `items`, which takes this one over: what of it has no other owner is
+    /// not copied. `NoMemory` comes only where memory is out, or where the items would be 2^64 or
+    /// more.
+    pub fn append(self, alloc: Global, items: &[T]) -> Result<ListInChunks<T, SIZE>, NoMemory>
+        ensures { IfOk result (λ list. list ≡ self ++ items.now) }
+    {
+        if items.is_empty() {
+            return Ok(self);
+        }
+        let last = (self.len % SIZE as u64) as usize;
+        if last == 0 {
+            return self.append_chunks(alloc, items);
+        }
+        let room = SIZE - last;
+        if items.len() <= room {
+            return self.fill(alloc, items);
+        }
+        let (first, rest) = items.split_at(room);
+        self.fill(alloc, first)?.append_chunks(alloc, rest)
     }
 
     /// The item at `at`, counted from 0.
@@ -184,6 +203,30 @@ impl<T: Shareable, const SIZE: usize> Shareable for ListInChunks<T, SIZE> {
             len: self.len,
         })
     }
+}
+
+// The chunks, which are full, followed by those of the items.
+fn push_chunks<T: Shareable, const SIZE: usize>(
+    alloc: Global,
+    chunks: ChunkList<T>,
+    items: &[T],
+) -> Result<ChunkList<T>, NoMemory>
+    requires size { 0 < SIZE }
+    requires small { SIZE < 2 ^ 63 }
+    requires chunked { IsChunked SIZE chunks }
+    requires full { AreFull SIZE chunks }
+    ensures list { IfOk result (λ longer. flatten longer ≡ flatten chunks ++ items.now) }
+    ensures chunked { IfOk result (λ longer. IsChunked SIZE longer) }
+{
+    let mut chunks = chunks;
+    let mut rest = items;
+    while !rest.is_empty() {
+        let (piece, after) = rest.split_at(rest.len().min(SIZE));
+        let chunk = Chunk::new(alloc, share_all(alloc, piece)?)?;
+        chunks = chunks.push(alloc, chunk)?;
+        rest = after;
+    }
+    Ok(chunks)
 }
 
 // How many of the places, from the first on, are in chunk `i`.

@@ -1,24 +1,13 @@
-use Rattle.std.proofs.Common.{length, ap, ◌∙◌, sym, subst, arith}
-use Rattle.std.proofs.Common.{length-append}
-use Rattle.tl_shared.specs.Chunks.{flatten, IsChunked}
-use Rattle.tl_shared.proofs.Pieces.{last_there, last_room, last_list, last_chunked}
+use Rattle.std.proofs.Common.{◌≡◌, ◌+◌, ◌-◌, ◌%◌, length, length-append, ap, ◌∙◌, arith}
+use Rattle.tl_shared.proofs.Pieces.{filled_up}
 use Rattle.tl_shared.proofs.list.ListInChunks.append.Goals as goal
 
-pub extend_chunk-requires-clause-there : goal.extend_chunk-requires-clause-there
-extend_chunk-requires-clause-there g c = last_there g.row.SIZE c.args.items.now c.self.inside.chunks c.args.self c.self.invariant.chunked c.self.view_is c.self.invariant.some c.self.inside.len (c.self.invariant.len_is ∙ ap length c.self.view_is) (omega (arith, c.if-last-eq0.false)) (omega (arith, c.if-items-last.false))
-
-pub extend_chunk-requires-clause-room : goal.extend_chunk-requires-clause-room
-extend_chunk-requires-clause-room g c = last_room g.row.SIZE c.args.items.now c.self.inside.chunks c.args.self c.self.invariant.chunked c.self.view_is c.self.invariant.some c.self.inside.len (c.self.invariant.len_is ∙ ap length c.self.view_is) (omega (arith, c.if-last-eq0.false)) (omega (arith, c.if-items-last.false))
-
-pub invariant_of-result : goal.invariant_of-result
-invariant_of-result g c =
-    let list = ap flatten c.in_ok-chunks.ensures ∙ last_list g.row.SIZE c.args.items.now c.self.inside.chunks c.args.self c.self.invariant.chunked c.self.view_is c.self.invariant.some c.self.inside.len (c.self.invariant.len_is ∙ ap length c.self.view_is) (omega (arith, c.if-last-eq0.false)) (omega (arith, c.if-items-last.false)) in
-    record {
-      some = c.self.invariant.some;
-      few = c.self.invariant.few;
-      chunked = subst (λ t. IsChunked g.row.SIZE t) (sym c.in_ok-chunks.ensures) (last_chunked g.row.SIZE c.args.items.now c.self.inside.chunks c.args.self c.self.invariant.chunked c.self.view_is c.self.invariant.some c.self.inside.len (c.self.invariant.len_is ∙ ap length c.self.view_is) (omega (arith, c.if-last-eq0.false)) (omega (arith, c.if-items-last.false)));
-      len_is = omega (arith, c.in-Some.ensures, c.self.invariant.len_is, ap length c.self.view_is, ap length list, length-append c.args.self c.args.items.now);
-    }
-
-pub returns : goal.returns
-returns g c = ap flatten c.in_ok-chunks.ensures ∙ last_list g.row.SIZE c.args.items.now c.self.inside.chunks c.args.self c.self.invariant.chunked c.self.view_is c.self.invariant.some c.self.inside.len (c.self.invariant.len_is ∙ ap length c.self.view_is) (omega (arith, c.if-last-eq0.false)) (omega (arith, c.if-items-last.false))
+pub append_chunks-requires-2 : goal.append_chunks-requires-2
+append_chunks-requires-2 g c =
+    let len : c.self.inside.len ≡ length c.args.self = c.self.invariant.len_is ∙ ap length c.self.view_is in
+    let first : length c.split_at.result.0.now ≡ g.row.SIZE - c.self.inside.len % g.row.SIZE = c.split_at.ensures.front_len in
+    let more : length c.in_ok-fill.field-0 ≡ length c.args.self + (g.row.SIZE - length c.args.self % g.row.SIZE) =
+    ap length c.in_ok-fill.ensures
+    ∙ length-append c.args.self c.split_at.result.0.now
+    ∙ ap (λ n. length c.args.self + n) (first ∙ ap (λ n. g.row.SIZE - n % g.row.SIZE) len) in
+    (omega arith, ap (λ n. n % g.row.SIZE) more ∙ filled_up g.row.SIZE (length c.args.self) c.self.invariant.some)

@@ -14,7 +14,7 @@ use tl_types::{Event, NoMemory, Seq, Steps};
 
 /// An event as a list keeps it, in 5 bytes: the id of its row, low byte first, and whether the row
 /// begins. A contract sees the event.
-#[derive(Drop)]
+#[derive(Clone, Copy)]
 pub struct PackedEvent {
     row: [u8; 4],
     opens: bool,
@@ -23,12 +23,20 @@ pub struct PackedEvent {
 const _: () = prove!(size_of::<PackedEvent>() == 5);
 
 impl Model for PackedEvent {
-    ghost use Rattle.std.specs.Int.{from_le_bytes, w32};
+    ghost use Rattle.std.specs.Prelude.{◌≡◌};
+    ghost use Rattle.std.specs.Int.{from_le_bytes, to_le_bytes, w32};
+    ghost use Rattle.std.proofs.Common.{ap};
     ghost use Rattle.tl_types.specs.declared.events.Event.{Event};
 
     ghost Value = { Event };
 
     ghost view = { λ e. record { row = from_le_bytes w32 e.row; opens = e.opens } };
+
+    ghost invariant = { λ e. to_le_bytes w32 (from_le_bytes w32 e.row) ≡ e.row };
+
+    ghost inverse = { λ e. record { row = to_le_bytes w32 e.row; opens = e.opens } };
+
+    ghost inverse_ok = { λ e is. ap (λ bytes. record { row = bytes; opens = e.opens }) is };
 }
 
 impl PackedEvent {
@@ -55,10 +63,16 @@ impl PackedEvent {
 
 impl Shareable for PackedEvent {
     fn share(&self, _alloc: Global) -> Result<PackedEvent, NoMemory> {
-        Ok(PackedEvent {
-            row: self.row,
-            opens: self.opens,
-        })
+        Ok(*self)
+    }
+
+    fn share_onto(
+        _alloc: Global,
+        items: &[PackedEvent],
+        values: &mut Vec<PackedEvent>,
+    ) -> Result<(), NoMemory> {
+        values.extend_from_slice(items)?;
+        Ok(())
     }
 }
 
@@ -150,28 +164,30 @@ impl EventList {
             → AreEventsAt rows (suc version) closes.now first opens
             → IfOk result (λ list. list ≡ events_of rows (suc version)) }
     {
-        self.extend_slice(alloc, closes.as_slice(), first, opens)
+        self.share(alloc)?
+            .append(alloc, closes.as_slice(), first, opens)
     }
 
-    /// The same as `extend`, of rows in a slice.
-    pub fn extend_slice(
-        &self,
+    /// The same as `extend`, of rows in a slice, which takes this list over: what of it has no
+    /// other owner is not copied.
+    pub fn append(
+        self,
         alloc: Global,
         closes: &[u32],
         first: u32,
         opens: u32,
     ) -> Result<EventList, NoMemory>
         requires ids { first + opens < 2 ^ 32 }
-        requires few { length self.now + length closes.now + opens < 2 ^ 32 }
+        requires few { length self + length closes.now + opens < 2 ^ 32 }
         ensures list { IfOk result
-            (λ list. list ≡ self.now ++ version_events closes.now first opens) }
-        ensures history { (rows : List plain.Row) (version : ℕ) → self.now ≡ events_of rows version
+            (λ list. list ≡ self ++ version_events closes.now first opens) }
+        ensures history { (rows : List plain.Row) (version : ℕ) → self ≡ events_of rows version
             → AreEventsAt rows (suc version) closes.now first opens
             → IfOk result (λ list. list ≡ events_of rows (suc version)) }
     {
         let events = packed_events(alloc, closes, first, opens)?;
         Ok(EventList {
-            events: self.events.push_all(alloc, &events)?,
+            events: self.events.append(alloc, &events)?,
         })
     }
 

@@ -41,16 +41,13 @@ impl<T: Shareable, const SIZE: usize> TickedList<T, SIZE> {
         self.items.len()
     }
 
-    // The list followed by the items.
-    pub(crate) fn push_all(
-        &self,
-        alloc: Global,
-        items: &[T],
-    ) -> Result<TickedList<T, SIZE>, NoMemory>
-        ensures { IfOk result (λ list. list ≡ self.now ++ items.now) }
+    // The list followed by the items, which takes this one over: what of it has no other owner is
+    // not copied.
+    pub(crate) fn append(self, alloc: Global, items: &[T]) -> Result<TickedList<T, SIZE>, NoMemory>
+        ensures { IfOk result (λ list. list ≡ self ++ items.now) }
     {
         Ok(TickedList {
-            items: self.items.push_all(alloc, items)?,
+            items: self.items.append(alloc, items)?,
         })
     }
 

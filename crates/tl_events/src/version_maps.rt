@@ -108,10 +108,17 @@ impl VersionMap {
         ensures { IfOk result
             (λ map. map ≡ self.now ++ (record { version = version; end = end }) ∷ []) }
     {
+        self.share(alloc)?.followed_by(alloc, version, end)
+    }
+
+    /// The same as `with`, which takes this map over: what of it has no other owner is not copied.
+    pub fn followed_by(self, alloc: Global, version: u32, end: u32) -> Result<VersionMap, NoMemory>
+        requires { IsAfter self version end }
+        ensures { IfOk result
+            (λ map. map ≡ self ++ (record { version = version; end = end }) ∷ []) }
+    {
         Ok(VersionMap {
-            entries: self
-                .entries
-                .push_all(alloc, &[VersionEnd { version, end }])?,
+            entries: self.entries.append(alloc, &[VersionEnd { version, end }])?,
         })
     }
 

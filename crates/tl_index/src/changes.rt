@@ -179,7 +179,7 @@ pub(crate) fn changes_between<L: Ledger>(
     ensures steps { steps.new + 3 * lapse.now.from ≤ steps.old + 3 * lapse.now.to }
 {
     let mut changes = changes_of(alloc, table, lapse, choice, steps)?;
-    changes.sort()?;
+    changes.sort_unstable();
     changes.dedup();
     Ok(changes)
 }

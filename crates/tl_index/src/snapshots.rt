@@ -13,7 +13,7 @@ ghost use Rattle.tl_types.specs.Checkpoints.{checkpoint_at};
 ghost use Rattle.tl_index.specs.Snapshots.{commit_entry, break_entry, mark_entry, marks_of};
 
 use crate::marked::MarkAt;
-use crate::timelines::{Timeline, timelines_after};
+use crate::timelines::{Timelines, timelines_after};
 use std::alloc::{AllocError, Global};
 use std::marker::{Brand, Model};
 use std::sync::ledger::{Blank, Ledger};
@@ -21,7 +21,7 @@ use tl_ckpt::{Checkpoint, Marks};
 use tl_events::{EventList, VersionMap};
 use tl_shared::{FineList, Shareable, Shared};
 use tl_store::Store;
-use tl_types::{Commit, NoMemory, Published, Seq, Steps};
+use tl_types::{Commit, NoMemory, Published, Steps};
 
 /// What a history is at one moment: its commits with the tables that they make, and the break
 /// where there is one. Contracts see the list of entries. No call changes a snapshot: a further
@@ -29,7 +29,7 @@ use tl_types::{Commit, NoMemory, Published, Seq, Steps};
 #[derive(Drop)]
 pub struct Snapshot {
     store: Shared<Store>,
-    timelines: Shared<Seq<Shared<Timeline>>>,
+    timelines: Shared<Timelines>,
     log: Shared<FineList<MarkAt>>,
     marks: Shared<Marks>,
     broken: Option<Shared<Commit>>,
@@ -57,7 +57,7 @@ impl Snapshot {
     {
         Ok(Snapshot {
             store: Shared::new(alloc, Store::empty(alloc))?,
-            timelines: Shared::new(alloc, Seq::new(alloc))?,
+            timelines: Shared::new(alloc, Timelines::none(alloc))?,
             log: Shared::new(alloc, FineList::none(alloc))?,
             marks: Shared::new(alloc, Marks::none(alloc))?,
             broken: None,
@@ -77,7 +77,7 @@ impl Snapshot {
     }
 
     /// The snapshot after a commit that fits, where there is no break, which takes this one over:
-    /// what of its store has no other owner is not copied. The error is `NoMemory`.
+    /// what of it has no other owner is not copied. The error is `NoMemory`.
     pub fn follow(self, alloc: Global, commit: &Commit) -> Result<Snapshot, NoMemory>
         requires whole { has_break self ≡ false }
         requires fit { IsTrue (fits standard_limits
@@ -92,7 +92,8 @@ impl Snapshot {
             broken: _,
             alloc: _,
         } = self;
-        let after = timelines_after(alloc, store.get(), timelines.get().as_slice(), commit)?;
+        let timelines = timelines.take(alloc)?;
+        let after = timelines_after(alloc, store.get(), timelines, commit)?;
         let next = store.take(alloc)?.follow(alloc, commit)?;
         Ok(Snapshot {
             store: Shared::new(alloc, next)?,
@@ -237,7 +238,7 @@ impl Snapshot {
         ensures { result.now ≡ events_of (rows_of (database_of (commits_of self.now)) table)
             (database_of (commits_of self.now)).version }
     {
-        &self.timelines.get().as_slice()[table as usize].get().events
+        &self.timelines.get().at(table as usize).events
     }
 
     /// The versions that have events of a table, with where these end.
@@ -249,7 +250,7 @@ impl Snapshot {
             (rows_of (database_of (commits_of self.now)) table) }
         ensures order { BeginInOrder 0 (rows_of (database_of (commits_of self.now)) table) }
     {
-        &self.timelines.get().as_slice()[table as usize].get().ends
+        &self.timelines.get().at(table as usize).ends
     }
 }
 

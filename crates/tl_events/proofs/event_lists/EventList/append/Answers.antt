@@ -3,11 +3,11 @@ use Rattle.std.proofs.lemmas.List.{length-append, length-map}
 use Rattle.std.proofs.lemmas.List.FromFn.{length-map-range_with_len}
 use Rattle.std.specs.List.{range_with_len}
 use Rattle.tl_types.specs.Events.{invalidation, activation}
-use Rattle.tl_events.proofs.event_lists.EventList.extend_slice.Goals as goal
+use Rattle.tl_events.proofs.event_lists.EventList.append.Goals as goal
 
 pub invariant_of-result : goal.invariant_of-result
 invariant_of-result c =
-    let all = ap length c.in_ok-push_all.ensures ∙ length-append c.self.inside.events c.deref.result.now in
+    let all = ap length c.in_ok-append.ensures ∙ length-append c.self.inside.events c.deref.result.now in
     let new = ap length c.deref.ensures.value ∙ ap length c.in_ok-events.ensures
     ∙ length-append (map invalidation c.args.closes.now) (map activation (range_with_len c.args.first c.args.opens)) in
     let closes = length-map c.args.closes.now invalidation in

@@ -4,10 +4,10 @@ use Rattle.std.proofs.Common.{◌≡◌, ℕ, zero, suc, ◌+◌, ℤ, Bool, tru
 use mathlib.Core.Path.{fun_ext}
 use Rattle.std.specs.Int.{int_min, int_max}
 use Rattle.std.specs.List.{filter, filter_map, AllByRecursion}
-use Rattle.std.specs.List.Sorted.{IsSortedBy, IsStableBy, ties}
+use Rattle.std.specs.List.Sorted.{IsPermutation, IsSortedBy, IsStableBy, ties}
 use Rattle.std.specs.Ordering.{is_lt, int_eq}
 use Rattle.std.proofs.lemmas.Int.{ints}
-use Rattle.std.proofs.lemmas.List.Sorted.{ranks_by}
+use Rattle.std.proofs.lemmas.List.Sorted.{ranks_by, sum_by-IsPermutation}
 use Rattle.std.proofs.lemmas.List.Sums.{sum_by-append, sum_by-cons, length-filter}
 use Rattle.tl_types.specs.declared.runs.Pair.{Pair}
 use Rattle.tl_query.specs.Ordered.{in_order, pair_before}
@@ -207,14 +207,14 @@ pair_sound p q h =
       equal : (a b c d : ℤ) (i j k n : ℕ) → a ≡ b → c ≡ d → i ≡ j → k ≡ n → made_pair a c i k ≡ made_pair b d j n
       equal a b c d i j k n e f g h = cc
 
--- a stable sort leaves the pairs of two lists in the order of the definition
-pub walk_sorted : (first : ℤ) (lefts rights : List Entry) (given sorted : List Pair) → AreOne lefts → AreOne rights → AreSame given (grid first lefts rights) → IsSortedBy (λ p q. is_lt (pair_order p q)) sorted → IsStableBy (λ p q. is_lt (pair_order p q)) given sorted → sorted ≡ in_order pair_before (grid first lefts rights)
-walk_sorted first lefts rights given sorted one_left one_right same up stable =
+-- a sort leaves the pairs of two lists in the order of the definition, in which no two are of one place
+pub walk_sorted : (first : ℤ) (lefts rights : List Entry) (given sorted : List Pair) → AreOne lefts → AreOne rights → AreSame given (grid first lefts rights) → IsSortedBy (λ p q. is_lt (pair_order p q)) sorted → IsPermutation given sorted → sorted ≡ in_order pair_before (grid first lefts rights)
+walk_sorted first lefts rights given sorted one_left one_right same up moved =
     let pairs = grid first lefts rights in
     let P = IsOf first lefts rights in
     let all : AllByRecursion P pairs = left_pairs first lefts rights lefts rights (all_in lefts lefts zero (λ k. at_start lefts k)) (all_in rights rights zero (λ k. at_start rights k)) in
     let like = one_pair first lefts rights one_left one_right in
-    let steady : IsStableBy (λ p q. is_lt (pair_order p q)) pairs sorted = λ x. stable x ∙ same_filter same_pair pair_sound pair_self P (ties (λ p q. is_lt (pair_order p q)) x) (λ y z p q h k. like y z p q (tied_both (λ p q. is_lt (pair_order p q)) (ranks_by pair_total (λ p. p)) P like y z x h k)) given pairs same all in
+    let steady : IsStableBy (λ p q. is_lt (pair_order p q)) pairs sorted = λ x. same_filter same_pair pair_sound pair_self P (ties (λ p q. is_lt (pair_order p q)) x) (λ y z p q h k. like y z p q (tied_both (λ p q. is_lt (pair_order p q)) (ranks_by pair_total (λ p. p)) P like y z x h k)) sorted pairs (λ f. sum_by-IsPermutation f given sorted moved ∙ same f) all in
     sorted_is (λ p q. is_lt (pair_order p q)) (ranks_by pair_total (λ p. p)) P like pairs sorted all up steady ∙ ap (λ lt. in_order lt pairs) same_order where
       at_start : (xs : List Entry) (k : ℕ) → slice_get xs (zero + k) ≡ slice_get xs k
       at_start xs k = let e : zero + k ≡ k = omega arith in ap (slice_get xs) e

@@ -152,6 +152,6 @@ pub fn swept_pairs(
         codes,
     };
     let mut pairs = found_pairs(alloc, &sides, first)?;
-    pairs.sort_by_key(|pair| (pair.from, pair.left, pair.right))?;
+    pairs.sort_unstable_by_key(|pair| (pair.from, pair.left, pair.right));
     Ok(pairs)
 }

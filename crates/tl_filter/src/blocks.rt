@@ -17,7 +17,7 @@ use tl_store::Store;
 use tl_types::{Seq, Steps};
 
 /// How many words are worked out together.
-pub(crate) const WORDS: usize = 512;
+pub(crate) const WORDS: usize = 128;
 
 /// Where a block stands: in the masks of a table, from a word on.
 #[derive(Clone, Copy)]
@@ -177,7 +177,7 @@ fn pass_block<L: Ledger>(
 }
 
 /// Puts into the set which rows of a block pass: of `count` words, which are as many as there are,
-/// up to 512. It takes at most a step for each word and test.
+/// up to 128. It takes at most a step for each word and test.
 pub(crate) fn select_block<L: Ledger>(
     store: &Store,
     block: Block,
@@ -206,7 +206,7 @@ pub(crate) fn select_block<L: Ledger>(
     pass_block(store, block, base, pred, into, steps);
 }
 
-/// Leaves in the set the rows of a block that pass: of `count` words, up to 512. It takes at most a
+/// Leaves in the set the rows of a block that pass: of `count` words, up to 128. It takes at most a
 /// step for each word and test, and one more for each word.
 pub(crate) fn narrow_block<L: Ledger>(
     store: &Store,

@@ -9,11 +9,11 @@ pass_block-requires-clause-inside g c = set_inside c.args.set.now c.args.block.r
 
 pub returns-clause-behind : goal.returns-clause-behind
 returns-clause-behind g c row from =
-    let e = c.read_words.ensures.long ∙ front_long c.args.count 512 c.requires.room in
+    let e = c.read_words.ensures.long ∙ front_long c.args.count 128 c.requires.room in
     c.pass_block.ensures.behind row (omega arith)
 
 pub returns-clause-left : goal.returns-clause-left
 returns-clause-left g c row from to =
-    let e = c.read_words.ensures.long ∙ front_long c.args.count 512 c.requires.room in
+    let e = c.read_words.ensures.long ∙ front_long c.args.count 128 c.requires.room in
     set_asked c.args.set.now (rows_that_pass (database_of c.args.store.now) c.args.block.table c.args.pred.now) c.args.block.first row c.read_words.new.words _
     c.read_words.ensures.bits from (omega arith) (c.pass_block.ensures.put row from (omega arith))

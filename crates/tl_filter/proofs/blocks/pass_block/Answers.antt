@@ -9,7 +9,7 @@ pub pass-requires-clause-inside : goal.pass-requires-clause-inside
 pass-requires-clause-inside g c = subst (λ n. HaveNonePast n c.args.block.first c.args.base.now) c.requires.rows c.requires.inside
 
 pub pass-requires-clause-none : goal.pass-requires-clause-none
-pass-requires-clause-none g c = zeros_front (length c.args.base.now) 512
+pass-requires-clause-none g c = zeros_front (length c.args.base.now) 128
 
 pub put_words-requires-clause-within : goal.put_words-requires-clause-within
 put_words-requires-clause-within g c =

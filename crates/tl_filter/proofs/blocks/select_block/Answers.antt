@@ -9,6 +9,6 @@ pass_block-requires-clause-inside g c = all_inside c.args.block.rows c.args.bloc
 
 pub returns-clause-put : goal.returns-clause-put
 returns-clause-put g c row from to =
-    let e = c.all_words.ensures.long ∙ front_long c.args.count 512 c.requires.room in
+    let e = c.all_words.ensures.long ∙ front_long c.args.count 128 c.requires.room in
     all_asked (passes c.args.pred.now) (rows_of (database_of c.args.store.now) c.args.block.table) c.args.block.rows c.args.block.first row c.all_words.new.words _
     c.requires.rows c.all_words.ensures.bits from (omega arith) (c.pass_block.ensures.put row from (omega arith))

@@ -2,6 +2,8 @@ pub mod BetweenLemmas
 pub mod InHandLemmas
 pub mod LoadLemmas
 pub mod NameLemmas
+pub mod PendingLemmas
+pub mod PlainLemmas
 pub mod ScriptLemmas
 pub mod SpotLemmas
 pub mod Worked

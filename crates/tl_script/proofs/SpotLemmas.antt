@@ -85,6 +85,16 @@ first_has_lf (b ∷ bytes) h = by_test (is_lf b) refl (first_has_lf bytes) where
       let n : position_or_len is_lf (b ∷ bytes) + 1 ≡ suc (position_or_len is_lf bytes + 1) = rw e (omega arith) in
       ap (λ n. stands_in 10 (take n (b ∷ bytes))) n ∙ rw e (ih h')
 
+-- bytes that have an LF begin with a line
+pub first_begins : (bytes : List ℕ) → position_or_len is_lf bytes < length bytes → BeginsLine bytes (position_or_len is_lf bytes + 1)
+first_begins bytes h =
+    record {
+      within = omega arith;
+      some = omega arith;
+      ends = first_has_lf bytes h;
+      lines = λ more. first_ends bytes more h;
+    }
+
 -- the line up to the first LF
 pub line_end_found : (bytes : List ℕ) (n at : ℕ) → n ≤ length bytes → stands_in 10 (take n bytes) ≡ false → position is_lf (drop n bytes) ≡ Some at → BeginsLine bytes (n + at + 1)
 line_end_found bytes n at within front h =

@@ -11,6 +11,7 @@ mod loading;
 mod open_phase;
 mod pending;
 mod phases;
+mod plain_lines;
 mod reader;
 mod script;
 mod session_names;

@@ -51,12 +51,14 @@ pub(crate) fn read_lines(
     let mut used = 0;
     'reading: while let Some(end) = line_end(rest, from) {
         let (line, behind) = rest.split_at(end);
-        rest = behind;
-        from = 0;
         used += end;
         if phase.read_line(alloc, line)? {
             return Ok(Found { used, ends: true });
         }
+        let number = phase.read_plain_lines(behind)?;
+        rest = behind.split_at(number).1;
+        from = 0;
+        used += number;
     }
     Ok(Found { used, ends: false })
 }

@@ -1,16 +1,17 @@
 //! The phase that is read, line by line.
-ghost use Rattle.std.specs.Prelude.{◌≡◌, ◌+◌, ◌≤◌, ◌<◌, ◌^◌, [], length, None, Some, OnOk, IsUtf8};
+ghost use Rattle.std.specs.Prelude.{◌≡◌, ◌+◌, ◌≤◌, ◌<◌, ◌^◌, [], length, None, Some, OnOk, IfOk, IsTrue, IsUtf8};
 ghost use Rattle.tl_script.specs.Phases.{most_sessions, statement, outside, inside, early_fault, after_line, behind, behind_go, phase_start};
 
 use crate::jobs::{ScriptError, ScriptFault};
 use crate::phases::{Job, Phase};
+use crate::plain_lines::{line_ends, plain_lines};
 use crate::session_names::SessionNames;
 use crate::texts::{
     as_text, ends_block, has_block, is_passed_over, is_utf8, statement_of, text_of, without_last,
 };
 use std::alloc::Global;
 use std::mem;
-use tl_types::{Bytes, Limits, Line};
+use tl_types::{Bytes, Limits, Line, NoMemory};
 
 // A statement whose block is read, and the block's bytes so far.
 #[derive(Drop)]
@@ -47,6 +48,7 @@ fn most_sessions(limits: &Limits) -> u64
 
 impl OpenPhase {
     ghost use Rattle.tl_script.specs.InHand.{spot_in, StepIs, SaysStep, SaysMemory, SessionIs, with_job_in, IsBetween};
+    ghost use Rattle.tl_script.specs.PlainLines.{HasRoom, PassesLines, behind_plain};
 
     /// The first phase of a script.
     pub fn new(alloc: Global, limits: &Limits) -> OpenPhase
@@ -246,6 +248,55 @@ impl OpenPhase {
                 Ok(false)
             }
         }
+    }
+
+    // Whether lines of so many bytes in all have no fault for their number or their length.
+    fn has_room(&self, number: usize) -> bool
+        ensures { IsTrue result → HasRoom self.now.limits (spot_in self.now) number }
+    {
+        self.ended < self.limits.phases
+            && number as u64 <= self.limits.line
+            && number as u64 <= self.limits.phase - self.size
+    }
+
+    // Puts lines behind the bytes of a block.
+    fn extend_block(&mut self, block: OpenBlock, lines: &[u8]) -> Result<(), NoMemory>
+        requires fits { self.old.size + length lines.now ≤ self.old.limits.phase }
+        ensures step { OnOk result (spot_in self.new ≡ behind_plain (spot_in self.old) lines.now
+            block.session block.line block.text block.bytes.items) }
+        ensures counted { self.old.line < 2 ^ 64 }
+        ensures limits { self.new.limits ≡ self.old.limits }
+        ensures known { self.new.known ≡ self.old.known }
+        ensures before { (spot_in self.new).before ≡ (spot_in self.old).before }
+    {
+        let mut block = block;
+        let line = self.line;
+        self.line = line.saturating_add(line_ends(lines));
+        self.size += lines.len() as u64;
+        block.bytes.extend_from_slice(lines)?;
+        self.block = Some(block);
+        Ok(())
+    }
+
+    /// Reads lines of the open block together, up to one that may end it, and answers how many
+    /// bytes they have: none where no block is open. Being out of memory leaves the names of the
+    /// phases before.
+    pub fn read_plain_lines(&mut self, bytes: &[u8]) -> Result<usize, NoMemory>
+        ensures read { IfOk result (λ number. PassesLines self.old.limits (spot_in self.old)
+            bytes.now number (spot_in self.new)) }
+        ensures limits { self.new.limits ≡ self.old.limits }
+        ensures before { (spot_in self.new).before ≡ (spot_in self.old).before }
+    {
+        let has_room = self.has_room(bytes.len());
+        if !has_room {
+            return Ok(0);
+        }
+        let Some(block) = self.block.take() else {
+            return Ok(0);
+        };
+        let lines = plain_lines(bytes);
+        self.extend_block(block, lines)?;
+        Ok(lines.len())
     }
 
     /// The phase that ended. The next line is the first of a new one.

@@ -1,5 +1,6 @@
 //! The bytes that are taken of a source and not read yet.
-ghost use Rattle.std.specs.Prelude.{◌≡◌, ◌≤◌, ◌++◌, length, drop, [], IfOk, OnOk, IfErr, vec_len};
+ghost use Rattle.std.specs.Prelude.{◌≡◌, ◌↔◌, ◌+◌, ◌-◌, ◌≤◌, length, take, drop, [], IfOk, IfSome, OnOk, OnErr, IfErr, vec_len};
+ghost use Rattle.tl_device.specs.Known.{prepend_known, Rose};
 ghost use Rattle.tl_script.specs.InHand.{Refills};
 ghost use Rattle.tl_script.specs.Reader.{NextFaults};
 
@@ -12,28 +13,62 @@ use tl_types::NoMemory;
 // How many bytes one read asks for.
 const PIECE: usize = 65536;
 
-// The bytes from `place` on are not read yet. A contract sees them as their list.
+// The bytes from `place` up to `end` are not read yet; those behind are room for one read. A contract
+// sees the bytes that are not read as their list.
 #[derive(Drop)]
 pub(crate) struct Pending {
-    bytes: Vec<u8>,
+    room: Vec<u8>,
     place: usize,
+    end: usize,
 }
 
 impl Model for Pending {
-    ghost use Rattle.std.specs.Prelude.{ℕ, ◌≤◌, List, drop, vec_len};
+    ghost use Rattle.std.specs.Prelude.{ℕ, ◌≤◌, List, drop, take, vec_len};
 
     ghost Value = { List ℕ };
 
-    ghost view = { λ p. drop p.place p.bytes.items };
+    ghost view = { λ p. drop p.place (take p.end p.room.items) };
 
-    ghost invariant = { λ p. p.place ≤ vec_len p.bytes };
+    ghost invariant = { λ p. (p.place ≤ p.end) × (p.end ≤ vec_len p.room) };
 }
 
-// As many zeros as one read asks for.
-fn zeros(alloc: Global, number: usize) -> Result<Vec<u8>, NoMemory>
-    ensures { IfOk result (λ v. vec_len v ≡ number) }
+// Moves the bytes from `place` up to `end` to the start.
+fn move_to_start(room: &mut Vec<u8>, place: usize, end: usize)
+    requires ordered { place ≤ end }
+    requires within { end ≤ vec_len room.old }
+    ensures same { take (end - place) room.new.items ≡ drop place (take end room.old.items) }
+    ensures len { vec_len room.new ≡ vec_len room.old }
 {
-    Ok(vec![in alloc; 0u8; number]?)
+    room.copy_within(place..end, 0);
+}
+
+// Gives the room as many bytes as one read asks for behind the first `end`.
+fn make_room(room: &mut Vec<u8>, end: usize) -> Result<(), NoMemory>
+    requires { end ≤ vec_len room.old }
+    ensures same { take end room.new.items ≡ take end room.old.items }
+    ensures within { end ≤ vec_len room.new }
+    ensures len { OnOk result (vec_len room.new ≡ end + 65536) }
+{
+    room.resize(end + PIECE, 0)?;
+    Ok(())
+}
+
+// Reads bytes behind the first `end`.
+fn read_behind<S: Source>(room: &mut [u8], end: usize, source: &mut S) -> Result<usize, Failed>
+    requires { length room.old ≡ end + 65536 }
+    ensures len { length room.new ≡ length room.old }
+    ensures same { take end room.new ≡ take end room.old }
+    ensures bound { IfOk result (λ n. n ≤ 65536) }
+    ensures taken { IfOk result (λ n. S.left source.old
+        ≡ prepend_known (take n (drop end room.new)) (S.left source.new)) }
+    ensures ends { IfOk result (λ n. IfSome (S.left source.old)
+        (λ bytes. (n ≡ 0) ↔ (bytes ≡ []))) }
+    ensures sure { OnOk result (S.faults source.new ≡ S.faults source.old) }
+    ensures untaken { OnErr result (S.left source.new ≡ S.left source.old) }
+    ensures rose { OnErr result (Rose (S.faults source.old) (S.faults source.new)) }
+{
+    let (_, behind) = room.split_at_mut(end);
+    source.read(behind)
 }
 
 impl Pending {
@@ -42,8 +77,9 @@ impl Pending {
         ensures { result ≡ [] }
     {
         Pending {
-            bytes: Vec::new(alloc),
+            room: Vec::new(alloc),
             place: 0,
+            end: 0,
         }
     }
 
@@ -51,14 +87,19 @@ impl Pending {
     pub fn as_slice(&self) -> &[u8]
         ensures { result.now ≡ self.now }
     {
-        self.bytes.as_slice().split_at(self.place).1
+        self.room
+            .as_slice()
+            .split_at(self.end)
+            .0
+            .split_at(self.place)
+            .1
     }
 
     /// The number of bytes.
     pub fn len(&self) -> usize
         ensures { result ≡ length self.now }
     {
-        self.bytes.len() - self.place
+        self.end - self.place
     }
 
     /// Leaves out the first `number` bytes, which are read.
@@ -73,8 +114,8 @@ impl Pending {
     pub fn clear(&mut self)
         ensures { self.new ≡ [] }
     {
-        self.bytes.clear();
         self.place = 0;
+        self.end = 0;
     }
 
     /// The bytes as a `Vec`.
@@ -82,29 +123,27 @@ impl Pending {
         ensures { IfOk result (λ bytes. bytes.items ≡ self) }
     {
         let place = self.place;
-        let mut bytes = self.bytes;
+        let end = self.end;
+        let mut bytes = self.room;
+        bytes.truncate(end);
         if place == 0 {
             return Ok(bytes);
         }
         bytes.split_off(place)
     }
 
-    // Gives back the room of the bytes that are read.
-    fn tidy(&mut self) -> Result<(), NoMemory>
+    // Moves the bytes to the start of the room.
+    fn tidy(&mut self)
         ensures { self.new ≡ self.old }
     {
-        if self.place == 0 {
-            return Ok(());
+        let place = self.place;
+        if place == 0 {
+            return;
         }
-        self.bytes = self.bytes.split_off(self.place)?;
+        let end = self.end;
+        move_to_start(&mut self.room, place, end);
         self.place = 0;
-        Ok(())
-    }
-
-    fn push_all(&mut self, bytes: &[u8]) -> Result<(), NoMemory>
-        ensures { OnOk result (self.new ≡ self.old ++ bytes.now) }
-    {
-        self.bytes.extend_from_slice(bytes)
+        self.end = end - place;
     }
 
     /// Takes further bytes of a source. It answers false at the end of input, where there are none.
@@ -117,12 +156,13 @@ impl Pending {
         ensures faults { IfErr result (λ e. NextFaults e (S.faults source.old)
             (S.faults source.new)) }
     {
-        self.tidy()?;
-        let mut piece = zeros(alloc, PIECE)?;
-        match source.read(&mut piece) {
+        self.tidy();
+        let end = self.end;
+        make_room(&mut self.room, end)?;
+        match read_behind(&mut self.room, end, source) {
             Ok(0) => Ok(false),
             Ok(number) => {
-                self.push_all(&piece[..number])?;
+                self.end = end + number;
                 Ok(true)
             }
             Err(Failed) => Err(NextError::Source {

@@ -211,6 +211,10 @@ unfoldable pub begins_text : ℕ → List ℕ → Bool
 begins_text n bytes =
     goes_on_by n bytes 0 || goes_on_by n bytes 1 || goes_on_by n bytes 2 || goes_on_by n bytes 3
 
+-- a text of which the bytes end too early, where they may go on to one
+abbrev pub cut_text : Bool → Result (List ℕ × List ℕ) Fault
+cut_text goes_on = cut goes_on
+
 -- a text of so many bytes
 unfoldable pub text_of : ℕ → Reader (List ℕ)
 text_of n bytes = block is_utf8 (begins_text n) n bytes

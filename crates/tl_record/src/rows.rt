@@ -14,7 +14,7 @@ ghost use Rattle.tl_record.specs.Reading.{
   row_at,
 };
 
-use crate::faults::ReadError;
+use crate::faults::{Fault, ReadError};
 use crate::{numbers, texts};
 use std::alloc::Global;
 use tl_types::{Cell, NoMemory, Opened, Period, SmallSeq};
@@ -53,11 +53,12 @@ fn push_cell<'a>(
     ensures { Gives (λ rest. (cells.new, rest.now)) result
         (mapped (λ c. cells.old ++ c ∷ []) (cell_at bytes.now)) }
 {
-    let (kind, rest) = numbers::byte(1, 2, bytes)?;
-    if kind == 1 {
-        return push_int(cells, rest);
+    match bytes {
+        [] => Err(ReadError::Fault(Fault::Short)),
+        [1, rest @ ..] => push_int(cells, rest),
+        [2, rest @ ..] => push_text(alloc, cells, rest),
+        _ => Err(ReadError::Fault(Fault::Bad)),
     }
-    push_text(alloc, cells, rest)
 }
 
 // Takes memory for so many cells.
@@ -152,7 +153,8 @@ pub fn push_row<'a>(
     let rest = fill(alloc, &mut cells, bytes)?;
     match period(rest) {
         Ok((period, behind)) => {
-            rows.push(Opened::new(cells, period))?;
+            rows.reserve(1)?;
+            rows.push_reserved(Opened::new(cells, period));
             Ok(behind)
         }
         Err(error) => Err(error),

@@ -6,6 +6,7 @@ ghost use Rattle.tl_types.specs.Names.{continues_word, same_bytes};
 ghost use Rattle.tl_types.specs.Facts.{names_of};
 ghost use Rattle.tl_record.specs.Reading.{
   Gives,
+  Fails,
   block,
   judged,
   is_new_name,
@@ -13,6 +14,7 @@ ghost use Rattle.tl_record.specs.Reading.{
   name_at,
   goes_on_by,
   begins_text,
+  cut_text,
   text_of,
   text_at,
 };
@@ -20,7 +22,7 @@ ghost use Rattle.tl_record.specs.Reading.{
 use crate::faults::{Fault, ReadError};
 use crate::numbers;
 use std::alloc::Global;
-use tl_types::{Column, NoMemory, Text, begins_word, continues_word, is_name};
+use tl_types::{Column, NoMemory, Text, as_text, begins_word, continues_word, is_name};
 
 fn all_continue(bytes: &[u8]) -> bool
     ensures { result ≡ list_all continues_word bytes.now }
@@ -149,7 +151,7 @@ fn begins_text(alloc: Global, count: usize, bytes: &[u8]) -> Result<bool, NoMemo
     Ok(by_none || by_one || by_two || by_three)
 }
 
-#[tactic(auto, using(crate::proofs::Letters::utf8_yes, crate::proofs::Letters::utf8_no))]
+// A text of the bytes in front, where they are UTF-8, and the rest.
 fn whole_text<'a>(
     alloc: Global,
     front: &[u8],
@@ -158,10 +160,23 @@ fn whole_text<'a>(
     requires { length front.now ≤ 65535 }
     ensures { Gives (λ x. (x.0, x.1.now)) result (judged (is_utf8 front.now) front.now rest.now) }
 {
-    let Ok(text) = str::from_utf8(front) else {
+    let Some(text) = as_text(front) else {
         return Err(ReadError::Fault(Fault::Bad));
     };
     Ok((Text::new(alloc, text)?, rest))
+}
+
+// Why no text of `count` bytes is read, where the bytes are fewer.
+#[cold]
+#[inline(never)]
+fn cut_text(alloc: Global, count: usize, bytes: &[u8]) -> ReadError
+    ensures { Fails result (cut_text (begins_text count bytes.now)) }
+{
+    match begins_text(alloc, count, bytes) {
+        Ok(true) => ReadError::Fault(Fault::Short),
+        Ok(false) => ReadError::Fault(Fault::Bad),
+        Err(_) => ReadError::Memory,
+    }
 }
 
 #[tactic(auto, unfolding(crate::specs::Reading::text_of))]
@@ -173,11 +188,7 @@ fn text_of(alloc: Global, count: usize, bytes: &[u8]) -> Result<(Text, &[u8]), R
         let (front, rest) = bytes.split_at(count);
         return whole_text(alloc, front, rest);
     }
-    if begins_text(alloc, count, bytes)? {
-        Err(ReadError::Fault(Fault::Short))
-    } else {
-        Err(ReadError::Fault(Fault::Bad))
-    }
+    Err(cut_text(alloc, count, bytes))
 }
 
 /// A text behind its length, and what follows it.

@@ -1,7 +1,5 @@
 -- Several things in order, and their first fault.
-use Rattle.std.proofs.Common.{◌≡◌, ℕ, zero, suc, ◌+◌, List, [], ◌∷◌, ◌++◌, ◌<◌, Bool, true, false, IsUtf8, length, drop, ◌∙◌, Some, None, Result, Ok, Err, refl, ap, sym, append_assoc, length-append, slice_get, arith}
-use Rattle.std.specs.Str.{is_utf8}
-use Rattle.std.proofs.lemmas.Str.{IsUtf8-from_is_utf8, is_utf8-from_IsUtf8}
+use Rattle.std.proofs.Common.{◌≡◌, ℕ, zero, suc, ◌+◌, List, [], ◌∷◌, ◌++◌, ◌<◌, length, drop, ◌∙◌, Some, None, Result, Ok, Err, refl, ap, sym, append_assoc, length-append, slice_get, arith}
 use Rattle.std.proofs.lemmas.Option.{slice_get_within}
 use Rattle.csv.specs.Records.{field_at}
 use Rattle.tl_csv.specs.declared.faults.CsvFault.{CsvFault}
@@ -54,16 +52,6 @@ unfolding field_at
 same_field [] i = refl
 same_field (f ∷ fields) zero = refl
 same_field (f ∷ fields) (suc i) = same_field fields i
-
--- what is text, and what is none
-pub is_text : (bs : List ℕ) → IsUtf8 bs → is_utf8 bs ≡ true
-is_text bs h = is_utf8-from_IsUtf8 bs h
-
-pub no_text : (bs : List ℕ) → (IsUtf8 bs → ⊥) → is_utf8 bs ≡ false
-no_text bs h = by_test (is_utf8 bs) refl where
-  by_test : (t : Bool) → is_utf8 bs ≡ t → is_utf8 bs ≡ false
-  by_test true e = absurd (h (IsUtf8-from_is_utf8 bs e))
-  by_test false e = e
 
 -- one item more where an item and then the others give all: the others behind it give all
 pub then_others : {X : Type 0} (xs new : List X) (r : Result X CsvFault) (others all : Result (List X) CsvFault) → then_one xs r ≡ Ok new → behind xs (with_first r others) ≡ all → (behind new others ≡ all) × (length new ≡ length xs + 1)

@@ -8,4 +8,5 @@ pub mod FittingLemmas
 pub mod ReadingLemmas
 pub mod WritingLemmas
 pub mod SampleLemmas
+pub mod BoundTextLemmas
 pub mod Examples

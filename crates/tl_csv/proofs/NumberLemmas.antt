@@ -1,10 +1,12 @@
 -- Numbers that fields spell.
-use Rattle.std.proofs.Common.{◌≡◌, ◌≢◌, ℕ, ◌^◌, ◌<◌, ◌≤◌, nat_lt, nat_le, ◌==◌, ℤ, pos, neg_ℤ, Bool, true, false, cond, ◌&&◌, List, [], ◌∷◌, length, Some, None, Result, Ok, Err, IsUtf8, codes, ◌∙◌, refl, ap, arith}
+use Rattle.std.proofs.Common.{◌≡◌, ◌≢◌, ℕ, suc, ◌+◌, ◌*◌, ◌^◌, ◌<◌, ◌≤◌, nat_lt, nat_le, ◌==◌, ℤ, pos, neg_ℤ, Bool, true, false, cond, ◌&&◌, List, [], ◌∷◌, length, drop, sym, Some, None, Result, Ok, Err, IsUtf8, codes, ◌∙◌, refl, ap, arith}
+use Rattle.std.proofs.Math.ListN.{drop_of_length-le}
+use native.Mathlib.Nat.{pow-le-pow_right, pow-succ'}
 use Rattle.std.specs.Int.{w64}
 use Rattle.std.specs.Result.{OkIff, result_ok}
 use Rattle.std.specs.Char.{is_ascii_digit}
 use Rattle.std.specs.Str.{all_ascii_digits, chars, is_utf8}
-use Rattle.std.specs.Str.Parse.{ParsesSigned, digits_value}
+use Rattle.std.specs.Str.Parse.{ParsesSigned, digits_value, digits_value_after}
 use Rattle.std.proofs.lemmas.Str.Parse.{IsNumeralModel, numerals_by_value, tells_all_ascii_digits, parse_signed_minus, parse_signed_plain, parse_signed_plus}
 use Rattle.std.proofs.lemmas.Str.{IsUtf8-append, IsUtf8-from_ascii, IsUtf8-from_is_utf8, is_utf8-from_IsUtf8}
 use Rattle.std.proofs.lemmas.Fmt.{IsAscii-from_digits}
@@ -141,3 +143,35 @@ pub forever_is_text : (field : List ℕ) → same_bytes field (codes "FOREVER") 
 forever_is_text field h = rw (same_names field (codes "FOREVER") h) forever_is_utf8
 
 pub ruleset plain_integers = (spells_positive, spells_negative, digits_are_text, negative_is_text)
+
+-- NUMBERS OF FEW DIGITS
+
+most : (i k : ℕ) → i ≤ k → 10 ^ i ≤ 10 ^ k
+most i k h = pow-le-pow_right {n = 10} (omega arith) h
+
+-- a number of fewer digits than some that are at most 18
+pub below_most : (n i k : ℕ) → n < 10 ^ i → i < k → k ≤ 18 → n < 10 ^ 18
+below_most n i k h l m = let p = most i 18 (omega (arith, l, m)) in omega (arith, h, p)
+
+pub fits_word : (n i k : ℕ) → n < 10 ^ i → i ≤ k → k ≤ 18 → n < 2 ^ 63
+fits_word n i k h l m = let p = most i 18 (omega (arith, l, m)) in omega (arith, h, p)
+
+-- one digit more
+pub one_digit : (n m i : ℕ) → n < 10 ^ i → m ≤ n * 10 + 9 → m < 10 ^ (i + 1)
+one_digit n m i h e =
+    let next : i + 1 ≡ suc i = omega arith in
+    rw next (omega (arith, h, e, pow-succ' 10 i))
+
+both_true : (a b : Bool) → a ≡ true → b ≡ true → (a && b) ≡ true
+both_true a b p q = rw (p, q) refl
+
+-- all digits were read
+pub all_read : (ds : List ℕ) (i n : ℕ) → length ds ≤ i → 0 < length ds → length ds ≤ 18 → i ≤ length ds → digits_value_after 10 n (drop i ds) ≡ digits_value 10 ds → all_ascii_digits (drop i ds) ≡ all_ascii_digits ds → n < 10 ^ i
+    → (are_digits ds ≡ true) × (digits_value 10 ds ≡ n) × (n < 2 ^ 63)
+all_read ds i n e some few at v d h =
+    let nothing = drop_of_length-le ds e in
+    let digits : all_ascii_digits ds ≡ true = sym d ∙ ap all_ascii_digits nothing in
+    let value : digits_value 10 ds ≡ n = sym v ∙ ap (digits_value_after 10 n) nothing in
+    (both_true (nat_lt 0 (length ds)) (all_ascii_digits ds) (lt_true 0 (length ds) some) digits, value, fits_word n i (length ds) h at few)
+
+pub ruleset few_digits = (below_most, fits_word, one_digit)

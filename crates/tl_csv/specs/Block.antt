@@ -1,5 +1,5 @@
 -- The batch of a block, or its first fault.
-use Rattle.std.specs.Prelude.{ℕ, ◌≡◌, ◌≤◌, true, ◌+◌, ℤ, pos, Bool, ◌&&◌, nat_le, nat_lt, int_lt, ◌==◌, List, [], ◌∷◌, length, map, get_or, Option, Some, None, is_some, Result, Ok, Err, if◌then◌else◌}
+use Rattle.std.specs.Prelude.{ℕ, ◌≡◌, ◌≤◌, true, ◌+◌, ℤ, pos, Bool, ◌&&◌, nat_le, nat_lt, int_lt, ◌==◌, List, [], ◌∷◌, ◌++◌, length, map, take, drop, get_or, Option, Some, None, is_some, Result, Ok, Err, if◌then◌else◌}
 use Rattle.std.specs.Bool.{beq}
 use Rattle.std.specs.Str.{is_utf8}
 use Rattle.std.specs.List.{list_all, zip}
@@ -87,6 +87,15 @@ row_of limits layout rec fields =
     if length fields == length layout.kinds
     then each_from (cell_at limits rec) 0 (zip layout.kinds fields) >>= row_with layout rec
     else Err (fault.FieldCount rec)
+
+-- the same where the cells of the columns come first, in the order of the table
+abbrev pub row_in_order : Limits → Layout → ℕ → List (List ℕ) → Result plain.Opened CsvFault
+row_in_order limits layout rec fields =
+    each_from (cell_at limits rec) 0 (zip (take (length layout.columns) layout.kinds) fields) >>= λ xs.
+    each_from (cell_at limits rec) (length layout.columns)
+    (zip (drop (length layout.columns) layout.kinds) (drop (length layout.columns) fields)) >>= λ ys.
+    period_of rec (xs ++ ys) layout.period >>= λ period.
+    Ok (record { cells = xs; period = period })
 
 -- the row of the i-th record behind the header, which is not past the limit of records
 abbrev pub line_of : Limits → Layout → ℕ → List (List ℕ) → Result plain.Opened CsvFault

@@ -1,5 +1,5 @@
 -- How the records behind a header are laid out.
-use Rattle.std.specs.Prelude.{ℕ, ◌≡◌, ◌≤◌, Bool, true, ◌&&◌, not, nat_lt, ◌==◌, List, [], ◌∷◌, length, Option, Some, None}
+use Rattle.std.specs.Prelude.{ℕ, ◌≡◌, ◌≤◌, ◌+◌, Bool, true, ◌&&◌, not, nat_lt, ◌==◌, List, [], ◌∷◌, length, Option, Some, None}
 use Rattle.std.specs.List.{list_all, list_any}
 use Rattle.tl_csv.specs.declared.needs.FieldKind.{FieldKind}
 use Rattle.tl_csv.specs.declared.layouts.PeriodPlaces.{PeriodPlaces}
@@ -19,6 +19,15 @@ are_distinct_places (p ∷ ps) = not (list_any (λ q. q == p) ps) && are_distinc
 -- each place is one of so many
 abbrev pub are_within : ℕ → List ℕ → Bool
 are_within n places = list_all (λ p. nat_lt p n) places
+
+-- the places are those from one on, in order
+abbrev pub are_places_from : ℕ → List ℕ → Bool
+are_places_from n [] = true
+are_places_from n (p ∷ ps) = (p == n) && are_places_from (n + 1) ps
+
+-- the places are the first ones, in order
+abbrev pub are_in_order : List ℕ → Bool
+are_in_order places = are_places_from 0 places
 
 -- the ends of the period stand at two of so many places
 abbrev pub is_period_within : ℕ → Option PeriodPlaces → Bool

@@ -6,5 +6,6 @@ pub mod Header
 pub mod Block
 pub mod Reading
 pub mod Answers
+pub mod BoundTexts
 pub mod Writing
 pub mod Sample

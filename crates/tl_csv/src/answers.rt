@@ -7,7 +7,8 @@ ghost use Rattle.tl_csv.specs.Writing.{bytes_written, IsWithinRow, IsWriting, Wr
 ghost use Rattle.tl_query.specs.Answers.{run_fields};
 ghost use Rattle.tl_rows.specs.Fields.{field_shown};
 
-use crate::field_texts::{FieldText, bound_text, cell_text};
+use crate::bound_texts::BoundTexts;
+use crate::field_texts::{FieldText, cell_text};
 use csv::{Writer, WriterBuilder};
 use itoa::Buffer;
 use std::alloc::{AllocError, Global};
@@ -135,16 +136,18 @@ fn put_group<'a>(
 }
 
 // Writes a run as a row: its group where it has one, its bounds, its value.
-fn write_run(writer: &mut Writer<Vec<u8>>, text: &mut FieldText, run: &Run) -> Result<(), NoMemory>
+fn write_run(
+    writer: &mut Writer<Vec<u8>>,
+    bounds: &mut BoundTexts,
+    text: &mut FieldText,
+    run: &Run,
+) -> Result<(), NoMemory>
     requires { IsWriting writer.old }
     ensures row { OnOk result (bytes_written writer.new
         ≡ bytes_written writer.old ++ answer_row (run_fields run.now)) }
     ensures writing { OnOk result (IsWriting writer.new) }
 {
-    let mut from_digits = Buffer::new();
-    let mut to_digits = Buffer::new();
-    let from = bound_text(&mut from_digits, run.from);
-    let to = bound_text(&mut to_digits, run.to);
+    let (from, to) = bounds.of(run.from, run.to);
     let value = text.of(FieldRef::from(&run.value))?;
     match &run.group {
         Some(group) => {
@@ -171,8 +174,9 @@ fn write_runs(
     ensures { OnOk result
         (bytes_written writer.new ≡ flat_map answer_row (map run_fields runs.now)) }
 {
+    let mut bounds = BoundTexts::new();
     for run in runs {
-        write_run(writer, text, run)?;
+        write_run(writer, &mut bounds, text, run)?;
     }
     Ok(())
 }

@@ -70,10 +70,11 @@ fn push_line(
 ) -> Result<(), CsvFault>
     requires text { limits.now.text ≤ 65535 }
     requires batch { limits.now.batch ≤ 1000000 }
-    requires near { length lines.old.rows ≤ limits.now.batch }
-    ensures line { IsUnlessMemory (with_value lines.new.rows result) (then_one lines.old.rows
-        (line_of limits.now layout.now (length lines.old.rows) (fields_of row.now))) }
-    ensures within { OnOk result (length lines.old.rows + 1 ≤ limits.now.batch) }
+    requires near { length lines.old.rows.items ≤ limits.now.batch }
+    ensures line { IsUnlessMemory (with_value lines.new.rows.items result)
+        (then_one lines.old.rows.items
+        (line_of limits.now layout.now (length lines.old.rows.items) (fields_of row.now))) }
+    ensures within { OnOk result (length lines.old.rows.items + 1 ≤ limits.now.batch) }
 {
     let before = lines.rows.len();
     let rec = before as u32 + 2;
@@ -101,13 +102,13 @@ fn lines_of(
 {
     let mut row = ByteRecord::new(alloc);
     let mut lines = Lines {
-        rows: empty,
+        rows: empty.into_vec(),
         cells: Vec::new(alloc),
     };
     'records: while next_record(reader, &mut row)? {
         push_line(alloc, limits, layout, &row, &mut lines)?;
     }
-    Ok(lines.rows)
+    Ok(Seq::from_vec(lines.rows))
 }
 
 fn rows_of(

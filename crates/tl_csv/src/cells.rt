@@ -13,6 +13,15 @@ use crate::records::text_of;
 use std::alloc::Global;
 use tl_types::{Cell, ColumnKind, Limits, Period, Text};
 
+/// Where a field stands: the number of its record, and its place there, from 0.
+#[derive(Clone, Copy)]
+pub struct Spot {
+    /// The number of the record.
+    pub rec: u32,
+    /// The place in the record.
+    pub place: usize,
+}
+
 fn int_cell(rec: u32, place: usize, number: Option<i64>) -> Result<Cell, CsvFault>
     requires { place + 1 < 2 ^ 64 }
     ensures { result ≡ int_cell rec place number }
@@ -93,6 +102,7 @@ fn text_cell(
 
 /// The cell of the field at a place (from 0) of a record, which is of this kind; an end of a period
 /// as a number. The error is the field's fault, or `NoMemory`.
+#[inline(always)]
 pub fn cell_of(
     alloc: Global,
     limits: &Limits,

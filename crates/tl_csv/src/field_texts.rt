@@ -2,13 +2,13 @@
 ghost use Rattle.std.specs.Prelude.{◌≡◌, ◌++◌, codes, IfOk, OnOk};
 ghost use Rattle.std.specs.Fmt.{decimal, signed_decimal};
 ghost use Rattle.tl_csv.specs.Answers.{field_text};
-ghost use Rattle.tl_query.specs.Fields.{cell_field, moment_field};
+ghost use Rattle.tl_query.specs.Fields.{cell_field};
 ghost use Rattle.tl_rows.specs.Fields.{field_shown};
 
 use itoa::Buffer;
 use std::alloc::Global;
 use tl_rows::FieldRef;
-use tl_types::{Cell, NoMemory, Period};
+use tl_types::{Cell, NoMemory};
 
 /// Where the text of a field is put together.
 #[derive(Drop)]
@@ -17,13 +17,21 @@ pub(crate) struct FieldText {
     ratio: Vec<u8>,
 }
 
+// A number of any size in decimal.
+#[inline(never)]
+fn wide_text(digits: &mut Buffer, number: i128) -> &[u8]
+    ensures { result.now ≡ signed_decimal number }
+{
+    digits.format(number).as_bytes()
+}
+
 // A number in decimal. Most numbers fit 64 bits, whose digits come by shorter divisions.
 fn number_text(digits: &mut Buffer, number: i128) -> &[u8]
     ensures { result.now ≡ signed_decimal number }
 {
     match i64::try_from(number) {
         Ok(short) => digits.format(short).as_bytes(),
-        Err(_) => digits.format(number).as_bytes(),
+        Err(_) => wide_text(digits, number),
     }
 }
 
@@ -39,17 +47,6 @@ fn write_ratio(text: &mut Vec<u8>, sum: i128, count: u32) -> Result<(), NoMemory
     text.extend_from_slice(b"/".as_slice())?;
     text.extend_from_slice(digits.format(count).as_bytes())?;
     Ok(())
-}
-
-/// A bound of a period, in decimal where it is a number.
-pub(crate) fn bound_text(digits: &mut Buffer, moment: i64) -> &[u8]
-    ensures { result.now ≡ field_text (moment_field moment) }
-{
-    if moment == Period::FOREVER {
-        b"FOREVER".as_slice()
-    } else {
-        digits.format(moment).as_bytes()
-    }
 }
 
 /// A cell, in decimal where it is a number.

@@ -1,6 +1,6 @@
 //! How the records behind a header are laid out.
-ghost use Rattle.std.specs.Prelude.{◌≡◌};
-ghost use Rattle.tl_csv.specs.Layouts.{IsLayout};
+ghost use Rattle.std.specs.Prelude.{◌≡◌, ◌+◌, ◌<◌, ◌^◌, length};
+ghost use Rattle.tl_csv.specs.Layouts.{are_places_from, are_in_order, IsLayout};
 
 use crate::needs::FieldKind;
 use std::marker::Model;
@@ -22,11 +22,32 @@ pub struct Layout {
     kinds: Seq<FieldKind>,
     columns: Seq<usize>,
     period: Option<PeriodPlaces>,
+    // Whether the columns' cells come first and in the order of the table.
+    in_order: bool,
+}
+
+// Whether places are those from a number on, in order.
+fn are_places_from(first: usize, places: &[usize]) -> bool
+    requires { first + length places.now < 2 ^ 64 }
+    ensures { result ≡ are_places_from first places.now }
+{
+    match places {
+        [] => true,
+        [place, ..] if *place != first => false,
+        [_, rest @ ..] => are_places_from(first + 1, rest),
+    }
+}
+
+fn are_in_order(places: &[usize]) -> bool
+    ensures { result ≡ are_in_order places.now }
+{
+    are_places_from(0, places)
 }
 
 impl Model for Layout {
     ghost use Rattle.tl_csv.specs.Layouts as plain;
-    ghost use Rattle.tl_csv.specs.Layouts.{IsLayout};
+    ghost use Rattle.std.specs.Prelude.{◌≡◌};
+    ghost use Rattle.tl_csv.specs.Layouts.{are_in_order, IsLayout};
 
     ghost Value = { plain.Layout };
 
@@ -36,7 +57,7 @@ impl Model for Layout {
       kinds = l.kinds;
       columns = l.columns;
       period = l.period;
-    }) };
+    }) × (l.in_order ≡ are_in_order l.columns) };
 }
 
 impl Layout {
@@ -45,10 +66,12 @@ impl Layout {
         requires { IsLayout (record { kinds = kinds; columns = columns; period = period }) }
         ensures { result ≡ record { kinds = kinds; columns = columns; period = period } }
     {
+        let in_order = are_in_order(columns.as_slice());
         Layout {
             kinds,
             columns,
             period,
+            in_order,
         }
     }
 
@@ -74,5 +97,12 @@ impl Layout {
         ensures kept { IsLayout self.now }
     {
         self.period
+    }
+
+    /// Whether the columns' cells come first in each record, in the order of the table.
+    pub fn is_in_order(&self) -> bool
+        ensures { result ≡ are_in_order self.now.columns }
+    {
+        self.in_order
     }
 }

@@ -5,6 +5,7 @@
 
 mod answers;
 mod batches;
+mod bound_texts;
 mod byte_order_marks;
 mod cells;
 mod faults;

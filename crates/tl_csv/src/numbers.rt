@@ -1,5 +1,5 @@
 //! The integers that fields spell.
-ghost use Rattle.std.specs.Prelude.{◌≡◌, ◌+◌, ◌*◌, ◌<◌, ◌^◌, Some, IfSome, true};
+ghost use Rattle.std.specs.Prelude.{◌≡◌, ◌≤◌, ◌+◌, ◌*◌, ◌<◌, ◌^◌, Some, IfSome, true};
 ghost use Rattle.std.specs.Char.{digit_value, is_ascii_digit};
 ghost use Rattle.std.specs.Str.{is_utf8};
 ghost use Rattle.std.specs.Str.Parse.{digits_value};
@@ -14,24 +14,26 @@ pub fn integer_of(field: &str) -> Option<i64>
 }
 
 // The number of which the digits of a number and one more are the digits. None where the byte is no
-// digit, or the number may have 2 ^ 63 or more.
+// digit.
 fn with_digit(number: u64, byte: u8) -> Option<u64>
+    requires { number < 10 ^ 18 }
     ensures { IfSome result (λ n. (is_ascii_digit byte ≡ true)
-        × (n ≡ number * 10 + digit_value byte) × (n < 2 ^ 63)) }
+        × (n ≡ number * 10 + digit_value byte) × (n ≤ number * 10 + 9)) }
 {
-    if byte.is_ascii_digit() && number < 922_337_203_685_477_580 {
+    if byte.is_ascii_digit() {
         return Some(number * 10 + (byte - b'0') as u64);
     }
     None
 }
 
-// The number that one or more digits spell. None where a byte is no digit, or the number may have
-// 2 ^ 63 or more.
+// The number that one or more digits spell. None where a byte is no digit, or there are more than
+// 18 of them.
+#[tactic(auto, using(crate::proofs::NumberLemmas::few_digits))]
 fn plain_number(digits: &[u8]) -> Option<u64>
     ensures { IfSome result (λ n. (are_digits digits.now ≡ true)
         × (digits_value 10 digits.now ≡ n) × (n < 2 ^ 63)) }
 {
-    if digits.is_empty() {
+    if digits.is_empty() || digits.len() > 18 {
         return None;
     }
     let mut number = 0;

@@ -6,6 +6,7 @@ ghost use Rattle.std.specs.Str.{is_utf8};
 ghost use Rattle.csv.specs.Records.{fields_of};
 
 use csv::ByteRecord;
+use tl_types::as_text;
 
 /// The field at a place (from 0), where the record has so many.
 pub fn field(row: &ByteRecord, place: usize) -> Option<&[u8]>
@@ -31,14 +32,10 @@ pub fn next_field(row: &ByteRecord, place: usize) -> Option<&[u8]>
 }
 
 /// The text of a field, where the field is UTF-8.
-#[tactic(auto, using(crate::proofs::FaultLemmas::is_text, crate::proofs::FaultLemmas::no_text))]
 pub fn text_of(field: &[u8]) -> Option<&str>
     ensures text { IfSome result (λ text. text.now ≡ field.now) }
     ensures right { IfSome result (λ text. is_utf8 field.now ≡ true) }
     ensures wrong { result ≡ None → is_utf8 field.now ≡ false }
 {
-    match str::from_utf8(field) {
-        Ok(text) => Some(text),
-        Err(_) => None,
-    }
+    as_text(field)
 }

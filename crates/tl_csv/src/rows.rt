@@ -1,13 +1,16 @@
 //! The row of a record.
-ghost use Rattle.std.specs.Prelude.{◌≡◌, ◌≤◌, ◌<◌, [], length, map, pos, set, true, OnOk};
+ghost use Rattle.std.specs.Prelude.{◌≡◌, ◌≤◌, ◌<◌, ◌+◌, ◌++◌, [], length, map, drop, pos, set};
+ghost use Rattle.std.specs.Prelude.{true, OnOk};
 ghost use Rattle.std.specs.List.{zip};
 ghost use Rattle.csv.specs.Records.{fields_of};
 ghost use Rattle.tl_types.specs.declared.cells.Cell.TheVariants as cell;
 ghost use Rattle.tl_csv.specs.Faults.{each_from, with_value, then_one, IsUnlessMemory};
-ghost use Rattle.tl_csv.specs.Layouts.{are_distinct_places, are_within, is_period_within};
+ghost use Rattle.tl_csv.specs.Layouts.{are_distinct_places, are_in_order, are_within};
+ghost use Rattle.tl_csv.specs.Layouts.{is_period_within};
 ghost use Rattle.tl_csv.specs.Block.{cell_at, cell_in, period_between, period_of, row_of, row_with};
+ghost use Rattle.tl_csv.specs.Block.{row_in_order};
 
-use crate::cells::cell_of;
+use crate::cells::{Spot, cell_of};
 use crate::faults::CsvFault;
 use crate::layouts::{Layout, PeriodPlaces};
 use crate::needs::FieldKind;
@@ -15,15 +18,16 @@ use crate::records::next_field;
 use csv::ByteRecord;
 use std::alloc::Global;
 use std::mem;
-use tl_types::{Cell, Limits, NoMemory, Opened, Period, Seq, SmallSeq};
+use tl_types::{Cell, Limits, NoMemory, Opened, Period, SmallSeq};
 
-// Puts the cells of the record's fields, which are of these kinds, into `cells`, in the order of
-// the record.
+// Puts the cells of the record's fields from a place on, which are of these kinds, into `cells`, in
+// the order of the record.
 #[tactic(auto, using(crate::proofs::FaultLemmas::behind_steps))]
+#[inline(never)]
 fn read_cells(
     alloc: Global,
     limits: &Limits,
-    rec: u32,
+    first: Spot,
     kinds: &[FieldKind],
     row: &ByteRecord,
     cells: &mut Vec<Cell>,
@@ -31,6 +35,59 @@ fn read_cells(
     requires short { limits.now.text ≤ 65535 }
     requires empty { cells.old.items ≡ [] }
     ensures { IsUnlessMemory (with_value cells.new.items result)
+        (each_from (cell_at limits.now first.rec) first.place
+        (zip kinds.now (drop first.place (fields_of row.now)))) }
+{
+    let mut rest = kinds;
+    let mut place = first.place;
+    'fields: while let [kind, behind @ ..] = rest {
+        let Some(field) = next_field(row, place) else {
+            return Ok(());
+        };
+        cells.push(cell_of(alloc, limits, first.rec, place, *kind, field)?)?;
+        rest = behind;
+        place += 1;
+    }
+    Ok(())
+}
+
+// Puts the cells of the record's fields, which are of these kinds, in the place of those of another
+// record.
+#[inline(always)]
+fn read_behind(
+    alloc: Global,
+    limits: &Limits,
+    first: Spot,
+    kinds: &[FieldKind],
+    row: &ByteRecord,
+    cells: &mut Vec<Cell>,
+) -> Result<(), CsvFault>
+    requires { limits.now.text ≤ 65535 }
+    ensures { IsUnlessMemory (with_value cells.new.items result)
+        (each_from (cell_at limits.now first.rec) first.place
+        (zip kinds.now (drop first.place (fields_of row.now)))) }
+{
+    cells.clear();
+    if kinds.is_empty() {
+        return Ok(());
+    }
+    read_cells(alloc, limits, first, kinds, row, cells)?;
+    Ok(())
+}
+
+// Puts the cells of the record's first fields, which are of these kinds, into a short list.
+#[tactic(auto, using(crate::proofs::FaultLemmas::behind_steps))]
+fn read_front(
+    alloc: Global,
+    limits: &Limits,
+    rec: u32,
+    kinds: &[FieldKind],
+    row: &ByteRecord,
+    cells: &mut SmallSeq<Cell>,
+) -> Result<(), CsvFault>
+    requires short { limits.now.text ≤ 65535 }
+    requires empty { cells.old ≡ [] }
+    ensures { IsUnlessMemory (with_value cells.new result)
         (each_from (cell_at limits.now rec) 0 (zip kinds.now (fields_of row.now))) }
 {
     let mut rest = kinds;
@@ -108,11 +165,41 @@ fn period_of(
     Ok(Some(period))
 }
 
+// The cell at a place of a record whose first cells are apart.
+fn cell_beside<'a>(front: &'a [Cell], behind: &'a [Cell], place: usize) -> &'a Cell
+    requires { place < length front.now + length behind.now }
+    ensures { result.now ≡ cell_in (front.now ++ behind.now) place }
+{
+    if place < front.len() {
+        return &front[place];
+    }
+    &behind[place - front.len()]
+}
+
+// The period of a record whose first cells are apart, where the table has valid time.
+fn period_beside(
+    rec: u32,
+    front: &[Cell],
+    behind: &[Cell],
+    period: Option<PeriodPlaces>,
+) -> Result<Option<Period>, CsvFault>
+    requires { is_period_within (length front.now + length behind.now) period ≡ true }
+    ensures { result ≡ period_of rec (front.now ++ behind.now) period }
+{
+    let Some(places) = period else {
+        return Ok(None);
+    };
+    let from = cell_beside(front, behind, places.from);
+    let to = cell_beside(front, behind, places.to);
+    let period = period_between(rec, from, to)?;
+    Ok(Some(period))
+}
+
 /// The rows of records, one for each, and room for the cells of one record.
 #[derive(Drop)]
 pub(crate) struct Lines {
     /// The rows.
-    pub(crate) rows: Seq<Opened>,
+    pub(crate) rows: Vec<Opened>,
     /// The room.
     pub(crate) cells: Vec<Cell>,
 }
@@ -124,11 +211,11 @@ fn push_row_with(
     layout: &Layout,
     rec: u32,
     cells: &mut [Cell],
-    rows: &mut Seq<Opened>,
+    rows: &mut Vec<Opened>,
 ) -> Result<(), CsvFault>
     requires { length cells.old ≡ length layout.now.kinds }
-    ensures { IsUnlessMemory (with_value rows.new result)
-        (then_one rows.old (row_with layout.now rec cells.old)) }
+    ensures { IsUnlessMemory (with_value rows.new.items result)
+        (then_one rows.old.items (row_with layout.now rec cells.old)) }
 {
     let period = period_of(rec, cells, layout.period())?;
     let mut taken = SmallSeq::new(alloc);
@@ -137,8 +224,71 @@ fn push_row_with(
     Ok(())
 }
 
+// Puts the row of a record with the cells of the columns elsewhere than first behind the rows.
+#[inline(never)]
+fn push_in_other_order(
+    alloc: Global,
+    limits: &Limits,
+    layout: &Layout,
+    rec: u32,
+    row: &ByteRecord,
+    lines: &mut Lines,
+) -> Result<(), CsvFault>
+    requires text { limits.now.text ≤ 65535 }
+    requires number { length (fields_of row.now) ≡ length layout.now.kinds }
+    ensures { IsUnlessMemory (with_value lines.new.rows.items result)
+        (then_one lines.old.rows.items (row_of limits.now layout.now rec (fields_of row.now))) }
+{
+    let first = Spot { rec, place: 0 };
+    read_behind(alloc, limits, first, layout.kinds(), row, &mut lines.cells)?;
+    push_row_with(
+        alloc,
+        layout,
+        rec,
+        lines.cells.as_mut_slice(),
+        &mut lines.rows,
+    )
+}
+
+// Puts the row of a record with the cells of the columns first, in the order of the table, behind
+// the rows.
+fn push_in_order(
+    alloc: Global,
+    limits: &Limits,
+    layout: &Layout,
+    rec: u32,
+    row: &ByteRecord,
+    lines: &mut Lines,
+) -> Result<(), CsvFault>
+    requires text { limits.now.text ≤ 65535 }
+    requires number { length (fields_of row.now) ≡ length layout.now.kinds }
+    requires order { are_in_order layout.now.columns ≡ true }
+    ensures { IsUnlessMemory (with_value lines.new.rows.items result)
+        (then_one lines.old.rows.items
+        (row_in_order limits.now layout.now rec (fields_of row.now))) }
+{
+    lines.rows.reserve(1)?;
+    let (front, behind) = layout.kinds().split_at(layout.columns().len());
+    let mut taken = SmallSeq::new(alloc);
+    read_front(alloc, limits, rec, front, row, &mut taken)?;
+    let first = Spot {
+        rec,
+        place: layout.columns().len(),
+    };
+    read_behind(alloc, limits, first, behind, row, &mut lines.cells)?;
+    let period = period_beside(
+        rec,
+        taken.as_slice(),
+        lines.cells.as_slice(),
+        layout.period(),
+    )?;
+    lines.rows.push_reserved(Opened::new(taken, period));
+    Ok(())
+}
+
 /// Puts the row of the record with this number behind the rows. The error is the record's first
 /// fault, or `NoMemory`.
+#[tactic(auto, using(crate::proofs::RowLemmas::in_order_is))]
 pub(crate) fn push_row_of(
     alloc: Global,
     limits: &Limits,
@@ -148,19 +298,16 @@ pub(crate) fn push_row_of(
     lines: &mut Lines,
 ) -> Result<(), CsvFault>
     requires { limits.now.text ≤ 65535 }
-    ensures { IsUnlessMemory (with_value lines.new.rows result)
-        (then_one lines.old.rows (row_of limits.now layout.now rec (fields_of row.now))) }
+    ensures { IsUnlessMemory (with_value lines.new.rows.items result)
+        (then_one lines.old.rows.items (row_of limits.now layout.now rec (fields_of row.now))) }
 {
     if row.len() != layout.kinds().len() {
         return Err(CsvFault::FieldCount { rec });
     }
-    lines.cells.clear();
-    read_cells(alloc, limits, rec, layout.kinds(), row, &mut lines.cells)?;
-    push_row_with(
-        alloc,
-        layout,
-        rec,
-        lines.cells.as_mut_slice(),
-        &mut lines.rows,
-    )
+    if layout.is_in_order() {
+        push_in_order(alloc, limits, layout, rec, row, lines)?;
+        return Ok(());
+    }
+    push_in_other_order(alloc, limits, layout, rec, row, lines)?;
+    Ok(())
 }

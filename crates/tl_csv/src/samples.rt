@@ -1,16 +1,19 @@
 //! The blocks of the sample: as many lines as are asked for, with numbers of a linear congruential
 //! generator.
-ghost use Rattle.std.specs.Prelude.{◌≡◌, ◌≤◌, ◌<◌, ◌+◌, ◌-◌, ◌++◌, ◌^◌, IfOk, OnOk, OnErr};
+ghost use Rattle.std.specs.Prelude.{◌≡◌, ◌≤◌, ◌<◌, ◌+◌, ◌-◌, ◌++◌, ◌∷◌, ◌^◌, length, drop, IfOk, OnOk, OnErr};
 ghost use Rattle.std.specs.Fmt.{decimal};
 ghost use Rattle.tl_csv.specs.Sample.{block_end, block_of, nth_number, id_of, line_text};
 ghost use Rattle.tl_csv.specs.Sample.{lines_from};
 
-use itoa::Buffer;
+use itoa::write_digits;
 use std::alloc::Global;
 use std::marker::Model;
 use tl_types::{Bytes, NoMemory};
 
 const LINES_OF_A_BLOCK: u32 = 10_000;
+
+// Three numbers of 32 bits, and a byte behind each.
+const LONGEST_LINE: usize = 33;
 
 // The numbers so far, of which `last` is the last.
 #[derive(Clone, Copy)]
@@ -56,26 +59,39 @@ fn id_of(line: u32) -> u32
     5_000 * (line / LINES_OF_A_BLOCK) + line % LINES_OF_A_BLOCK
 }
 
-// Appends a number in decimal, and a byte.
-fn put_number(
-    out: &mut Vec<u8>,
-    digits: &mut Buffer,
-    number: u32,
-    behind: &[u8],
-) -> Result<(), NoMemory>
-    ensures { OnOk result (out.new.items ≡ out.old.items ++ (decimal number ++ behind.now)) }
+// Writes a number in decimal and a byte behind it, so that they end at `end`, and says where they
+// start.
+#[inline]
+fn put_number(line: &mut [u8], end: usize, number: u32, behind: u8) -> usize
+    requires { (11 ≤ end) × (end ≤ length line.old) }
+    ensures start { end ≤ result + 11 }
+    ensures within { result ≤ end }
+    ensures text { drop result line.new ≡ decimal number ++ behind ∷ drop end line.old }
 {
-    out.extend_from_slice(digits.format(number).as_bytes())?;
-    out.extend_from_slice(behind)?;
-    Ok(())
+    line[end - 1] = behind;
+    write_digits(u64::from(number), line, end - 1)
 }
 
-fn put_line(out: &mut Vec<u8>, digits: &mut Buffer, id: u32, value: u32) -> Result<(), NoMemory>
+// Writes a line so that it ends with the bytes, and says where it starts.
+fn fill_line(line: &mut [u8; LONGEST_LINE], id: u32, value: u32) -> usize
+    ensures within { result ≤ 33 }
+    ensures text { drop result line.new ≡ line_text id value }
+{
+    let value_start = put_number(line, LONGEST_LINE, value, b'\n');
+    let group_start = put_number(line, value_start, value % 8, b',');
+    put_number(line, group_start, id, b',')
+}
+
+fn put_line(
+    out: &mut Vec<u8>,
+    line: &mut [u8; LONGEST_LINE],
+    id: u32,
+    value: u32,
+) -> Result<(), NoMemory>
     ensures { OnOk result (out.new.items ≡ out.old.items ++ line_text id value) }
 {
-    put_number(out, digits, id, b",".as_slice())?;
-    put_number(out, digits, value % 8, b",".as_slice())?;
-    put_number(out, digits, value, b"\n".as_slice())?;
+    let start = fill_line(line, id, value);
+    out.extend_from_slice(&line[start..])?;
     Ok(())
 }
 
@@ -88,11 +104,11 @@ fn put_lines(out: &mut Vec<u8>, draw: &mut Draw, to: u32) -> Result<(), NoMemory
     ensures count { OnOk result (draw.new.count ≡ to) }
     ensures start { OnOk result (draw.new.start ≡ draw.old.start) }
 {
-    let mut digits = Buffer::new();
+    let mut line = [0; LONGEST_LINE];
     'lines: while draw.count < to {
         let id = id_of(draw.count);
         let value = draw.next() / 65_536;
-        put_line(out, &mut digits, id, value)?;
+        put_line(out, &mut line, id, value)?;
     }
     Ok(())
 }

@@ -7,8 +7,8 @@ use Rattle.tl_csv.proofs.batches.lines_of.Given as goal
 
 abbrev pub invariant-records : goal.invariant-records
 invariant-records l = record {
-  rows : behind l.lines.rows (each_from (line_of l.limits l.layout) (length l.lines.rows) (records_left l.reader)) ≡ each_from (line_of l.limits l.layout) 0 (records_left l.fn.reader);
-  few : length l.lines.rows ≤ l.limits.batch;
+  rows : behind l.lines.rows.items (each_from (line_of l.limits l.layout) (length l.lines.rows.items) (records_left l.reader)) ≡ each_from (line_of l.limits l.layout) 0 (records_left l.fn.reader);
+  few : length l.lines.rows.items ≤ l.limits.batch;
   reading : IsReading l.reader;
 }
 

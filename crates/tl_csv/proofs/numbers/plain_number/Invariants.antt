@@ -7,5 +7,5 @@ abbrev pub invariant-loop-byte : goal.invariant-loop-byte
 invariant-loop-byte l = record {
   value : digits_value_after 10 l.number (drop l.byte-index l.digits) ≡ digits_value 10 l.digits;
   digits : all_ascii_digits (drop l.byte-index l.digits) ≡ all_ascii_digits l.digits;
-  small : l.number < 2 ^ 63;
+  small : l.number < 10 ^ l.byte-index;
 }

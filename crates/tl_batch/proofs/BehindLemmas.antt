@@ -1,11 +1,11 @@
 -- What lines leave of rows, and of the rows that they put, from the last line to the first.
-use Rattle.std.proofs.Common.{arith, ◌≡◌, ℕ, ℤ, ◌<◌, true, List, [], ◌∷◌, ◌++◌, length, reverse, get_or, slice_get, Option, Some, refl, ap, ◌∙◌}
-use Rattle.std.proofs.lemmas.List.{map-append, reverse-append}
+use Rattle.std.proofs.Common.{arith, ◌≡◌, ℕ, ◌+◌, ℤ, ◌<◌, true, List, [], ◌∷◌, ◌++◌, length, reverse, drop, get_or, slice_get, Option, Some, subst, refl, sym, ap, ◌∙◌}
+use Rattle.std.proofs.lemmas.List.{drop_more, map-append, reverse-append}
 use Rattle.std.proofs.lemmas.Option.{slice_get_read}
 use Rattle.tl_types.specs.declared.cells.Cell.{Cell}
 use Rattle.tl_types.specs.Plain as plain
-use Rattle.tl_types.specs.Resolving.{BatchLine}
-use Rattle.tl_batch.specs.Pieces.{cuts, periods_with, over, row_pieces}
+use Rattle.tl_types.specs.Resolving.{BatchLine, put_lines}
+use Rattle.tl_batch.specs.Pieces.{cuts, periods_with, over, put_pieces, row_pieces}
 use Rattle.tl_batch.specs.Covers.{Full, HoldLines}
 use Rattle.tl_batch.proofs.HoldLemmas.{Adds, hold_front}
 
@@ -32,3 +32,20 @@ behind_back schema lines at cells given key period whole parts turned given_part
 pub behind_held : (schema : plain.Schema) (lines : List BatchLine) (at : ℕ) (line : plain.Opened) (given : List Cell) (key : Cell) (period : Option plain.Period) (before after : List (Cell × List (ℤ × ℤ))) → given ≡ line.cells → period ≡ line.period → at ≡ schema.key → schema.key < length line.cells → key ≡ get_or given at key
     → HoldLines before lines → Adds key period before after → Full (period ∷ []) → HoldLines after (record { key = slice_get line.cells schema.key; period = line.period; puts = Some line } ∷ lines)
 behind_held schema lines at line given key period before after same span is there e held adds full = grind (arith, key_of schema.key, hold_front before after lines key period (Some line) held adds full)
+
+-- ONE LINE MORE, FROM THE LAST TO THE FIRST
+
+-- the line of a row that is put
+abbrev pub put_line : plain.Schema → plain.Opened → BatchLine
+put_line schema row = record { key = slice_get row.cells schema.key; period = row.period; puts = Some row }
+
+line_first : (schema : plain.Schema) (rows : List plain.Opened) (i j : ℕ) (row : plain.Opened) → i ≡ j + 1 → j < length rows → row ≡ get_or rows j row → put_lines schema (drop j rows) ≡ put_line schema row ∷ put_lines schema (drop i rows)
+line_first schema rows i j row next h at = ap (put_lines schema) (drop_more rows j row h ∙ (ap (λ r. r ∷ drop (j + 1) rows) (sym at) ∙ ap (λ n. row ∷ drop n rows) (sym next)))
+
+pub pieces_more : (schema : plain.Schema) (rows : List plain.Opened) (i j : ℕ) (row : plain.Opened) (before after : List plain.Opened) → i ≡ j + 1 → j < length rows → row ≡ get_or rows j row → reverse before ≡ put_pieces schema (put_lines schema (drop i rows))
+    → reverse after ≡ row_pieces schema (put_lines schema (drop i rows)) row.cells row.period ++ reverse before → reverse after ≡ put_pieces schema (put_lines schema (drop j rows))
+pieces_more schema rows i j row before after next h at behind made =
+    made ∙ (ap (λ ps. row_pieces schema (put_lines schema (drop i rows)) row.cells row.period ++ ps) behind ∙ sym (ap (put_pieces schema) (line_first schema rows i j row next h at)))
+
+pub held_more : (schema : plain.Schema) (rows : List plain.Opened) (i j : ℕ) (row : plain.Opened) (covers : List (Cell × List (ℤ × ℤ))) → i ≡ j + 1 → j < length rows → row ≡ get_or rows j row → HoldLines covers (put_line schema row ∷ put_lines schema (drop i rows)) → HoldLines covers (put_lines schema (drop j rows))
+held_more schema rows i j row covers next h at held = subst (HoldLines covers) (sym (line_first schema rows i j row next h at)) held

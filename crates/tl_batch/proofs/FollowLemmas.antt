@@ -18,6 +18,7 @@ use Rattle.tl_batch.specs.ClosedRows.{has_keyed}
 use Rattle.tl_batch.specs.KeyIndex.{IdsByKey, has_row, no_ids}
 use Rattle.tl_batch.specs.Standing.{opens_with, has_key, is_open_with, table_has, rows_match, index_at, StandFor}
 use Rattle.tl_batch.proofs.IndexedRows.{opens_from}
+use Rattle.tl_batch.proofs.KeyIndexLemmas.{none_in}
 
 -- ONE TABLE
 
@@ -111,14 +112,14 @@ match_after version change t opened all = all_joined (λ r. matches t.schema (re
 
 -- no table
 pub stands_empty : StandFor [] nothing
-stands_empty = record { tables = refl; ids = λ table x id. refl; matching = λ table. refl }
+stands_empty = record { tables = refl; ids = λ table x id. none_in x id; matching = λ table. refl }
 
 -- a table more
 table_more : (keys : List IdsByKey) (fresh : IdsByKey) (tables : List plain.Table) (schema : plain.Schema) → length keys ≡ length tables → ((x : Cell) (n : ℕ) → has_row fresh x n ≡ false)
     → ((t : ℕ) (x : Cell) (id : ℕ) → has_row (index_at keys t) x id ≡ table_has (slice_get tables t) x id)
     → (t : ℕ) (x : Cell) (id : ℕ) → has_row (index_at (keys ++ fresh ∷ []) t) x id ≡ table_has (slice_get (tables ++ new_table schema ∷ []) t) x id
 table_more [] fresh [] schema same none old zero x id = none x id
-table_more [] fresh [] schema same none old (suc t) x id = refl
+table_more [] fresh [] schema same none old (suc t) x id = none_in x id
 table_more [] fresh (s ∷ tables) schema same none old t x id = absurd (omega (arith, same))
 table_more (k ∷ keys) fresh [] schema same none old t x id = absurd (omega (arith, same))
 table_more (k ∷ keys) fresh (s ∷ tables) schema same none old zero x id = old zero x id
@@ -143,14 +144,14 @@ pub stands_more : (keys new : List IdsByKey) (fresh : IdsByKey) (db : plain.Data
 stands_more keys new fresh db schema b old none made is =
     subst (λ (q : Body). StandFor new (record { version = db.version + 1; tables = after_body (db.version + 1) q db.tables })) (sym is)
     (subst (λ (ks : List IdsByKey). StandFor ks (record { version = db.version + 1; tables = after_body (db.version + 1) (body.Create schema) db.tables })) (sym made)
-    (stands_created keys fresh db 0 schema old (λ x n. ap (λ (ids : IdsByKey). has_row ids x n) none)))
+    (stands_created keys fresh db 0 schema old (λ x n. ap (λ (ids : IdsByKey). has_row ids x n) none ∙ none_in x n)))
 
 -- a table changed
 table_changed : (keys : List IdsByKey) (at : ℕ) (index : IdsByKey) (tables : List plain.Table) (f : plain.Table → plain.Table) → length keys ≡ length tables
     → ((t : plain.Table) → slice_get tables at ≡ Some t → (x : Cell) (n : ℕ) → has_row index x n ≡ table_has (Some (f t)) x n)
     → ((t : ℕ) (x : Cell) (id : ℕ) → has_row (index_at keys t) x id ≡ table_has (slice_get tables t) x id)
     → (t : ℕ) (x : Cell) (id : ℕ) → has_row (index_at (slice_set keys at index) t) x id ≡ table_has (slice_get (at_place at f tables) t) x id
-table_changed [] at index [] f same here old t x id = refl
+table_changed [] at index [] f same here old t x id = none_in x id
 table_changed [] at index (s ∷ tables) f same here old t x id = absurd (omega (arith, same))
 table_changed (k ∷ keys) at index [] f same here old t x id = absurd (omega (arith, same))
 table_changed (k ∷ keys) zero index (s ∷ tables) f same here old zero x id = here s refl x id

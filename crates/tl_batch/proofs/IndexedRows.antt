@@ -17,6 +17,12 @@ and_false : (b : Bool) → (b && false) ≡ false
 and_false true = refl
 and_false false = refl
 
+gone_more : (k a s : Bool) → (not a && (not k && s)) ≡ (not (k || (a || false)) && s)
+gone_more true true s = refl
+gone_more true false s = refl
+gone_more false true s = refl
+gone_more false false s = refl
+
 -- a removal more
 pub keyed_gone : (gone : List KeyedRow) (i : ℕ) (s : KeyedRow) (before start after : IdsByKey) (x : Cell) (n : ℕ) → i < length gone → s ≡ get_or gone i s
     → has_row before x n ≡ (not (has_keyed (take i gone) x n) && has_row start x n) → has_row after x n ≡ (not (same_cell x s.key && nat_eq n s.id) && has_row before x n)
@@ -24,7 +30,9 @@ pub keyed_gone : (gone : List KeyedRow) (i : ℕ) (s : KeyedRow) (before start a
 keyed_gone gone i s before start after x n h at e f =
     let front : take (i + 1) gone ≡ take i gone ++ s ∷ [] = take_more gone i s h ∙ ap (λ q. take i gone ++ q ∷ []) (sym at) in
     let has : has_keyed (take (i + 1) gone) x n ≡ (has_keyed (take i gone) x n || ((same_cell x s.key && nat_eq n s.id) || false)) = ap (λ ss. has_keyed ss x n) front ∙ list_any-append (λ q. same_cell x q.key && nat_eq n q.id) (take i gone) (s ∷ []) in
-    grind arith
+    f
+    ∙ (ap (λ v. not (same_cell x s.key && nat_eq n s.id) && v) e
+    ∙ (gone_more (has_keyed (take i gone) x n) (same_cell x s.key && nat_eq n s.id) (has_row start x n) ∙ ap (λ v. not v && has_row start x n) (sym has)))
 
 -- ROWS
 

@@ -1,5 +1,5 @@
 -- What a map from keys has at each key, after a change at one key.
-use Rattle.std.proofs.Common.{◌≡◌, ℕ, zero, suc, slice_get, ◌+◌, ◌≤◌, subst, Bool, true, false, ◌&&◌, ◌||◌, not, cond, nat_eq, List, [], ◌∷◌, ◌++◌, Option, Some, None, is_some, IfSome, IfNone, refl, sym, ap, ◌∙◌, arith}
+use Rattle.std.proofs.Common.{◌≡◌, ℕ, zero, suc, slice_get, ◌+◌, ◌≤◌, subst, Bool, true, false, ◌&&◌, ◌||◌, not, cond, nat_eq, List, [], ◌∷◌, ◌++◌, Option, Some, None, IfSome, refl, sym, ap, ◌∙◌, arith}
 use Rattle.std.specs.List.{list_any, remove, AllByRecursion, dedup, dedup_from}
 use Rattle.std.specs.Map.{lookup}
 use Rattle.std.specs.declared.cmp.Ordering.TheVariants.{Less}
@@ -16,8 +16,7 @@ use Rattle.tl_types.specs.declared.cells.Cell.{Cell}
 use Rattle.tl_types.specs.declared.cells.Cell.TheVariants as cell
 use Rattle.tl_types.specs.contracts.cells.CellPartialEq.TheImpl as equal
 use Rattle.tl_types.specs.History.{same_cell, has_id}
-use Rattle.tl_batch.specs.declared.few_ids.FewIds.{FewIds}
-use Rattle.tl_batch.specs.KeyIndex.{IdsByKey, is_of, is_among_few, is_among_ids, has_further, has_row, Changes}
+use Rattle.tl_batch.specs.KeyIndex.{has_further, has_row, no_ids, Changes}
 
 -- CELLS
 
@@ -66,11 +65,6 @@ pub copied : {X : Type 0} (key copy : Cell) (w : Option X) (before all after : L
     → ((q : Cell) → lookup (equal.eq-value.it q) after ≡ cond (equal.eq-value.it copy q) w (lookup (equal.eq-value.it q) before)) → Changes key w all after
 copied key copy w before all after same view change q = grind (arith, finds q after, eq_is copy q, finds q before)
 
--- a map with its entries in another order finds the same
-pub reordered : (before after : List (Cell × FewIds)) (further : List (Cell × List ℕ)) (ids : IdsByKey) → ((q : Cell) → lookup (equal.eq-value.it q) after ≡ lookup (equal.eq-value.it q) before)
-    → record { few = before; further = further } ≡ ids → (x : Cell) (n : ℕ) → has_row (record { few = after; further = further }) x n ≡ has_row ids x n
-reordered before after further ids same view x n = grind (arith, finds x after, finds x before)
-
 module _ {X : Type 0} (at : Option X → ℕ → Bool) (key : Cell) (w : Option X) (before after : List (Cell × X)) (change : Changes key w before after) where
   pub changed : (x : Cell) (n : ℕ) → at (lookup (same_cell x) after) n ≡ cond (same_cell x key) (at w n) (at (lookup (same_cell x) before) n)
   changed x n = grind (arith, change x, cell_sym key x)
@@ -84,11 +78,6 @@ module _ {X : Type 0} (at : Option X → ℕ → Bool) (key : Cell) (w : Option 
   pub removed : (id : ℕ) → ((n : ℕ) → at w n ≡ (not (nat_eq n id) && at (lookup (same_cell key) before) n))
       → (x : Cell) (n : ℕ) → at (lookup (same_cell x) after) n ≡ (not (same_cell x key && nat_eq n id) && at (lookup (same_cell x) before) n)
   removed id fewer x n = grind (arith, changed x n, fewer n, finds_same x key before)
-
-  -- an id that was taken out
-  pub drawn : (id : ℕ) → ((n : ℕ) → at (lookup (same_cell key) before) n ≡ (nat_eq n id || at w n))
-      → (x : Cell) (n : ℕ) → at (lookup (same_cell x) before) n ≡ ((same_cell x key && nat_eq n id) || at (lookup (same_cell x) after) n)
-  drawn id one x n = grind (arith, changed x n, one n, finds_same x key before)
 
   -- the same ids
   pub kept : ((n : ℕ) → at w n ≡ at (lookup (same_cell key) before) n) → (x : Cell) (n : ℕ) → at (lookup (same_cell x) after) n ≡ at (lookup (same_cell x) before) n
@@ -107,9 +96,6 @@ id_added id keys list more update view n = grind (arith, tests_same n more, unsi
 pub id_removed : (id : ℕ) (keys list less : List ℕ) → ((q : ℕ) → list_any (is_at (nat_cmp q)) less ≡ cond (is_at (nat_cmp id) q) false (list_any (is_at (nat_cmp q)) keys)) → keys ≡ list
     → (n : ℕ) → has_id less n ≡ (not (nat_eq n id) && has_id list n)
 id_removed id keys list less update view n = grind (arith, tests_same n less, unsigned_tied id n, tests_same n keys)
-
-pub id_least : (id : ℕ) (ids : List ℕ) (rest : List ℕ) → ids ≡ id ∷ rest → (n : ℕ) → has_id ids n ≡ (nat_eq n id || has_id rest n)
-id_least id ids rest e n = ap (λ is. has_id is n) e ∙ ap (λ b. b || has_id rest n) (nat_eq_equiv.symm id n)
 
 less_than : (m n : ℕ) → nat_cmp m n ≡ Less → m + 1 ≤ n
 less_than m n e = grind arith
@@ -161,70 +147,12 @@ ids_kept ids all sorted list moved view e n = ap (λ is. has_id is n) e ∙ (ded
 pub none_removed : (key : Cell) (id : ℕ) (entries : List (Cell × List ℕ)) → None ≡ lookup (same_cell key) entries → (x : Cell) (n : ℕ) → has_further entries x n ≡ (not (same_cell x key && nat_eq n id) && has_further entries x n)
 none_removed key id entries none x n = grind (arith, finds_same x key entries)
 
-pub drawn_some : (key : Cell) (ids rest : List ℕ) (before after : List (Cell × List ℕ)) (r : Option ℕ) → Changes key (Some rest) before after → Some ids ≡ lookup (same_cell key) before → IfSome r (λ id. (n : ℕ) → has_id ids n ≡ (nat_eq n id || has_id rest n))
-    → IfSome r (λ id. (x : Cell) (n : ℕ) → has_further before x n ≡ ((same_cell x key && nat_eq n id) || has_further after x n))
-drawn_some key ids rest before after None change there taken = tt
-drawn_some key ids rest before after (Some id) change there taken = drawn is_among_ids key (Some rest) before after change id (λ n. ap (λ o. is_among_ids o n) (sym there) ∙ taken n)
-
-pub drawn_none : (key : Cell) (ids rest : List ℕ) (before after : List (Cell × List ℕ)) (r : Option ℕ) → Changes key (Some rest) before after → Some ids ≡ lookup (same_cell key) before → IfNone r (rest ≡ ids)
-    → IfNone r ((x : Cell) (n : ℕ) → has_further after x n ≡ has_further before x n)
-drawn_none key ids rest before after (Some id) change there same = tt
-drawn_none key ids rest before after None change there same = kept is_among_ids key (Some rest) before after change (λ n. ap (λ is. has_id is n) same ∙ ap (λ o. is_among_ids o n) there)
-
-pub shed_some : (key : Cell) (before mid after : List (Cell × List ℕ)) (r : Option ℕ) → ((x : Cell) (n : ℕ) → has_further after x n ≡ has_further mid x n)
-    → IfSome r (λ id. (x : Cell) (n : ℕ) → has_further before x n ≡ ((same_cell x key && nat_eq n id) || has_further mid x n))
-    → IfSome r (λ id. (x : Cell) (n : ℕ) → has_further before x n ≡ ((same_cell x key && nat_eq n id) || has_further after x n))
-shed_some key before mid after None same one = tt
-shed_some key before mid after (Some id) same one = λ x n. one x n ∙ ap (λ b. (same_cell x key && nat_eq n id) || b) (sym (same x n))
-
-pub shed_none : (before mid after : List (Cell × List ℕ)) (r : Option ℕ) → ((x : Cell) (n : ℕ) → has_further after x n ≡ has_further mid x n)
-    → IfNone r ((x : Cell) (n : ℕ) → has_further mid x n ≡ has_further before x n) → IfNone r ((x : Cell) (n : ℕ) → has_further after x n ≡ has_further before x n)
-shed_none before mid after (Some id) same one = tt
-shed_none before mid after None same one = λ x n. same x n ∙ one x n
-
 pub found_further : (key : Cell) (ids : List ℕ) (entries all : List (Cell × List ℕ)) (r : Option ℕ) → Some ids ≡ lookup (same_cell key) entries → entries ≡ all → IfSome r (λ id. has_id ids id ≡ true) → IfSome r (λ id. has_further all key id ≡ true)
 found_further key ids entries all None there view has = tt
 found_further key ids entries all (Some id) there view has = grind arith
 
--- THE IDS IN THE MAP
+-- NO IDS
 
-or_assoc : (a b c : Bool) → ((a || b) || c) ≡ (a || (b || c))
-or_assoc true b c = refl
-or_assoc false b c = refl
-
--- a key gets one id more
-pub few_added : (key : Cell) (id : ℕ) (w : Option FewIds) (before after : List (Cell × FewIds)) (further : List (Cell × List ℕ)) → Changes key w before after
-    → ((n : ℕ) → is_among_few w n ≡ (nat_eq n id || is_among_few (lookup (same_cell key) before) n))
-    → (x : Cell) (n : ℕ) → (is_among_few (lookup (same_cell x) after) n || has_further further x n) ≡ ((same_cell x key && nat_eq n id) || (is_among_few (lookup (same_cell x) before) n || has_further further x n))
-few_added key id w before after further change more x n =
-    ap (λ b. b || has_further further x n) (added is_among_few key w before after change id more x n)
-    ∙ or_assoc (same_cell x key && nat_eq n id) (is_among_few (lookup (same_cell x) before) n) (has_further further x n)
-
--- a key that has no ids in the map gets one
-pub first_added : (key : Cell) (id : ℕ) (ids : FewIds) (before after : List (Cell × FewIds)) (further : List (Cell × List ℕ)) → Changes key (Some ids) before after → ((n : ℕ) → is_of ids n ≡ nat_eq n id) → is_some (lookup (same_cell key) before) ≡ false
-    → (x : Cell) (n : ℕ) → (is_among_few (lookup (same_cell x) after) n || has_further further x n) ≡ ((same_cell x key && nat_eq n id) || (is_among_few (lookup (same_cell x) before) n || has_further further x n))
-first_added key id ids before after further change one none = few_added key id (Some ids) before after further change fresh where
-  by : (o : Option FewIds) → is_some o ≡ false → (n : ℕ) → is_of ids n ≡ (nat_eq n id || is_among_few o n)
-  by None e n = grind (arith, one n)
-  by (Some few) e n = absurd (cc)
-
-  fresh : (n : ℕ) → is_of ids n ≡ (nat_eq n id || is_among_few (lookup (same_cell key) before) n)
-  fresh = by (lookup (same_cell key) before) none
-
--- a further id in the place of those in the map
-pub further_put : (key : Cell) (next : ℕ) (ids : FewIds) (before after : List (Cell × FewIds)) (all left : List (Cell × List ℕ)) → Changes key (Some ids) before after → ((n : ℕ) → is_of ids n ≡ nat_eq n next)
-    → ((x : Cell) (n : ℕ) → has_further all x n ≡ ((same_cell x key && nat_eq n next) || has_further left x n))
-    → (x : Cell) (n : ℕ) → (is_among_few (lookup (same_cell x) after) n || has_further left x n) ≡ ((not (same_cell x key) && is_among_few (lookup (same_cell x) before) n) || has_further all x n)
-further_put key next ids before after all left change is one x n = grind (arith, changed is_among_few key (Some ids) before after change x n, is n, one x n)
-
--- some of the ids in the map are left
-pub few_left : (key : Cell) (id : ℕ) (ids left : FewIds) (before after : List (Cell × FewIds)) (further : List (Cell × List ℕ)) → Changes key (Some left) before after → Some ids ≡ lookup (same_cell key) before
-    → ((n : ℕ) → is_of left n ≡ (not (nat_eq n id) && is_of ids n))
-    → (x : Cell) (n : ℕ) → (is_among_few (lookup (same_cell x) after) n || has_further further x n) ≡ ((not (same_cell x key && nat_eq n id) && is_among_few (lookup (same_cell x) before) n) || has_further further x n)
-few_left key id ids left before after further change there fewer x n =
-    ap (λ b. b || has_further further x n) (removed is_among_few key (Some left) before after change id (λ m. fewer m ∙ ap (λ o. not (nat_eq m id) && is_among_few o m) there) x n)
-
--- none of them is left
-pub none_left : (key : Cell) (id : ℕ) (ids : FewIds) (before : List (Cell × FewIds)) → Some ids ≡ lookup (same_cell key) before → ((n : ℕ) → false ≡ (not (nat_eq n id) && is_of ids n))
-    → (x : Cell) (n : ℕ) → (not (same_cell x key) && is_among_few (lookup (same_cell x) before) n) ≡ (not (same_cell x key && nat_eq n id) && is_among_few (lookup (same_cell x) before) n)
-none_left key id ids before there none x n = grind (arith, finds_same x key before, none n)
+pub none_in : (x : Cell) (n : ℕ) → has_row no_ids x n ≡ false
+none_in (cell.Int i) n = refl
+none_in (cell.Text t) n = refl

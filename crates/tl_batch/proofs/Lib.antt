@@ -6,6 +6,7 @@ pub mod CommitLemmas
 pub mod PeriodSetLemmas
 pub mod Examples
 pub mod FaultLemmas
+pub mod FewLemmas
 pub mod FewPeriodsLemmas
 pub mod FollowLemmas
 pub mod FreshKeys
@@ -14,12 +15,13 @@ pub mod HoldLemmas
 pub mod IndexedRows
 pub mod KeyIndexLemmas
 pub mod KeyLemmas
-pub mod LentLemmas
+pub mod KeySetLemmas
 pub mod LineLemmas
 pub mod AffectLemmas
 pub mod OpenTableLemmas
 pub mod OpeningLemmas
 pub mod OverlapLemmas
+pub mod MetLemmas
 pub mod RemovalLemmas
 pub mod ResolvedLemmas
 pub mod RowIds

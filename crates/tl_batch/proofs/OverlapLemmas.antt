@@ -1,5 +1,5 @@
 -- A stretch has a moment of a period just where a line affects the period.
-use Rattle.std.proofs.Common.{◌≡◌, ℤ, ◌≤ℤ◌, ◌<ℤ◌, int_lt, Bool, true, false, ◌&&◌, ◌||◌, not, List, [], ◌∷◌, Option, Some, None, refl, sym, ap, ◌∙◌, arith}
+use Rattle.std.proofs.Common.{◌≡◌, ℤ, ◌≤ℤ◌, ◌<ℤ◌, int_lt, Bool, true, false, ◌&&◌, ◌||◌, not, List, [], ◌∷◌, Option, Some, refl, sym, ap, ◌∙◌, arith}
 use Rattle.std.specs.List.{list_any}
 use Rattle.std.specs.Ordering.{int_cmp}
 use Rattle.std.specs.BTreeMap.Range.{entries_between}
@@ -9,7 +9,7 @@ use Rattle.tl_types.specs.Plain as plain
 use Rattle.tl_types.specs.History.{is_within}
 use Rattle.tl_batch.specs.Pieces.{affects_period}
 use Rattle.tl_batch.specs.Covers.{is_between, is_covered, Full, Beyond, before_all, first_begins}
-use Rattle.tl_batch.proofs.GapLemmas.{lt_false, within_true}
+use Rattle.tl_batch.proofs.GapLemmas.{lt_false}
 use Rattle.tl_batch.proofs.PeriodSetLemmas.{ends_past}
 use Rattle.tl_batch.proofs.SwapLemmas.{affected_at}
 use Rattle.tl_batch.proofs.WholeLemmas.{shared}
@@ -102,10 +102,3 @@ pub meets_few : (lines : List (Option plain.Period)) (p : plain.Period) (found :
 meets_few lines p found from to list stretches all is first last lent some beyond view full hold =
     is ∙ (ap (λ z. first_begins z to list) first ∙ (ap (λ z. first_begins p.from z list) last ∙ (ap (first_begins p.from p.to) lent
     ∙ (first_ended p.from p.to before_all stretches beyond ∙ meets_affects lines p before_all stretches some beyond full (λ t. ap (is_covered t) view ∙ hold t)))))
-
--- lines without a moment affect nothing
-pub without_moments : (lines : List (Option plain.Period)) (whole : Option plain.Period) → Full lines → Hold [] lines → list_any (λ line. affects_period true line whole) lines ≡ false
-without_moments [] whole full same = refl
-without_moments (None ∷ lines) None full same = without_moments lines None full same
-without_moments (None ∷ lines) (Some p) full same = without_moments lines (Some p) full same
-without_moments (Some q ∷ lines) whole full same = absurd (let g = same q.from in let k = within_true q.from q (let h = full.0 in omega (arith, ints)) full.0 in let m : list_any (is_within q.from) (Some q ∷ lines) ≡ true = ap (λ b. b || list_any (is_within q.from) lines) k in cc)

@@ -15,7 +15,7 @@ use Rattle.tl_batch.specs.Lines.{line_of, lines_of}
 use Rattle.tl_batch.specs.Pieces.{affects_period, cuts, periods_with}
 use Rattle.tl_batch.specs.Covers.{Full, HoldLines, cover_at, is_covered, is_said}
 use Rattle.tl_batch.specs.Untimed.{has_cell}
-use Rattle.tl_batch.specs.Faults.{HoldRows, fault_of, is_row_affected, period_of, open_periods}
+use Rattle.tl_batch.specs.Faults.{HoldRows, affected_periods, fault_of, is_row_affected, met_periods, period_of, open_periods}
 use Rattle.tl_batch.proofs.HoldLemmas.{full_both}
 use Rattle.tl_batch.proofs.LineFaultLemmas.{key_congr, periods-same}
 use Rattle.tl_batch.proofs.ChangeLemmas.{ascend_same}
@@ -23,6 +23,7 @@ use Rattle.tl_batch.proofs.KeyLemmas.{said_more}
 use Rattle.tl_batch.proofs.KeyIndexLemmas.{cell_self, cell_sym, same_as}
 use Rattle.tl_batch.proofs.RowIds.{ids_at, ids_at-ascend, ids_at-has}
 use Rattle.tl_batch.proofs.SwapLemmas.{affects_rest}
+use Rattle.tl_batch.proofs.MetLemmas.{affected_more, met_rest, said_among}
 
 -- a line affects a row where it affects what earlier lines left of the periods of the rows of its key
 pub open_row_affected : (schema : plain.Schema) (earlier : List BatchLine) (s : KeyLine) (rows : List plain.Row) → schema.valid ≡ true → affects_rest s.period (periods_with (Some s.key) earlier) (open_periods schema.key s.key rows) ≡ list_any (is_row_affected schema earlier (line_of s)) rows
@@ -79,17 +80,23 @@ one_more rows ids i id whole h at period =
       is None e = absurd (cc)
       is (Some r) e = let f : r.period ≡ whole = cc in f
 
-pub row_held : (rows : List plain.Row) (ids : List ℕ) (i id : ℕ) (whole : Option plain.Period) (key : Cell) (start before after : List (Cell × List (ℤ × ℤ))) → i < length ids → id ≡ get_or ids i 0 → Some whole ≡ option_map (λ (r : plain.Row). r.period) (slice_get rows id)
-    → ((x : Cell) (t : ℤ) → is_covered t (cover_at x before) ≡ ((same_cell x key && list_any (is_within t) (map (λ row. period_of (slice_get rows row)) (take i ids))) || is_covered t (cover_at x start)))
-    → ((x : Cell) (t : ℤ) → is_covered t (cover_at x after) ≡ ((same_cell x key && is_within t whole) || is_covered t (cover_at x before)))
-    → (x : Cell) (t : ℤ) → is_covered t (cover_at x after) ≡ ((same_cell x key && list_any (is_within t) (map (λ row. period_of (slice_get rows row)) (take (i + 1) ids))) || is_covered t (cover_at x start))
-row_held rows ids i id whole key start before after h at period e f x t =
-    let all = ap (list_any (is_within t)) (one_more rows ids i id whole h at period) ∙ list_any-append (is_within t) (map (λ row. period_of (slice_get rows row)) (take i ids)) (whole ∷ []) in
-    grind (arith, f x t, e x t)
+affected_one : (own : List (Option plain.Period)) (rows : List plain.Row) (ids : List ℕ) (i id : ℕ) (whole : Option plain.Period) → i < length ids → id ≡ get_or ids i 0 → Some whole ≡ option_map (λ (r : plain.Row). r.period) (slice_get rows id)
+    → affected_periods own (map (λ row. period_of (slice_get rows row)) (take (i + 1) ids)) ≡ affected_periods own (map (λ row. period_of (slice_get rows row)) (take i ids)) ++ affected_periods own (whole ∷ [])
+affected_one own rows ids i id whole h at period = ap (affected_periods own) (one_more rows ids i id whole h at period) ∙ affected_more own (map (λ row. period_of (slice_get rows row)) (take i ids)) whole
 
-pub row_full : (rows : List plain.Row) (ids : List ℕ) (i id : ℕ) (whole : Option plain.Period) → i < length ids → id ≡ get_or ids i 0 → Some whole ≡ option_map (λ (r : plain.Row). r.period) (slice_get rows id) → Full (map (λ row. period_of (slice_get rows row)) (take i ids)) → Full (whole ∷ [])
-    → Full (map (λ row. period_of (slice_get rows row)) (take (i + 1) ids))
-row_full rows ids i id whole h at period full one = subst Full (sym (one_more rows ids i id whole h at period)) (full_both (map (λ row. period_of (slice_get rows row)) (take i ids)) (whole ∷ []) full one)
+pub row_held : (own : List (Option plain.Period)) (rows : List plain.Row) (ids : List ℕ) (i id : ℕ) (whole : Option plain.Period) (key : Cell) (start before after : List (Cell × List (ℤ × ℤ))) → i < length ids → id ≡ get_or ids i 0 → Some whole ≡ option_map (λ (r : plain.Row). r.period) (slice_get rows id)
+    → ((x : Cell) (t : ℤ) → is_covered t (cover_at x before) ≡ ((same_cell x key && list_any (is_within t) (affected_periods own (map (λ row. period_of (slice_get rows row)) (take i ids)))) || is_covered t (cover_at x start)))
+    → ((x : Cell) (t : ℤ) → is_covered t (cover_at x after) ≡ ((same_cell x key && list_any (is_within t) (affected_periods own (whole ∷ []))) || is_covered t (cover_at x before)))
+    → (x : Cell) (t : ℤ) → is_covered t (cover_at x after) ≡ ((same_cell x key && list_any (is_within t) (affected_periods own (map (λ row. period_of (slice_get rows row)) (take (i + 1) ids)))) || is_covered t (cover_at x start))
+row_held own rows ids i id whole key start before after h at period e f x t =
+    let all = ap (list_any (is_within t)) (affected_one own rows ids i id whole h at period) ∙ list_any-append (is_within t) (affected_periods own (map (λ row. period_of (slice_get rows row)) (take i ids))) (affected_periods own (whole ∷ [])) in
+    by_parts (same_cell x key) (list_any (is_within t) (affected_periods own (map (λ row. period_of (slice_get rows row)) (take i ids)))) (list_any (is_within t) (affected_periods own (whole ∷ []))) (list_any (is_within t) (affected_periods own (map (λ row. period_of (slice_get rows row)) (take (i + 1) ids)))) (is_covered t (cover_at x start)) (is_covered t (cover_at x before)) (is_covered t (cover_at x after)) all (e x t) (f x t) where
+      by_parts : (k a b c s m n : Bool) → c ≡ (a || b) → m ≡ ((k && a) || s) → n ≡ ((k && b) || m) → n ≡ ((k && c) || s)
+      by_parts k a b c s m n e f g = grind arith
+
+pub row_full : (own : List (Option plain.Period)) (rows : List plain.Row) (ids : List ℕ) (i id : ℕ) (whole : Option plain.Period) → i < length ids → id ≡ get_or ids i 0 → Some whole ≡ option_map (λ (r : plain.Row). r.period) (slice_get rows id) → Full (affected_periods own (map (λ row. period_of (slice_get rows row)) (take i ids))) → Full (affected_periods own (whole ∷ []))
+    → Full (affected_periods own (map (λ row. period_of (slice_get rows row)) (take (i + 1) ids)))
+row_full own rows ids i id whole h at period full one = subst Full (sym (affected_one own rows ids i id whole h at period)) (full_both (affected_periods own (map (λ row. period_of (slice_get rows row)) (take i ids))) (affected_periods own (whole ∷ [])) full one)
 
 -- ROWS OF THE KEYS SO FAR
 
@@ -101,28 +108,31 @@ same_open place x y (r ∷ rows) e =
       of_key None = refl
       of_key (Some z) = cell_sym z y ∙ (sym (same_as x y z e) ∙ cell_sym x z)
 
-pub fresh_rows : (place : ℕ) (rows : List plain.Row) (key_lines : List KeyLine) (i : ℕ) (s : KeyLine) (ps : List (Option plain.Period)) (before after : List (Cell × List (ℤ × ℤ))) → i < length key_lines → s ≡ get_or key_lines i s → ps ≡ open_periods place s.key rows
-    → HoldRows place before (lines_of (take i key_lines)) rows
-    → ((x : Cell) (t : ℤ) → is_covered t (cover_at x after) ≡ ((same_cell x s.key && list_any (is_within t) ps) || is_covered t (cover_at x before))) → Full ps → HoldRows place after (lines_of (take (i + 1) key_lines)) rows
-fresh_rows place rows key_lines i s ps before after h at made held adds full = record {
+same_met : (place : ℕ) (all : List BatchLine) (x y : Cell) (rows : List plain.Row) → same_cell x y ≡ true → met_periods place all y rows ≡ met_periods place all x rows
+same_met place all x y rows e = ap (λ own. affected_periods own (open_periods place y rows)) (sym (periods-same (Some x) y all e)) ∙ ap (affected_periods (periods_with (Some x) all)) (same_open place x y rows e)
+
+pub fresh_rows : (place : ℕ) (all : List BatchLine) (rows : List plain.Row) (key_lines : List KeyLine) (i : ℕ) (s : KeyLine) (ps : List (Option plain.Period)) (before after : List (Cell × List (ℤ × ℤ))) → i < length key_lines → s ≡ get_or key_lines i s → ps ≡ met_periods place all s.key rows
+    → HoldRows place before (lines_of (take i key_lines)) all rows
+    → ((x : Cell) (t : ℤ) → is_covered t (cover_at x after) ≡ ((same_cell x s.key && list_any (is_within t) ps) || is_covered t (cover_at x before))) → Full ps → HoldRows place after (lines_of (take (i + 1) key_lines)) all rows
+fresh_rows place all rows key_lines i s ps before after h at made held adds full = record {
   full = λ x e. all_full x (same_cell x s.key) refl (is_said (Some x) (lines_of (take i key_lines))) refl (sym (said_more (Some x) key_lines i s h at) ∙ e);
-  same = λ x t. adds x t ∙ (ap (λ b. (same_cell x s.key && list_any (is_within t) ps) || b) (held.same x t) ∙ (by_key x t (same_cell x s.key) refl ∙ ap (λ b. b && list_any (is_within t) (open_periods place x rows)) (sym (said_more (Some x) key_lines i s h at))));
+  same = λ x t. adds x t ∙ (ap (λ b. (same_cell x s.key && list_any (is_within t) ps) || b) (held.same x t) ∙ (by_key x t (same_cell x s.key) refl ∙ ap (λ b. b && list_any (is_within t) (met_periods place all x rows)) (sym (said_more (Some x) key_lines i s h at))));
 } where
-  all_full : (x : Cell) (k : Bool) → same_cell x s.key ≡ k → (a : Bool) → is_said (Some x) (lines_of (take i key_lines)) ≡ a → (is_said (Some x) (lines_of (take i key_lines)) || same_cell x s.key) ≡ true → Full (open_periods place x rows)
-  all_full x true g a f e = subst Full (made ∙ same_open place x s.key rows g) full
+  all_full : (x : Cell) (k : Bool) → same_cell x s.key ≡ k → (a : Bool) → is_said (Some x) (lines_of (take i key_lines)) ≡ a → (is_said (Some x) (lines_of (take i key_lines)) || same_cell x s.key) ≡ true → Full (met_periods place all x rows)
+  all_full x true g a f e = subst Full (made ∙ same_met place all x s.key rows g) full
   all_full x false g true f e = held.full x f
   all_full x false g false f e = absurd (let bad : false ≡ true = sym (ap (λ b. b || same_cell x s.key) f ∙ g) ∙ e in cc)
 
   by_key : (x : Cell) (t : ℤ) (k : Bool) → same_cell x s.key ≡ k
-      → ((same_cell x s.key && list_any (is_within t) ps) || (is_said (Some x) (lines_of (take i key_lines)) && list_any (is_within t) (open_periods place x rows))) ≡ ((is_said (Some x) (lines_of (take i key_lines)) || same_cell x s.key) && list_any (is_within t) (open_periods place x rows))
-  by_key x t true g = let same = ap (list_any (is_within t)) (made ∙ same_open place x s.key rows g) in grind arith
+      → ((same_cell x s.key && list_any (is_within t) ps) || (is_said (Some x) (lines_of (take i key_lines)) && list_any (is_within t) (met_periods place all x rows))) ≡ ((is_said (Some x) (lines_of (take i key_lines)) || same_cell x s.key) && list_any (is_within t) (met_periods place all x rows))
+  by_key x t true g = let same = ap (list_any (is_within t)) (made ∙ same_met place all x s.key rows g) in grind arith
   by_key x t false g = grind arith
 
-pub known_rows : (place : ℕ) (rows : List plain.Row) (key_lines : List KeyLine) (i : ℕ) (s : KeyLine) (seen : List Cell) (fresh : Bool) (covers : List (Cell × List (ℤ × ℤ))) → i < length key_lines → s ≡ get_or key_lines i s → fresh ≡ not (has_cell seen s.key) → fresh ≡ false
-    → ((x : Cell) → has_cell seen x ≡ is_said (Some x) (lines_of (take i key_lines))) → HoldRows place covers (lines_of (take i key_lines)) rows → HoldRows place covers (lines_of (take (i + 1) key_lines)) rows
-known_rows place rows key_lines i s seen fresh covers h at new gone e held = record {
+pub known_rows : (place : ℕ) (all : List BatchLine) (rows : List plain.Row) (key_lines : List KeyLine) (i : ℕ) (s : KeyLine) (seen : List Cell) (fresh : Bool) (covers : List (Cell × List (ℤ × ℤ))) → i < length key_lines → s ≡ get_or key_lines i s → fresh ≡ not (has_cell seen s.key) → fresh ≡ false
+    → ((x : Cell) → has_cell seen x ≡ is_said (Some x) (lines_of (take i key_lines))) → HoldRows place covers (lines_of (take i key_lines)) all rows → HoldRows place covers (lines_of (take (i + 1) key_lines)) all rows
+known_rows place all rows key_lines i s seen fresh covers h at new gone e held = record {
   full = λ x f. held.full x (sym (more x) ∙ f);
-  same = λ x t. held.same x t ∙ ap (λ b. b && list_any (is_within t) (open_periods place x rows)) (sym (more x));
+  same = λ x t. held.same x t ∙ ap (λ b. b && list_any (is_within t) (met_periods place all x rows)) (sym (more x));
 } where
   has : is_said (Some s.key) (lines_of (take i key_lines)) ≡ true
   has = sym (e s.key) ∙ turn (has_cell seen s.key) (sym new ∙ gone) where
@@ -148,7 +158,7 @@ said_at (r ∷ key_lines) (suc i) s h at = grind (arith, said_at key_lines i s (
 abbrev pub Tells : Bool → KeyLine → List (Cell × List (ℤ × ℤ)) → List (Cell × List (ℤ × ℤ)) → Type 0
 Tells affected s earlier covers = (lines : List BatchLine) (wholes : List (Option plain.Period)) → HoldLines earlier lines → Full wholes → ((t : ℤ) → is_covered t (cover_at s.key covers) ≡ list_any (is_within t) wholes) → affected ≡ affects_rest s.period (periods_with (Some s.key) lines) wholes
 
-pub row_affected_fault : (schema : plain.Schema) (rows : List plain.Row) (key_lines : List KeyLine) (i rec : ℕ) (s : KeyLine) (affected : Bool) (earlier covers : List (Cell × List (ℤ × ℤ))) → schema.valid ≡ true → i < length key_lines → s ≡ get_or key_lines i s → HoldRows schema.key covers (lines_of key_lines) rows → HoldLines earlier (lines_of (take i key_lines))
+pub row_affected_fault : (schema : plain.Schema) (rows : List plain.Row) (key_lines : List KeyLine) (i rec : ℕ) (s : KeyLine) (affected : Bool) (earlier covers : List (Cell × List (ℤ × ℤ))) → schema.valid ≡ true → i < length key_lines → s ≡ get_or key_lines i s → HoldRows schema.key covers (lines_of key_lines) (lines_of key_lines) rows → HoldLines earlier (lines_of (take i key_lines))
     → Tells affected s earlier covers → cond affected None (Some (fault.NoRow rec)) ≡ fault_of schema true rows (lines_of (take i key_lines)) (line_of s) rec
 row_affected_fault schema rows key_lines i rec s affected earlier covers valid h at held lines tells =
     ap (λ b. cond b None (Some (fault.NoRow rec))) is ∙ (turned (list_any (is_row_affected schema (lines_of (take i key_lines)) (line_of s)) rows)
@@ -157,7 +167,8 @@ row_affected_fault schema rows key_lines i rec s affected earlier covers valid h
       has = said_at key_lines i s h at
 
       is : affected ≡ list_any (is_row_affected schema (lines_of (take i key_lines)) (line_of s)) rows
-      is = tells (lines_of (take i key_lines)) (open_periods schema.key s.key rows) lines (held.full s.key has) (λ t. held.same s.key t ∙ ap (λ b. b && list_any (is_within t) (open_periods schema.key s.key rows)) has) ∙ open_row_affected schema (lines_of (take i key_lines)) s rows valid
+      is = tells (lines_of (take i key_lines)) (met_periods schema.key (lines_of key_lines) s.key rows) lines (held.full s.key has) (λ t. held.same s.key t ∙ ap (λ b. b && list_any (is_within t) (met_periods schema.key (lines_of key_lines) s.key rows)) has)
+          ∙ (met_rest s.period (periods_with (Some s.key) (lines_of (take i key_lines))) (periods_with (Some s.key) (lines_of key_lines)) (open_periods schema.key s.key rows) (λ p e. said_among key_lines i s p h at e) ∙ open_row_affected schema (lines_of (take i key_lines)) s rows valid)
 
       turned : (b : Bool) → cond b None (Some (fault.NoRow rec)) ≡ cond (true && not b) (Some (fault.NoRow rec)) None
       turned true = refl

@@ -1,19 +1,16 @@
 -- Lines for a table without valid time.
-use Rattle.std.proofs.Common.{◌≡◌, ℕ, zero, suc, ◌+◌, ◌<◌, Bool, true, false, ◌&&◌, ◌||◌, not, cond, List, [], ◌∷◌, length, map, drop, get_or, slice_get, Option, Some, None, is_some, IfSome, IfNone, refl, sym, ap, ◌∙◌, arith}
+use Rattle.std.proofs.Common.{◌≡◌, ℕ, zero, suc, ◌+◌, ◌<◌, ◌≤◌, Bool, true, false, ◌&&◌, ◌||◌, not, cond, List, [], ◌∷◌, length, map, drop, get_or, slice_get, Option, Some, None, is_some, IfSome, IfNone, refl, sym, ap, ◌∙◌, arith}
 use Rattle.std.specs.Borrow.{Bor}
-use Rattle.std.specs.List.{list_any}
-use Rattle.std.proofs.lemmas.List.{at_drop_more}
+use Rattle.std.proofs.lemmas.List.{at_drop_more, drop_all}
 use Rattle.tl_types.specs.declared.cells.Cell.{Cell}
 use Rattle.tl_types.specs.declared.batches.BatchFault.{BatchFault}
 use Rattle.tl_types.specs.declared.batches.BatchFault.TheVariants as fault
-use Rattle.tl_types.specs.contracts.cells.CellPartialEq.TheImpl as equal
 use Rattle.tl_types.specs.Plain as plain
 use Rattle.tl_types.specs.History.{same_cell}
 use Rattle.tl_batch.specs.KeyIndex.{IdsByKey, has_row}
 use Rattle.tl_batch.specs.OpenTables.{IsIndexOf}
 use Rattle.tl_batch.specs.Standing.{is_open_with}
 use Rattle.tl_batch.specs.Untimed.{has_cell, has_open, fault_of_key, key_fault}
-use Rattle.tl_batch.proofs.KeyIndexLemmas.{eq_is, cell_sym}
 
 -- OPEN ROWS OF A KEY
 
@@ -29,19 +26,6 @@ open_nowhere place x (r ∷ rows) none = ap (λ b. b || has_open place x rows) (
 pub found_open : (index : IdsByKey) (place : ℕ) (x : Cell) (rows : List plain.Row) (r : Option ℕ) → IsIndexOf index place rows → IfSome r (λ id. has_row index x id ≡ true) → IfNone r ((n : ℕ) → has_row index x n ≡ false) → is_some r ≡ has_open place x rows
 found_open index place x rows None stand some none = sym (open_nowhere place x rows (λ n. sym (stand x n) ∙ none n))
 found_open index place x rows (Some id) stand some none = sym (open_there place x rows id (sym (stand x id) ∙ some))
-
--- SETS OF KEYS
-
-lent_cells : (x : Cell) (keys : List (Bor Cell)) → list_any (λ k. equal.eq-value.it x k.now) keys ≡ has_cell (map (λ k. k.now) keys) x
-lent_cells x [] = refl
-lent_cells x (k ∷ keys) = grind (arith, eq_is x k.now, lent_cells x keys)
-
-pub key_fresh : (x : Cell) (fresh : Bool) (keys : List (Bor Cell)) (all : List Cell) → fresh ≡ not (list_any (λ k. equal.eq-value.it x k.now) keys) → map (λ k. k.now) keys ≡ all → fresh ≡ not (has_cell all x)
-key_fresh x fresh keys all e view = e ∙ (ap not (lent_cells x keys) ∙ ap (λ ks. not (has_cell ks x)) view)
-
-pub key_added : (key x : Cell) (keys more : List (Bor Cell)) (all : List Cell) → list_any (λ k. equal.eq-value.it x k.now) more ≡ cond (equal.eq-value.it key x) true (list_any (λ k. equal.eq-value.it x k.now) keys) → map (λ k. k.now) keys ≡ all
-    → has_cell (map (λ k. k.now) more) x ≡ (same_cell x key || has_cell all x)
-key_added key x keys more all update view = grind (arith, lent_cells x more, eq_is key x, cell_sym key x, lent_cells x keys)
 
 -- THE FIRST FAULT
 
@@ -80,3 +64,8 @@ more_keys removes place rows keys i k earlier more fresh o all h at e f none add
     ∙ fault_later removes place rows (i + 2) earlier more k.now (map (λ q. q.now) (drop (i + 1) keys)) fresh o all e f none added (ap (key_fault removes place rows (i + 2) earlier) (sym (dropped keys i k h at)) ∙ start)
 
 -- IDS OF KEYS
+
+-- no line is left
+pub no_fault : (removes : Bool) (place : ℕ) (rows : List plain.Row) (rec : ℕ) (earlier : List Cell) (keys : List (Bor Cell)) (i : ℕ) (all : Option BatchFault) → length keys ≤ i
+    → key_fault removes place rows rec earlier (map (λ k. k.now) (drop i keys)) ≡ all → None ≡ all
+no_fault removes place rows rec earlier keys i all h e = sym (ap (λ ks. key_fault removes place rows rec earlier (map (λ (k : Bor Cell). k.now) ks)) (drop_all i keys h)) ∙ e

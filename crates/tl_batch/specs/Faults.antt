@@ -51,11 +51,24 @@ open_periods place x (row ∷ rows) =
     && same_key (slice_get row.cells place) (Some x) then row.period ∷ open_periods place x rows
     else open_periods place x rows
 
--- for the keys of the lines, the covers have the moments of the current rows and no others, and
--- each such row has a moment
-pub record HoldRows (place : ℕ) (covers : List (Cell × List (ℤ × ℤ))) (lines : List BatchLine)
-    (rows : List plain.Row) : Type 0 where
-  pub full : (x : Cell) → is_said (Some x) lines ≡ true → Full (open_periods place x rows)
+-- of some periods those that a line affects
+abbrev pub affected_periods : List (Option plain.Period) → List (Option plain.Period)
+    → List (Option plain.Period)
+affected_periods lines [] = []
+affected_periods lines (p ∷ ps) =
+    if list_any (λ line. affects_period true line p) lines then p ∷ affected_periods lines ps
+    else affected_periods lines ps
+
+-- the periods of the current rows of a key that a line of the key affects
+abbrev pub met_periods : ℕ → List BatchLine → Cell → List plain.Row → List (Option plain.Period)
+met_periods place lines x rows =
+    affected_periods (periods_with (Some x) lines) (open_periods place x rows)
+
+-- for the keys of the first of the lines, the covers have the moments of the current rows that a
+-- line affects and no others, and each such row has a moment
+pub record HoldRows (place : ℕ) (covers : List (Cell × List (ℤ × ℤ)))
+    (first lines : List BatchLine) (rows : List plain.Row) : Type 0 where
+  pub full : (x : Cell) → is_said (Some x) first ≡ true → Full (met_periods place lines x rows)
   pub same : (x : Cell) (t : ℤ)
       → is_covered t (cover_at x covers)
-      ≡ (is_said (Some x) lines && list_any (is_within t) (open_periods place x rows))
+      ≡ (is_said (Some x) first && list_any (is_within t) (met_periods place lines x rows))

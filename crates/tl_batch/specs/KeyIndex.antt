@@ -1,32 +1,44 @@
 -- The ids of rows by their keys: one id or two of each key that has any, and further ones.
-use Rattle.std.specs.Prelude.{◌≡◌, if◌then◌else◌, ℕ, Bool, false, ◌||◌, ◌==◌, List, [], Option, Some, None}
+use Rattle.std.specs.Ordering.{int_eq}
+use Rattle.std.specs.Prelude.{◌≡◌, if◌then◌else◌, ℕ, ℤ, Bool, false, ◌||◌, ◌==◌, List, [], Option, Some, None}
 use Rattle.std.specs.Map.{lookup}
 use Rattle.tl_types.specs.declared.cells.Cell.{Cell}
+use Rattle.tl_types.specs.declared.cells.Cell.TheVariants as cell
+use Rattle.tl_types.specs.Names.{same_bytes}
 use Rattle.tl_types.specs.History.{has_id, same_cell}
 use Rattle.tl_batch.specs.declared.few_ids.FewIds.{FewIds}
 
+-- one id or two of each key that has any: of numbers, and of texts
+pub record FewIdsByKey : Type 0 where
+  pub numbers : List (ℤ × FewIds)
+  pub texts : List (List ℕ × FewIds)
+
 -- the ids of rows by their keys: one or two of each, and the further ones
 pub record IdsByKey : Type 0 where
-  pub few : List (Cell × FewIds)
+  pub few : FewIdsByKey
   pub further : List (Cell × List ℕ)
 
 -- no ids
 abbrev pub no_ids : IdsByKey
-no_ids = record { few = []; further = [] }
-
--- the id is there, and it is this one
-abbrev pub is_id : Option ℕ → ℕ → Bool
-is_id None n = false
-is_id (Some id) n = n == id
+no_ids = record { few = record { numbers = []; texts = [] }; further = [] }
 
 -- this is the one id or the other
 abbrev pub is_of : FewIds → ℕ → Bool
-is_of ids n = n == ids.first || is_id ids.second n
+is_of ids n = n == ids.first || n == ids.last
 
 -- there are one or two ids, and this is one of them
 abbrev pub is_among_few : Option FewIds → ℕ → Bool
 is_among_few None n = false
 is_among_few (Some ids) n = is_of ids n
+
+-- the id is one of the one or two ids that stand at a key, where keys are compared by a test
+abbrev pub is_at_key : {K : Type 0} → (K → K → Bool) → List (K × FewIds) → K → ℕ → Bool
+is_at_key same entries key n = is_among_few (lookup (same key) entries) n
+
+-- the id is one of the one or two ids of the key
+abbrev pub has_few : FewIdsByKey → Cell → ℕ → Bool
+has_few few (cell.Int i) n = is_at_key int_eq few.numbers i n
+has_few few (cell.Text t) n = is_at_key same_bytes few.texts t n
 
 -- one of the ids, where there are any, is this one
 abbrev pub is_among_ids : Option (List ℕ) → ℕ → Bool
@@ -39,7 +51,7 @@ has_further further x n = is_among_ids (lookup (same_cell x) further) n
 
 -- the id stands there under the key
 abbrev pub has_row : IdsByKey → Cell → ℕ → Bool
-has_row ids x n = is_among_few (lookup (same_cell x) ids.few) n || has_further ids.further x n
+has_row ids x n = has_few ids.few x n || has_further ids.further x n
 
 -- what is found at each key after what is found at one key has become this
 abbrev pub Changes : {X : Type 0} → Cell → Option X → List (Cell × X) → List (Cell × X) → Type 0

@@ -7,6 +7,7 @@ pub mod Pieces
 pub mod Lines
 pub mod Covers
 pub mod Stretches
+pub mod StretchesRefs
 pub mod Faults
 pub mod Made
 pub mod PutRows

@@ -3,6 +3,7 @@ ghost use Rattle.std.specs.Prelude.{◌≡◌, ◌+◌, ◌<◌, ◌^◌, ◌++�
 ghost use Rattle.std.specs.List.{list_all};
 ghost use Rattle.tl_types.specs.History.{matches};
 ghost use Rattle.tl_types.specs.Resolving.{put_lines, removal_lines};
+ghost use Rattle.tl_batch.specs.Covers.{HoldLines};
 ghost use Rattle.tl_batch.specs.Lines.{lines_of};
 ghost use Rattle.tl_batch.specs.Made.{IsMade};
 ghost use Rattle.tl_batch.specs.Pieces.{affected_ids, old_pieces, put_pieces};
@@ -12,7 +13,7 @@ use crate::faults::first_fault;
 use crate::lines::lines_of_rows;
 use crate::open_table::OpenTable;
 use crate::opening::{old_pieces, push_puts};
-use crate::periods_by_key::covers_of;
+use crate::periods_by_key::{PeriodsByKey, covers_of};
 use std::alloc::Global;
 use std::sync::ledger::{Blank, Ledger};
 use tl_types::{BatchFault, KeyLine, NoMemory, Opened, Seq, Steps};
@@ -24,24 +25,26 @@ pub(crate) struct RowChanges {
     pub(crate) opens: Vec<Opened>,
 }
 
-// The open rows that lines affect, and what the lines leave of these.
+// The open rows that lines, whose periods are given by key, affect, and what the lines leave of
+// these.
 fn cut_rows<L: Ledger>(
     alloc: Global,
     table: &OpenTable<'_>,
     lines: &[KeyLine],
+    periods: &PeriodsByKey,
     steps: &mut Steps<L>,
 ) -> Result<RowChanges, NoMemory>
     requires valid { table.now.schema.valid ≡ true }
+    requires held { HoldLines periods.now (lines_of lines.now) }
     ensures closes { IfOk result (λ changes. changes.closes
         ≡ affected_ids table.now.schema (lines_of lines.now) 0 table.now.rows) }
     ensures opens { IfOk result (λ changes. changes.opens.items
         ≡ old_pieces table.now.schema (lines_of lines.now) table.now.rows) }
 {
-    let periods = covers_of(alloc, lines)?;
-    let affected = affected_rows(alloc, table, lines, &periods, steps)?;
+    let affected = affected_rows(alloc, table, lines, periods, steps)?;
     let closes = affected.listed();
     let ids = closes.as_slice();
-    let opens = old_pieces(alloc, table, &periods, ids, steps)?;
+    let opens = old_pieces(alloc, table, periods, ids, steps)?;
     Ok(RowChanges { closes, opens })
 }
 
@@ -66,7 +69,8 @@ pub(crate) fn put_timed<L: Ledger>(
     let mut steps = Steps::<L>::new(blank);
     let schema = table.schema();
     let lines = lines_of_rows(alloc, rows, schema.key())?;
-    let changes = cut_rows(alloc, table, &lines, &mut steps)?;
+    let periods = covers_of(alloc, &lines)?;
+    let changes = cut_rows(alloc, table, &lines, &periods, &mut steps)?;
     let RowChanges { closes, mut opens } = changes;
     push_puts(alloc, &mut opens, schema, rows)?;
     Ok(RowChanges { closes, opens })
@@ -88,10 +92,11 @@ pub(crate) fn remove_timed<L: Ledger>(
     ensures { IfOk result (IsMade true table.now.schema table.now.rows (removal_lines lines.now)) }
 {
     let mut steps = Steps::<L>::new(blank);
-    let found = first_fault(alloc, table, lines, &mut steps)?;
+    let periods = covers_of(alloc, lines)?;
+    let found = first_fault(alloc, table, lines, &periods, &mut steps)?;
     if let Some(fault) = found {
         return Ok(Err(fault));
     }
-    let changes = cut_rows(alloc, table, lines, &mut steps)?;
+    let changes = cut_rows(alloc, table, lines, &periods, &mut steps)?;
     Ok(Ok(changes))
 }

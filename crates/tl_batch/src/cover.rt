@@ -1,28 +1,62 @@
 //! The moments that the lines of one key cover.
-ghost use Rattle.std.specs.Prelude.{◌≡◌, ℤ, true, List, Option, option_map};
+ghost use Rattle.std.specs.Prelude.{◌≡◌, ℤ, true, List, Option, [], option_map};
 ghost use Rattle.std.specs.List.{list_any};
 ghost use Rattle.tl_types.specs.Plain as plain;
 ghost use Rattle.tl_types.specs.History.{is_within};
 ghost use Rattle.tl_batch.specs.Covers.{Full, is_covered, stretches_or};
+ghost use Rattle.tl_batch.specs.StretchesRefs.{AreApart, stretches_shown};
 ghost use Rattle.tl_batch.specs.Pieces.{affects_period};
+ghost use Rattle.tl_batch.specs.Stretches.{stretches_in};
 
-use crate::period_set::PeriodSet;
+use crate::few_periods::overlap;
+use crate::many_periods::ManyPeriods;
+use crate::period_set::{PeriodSet, Stretches};
 use std::marker::Model;
 use tl_types::Period;
+
+/// Stretches that are lent, each as its end and the moment where it begins.
+#[derive(Drop)]
+pub(crate) enum StretchesRef<'a> {
+    /// Stretches that stand in a list.
+    Few(&'a [(i64, i64)]),
+    /// Stretches that stand in a tree.
+    Many(&'a ManyPeriods),
+}
 
 /// The moments that the lines of one key cover: those of a set, or none where the key has no set.
 #[derive(Drop)]
 pub(crate) struct Cover<'a> {
-    moments: Option<&'a PeriodSet>,
+    stretches: StretchesRef<'a>,
 }
 
 impl<'a> Model for Cover<'a> {
-    ghost use Rattle.std.specs.Prelude.{ℤ, List, option_map};
-    ghost use Rattle.tl_batch.specs.Covers.{stretches_or};
+    ghost use Rattle.std.specs.Prelude.{ℤ, List};
+    ghost use Rattle.tl_batch.specs.StretchesRefs.{AreApart, stretches_shown};
 
     ghost Value = { List (ℤ × ℤ) };
 
-    ghost view = { λ c. stretches_or (option_map (λ m. m.now) c.moments) };
+    ghost view = { λ c. stretches_shown c.stretches };
+
+    ghost invariant = { λ c. AreApart c.stretches };
+}
+
+// The stretches of a set, lent.
+fn stretches_of(stretches: &Stretches) -> StretchesRef<'_>
+    ensures same { stretches_shown result ≡ stretches_in stretches.now }
+    ensures apart { AreApart result }
+{
+    match stretches {
+        Stretches::Few(few) => StretchesRef::Few(few.as_slice()),
+        Stretches::Many(many) => StretchesRef::Many(many),
+    }
+}
+
+// No stretches.
+fn none<'a>() -> StretchesRef<'a>
+    ensures same { stretches_shown result ≡ [] }
+    ensures apart { AreApart result }
+{
+    StretchesRef::Few(&[])
 }
 
 impl<'a> Cover<'a> {
@@ -30,10 +64,16 @@ impl<'a> Cover<'a> {
     pub(crate) fn new(moments: Option<&'a PeriodSet>) -> Cover<'a>
         ensures { result ≡ stretches_or (option_map (λ m. m.now) moments.entry) }
     {
-        Cover { moments }
+        match moments {
+            Some(set) => Cover {
+                stretches: stretches_of(set.stretches()),
+            },
+            None => Cover { stretches: none() },
+        }
     }
 
     /// Whether a line affects a valid period.
+    #[inline(always)]
     pub(crate) fn affects(&self, whole: &Option<Period>) -> bool
         ensures { (lines : List (Option plain.Period)) → Full lines
             → ((t : ℤ) → is_covered t self.now ≡ list_any (is_within t) lines)
@@ -42,9 +82,9 @@ impl<'a> Cover<'a> {
         let Some(period) = whole else {
             return false;
         };
-        match self.moments {
-            Some(moments) => moments.overlaps(*period),
-            None => false,
+        match &self.stretches {
+            StretchesRef::Few(stretches) => overlap(stretches, *period),
+            StretchesRef::Many(many) => many.overlaps(*period),
         }
     }
 }

@@ -1,11 +1,13 @@
 //! The moments that few periods cover, as stretches with something between neighbours.
-ghost use Rattle.std.specs.Prelude.{◌≡◌, ◌+◌, ◌<◌, ◌≤◌, ◌||◌, ◌++◌, ◌<ℤ◌, ℤ, true, List, Option, [], None, Some, IfOk, IfSome, IfNone, OnOk, length, slice_get};
+ghost use Rattle.std.specs.Prelude.{◌≡◌, ◌+◌, ◌<◌, ◌≤◌, ◌||◌, ◌++◌, ◌<ℤ◌, ℤ, true, List, Option, [], None, Some, IfOk, IfSome, IfNone, OnOk, length, nat_le, slice_get};
 ghost use Rattle.std.specs.List.{list_any};
 ghost use Rattle.tl_types.specs.Plain as plain;
 ghost use Rattle.tl_types.specs.History.{is_within};
 ghost use Rattle.tl_batch.specs.Covers.{Full, Beyond, before_all, is_between, is_covered, joining, gaps, ended, first_begins};
-ghost use Rattle.tl_batch.specs.Pieces.{affects_period, cuts, part};
+ghost use Rattle.tl_batch.specs.Pieces.{affects_period, cuts};
 
+use crate::parts::{Parts, push_part};
+use smallvec::SmallVec;
 use std::alloc::Global;
 use std::marker::Model;
 use tl_types::{NoMemory, Period};
@@ -18,7 +20,7 @@ const MOST: usize = 32;
 /// is full is to be kept in another way.
 #[derive(Drop)]
 pub(crate) struct FewPeriods {
-    stretches: Vec<(i64, i64)>,
+    stretches: SmallVec<(i64, i64), 2>,
 }
 
 impl Model for FewPeriods {
@@ -33,6 +35,7 @@ impl Model for FewPeriods {
 }
 
 // The end of a stretch.
+#[inline]
 fn end_of(stretch: &(i64, i64)) -> i64
     ensures { result ≡ stretch.now.0 }
 {
@@ -40,6 +43,7 @@ fn end_of(stretch: &(i64, i64)) -> i64
 }
 
 // The moment where a stretch begins.
+#[inline]
 fn start_of(stretch: &(i64, i64)) -> i64
     ensures { result ≡ stretch.now.1 }
 {
@@ -78,7 +82,7 @@ fn joining(stretches: &[(i64, i64)], from: i64, to: i64) -> Option<usize>
 
 // Takes away the stretches that overlap one or are adjacent to it, and gives the stretch of all of
 // these.
-fn absorbed(stretches: &mut Vec<(i64, i64)>, period: Period) -> (i64, i64)
+fn absorbed(stretches: &mut SmallVec<(i64, i64), 2>, period: Period) -> (i64, i64)
     requires { Beyond before_all stretches.old.items }
     ensures beyond { Beyond before_all stretches.new.items }
     ensures order { result.0 <ℤ result.1 }
@@ -98,6 +102,7 @@ fn absorbed(stretches: &mut Vec<(i64, i64)>, period: Period) -> (i64, i64)
 }
 
 // Whether the first of the stretches that end after a moment begins before another.
+#[inline(always)]
 fn first_begins(stretches: &[(i64, i64)], from: i64, to: i64) -> bool
     ensures { result ≡ first_begins from to stretches.now }
 {
@@ -109,14 +114,16 @@ fn first_begins(stretches: &[(i64, i64)], from: i64, to: i64) -> bool
     false
 }
 
-// Appends the times from one on and before another, where there are any. The error is `NoMemory`.
-fn push_part(parts: &mut Vec<Option<Period>>, from: i64, to: i64) -> Result<(), NoMemory>
-    ensures { OnOk result (parts.new.items ≡ parts.old.items ++ part from to) }
+/// Whether one of stretches, each as its end and the moment where it begins, has a moment of a
+/// period. There is something between neighbours.
+#[inline(always)]
+pub(crate) fn overlap(stretches: &[(i64, i64)], period: Period) -> bool
+    requires { Beyond before_all stretches.now }
+    ensures { (lines : List (Option plain.Period)) → Full lines
+        → ((t : ℤ) → is_covered t stretches.now ≡ list_any (is_within t) lines)
+        → result ≡ list_any (λ line. affects_period true line (Some period)) lines }
 {
-    if from < to {
-        parts.push(Some(Period::new(from, to)))?;
-    }
-    Ok(())
+    first_begins(stretches, period.from(), period.to())
 }
 
 // The times between two moments that no stretch covers.
@@ -125,10 +132,10 @@ fn gaps_between(
     stretches: &[(i64, i64)],
     from: i64,
     to: i64,
-) -> Result<Vec<Option<Period>>, NoMemory>
+) -> Result<Parts, NoMemory>
     ensures { IfOk result (λ left. left.items ≡ gaps from to stretches.now) }
 {
-    let mut left = Vec::new(alloc);
+    let mut left = Parts::new(alloc);
     let mut start = from;
     for stretch in stretches {
         if end_of(stretch) <= start {
@@ -151,12 +158,14 @@ impl FewPeriods {
         ensures { result ≡ [] }
     {
         FewPeriods {
-            stretches: Vec::new(alloc),
+            stretches: SmallVec::new(alloc),
         }
     }
 
     /// Whether there are as many stretches as few can be.
-    pub(crate) fn is_full(&self) -> bool {
+    pub(crate) fn is_full(&self) -> bool
+        ensures { result ≡ nat_le 32 (length self.now) }
+    {
         self.stretches.len() >= MOST
     }
 
@@ -179,21 +188,8 @@ impl FewPeriods {
         Ok(())
     }
 
-    /// Whether a moment of a period is covered.
-    pub(crate) fn overlaps(&self, period: Period) -> bool
-        ensures { (lines : List (Option plain.Period)) → Full lines
-            → ((t : ℤ) → is_covered t self.now ≡ list_any (is_within t) lines)
-            → result ≡ list_any (λ line. affects_period true line (Some period)) lines }
-    {
-        first_begins(self.stretches.as_slice(), period.from(), period.to())
-    }
-
     /// The parts of a period that are not covered. The error is `NoMemory`.
-    pub(crate) fn gaps(
-        &self,
-        alloc: Global,
-        period: Period,
-    ) -> Result<Vec<Option<Period>>, NoMemory>
+    pub(crate) fn gaps(&self, alloc: Global, period: Period) -> Result<Parts, NoMemory>
         ensures some { period.from <ℤ period.to }
         ensures value { IfOk result (λ left. left.items ≡ gaps period.from period.to self.now) }
         ensures lines { IfOk result (λ left. (lines : List (Option plain.Period)) → Full lines

@@ -141,6 +141,25 @@ fn add_opened(
     }
 }
 
+// Makes room for the keys of opened rows, of which so many take the place of others. The key stands
+// at a place among the cells. The error is `NoMemory`; no id changes, then either.
+fn make_room(
+    index: &mut KeyIndex,
+    opens: &[Opened],
+    place: u8,
+    closed: usize,
+) -> Result<(), NoMemory>
+    requires keyed { All (λ o. place < length o.cells) opens.now }
+    ensures { (x : Cell) (n : ℕ) → has_row index.new x n ≡ has_row index.old x n }
+{
+    let [first, ..] = opens else {
+        return Ok(());
+    };
+    let cells = first.cells();
+    index.reserve(opens.len().saturating_sub(closed), &cells[place as usize])?;
+    Ok(())
+}
+
 /// Adds the ids of the rows that a change opens, of which the first has this id, and takes away
 /// those of the rows that it closes. The key stands at a place among the cells. The error is
 /// `NoMemory`, and leaves the ids as they were.
@@ -162,7 +181,7 @@ pub(crate) fn change_index(
         ≡ has_row index.old x n) }
 {
     let opens = change.opens();
-    index.reserve(opens.len().saturating_sub(closed.len()))?;
+    make_room(index, opens, place, closed.len())?;
     add_opened(index, alloc, opens, place, first)?;
     remove_closed(index, closed);
     Ok(())

@@ -85,20 +85,6 @@ impl FurtherIds {
         ids.remove(id);
     }
 
-    // Takes one of the ids of a key out, where there is one, and leaves the set of its ids, also
-    // where it is empty.
-    fn draw(&mut self, key: &Cell) -> Option<u32>
-        ensures some { IfSome result (λ id. (x : Cell) (n : ℕ) → has_further self.old x n
-            ≡ ((same_cell x key.now && (n == id)) || has_further self.new x n)) }
-        ensures none { IfNone result ((x : Cell) (n : ℕ) → has_further self.new x n
-            ≡ has_further self.old x n) }
-    {
-        let Some(ids) = self.ids.get_mut(key) else {
-            return None;
-        };
-        ids.pop()
-    }
-
     // Whether there is an empty set of ids of a key.
     fn is_spent(&self, key: &Cell) -> bool
         ensures { IsTrue result → (n : ℕ) → has_further self.now key.now n ≡ false }
@@ -119,6 +105,7 @@ impl FurtherIds {
     }
 
     /// Takes an id of a key away.
+    #[inline(always)]
     pub(crate) fn remove(&mut self, key: &Cell, id: u32)
         ensures { (x : Cell) (n : ℕ) → has_further self.new x n
             ≡ (not (same_cell x key.now && (n == id)) && has_further self.old x n) }
@@ -130,26 +117,15 @@ impl FurtherIds {
         self.shed(key);
     }
 
-    /// Takes one of the ids of a key out, where there is one.
-    pub(crate) fn pop(&mut self, key: &Cell) -> Option<u32>
-        ensures some { IfSome result (λ id. (x : Cell) (n : ℕ) → has_further self.old x n
-            ≡ ((same_cell x key.now && (n == id)) || has_further self.new x n)) }
-        ensures none { IfNone result ((x : Cell) (n : ℕ) → has_further self.new x n
-            ≡ has_further self.old x n) }
-    {
-        if self.ids.is_empty() {
-            return None;
-        }
-        let id = self.draw(key);
-        self.shed(key);
-        id
-    }
-
     /// One of the ids of a key, where there is one.
+    #[inline(always)]
     pub(crate) fn find(&self, key: &Cell) -> Option<u32>
         ensures some { IfSome result (λ id. has_further self.now key.now id ≡ true) }
         ensures none { IfNone result ((n : ℕ) → has_further self.now key.now n ≡ false) }
     {
+        if self.ids.is_empty() {
+            return None;
+        }
         match self.ids.get(key) {
             Some(ids) => ids.any(),
             None => None,
@@ -157,10 +133,14 @@ impl FurtherIds {
     }
 
     /// Adds the ids of a key to a list. The error is `NoMemory`.
+    #[inline(always)]
     pub(crate) fn add_to(&self, key: &Cell, list: &mut IdList) -> Result<(), NoMemory>
         ensures { OnOk result ((n : ℕ) → has_id list.new n
             ≡ (has_further self.now key.now n || has_id list.old n)) }
     {
+        if self.ids.is_empty() {
+            return Ok(());
+        }
         match self.ids.get(key) {
             Some(ids) => {
                 ids.add_to(list)?;

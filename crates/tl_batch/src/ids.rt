@@ -77,24 +77,6 @@ fn take_key(further: &mut BTreeSet<u32>, id: u32)
     further.remove(&id);
 }
 
-// Takes the last of the ids out of a list.
-fn pop_id(few: &mut Vec<u32>) -> Option<u32>
-    ensures taken { IfSome result (λ id. (n : ℕ) → has_id few.old.items n
-        ≡ ((n == id) || has_id few.new.items n)) }
-    ensures none { IfNone result (few.new.items ≡ few.old.items) }
-{
-    few.pop()
-}
-
-// Takes the least of the ids out of a tree.
-fn pop_key(further: &mut BTreeSet<u32>) -> Option<u32>
-    ensures taken { IfSome result (λ id. (n : ℕ) → has_id further.old.keys n
-        ≡ ((n == id) || has_id further.new.keys n)) }
-    ensures none { IfNone result (further.new.keys ≡ further.old.keys) }
-{
-    further.pop_first()
-}
-
 // The first of the ids in a list.
 fn first_id(few: &[u32]) -> Option<u32>
     ensures some { IfSome result (λ id. has_id few.now id ≡ true) }
@@ -165,18 +147,6 @@ impl IdSet {
     {
         take_out(&mut self.few, id);
         take_key(&mut self.further, id);
-    }
-
-    /// Takes one of the ids out, where there is one.
-    pub(crate) fn pop(&mut self) -> Option<u32>
-        ensures taken { IfSome result (λ id. (n : ℕ) → has_id self.old n
-            ≡ ((n == id) || has_id self.new n)) }
-        ensures none { IfNone result (self.new ≡ self.old) }
-    {
-        if let Some(id) = pop_id(&mut self.few) {
-            return Some(id);
-        }
-        pop_key(&mut self.further)
     }
 
     /// One of the ids, where there is one.

@@ -6,11 +6,10 @@ ghost use Rattle.tl_types.specs.Facts.{AscendFrom};
 ghost use Rattle.tl_types.specs.History.{has_id, same_cell};
 ghost use Rattle.tl_batch.specs.KeyIndex.{Changes, has_further, has_row, no_ids, is_among_few};
 
-use crate::few_ids::FewIds;
+use crate::few_by_key::FewByKey;
 use crate::further_ids::FurtherIds;
 use crate::id_list::IdList;
 use std::alloc::Global;
-use std::collections::HashMap;
 use std::marker::Model;
 use tl_types::{Cell, NoMemory, Seq};
 
@@ -19,7 +18,7 @@ use tl_types::{Cell, NoMemory, Seq};
 /// there under a key, by `has_row`.
 #[derive(Drop)]
 pub(crate) struct KeyIndex {
-    few: HashMap<Cell, FewIds>,
+    few: FewByKey,
     further: FurtherIds,
 }
 
@@ -28,7 +27,7 @@ impl Model for KeyIndex {
 
     ghost Value = { IdsByKey };
 
-    ghost view = { λ k. record { few = k.few.entries; further = k.further } };
+    ghost view = { λ k. record { few = k.few; further = k.further } };
 }
 
 impl KeyIndex {
@@ -37,137 +36,65 @@ impl KeyIndex {
         ensures { result ≡ no_ids }
     {
         KeyIndex {
-            few: HashMap::new(alloc),
+            few: FewByKey::new(alloc),
             further: FurtherIds::new(alloc),
         }
     }
 
-    /// Makes room for so many further keys. The error is `NoMemory`; no id changes, then either.
-    pub(crate) fn reserve(&mut self, keys: usize) -> Result<(), NoMemory>
+    /// Makes room for so many further keys of the kind of one. The error is `NoMemory`; no id
+    /// changes, then either.
+    pub(crate) fn reserve(&mut self, keys: usize, like: &Cell) -> Result<(), NoMemory>
         ensures { (x : Cell) (n : ℕ) → has_row self.new x n ≡ has_row self.old x n }
     {
-        self.few.reserve(keys)?;
+        self.few.reserve(keys, like)?;
         Ok(())
-    }
-
-    // The ids of a key in the map.
-    fn few_of(&self, key: &Cell) -> Option<FewIds>
-        ensures { result ≡ lookup (same_cell key.now) self.now.few }
-    {
-        match self.few.get(key) {
-            Some(ids) => Some(*ids),
-            None => None,
-        }
-    }
-
-    // Gives a key that has no ids in the map one.
-    fn insert_id(&mut self, key: &Cell, id: u32) -> Result<(), NoMemory>
-        requires { is_some (lookup (same_cell key.now) self.old.few) ≡ false }
-        ensures ok { OnOk result ((x : Cell) (n : ℕ) → has_row self.new x n
-            ≡ ((same_cell x key.now && (n == id)) || has_row self.old x n)) }
-        ensures err { OnErr result (self.new ≡ self.old) }
-    {
-        let copy = key.clone()?;
-        self.few.insert(copy, FewIds::one(id))?;
-        Ok(())
-    }
-
-    // Puts ids in the place of those that stand in the map under a key.
-    fn put_few(&mut self, key: &Cell, ids: FewIds)
-        requires { is_some (lookup (same_cell key.now) self.old.few) ≡ true }
-        ensures few { Changes key.now (Some ids) self.old.few self.new.few }
-        ensures further { self.new.further ≡ self.old.further }
-    {
-        let Some(few) = self.few.get_mut(key) else {
-            return;
-        };
-        *few = ids;
-    }
-
-    // Takes the ids of a key out of the map.
-    fn drop_few(&mut self, key: &Cell)
-        ensures few { Changes key.now None self.old.few self.new.few }
-        ensures further { self.new.further ≡ self.old.further }
-    {
-        self.few.remove(key);
     }
 
     /// Adds the id of a row of a key. The error is `NoMemory`, and leaves the ids as they were.
+    #[inline(always)]
     pub(crate) fn add(&mut self, alloc: Global, key: &Cell, id: u32) -> Result<(), NoMemory>
         ensures ok { OnOk result ((x : Cell) (n : ℕ) → has_row self.new x n
             ≡ ((same_cell x key.now && (n == id)) || has_row self.old x n)) }
         ensures err { OnErr result ((x : Cell) (n : ℕ) → has_row self.new x n
             ≡ has_row self.old x n) }
     {
-        let Some(ids) = self.few.get_mut(key) else {
-            self.insert_id(key, id)?;
+        let room = self.few.add(key, id)?;
+        if room {
             return Ok(());
-        };
-        let Some(more) = ids.with(id) else {
-            self.further.add(alloc, key, id)?;
-            return Ok(());
-        };
-        *ids = more;
+        }
+        self.further.add(alloc, key, id)?;
         Ok(())
     }
 
-    // The key has none of its ids in the map any more; one of the further ones comes in their
-    // place, where there is one.
-    fn refill(&mut self, key: &Cell)
-        requires { is_some (lookup (same_cell key.now) self.old.few) ≡ true }
-        ensures { (x : Cell) (n : ℕ) → has_row self.new x n
-            ≡ ((not (same_cell x key.now) && is_among_few (lookup (same_cell x) self.old.few) n)
-            || has_further self.old.further x n) }
-    {
-        match self.further.pop(key) {
-            Some(next) => self.put_few(key, FewIds::one(next)),
-            None => self.drop_few(key),
-        }
-    }
-
-    // Takes an id of a key out of the map.
-    fn remove_few(&mut self, key: &Cell, id: u32)
-        ensures { (x : Cell) (n : ℕ) → has_row self.new x n
-            ≡ ((not (same_cell x key.now && (n == id))
-            && is_among_few (lookup (same_cell x) self.old.few) n)
-            || has_further self.old.further x n) }
-    {
-        let Some(ids) = self.few.get_mut(key) else {
-            return;
-        };
-        let Some(left) = ids.without(id) else {
-            self.refill(key);
-            return;
-        };
-        *ids = left;
-    }
-
     /// Takes the id of a row of a key away.
+    #[inline(always)]
     pub(crate) fn remove(&mut self, key: &Cell, id: u32)
         ensures { (x : Cell) (n : ℕ) → has_row self.new x n
             ≡ (not (same_cell x key.now && (n == id)) && has_row self.old x n) }
     {
+        self.few.remove(key, id);
         self.further.remove(key, id);
-        self.remove_few(key, id);
     }
 
     /// The id of a row of a key, where there is one.
+    #[inline(always)]
     pub(crate) fn find(&self, key: &Cell) -> Option<u32>
         ensures some { IfSome result (λ id. has_row self.now key.now id ≡ true) }
         ensures none { IfNone result ((n : ℕ) → has_row self.now key.now n ≡ false) }
     {
-        match self.few_of(key) {
+        match self.few.ids(key) {
             Some(ids) => Some(ids.any()),
             None => self.further.find(key),
         }
     }
 
     /// Adds the ids of the rows of a key to a list. The error is `NoMemory`.
+    #[inline(always)]
     pub(crate) fn add_to(&self, key: &Cell, ids: &mut IdList) -> Result<(), NoMemory>
         ensures { OnOk result ((n : ℕ) → has_id ids.new n
             ≡ (has_row self.now key.now n || has_id ids.old n)) }
     {
-        if let Some(few) = self.few_of(key) {
+        if let Some(few) = self.few.ids(key) {
             few.add_to(ids)?;
         }
         self.further.add_to(key, ids)?;

@@ -14,7 +14,7 @@ pub(crate) fn lines_of_rows(
     requires { All (λ o. place < length o.cells) rows.now }
     ensures { IfOk result (λ lines. lines_of lines.items ≡ map (line_of_row place) rows.now) }
 {
-    let mut lines = Vec::new(alloc);
+    let mut lines = Vec::with_capacity(alloc, rows.len())?;
     for row in rows {
         let key = row.cells()[place as usize].clone()?;
         let period = row.period();

@@ -4,8 +4,9 @@ ghost use Rattle.std.specs.List.{list_any};
 ghost use Rattle.tl_types.specs.Plain as plain;
 ghost use Rattle.tl_types.specs.History.{is_within};
 ghost use Rattle.tl_batch.specs.Covers.{Full, Beyond, before_all, is_between, is_covered, joining, gaps};
-ghost use Rattle.tl_batch.specs.Pieces.{affects_period, cuts, part};
+ghost use Rattle.tl_batch.specs.Pieces.{affects_period, cuts};
 
+use crate::parts::{Parts, push_part};
 use std::alloc::Global;
 use std::collections::BTreeMap;
 use std::marker::Model;
@@ -35,16 +36,6 @@ fn moment(lent: &i64) -> i64
     ensures { result ≡ lent.now }
 {
     *lent
-}
-
-// Appends the times from one on and before another, where there are any. The error is `NoMemory`.
-fn push_part(parts: &mut Vec<Option<Period>>, from: i64, to: i64) -> Result<(), NoMemory>
-    ensures { OnOk result (parts.new.items ≡ parts.old.items ++ part from to) }
-{
-    if from < to {
-        parts.push(Some(Period::new(from, to)))?;
-    }
-    Ok(())
 }
 
 // The first of the stretches that overlaps one or is adjacent to it: its end, and where it begins.
@@ -107,6 +98,7 @@ impl ManyPeriods {
     }
 
     /// Whether a moment of a period is covered.
+    #[inline(never)]
     pub(crate) fn overlaps(&self, period: Period) -> bool
         ensures { (lines : List (Option plain.Period)) → Full lines
             → ((t : ℤ) → is_covered t self.now ≡ list_any (is_within t) lines)
@@ -120,11 +112,7 @@ impl ManyPeriods {
     }
 
     /// The parts of a period that are not covered. The error is `NoMemory`.
-    pub(crate) fn gaps(
-        &self,
-        alloc: Global,
-        period: Period,
-    ) -> Result<Vec<Option<Period>>, NoMemory>
+    pub(crate) fn gaps(&self, alloc: Global, period: Period) -> Result<Parts, NoMemory>
         ensures some { period.from <ℤ period.to }
         ensures value { IfOk result (λ left. left.items ≡ gaps period.from period.to self.now) }
         ensures lines { IfOk result (λ left. (lines : List (Option plain.Period)) → Full lines
@@ -132,7 +120,7 @@ impl ManyPeriods {
             ≡ cuts true lines (Some period)) }
     {
         let to = period.to();
-        let mut left = Vec::new(alloc);
+        let mut left = Parts::new(alloc);
         let mut from = period.from();
         let behind = (Bound::Excluded(from), Bound::Unbounded);
         for (end, start) in self.stretches.range(behind) {

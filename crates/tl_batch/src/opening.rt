@@ -7,6 +7,7 @@ ghost use Rattle.tl_batch.specs.Covers.{HoldLines};
 ghost use Rattle.tl_batch.specs.Pieces.{over, pieces_at, row_pieces, put_pieces};
 
 use crate::open_table::OpenTable;
+use crate::parts::Parts;
 use crate::periods_by_key::PeriodsByKey;
 use std::alloc::Global;
 use std::sync::ledger::Ledger;
@@ -50,9 +51,12 @@ fn push_left<L: Ledger>(
     let key = &cells[schema.key() as usize];
     let whole = table.period(row, steps);
     let parts = periods.left(alloc, key, &whole)?;
-    push_over(alloc, opens, cells, &parts)?;
+    push_over(alloc, opens, cells, parts.as_slice())?;
     Ok(())
 }
+
+// For how many pieces room is taken at once: lines may take rows whole, of which nothing is left.
+const MOST_PIECES: usize = 4096;
 
 /// What the lines, whose periods are given by key, leave of some rows. The error is `NoMemory`.
 pub(crate) fn old_pieces<L: Ledger>(
@@ -68,11 +72,18 @@ pub(crate) fn old_pieces<L: Ledger>(
         → opens.items ≡ flat_map (λ row. pieces_at table.now.schema lines
         (slice_get table.now.rows row)) rows.now) }
 {
-    let mut opens = Vec::new(alloc);
+    let mut opens = Vec::with_capacity(alloc, rows.len().saturating_mul(2).min(MOST_PIECES))?;
     for row in rows {
         push_left(alloc, &mut opens, table, periods, *row, steps)?;
     }
     Ok(opens)
+}
+
+// Reverses the order of parts.
+fn reverse_parts(parts: &mut Parts)
+    ensures { parts.new.items ≡ reverse parts.old.items }
+{
+    parts.as_mut_slice().reverse();
 }
 
 // Appends what the lines behind a line, whose periods are given, leave of the row that it puts, the
@@ -102,8 +113,8 @@ fn push_behind(
     let key = &cells[schema.key() as usize];
     let whole = line.period();
     let mut parts = periods.left(alloc, key, &whole)?;
-    parts.reverse();
-    push_over(alloc, back, cells, &parts)?;
+    reverse_parts(&mut parts);
+    push_over(alloc, back, cells, parts.as_slice())?;
     periods.add(alloc, key, &whole)?;
     Ok(())
 }
@@ -116,8 +127,8 @@ fn pieces_behind(alloc: Global, schema: &Schema, lines: &[Opened]) -> Result<Vec
     ensures { IfOk result (λ back. reverse back.items
         ≡ put_pieces schema.now (put_lines schema.now lines.now)) }
 {
-    let mut periods = PeriodsByKey::new(alloc);
-    let mut back = Vec::new(alloc);
+    let mut periods = PeriodsByKey::with_room(alloc, lines.len())?;
+    let mut back = Vec::with_capacity(alloc, lines.len())?;
     let mut i = lines.len();
     'behind: while i > 0 {
         i -= 1;

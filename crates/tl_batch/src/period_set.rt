@@ -9,6 +9,7 @@ ghost use Rattle.tl_batch.specs.Stretches.{stretches_in};
 
 use crate::few_periods::FewPeriods;
 use crate::many_periods::ManyPeriods;
+use crate::parts::Parts;
 use std::alloc::Global;
 use std::marker::Model;
 use tl_types::{NoMemory, Period};
@@ -115,24 +116,15 @@ impl PeriodSet {
         Ok(())
     }
 
-    /// Whether a moment of a period is covered.
-    pub(crate) fn overlaps(&self, period: Period) -> bool
-        ensures { (lines : List (Option plain.Period)) → Full lines
-            → ((t : ℤ) → is_covered t self.now ≡ list_any (is_within t) lines)
-            → result ≡ list_any (λ line. affects_period true line (Some period)) lines }
+    /// The stretches, as they are kept.
+    pub(crate) fn stretches(&self) -> &Stretches
+        ensures { stretches_in result.now ≡ self.now }
     {
-        match &self.stretches {
-            Stretches::Few(few) => few.overlaps(period),
-            Stretches::Many(many) => many.overlaps(period),
-        }
+        &self.stretches
     }
 
     /// The parts of a period that are not covered. The error is `NoMemory`.
-    pub(crate) fn gaps(
-        &self,
-        alloc: Global,
-        period: Period,
-    ) -> Result<Vec<Option<Period>>, NoMemory>
+    pub(crate) fn gaps(&self, alloc: Global, period: Period) -> Result<Parts, NoMemory>
         ensures some { period.from <ℤ period.to }
         ensures value { IfOk result (λ left. left.items ≡ gaps period.from period.to self.now) }
         ensures lines { IfOk result (λ left. (lines : List (Option plain.Period)) → Full lines

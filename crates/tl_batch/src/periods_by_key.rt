@@ -10,11 +10,15 @@ ghost use Rattle.tl_batch.specs.Pieces.{cuts, affects_period, periods_with};
 ghost use Rattle.tl_batch.specs.Lines.{lines_of};
 
 use crate::cover::Cover;
+use crate::parts::Parts;
 use crate::period_set::PeriodSet;
 use std::alloc::Global;
 use std::collections::HashMap;
 use std::marker::Model;
 use tl_types::{Cell, KeyLine, NoMemory, Period};
+
+// For how many keys room is taken at once; lines may be many more than their keys.
+const MOST_KEYS: usize = 4096;
 
 /// The moments that the lines of each key cover.
 #[derive(Drop)]
@@ -32,13 +36,13 @@ impl Model for PeriodsByKey {
 }
 
 impl PeriodsByKey {
-    /// No moments of any key.
-    pub(crate) fn new(alloc: Global) -> PeriodsByKey
-        ensures { HoldLines result [] }
+    /// No moments of any key, and room for so many keys, or for `MOST_KEYS` where these are fewer.
+    /// The error is `NoMemory`.
+    pub(crate) fn with_room(alloc: Global, keys: usize) -> Result<PeriodsByKey, NoMemory>
+        ensures { IfOk result (λ covers. HoldLines covers []) }
     {
-        PeriodsByKey {
-            covers: HashMap::new(alloc),
-        }
+        let covers = HashMap::with_capacity(alloc, keys.min(MOST_KEYS))?;
+        Ok(PeriodsByKey { covers })
     }
 
     // Gives a key a cover. The error is `NoMemory`.
@@ -88,12 +92,7 @@ impl PeriodsByKey {
     }
 
     // The parts of a period that no line of a key covers.
-    fn gaps(
-        &self,
-        alloc: Global,
-        key: &Cell,
-        period: Period,
-    ) -> Result<Vec<Option<Period>>, NoMemory>
+    fn gaps(&self, alloc: Global, key: &Cell, period: Period) -> Result<Parts, NoMemory>
         ensures some { period.from <ℤ period.to }
         ensures lines { IfOk result (λ left. (lines : List (Option plain.Period)) → Full lines
             → ((t : ℤ) → is_covered t (cover_at key.now self.now) ≡ list_any (is_within t) lines)
@@ -118,7 +117,7 @@ impl PeriodsByKey {
         alloc: Global,
         key: &Cell,
         whole: &Option<Period>,
-    ) -> Result<Vec<Option<Period>>, NoMemory>
+    ) -> Result<Parts, NoMemory>
         ensures full { IfOk result (λ _. Full (whole.now ∷ [])) }
         ensures periods { IfOk result (λ left. (periods : List (Option plain.Period)) → Full periods
             → ((t : ℤ) → is_covered t (cover_at key.now self.now) ≡ list_any (is_within t) periods)
@@ -127,7 +126,7 @@ impl PeriodsByKey {
             → left.items ≡ cuts true (periods_with (Some key.now) lines) whole.now) }
     {
         let Some(period) = whole else {
-            let mut left = Vec::new(alloc);
+            let mut left = Parts::new(alloc);
             left.push(None)?;
             return Ok(left);
         };
@@ -147,7 +146,7 @@ impl PeriodsByKey {
 pub(crate) fn covers_of(alloc: Global, lines: &[KeyLine]) -> Result<PeriodsByKey, NoMemory>
     ensures { IfOk result (λ covers. HoldLines covers (lines_of lines.now)) }
 {
-    let mut covers = PeriodsByKey::new(alloc);
+    let mut covers = PeriodsByKey::with_room(alloc, lines.len())?;
     for line in lines {
         covers.add(alloc, &line.key, &line.period)?;
     }
@@ -185,6 +184,6 @@ pub(crate) fn affects_rest(
 {
     let parts = earlier.left(alloc, key, line)?;
     let cover = rows.cover(key);
-    let affected = affects_part(&cover, &parts);
+    let affected = affects_part(&cover, parts.as_slice());
     Ok(affected)
 }

@@ -81,6 +81,17 @@ fn first_missing_row(index: &KeyIndex, removes: bool, keys: &[&Cell]) -> Option<
     None
 }
 
+// A set without keys, with room for these. The error is `NoMemory`.
+fn set_for<'a>(alloc: Global, keys: &[&'a Cell]) -> Result<KeySet<'a>, NoMemory>
+    ensures { IfOk result (λ set. set ≡ []) }
+{
+    let [first, ..] = keys else {
+        return Ok(KeySet::new(alloc));
+    };
+    let set = KeySet::with_room(alloc, keys.len(), *first)?;
+    Ok(set)
+}
+
 /// The first fault of lines with these keys, which remove rows or put them. Keys that rise stand
 /// once each and are not collected. The error is `NoMemory`.
 pub(crate) fn first_key_fault(
@@ -97,7 +108,7 @@ pub(crate) fn first_key_fault(
     if rise(keys) {
         return Ok(first_missing_row(index, removes, keys));
     }
-    let mut earlier = KeySet::with_room(alloc, keys.len())?;
+    let mut earlier = set_for(alloc, keys)?;
     for (i, key) in keys.iter().enumerate() {
         let fresh = earlier.add(key)?;
         let found = fault_of_key(index, removes, fresh, key, i as u32 + 2);

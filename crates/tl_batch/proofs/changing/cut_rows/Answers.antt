@@ -11,4 +11,4 @@ returns-clause-closes g c = closes_are c.args.table.now.schema (lines_of c.args.
 
 pub returns-clause-opens : goal.returns-clause-opens
 returns-clause-opens g c = opens_are c.args.table.now.schema (lines_of c.args.lines.now) c.args.table.now.rows c.listed-closes.result c.as_slice-ids.result.now c.in_ok-opens.opens.items c.as_slice-ids.ensures
-    (closes_are c.args.table.now.schema (lines_of c.args.lines.now) c.args.table.now.rows c.listed-closes.result c.listed-closes.ensures.ascending (λ n. c.listed-closes.ensures.members n ∙ c.in_ok-affected.ensures n)) (c.in_ok-opens.ensures (lines_of c.args.lines.now) c.in_ok-periods.ensures)
+    (closes_are c.args.table.now.schema (lines_of c.args.lines.now) c.args.table.now.rows c.listed-closes.result c.listed-closes.ensures.ascending (λ n. c.listed-closes.ensures.members n ∙ c.in_ok-affected.ensures n)) (c.in_ok-opens.ensures (lines_of c.args.lines.now) c.requires.held)

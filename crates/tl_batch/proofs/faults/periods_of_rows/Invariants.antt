@@ -9,5 +9,5 @@ use Rattle.tl_batch.proofs.faults.periods_of_rows.Given as goal
 abbrev pub invariant-loop-line : goal.invariant-loop-line
 invariant-loop-line g l = record {
   seen : (x : Cell) → has_cell l.seen x ≡ is_said (Some x) (lines_of (take l.line-index l.lines));
-  held : HoldRows l.table.schema.key l.periods (lines_of (take l.line-index l.lines)) l.table.rows;
+  held : HoldRows l.table.schema.key l.periods (lines_of (take l.line-index l.lines)) (lines_of l.lines) l.table.rows;
 }

@@ -1,7 +1,7 @@
 use Rattle.std.proofs.Common.{rules, arith, pos, w64, FitsSigned, of_z, to_z, ◌∙◌}
 use Rattle.std.proofs.lemmas.Int.{ints, to_z-of_z}
 use Rattle.tl_batch.specs.Covers.{gaps}
-use Rattle.tl_batch.proofs.FewPeriodsLemmas.{gap_skips, gap_stops, gap_goes, gap_ends}
+use Rattle.tl_batch.proofs.FewPeriodsLemmas.{gap_stops, gap_goes, gap_ends}
 use Rattle.tl_batch.proofs.few_periods.gaps_between.Goals as goal
 
 pub returns-then-start_of-to : goal.returns-then-start_of-to

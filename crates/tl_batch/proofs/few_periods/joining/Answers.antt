@@ -1,4 +1,4 @@
-use Rattle.std.proofs.Common.{rules, arith, pos, w64}
+use Rattle.std.proofs.Common.{arith, pos, w64}
 use Rattle.std.proofs.lemmas.Int.{ints, to_z-of_z}
 use Rattle.tl_batch.proofs.FewPeriodsLemmas.{joins, joins_late, joins_none}
 use Rattle.tl_batch.proofs.few_periods.joining.Goals as goal

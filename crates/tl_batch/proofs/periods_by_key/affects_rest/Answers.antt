@@ -8,4 +8,4 @@ use Rattle.tl_batch.proofs.periods_by_key.affects_rest.Goals as goal
 
 pub returns : goal.returns
 returns c = λ lines wholes held full same.
-    c.affects_part-affected.ensures wholes full (λ t. ap (is_covered t) c.cover-cover.ensures ∙ same t) ∙ (ap (list_any (λ g. list_any (λ p. affects_period true p g) wholes)) (c.deref.ensures.value ∙ c.in_ok-parts.ensures.lines lines held) ∙ swapped c.args.line.now (periods_with (Some c.args.key.now) lines) wholes c.in_ok-parts.ensures.full (held.full c.args.key.now) full)
+    c.affects_part-affected.ensures wholes full (λ t. ap (is_covered t) c.cover-cover.ensures ∙ same t) ∙ (ap (list_any (λ g. list_any (λ p. affects_period true p g) wholes)) (c.as_slice.ensures ∙ c.in_ok-parts.ensures.lines lines held) ∙ swapped c.args.line.now (periods_with (Some c.args.key.now) lines) wholes c.in_ok-parts.ensures.full (held.full c.args.key.now) full)

@@ -1,5 +1,4 @@
-use Rattle.std.proofs.Common.{◌∙◌, ap, sym, rules}
-use Rattle.tl_batch.specs.Covers.{gaps}
+use Rattle.std.proofs.Common.{rules}
 use Rattle.tl_batch.proofs.PeriodSetLemmas.{left_by_lines}
 use Rattle.tl_batch.proofs.few_periods.FewPeriods.gaps.Goals as goal
 

@@ -4,7 +4,7 @@ use Rattle.tl_batch.proofs.HoldLemmas.{left_none, left_whole}
 use Rattle.tl_batch.proofs.periods_by_key.PeriodsByKey.left.Goals as goal
 
 pub returns-in_default-clause-periods : goal.returns-in_default-clause-periods
-returns-in_default-clause-periods c = λ periods full same. left_none periods c.new-left.result.items c.push.new.self.items c.args.whole.now c.in_default.is c.new-left.ensures.items c.in_ok-push.ensures.items
+returns-in_default-clause-periods c = λ periods full same. left_none periods c.new-left.result.items c.push.new.self.items c.args.whole.now c.in_default.is c.new-left.ensures.items c.in_ok-push.ensures.ok
 
 pub returns-in_default-clause-lines : goal.returns-in_default-clause-lines
 returns-in_default-clause-lines c = λ lines held. returns-in_default-clause-periods c (periods_with (Some c.args.key.now) lines) (held.full c.args.key.now) (held.same c.args.key.now)

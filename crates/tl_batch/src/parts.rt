@@ -1,0 +1,20 @@
+//! What lines leave of a period.
+ghost use Rattle.std.specs.Prelude.{◌≡◌, ◌++◌, OnOk};
+ghost use Rattle.tl_batch.specs.Pieces.{part};
+
+use smallvec::SmallVec;
+use tl_types::{NoMemory, Period};
+
+/// What lines leave of a period: mostly one part or two, which take no memory of their own.
+pub(crate) type Parts = SmallVec<Option<Period>, 2>;
+
+/// Appends the times from one on and before another, where there are any. The error is `NoMemory`.
+#[inline]
+pub(crate) fn push_part(parts: &mut Parts, from: i64, to: i64) -> Result<(), NoMemory>
+    ensures { OnOk result (parts.new.items ≡ parts.old.items ++ part from to) }
+{
+    if from < to {
+        parts.push(Some(Period::new(from, to)))?;
+    }
+    Ok(())
+}

@@ -33,6 +33,7 @@ impl Model for IntKeys {
 }
 
 // One more than the number of a key in the list of small keys, 0 where it has none there.
+#[inline(always)]
 fn small_number(small: &[u32], key: i64) -> u32
     ensures { (ints : List (ℤ × ℕ)) (n : ℕ) → AreSmall small.now ints → result ≡ suc n
         → int_number ints key ≡ Some n }
@@ -90,7 +91,19 @@ impl IntKeys {
         }
     }
 
+    // The number of a key, by its hash.
+    #[inline(never)]
+    fn hashed(&self, key: i64) -> Option<u32>
+        ensures { result ≡ int_number self.now key }
+    {
+        match self.numbers.get(&key) {
+            Some(number) => Some(*number),
+            None => None,
+        }
+    }
+
     /// The number of a key, where it has one.
+    #[inline(always)]
     pub(crate) fn get(&self, key: i64) -> Option<u32>
         ensures { result ≡ int_number self.now key }
     {
@@ -98,10 +111,7 @@ impl IntKeys {
         if after > 0 {
             return Some(after - 1);
         }
-        match self.numbers.get(&key) {
-            Some(number) => Some(*number),
-            None => None,
-        }
+        self.hashed(key)
     }
 
     /// Gives a number to a key that has none. The error is `NoMemory`, and then nothing changes.

@@ -1,8 +1,8 @@
 //! Numbers for the keys of columns.
-ghost use Rattle.std.specs.Prelude.{◌≡◌, ◌+◌, ◌<◌, ◌≤◌, ◌^◌, Some, IfOk, OnOk, OnErr};
+ghost use Rattle.std.specs.Prelude.{◌≡◌, ◌+◌, ◌<◌, ◌≤◌, ◌^◌, Some, None, IfOk, OnOk, OnErr};
 ghost use Rattle.tl_store.specs.Reading.{cell_shown};
 ghost use Rattle.tl_types.specs.declared.cells.Cell.TheVariants as cell;
-ghost use Rattle.tl_keys.specs.Keys.{no_keys, number_in, AreApart, KeepsNumbers};
+ghost use Rattle.tl_keys.specs.Keys.{no_keys, int_number, number_in, AreApart, KeepsNumbers};
 
 use crate::int_keys::IntKeys;
 use crate::text_keys::TextKeys;
@@ -53,7 +53,27 @@ impl<'a> Keys<'a> {
         self.count
     }
 
+    // The number of a key that is a number and has none yet.
+    #[inline(never)]
+    fn give_int(&mut self, key: i64) -> Result<u32, NoMemory>
+        requires none { int_number self.old.ints key ≡ None }
+        requires apart { AreApart self.old }
+        requires room { self.old.count + 1 < 2 ^ 32 }
+        ensures number { IfOk result (λ n. number_in self.new (cell.Int key) ≡ Some n) }
+        ensures apart { OnOk result (AreApart self.new) }
+        ensures kept { OnOk result (KeepsNumbers self.old self.new) }
+        ensures count { OnOk result (self.new.count ≤ self.old.count + 1) }
+        ensures same { IfOk result (λ n. n < self.old.count → self.new ≡ self.old) }
+        ensures err { OnErr result (self.new ≡ self.old) }
+    {
+        let code = self.count;
+        self.ints.insert(key, code)?;
+        self.count = code + 1;
+        Ok(code)
+    }
+
     // The number of a key that is a number.
+    #[inline(always)]
     fn number_int(&mut self, key: i64) -> Result<u32, NoMemory>
         requires apart { AreApart self.old }
         requires room { self.old.count + 1 < 2 ^ 32 }
@@ -67,13 +87,11 @@ impl<'a> Keys<'a> {
         if let Some(code) = self.ints.get(key) {
             return Ok(code);
         }
-        let code = self.count;
-        self.ints.insert(key, code)?;
-        self.count = code + 1;
-        Ok(code)
+        self.give_int(key)
     }
 
     // The number of a key that is a text.
+    #[inline(never)]
     fn number_text(&mut self, key: &'a str) -> Result<u32, NoMemory>
         requires apart { AreApart self.old }
         requires room { self.old.count + 1 < 2 ^ 32 }
@@ -95,6 +113,7 @@ impl<'a> Keys<'a> {
 
     /// The number of a key, which it is given here where it has none: then it is as many as had one
     /// before, and else nothing changes. The error is `NoMemory`, and then nothing changes.
+    #[inline(always)]
     pub fn number(&mut self, key: CellRef<'a>) -> Result<u32, NoMemory>
         requires apart { AreApart self.old }
         requires room { self.old.count + 1 < 2 ^ 32 }

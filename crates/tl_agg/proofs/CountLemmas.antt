@@ -14,7 +14,7 @@ use Rattle.tl_agg.specs.Scans.{ScanOf, IsScan, Groups, TrackBy, AllTrack, IsRead
 use Rattle.tl_agg.proofs.NumberLemmas.{none_tells}
 use Rattle.tl_agg.proofs.StepLemmas.{turn_inside, can_take, takes_shifted, takes_left, run_ready, run_taken}
 
-kind_by : (by : Option ℕ) (scan : ScanOf) (set : List Bool) (at : ℕ) (groups : Groups) → by ≡ None → TrackBy by scan set at groups → groups.all.running.kind ≡ scan.plan.kind
+pub kind_by : (by : Option ℕ) (scan : ScanOf) (set : List Bool) (at : ℕ) (groups : Groups) → by ≡ None → TrackBy by scan set at groups → groups.all.running.kind ≡ scan.plan.kind
 kind_by None scan set at groups is tracks = tracks.kind
 kind_by (Some b) scan set at groups is tracks = absurd (cc)
 

@@ -5,6 +5,7 @@ pub mod CellLemmas
 pub mod PlaceLemmas
 pub mod StepLemmas
 pub mod CountLemmas
+pub mod TallyLemmas
 pub mod StartLemmas
 pub mod PieceLemmas
 pub mod ByLemmas

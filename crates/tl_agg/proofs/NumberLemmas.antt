@@ -12,7 +12,7 @@ use Rattle.tl_store.specs.Reading.{column_cells, some_int}
 use Rattle.tl_running.specs.Standing.{Suits}
 use Rattle.tl_agg.specs.Tables.{TellsNumber, AreNumbers}
 
-cell_there : (rows : List plain.Row) (id column : ℕ) (ns : List ℤ) (r : plain.Row) → map some_int ns ≡ column_cells rows column → slice_get rows id ≡ Some r → cell_at r.cells column ≡ Some (cell.Int (slice_index_or ns id (pos 0)))
+pub cell_there : (rows : List plain.Row) (id column : ℕ) (ns : List ℤ) (r : plain.Row) → map some_int ns ≡ column_cells rows column → slice_get rows id ≡ Some r → cell_at r.cells column ≡ Some (cell.Int (slice_index_or ns id (pos 0)))
 cell_there [] id column ns r are is = absurd (cc)
 cell_there (x ∷ rows) zero column [] r are is = absurd (cc)
 cell_there (x ∷ rows) zero column (n ∷ ns) r are is =

@@ -13,7 +13,7 @@ use Rattle.tl_query.specs.declared.ast.AggKind.{AggKind}
 use Rattle.tl_query.specs.declared.ast.AggKind.TheVariants as kind
 use Rattle.tl_types.specs.declared.cells.Cell.{Cell}
 use Rattle.tl_query.specs.Aggregates.{aggregate_of, in_group}
-use Rattle.tl_running.specs.Standing.{Kept, counting, Suits, StandsFor, IsShort, CanChange, Changes}
+use Rattle.tl_running.specs.Standing.{Kept, counting, summing, Suits, StandsFor, IsShort, CanChange, Changes}
 use Rattle.tl_running.specs.Touching.{add_touching}
 use Rattle.tl_agg.specs.Tables.{TellsNumber}
 use Rattle.tl_agg.specs.Kept.{both, picked, kept_at}
@@ -91,6 +91,10 @@ pub record Advances (old new : State) (to : ℕ) : Type 0 where
 -- the group, with so many rows
 abbrev pub recounted : State → ℕ → State
 recounted group count = record group { running = counting group.running count }
+
+-- the group, with so many rows and this sum
+abbrev pub summed : State → ℕ → ℤ → State
+summed group count sum = record group { running = summing group.running count sum }
 
 -- a number comes into the group, or goes, at the version up to which its runs reach
 pub record Shifts (old new : State) (opens : Bool) (number : ℤ) : Type 0 where

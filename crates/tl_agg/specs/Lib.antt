@@ -5,3 +5,4 @@ pub mod Scans
 pub mod Runs
 pub mod Values
 pub mod Seams
+pub mod Tallies

@@ -12,9 +12,9 @@ use Rattle.tl_query.specs.declared.ast.AggKind.{AggKind}
 use Rattle.tl_query.specs.declared.ast.AggKind.TheVariants as kind
 use Rattle.tl_query.specs.declared.typed_queries.AggPlan.{AggPlan}
 use Rattle.tl_store.specs.Reading.{columns_of, IsIntColumn}
-use Rattle.tl_agg.specs.Tables.{TableOf, rows_in, AreNumbers}
+use Rattle.tl_agg.specs.Tables.{TableOf, rows_in, AreNumbers, AreKeys}
 use Rattle.tl_agg.specs.Kept.{both}
-use Rattle.tl_agg.specs.Groups.{Asked, Tracks, State, IsNone, IsOne, HoldsIn, Moves, AreAdvanced, recounted}
+use Rattle.tl_agg.specs.Groups.{Asked, Tracks, State, IsNone, IsOne, HoldsIn, Moves, AreAdvanced, recounted, summed}
 use Rattle.tl_agg.specs.Values.{Rises}
 use Rattle.tl_keys.specs.Keys.{KeyNumbers, number_in, AreApart}
 use Rattle.tl_running.specs.Standing.{CanChange}
@@ -63,10 +63,12 @@ pub record IsScan (scan : ScanOf) : Type 0 where
   pub within : scan.to ≤ scan.table.db.version + 1
   pub later : scan.from < scan.to
 
--- it is a scan, and these are the numbers of the column that it is over, where there is one
-pub record ReadsNumbers (scan : ScanOf) (numbers : Option (List ℤ)) : Type 0 where
+-- it is a scan, and these are the numbers of the column that it is over, where there is one, and
+-- those of the column that separates the rows into groups, where they are read of it
+pub record ReadsNumbers (scan : ScanOf) (numbers cells : Option (List ℤ)) : Type 0 where
   pub is_scan : IsScan scan
   pub are : AreNumbers (rows_in scan.table) scan.plan.column numbers
+  pub keys : AreKeys (rows_in scan.table) scan.plan.by cells
 
 -- the event is of a row of the set, and changes it
 pub record Turns (rows : List plain.Row) (set : List Bool) (event : Event) : Type 0 where
@@ -89,6 +91,10 @@ pub record Groups : Type 0 where
 -- the groups, where that of all rows has so many
 abbrev pub all_recounted : Groups → ℕ → Groups
 all_recounted groups count = record groups { all = recounted groups.all count }
+
+-- the groups, where that of all rows has so many, and this sum
+abbrev pub all_summed : Groups → ℕ → ℤ → Groups
+all_summed groups count sum = record groups { all = summed groups.all count sum }
 
 -- the group of a value, where there is one
 abbrev pub group_of : Groups → Cell → Option State

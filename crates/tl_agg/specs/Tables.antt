@@ -52,6 +52,11 @@ AreNumbers rows None (Some numbers) = ⊥
 AreNumbers rows (Some column) None = ⊥
 AreNumbers rows (Some column) (Some numbers) = map some_int numbers ≡ column_cells rows column
 
+-- where there are numbers, they are those of the rows in the column
+abbrev pub AreKeys : List plain.Row → Option ℕ → Option (List ℤ) → Type 0
+AreKeys rows column None = Unit {0}
+AreKeys rows column (Some numbers) = AreNumbers rows column (Some numbers)
+
 -- the row with this id has this cell in the column
 pub record HasKey (rows : List plain.Row) (id column : ℕ) (key : Cell) : Type 0 where
   pub row : plain.Row

@@ -7,7 +7,7 @@ ghost use Rattle.tl_store.specs.Reading.{IsShort, cell_shown};
 ghost use Rattle.tl_running.specs.Standing.{CanChange};
 ghost use Rattle.tl_agg.specs.Groups.{IsAdvanced, AreAdvanced, Advances, Shifts};
 ghost use Rattle.tl_query.specs.Aggregates.{in_group};
-ghost use Rattle.tl_agg.specs.Scans.{AreNone, AreNumbered, HasPlace, CanMoveAt, MovesAt, AreAllAdvanced, all_recounted};
+ghost use Rattle.tl_agg.specs.Scans.{AreNone, AreNumbered, HasPlace, CanMoveAt, MovesAt, AreAllAdvanced, all_recounted, all_summed};
 ghost use Rattle.tl_agg.specs.Values.{Rises};
 
 use crate::groups::Group;
@@ -160,8 +160,24 @@ impl<'a> Groups<'a> {
         self.all.set_count(count);
     }
 
+    /// The sum of the numbers of the group of all rows.
+    pub(crate) fn sum(&self) -> i128
+        ensures { result ≡ self.now.all.running.sum }
+    {
+        self.all.sum()
+    }
+
+    /// Says how many rows the group of all rows has, and the sum of their numbers, where these have
+    /// no order.
+    pub(crate) fn set_sums(&mut self, count: u32, sum: i128)
+        ensures { self.new ≡ all_summed self.old count sum }
+    {
+        self.all.set_sums(count, sum);
+    }
+
     /// The number of a value, which gets one, and a group of no rows since a version, where it has
     /// none. The error is `NoMemory`, which comes at 2^31 values too.
+    #[inline(always)]
     pub(crate) fn number(
         &mut self,
         alloc: Global,

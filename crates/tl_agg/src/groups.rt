@@ -1,8 +1,8 @@
 //! The group of rows of one aggregate, while a scan goes on.
-ghost use Rattle.std.specs.Prelude.{◌≡◌, pos, true, false, OnOk};
+ghost use Rattle.std.specs.Prelude.{◌≡◌, ◌<◌, pos, true, false, OnOk};
 ghost use Rattle.tl_types.specs.Runs.{stretch_of};
 ghost use Rattle.tl_running.specs.Standing.{CanChange};
-ghost use Rattle.tl_agg.specs.Groups.{State, put_stretch, IsNone, Advances, Shifts, Moves, recounted};
+ghost use Rattle.tl_agg.specs.Groups.{State, put_stretch, IsNone, Advances, Shifts, Moves, recounted, summed};
 
 use std::alloc::Global;
 use std::marker::Model;
@@ -45,13 +45,23 @@ fn stretch_of(from: u32, to: u32, value: Field) -> Run
     }
 }
 
-// Makes room for three times as many runs as there are, where there is none: each time that it is
-// full, a list of runs is copied, and a run is large.
+// Makes room for a list of runs four times as long: a list that is full is copied, and a run is
+// large.
+#[inline(never)]
+fn grow(runs: &mut Vec<Run>) -> Result<(), NoMemory>
+    ensures { OnOk result (runs.new.items ≡ runs.old.items) }
+{
+    runs.reserve(runs.len().saturating_mul(3).max(4))?;
+    Ok(())
+}
+
+// Makes room for more runs where there is none.
+#[inline(always)]
 fn make_room(runs: &mut Vec<Run>) -> Result<(), NoMemory>
     ensures { OnOk result (runs.new.items ≡ runs.old.items) }
 {
     if runs.len() == runs.capacity() {
-        runs.reserve(runs.len().saturating_mul(3).max(4))?;
+        return grow(runs);
     }
     Ok(())
 }
@@ -93,19 +103,29 @@ impl Group {
         }
     }
 
+    // Makes the runs reach up to a version behind that of the last change.
+    #[inline(never)]
+    fn close(&mut self, to: u32) -> Result<(), NoMemory>
+        requires { self.old.since < to }
+        ensures { OnOk result (Advances self.old self.new to) }
+    {
+        make_room(&mut self.runs)?;
+        let stretch = stretch_of(self.since, to, self.running.value());
+        put_stretch(&mut self.runs, self.gaps, self.running.count(), stretch)?;
+        self.since = to;
+        Ok(())
+    }
+
     /// Makes the runs reach up to a version, which is not before those of the last change. The
     /// error is `NoMemory`.
+    #[inline(always)]
     pub(crate) fn advance(&mut self, to: u32) -> Result<(), NoMemory>
         ensures { OnOk result (Advances self.old self.new to) }
     {
         if self.since >= to {
             return Ok(());
         }
-        make_room(&mut self.runs)?;
-        let stretch = stretch_of(self.since, to, self.running.value());
-        put_stretch(&mut self.runs, self.gaps, self.running.count(), stretch)?;
-        self.since = to;
-        Ok(())
+        self.close(to)
     }
 
     /// A number comes into the group where `opens`, else it goes, at the version up to which its
@@ -131,8 +151,23 @@ impl Group {
         self.running.set_count(count);
     }
 
+    /// The sum of the numbers.
+    pub(crate) fn sum(&self) -> i128
+        ensures { result ≡ self.now.running.sum }
+    {
+        self.running.sum()
+    }
+
+    /// Says how many rows there are, and the sum of their numbers, where these have no order.
+    pub(crate) fn set_sums(&mut self, count: u32, sum: i128)
+        ensures { self.new ≡ summed self.old count sum }
+    {
+        self.running.set_sums(count, sum);
+    }
+
     /// A number comes into the group at a version where `opens`, else it goes. The error is
     /// `NoMemory`.
+    #[inline(always)]
     pub(crate) fn change(&mut self, at: u32, opens: bool, number: i64) -> Result<(), NoMemory>
         requires { CanChange opens self.old.running number }
         ensures { OnOk result (Moves self.old self.new at opens number) }

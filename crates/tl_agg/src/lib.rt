@@ -11,6 +11,7 @@ pub mod laws;
 mod scans;
 mod seams;
 mod tables;
+mod tallies;
 mod value_groups;
 
 pub use aggregates::aggregate;

@@ -5,23 +5,33 @@ ghost use Rattle.tl_types.specs.Walks.{IsQuiet, standing};
 ghost use Rattle.tl_events.specs.Timeline.{Follow};
 ghost use Rattle.tl_bits.specs.Sets.{is_member};
 ghost use Rattle.tl_lanes.specs.Masks.{words_for};
-ghost use Rattle.tl_running.specs.Standing.{IsShort};
+ghost use Rattle.tl_running.specs.Standing.{IsShort, is_ordered};
+ghost use Rattle.tl_store.specs.Reading.{cell_shown, IsShort as IsShortCell};
 ghost use Rattle.tl_agg.specs.Kept.{below, size, IsWithin, count_moved};
 ghost use Rattle.tl_agg.specs.Runs.{system_runs, start_set};
-ghost use Rattle.tl_agg.specs.Tables.{rows_in, ends_in, search_steps, TellsNumber, IsNextEntry};
-ghost use Rattle.tl_agg.specs.Scans.{IsScan, scan_of, AllTrack, IsReady, TakesEvent, set_after, all_recounted};
+ghost use Rattle.tl_agg.specs.Tables.{rows_in, ends_in, search_steps, TellsNumber, AreNumbers, HasKey, IsNextEntry};
+ghost use Rattle.tl_agg.specs.Scans.{IsScan, scan_of, AllTrack, IsReady, TakesEvent, set_after, all_recounted, all_summed};
+ghost use Rattle.tl_agg.specs.Tallies.{IsFarFromEnds, total, count_with, IsTally, TalliesWhere};
 
 use crate::all_groups::Groups;
 use crate::kept::KeptRows;
 use crate::tables::TimedTable;
+use crate::tallies::Tally;
 use std::alloc::Global;
 use std::marker::Model;
 use std::sync::ledger::Ledger;
 use tl_bits::RowSet;
 use tl_events::{PackedEvent, VersionEnd};
-use tl_query::AggPlan;
-use tl_store::IntsRef;
+use tl_query::{AggKind, AggPlan};
+use tl_store::{CellRef, IntsRef};
 use tl_types::{Event, NoMemory, Piece, Run, Steps};
+
+// Whether the kind asks for the order of the numbers.
+fn is_ordered(kind: AggKind) -> bool
+    ensures { result ≡ is_ordered kind }
+{
+    matches!(kind, AggKind::Min | AggKind::Max)
+}
 
 // How many rows there are when one comes where `opens`, and else goes, where it is kept.
 fn count_moved(is_kept: bool, opens: bool, count: u32) -> u32
@@ -43,6 +53,7 @@ pub(crate) struct Scan<'a> {
     table: TimedTable<'a>,
     plan: AggPlan,
     numbers: Option<IntsRef<'a>>,
+    keys: Option<IntsRef<'a>>,
     keep: KeptRows<'a>,
     piece: Piece,
 }
@@ -56,7 +67,7 @@ impl<'a> Model for Scan<'a> {
 
     ghost invariant = { λ s. ReadsNumbers
         (scan_of s.table s.plan s.keep s.piece.from s.piece.to)
-        s.numbers };
+        s.numbers s.keys };
 }
 
 impl<'a> Scan<'a> {
@@ -72,11 +83,13 @@ impl<'a> Scan<'a> {
         ensures { result ≡ scan_of table.entry plan keep.entry piece.from piece.to }
     {
         let numbers = table.numbers(plan.column);
+        let keys = table.int_keys(plan.by);
         Scan {
             alloc,
             table,
             plan,
             numbers,
+            keys,
             keep,
             piece,
         }
@@ -120,8 +133,24 @@ impl<'a> Scan<'a> {
         Ok(())
     }
 
+    // The cell of a row in the column that separates the rows into groups. It takes one step.
+    #[inline(always)]
+    fn key_in<L: Ledger>(&self, by: u8, row: u32, steps: &mut Steps<L>) -> CellRef<'a>
+        requires by { self.now.plan.by ≡ Some by }
+        requires row { row < length (rows_in self.now.table) }
+        ensures key { HasKey (rows_in self.now.table) row by (cell_shown result) }
+        ensures short { IsShortCell result }
+        ensures steps { steps.new ≡ steps.old + 1 }
+    {
+        match &self.keys {
+            Some(cells) => CellRef::Int(cells.at(row, steps)),
+            None => self.table.cell(by, row, steps),
+        }
+    }
+
     // A kept row comes into the group of its value in a column at a version, or goes. It takes at
     // most two steps.
+    #[inline(always)]
     fn move_in<L: Ledger>(
         &self,
         groups: &mut Groups<'a>,
@@ -138,7 +167,7 @@ impl<'a> Scan<'a> {
     {
         let _ = self.table.rows();
         let number = self.number_in(event.row, steps);
-        let value = self.table.cell(by, event.row, steps);
+        let value = self.key_in(by, event.row, steps);
         let n = groups.number(self.alloc, value, self.plan.kind, self.piece.from)?;
         groups.change_at(n, at, event.opens, number)?;
         Ok(())
@@ -167,6 +196,7 @@ impl<'a> Scan<'a> {
     }
 
     // A kept row comes into its group at a version, or goes. It takes at most two steps.
+    #[inline(always)]
     fn move_row<L: Ledger>(
         &self,
         groups: &mut Groups<'a>,
@@ -189,6 +219,7 @@ impl<'a> Scan<'a> {
 
     // An event of a version, which changes a group where its row is kept. It takes at most three
     // steps.
+    #[inline(always)]
     fn fold_event<L: Ledger>(
         &self,
         groups: &mut Groups<'a>,
@@ -242,6 +273,98 @@ impl<'a> Scan<'a> {
         count
     }
 
+    // What a tally is behind an event, whose row comes or goes where it is kept. It takes at most
+    // two steps.
+    #[inline(always)]
+    fn tally_event<L: Ledger>(
+        &self,
+        cells: &IntsRef<'a>,
+        tally: Tally,
+        event: Event,
+        steps: &mut Steps<L>,
+    ) -> Tally
+        requires cells { AreNumbers (rows_in self.now.table) self.now.plan.column (Some cells.now) }
+        requires row { event.row < length (rows_in self.now.table) }
+        requires came { tally.came ≤ tally.kept }
+        requires few { tally.kept < 2 ^ 64 - 1 }
+        requires wide { IsFarFromEnds tally.sum }
+        ensures tallies { TalliesWhere (is_member self.now.keep event.row) self.now event
+            tally result }
+        ensures steps { steps.new ≤ steps.old + 2 }
+    {
+        let is_kept = self.keep.test(event.row, steps);
+        if is_kept {
+            let number = cells.at(event.row, steps);
+            return tally.moved(event.opens, number);
+        }
+        tally
+    }
+
+    // The tally of some events of the version up to which the runs of the group of all rows reach,
+    // which begin at a place among the table's events. It takes at most two steps for each.
+    fn tally_run<L: Ledger>(
+        &self,
+        groups: &Groups<'a>,
+        at: u32,
+        place: u32,
+        events: &[PackedEvent],
+        steps: &mut Steps<L>,
+    ) -> Tally
+        requires single { self.now.plan.by ≡ None }
+        requires kind { is_ordered self.now.plan.kind ≡ false }
+        requires column { is_some self.now.plan.column ≡ true }
+        requires events { events.now ≡ take (length events.now)
+            (drop place (events_of (rows_in self.now.table) self.now.table.db.version)) }
+        requires tracks { AllTrack self.now (set_after self.now.table place) at groups.now }
+        requires since { groups.now.all.since ≡ at }
+        ensures tracks { AllTrack self.now
+            (set_after self.now.table (place + length events.now)) at
+            (all_summed groups.now (count_with groups.now.all.running.count result)
+            (total result)) }
+        ensures tally { IsTally groups.now.all.running.count (length events.now) result }
+        ensures steps { steps.new ≤ steps.old + 2 * length events.now }
+    {
+        let _at = at;
+        let _place = place;
+        let _ = self.table.rows();
+        let mut tally = Tally::none(groups.sum());
+        let Some(cells) = &self.numbers else {
+            unreachable!()
+        };
+        for packed in events {
+            tally = self.tally_event(cells, tally, packed.event(), steps);
+        }
+        tally
+    }
+
+    // Some events of the version up to which the runs of the group of all rows reach, which begin
+    // at a place among the table's events, where the rows have one group and the order of the
+    // numbers is not asked for. It takes at most two steps for each.
+    fn sum_run<L: Ledger>(
+        &self,
+        groups: &mut Groups<'a>,
+        at: u32,
+        place: u32,
+        events: &[PackedEvent],
+        steps: &mut Steps<L>,
+    )
+        requires single { self.now.plan.by ≡ None }
+        requires kind { is_ordered self.now.plan.kind ≡ false }
+        requires column { is_some self.now.plan.column ≡ true }
+        requires events { events.now ≡ take (length events.now)
+            (drop place (events_of (rows_in self.now.table) self.now.table.db.version)) }
+        requires tracks { AllTrack self.now (set_after self.now.table place) at groups.old }
+        requires since { groups.old.all.since ≡ at }
+        ensures tracks { AllTrack self.now
+            (set_after self.now.table (place + length events.now)) at groups.new }
+        ensures steps { steps.new ≤ steps.old + 2 * length events.now }
+    {
+        let _ = self.table.rows();
+        let tally = self.tally_run(groups, at, place, events, steps);
+        let count = tally.count(groups.count());
+        groups.set_sums(count, tally.total());
+    }
+
     // Some events of the version up to which the runs of the group of all rows reach, which begin
     // at a place among the table's events, where the rows have one group. It takes at most three
     // steps for each.
@@ -270,6 +393,35 @@ impl<'a> Scan<'a> {
         Ok(())
     }
 
+    // Some events of the version up to which the runs of the group of all rows reach, which begin
+    // at a place among the table's events, where a column is aggregated and the rows have one
+    // group. It takes at most three steps for each.
+    fn column_run<L: Ledger>(
+        &self,
+        groups: &mut Groups<'a>,
+        at: u32,
+        place: u32,
+        events: &[PackedEvent],
+        steps: &mut Steps<L>,
+    ) -> Result<(), NoMemory>
+        requires single { self.now.plan.by ≡ None }
+        requires column { is_some self.now.plan.column ≡ true }
+        requires events { events.now ≡ take (length events.now)
+            (drop place (events_of (rows_in self.now.table) self.now.table.db.version)) }
+        requires tracks { AllTrack self.now (set_after self.now.table place) at groups.old }
+        requires since { groups.old.all.since ≡ at }
+        ensures tracks { OnOk result (AllTrack self.now
+            (set_after self.now.table (place + length events.now)) at groups.new) }
+        ensures steps { steps.new ≤ steps.old + 3 * length events.now }
+    {
+        let is_ordered = is_ordered(self.plan.kind);
+        if is_ordered {
+            return self.number_run(groups, at, place, events, steps);
+        }
+        self.sum_run(groups, at, place, events, steps);
+        Ok(())
+    }
+
     // Some events of a version, which begin at a place among the table's events, where the rows
     // have one group. It takes at most three steps for each.
     fn run_all<L: Ledger>(
@@ -295,7 +447,7 @@ impl<'a> Scan<'a> {
                 groups.set_count(count);
                 Ok(())
             }
-            Some(_) => self.number_run(groups, at, place, events, steps),
+            Some(_) => self.column_run(groups, at, place, events, steps),
         }
     }
 

@@ -1,17 +1,17 @@
 //! A table of a store with its timeline.
-ghost use Rattle.std.specs.Prelude.{◌≡◌, ◌+◌, ◌<◌, ◌≤◌, length, take, drop, Some, IfOk, IfSome, IfNone, slice_get};
+ghost use Rattle.std.specs.Prelude.{◌≡◌, ◌+◌, ◌<◌, ◌≤◌, true, length, take, drop, Some, IfOk, IfSome, IfNone, slice_get};
 ghost use Rattle.tl_types.specs.Events.{events_of, place_of};
 ghost use Rattle.tl_types.specs.History.{database_of};
 ghost use Rattle.tl_types.specs.WellFormed.{AreWellFormed};
 ghost use Rattle.tl_events.specs.Timeline.{IsSplit, Follow};
 ghost use Rattle.tl_store.specs.Reading.{columns_of, IsIntColumn, cell_shown, IsShort as IsShortCell};
-ghost use Rattle.tl_agg.specs.Tables.{rows_in, ends_in, HasTimeline, search_steps, HasKey, AreNumbers};
+ghost use Rattle.tl_agg.specs.Tables.{rows_in, ends_in, HasTimeline, search_steps, HasKey, AreNumbers, AreKeys};
 
 use std::marker::Model;
 use std::sync::ledger::Ledger;
 use tl_events::{EventList, PackedEvent, VersionEnd, VersionMap};
 use tl_store::{CellRef, IntsRef, Store};
-use tl_types::Steps;
+use tl_types::{Column, ColumnKind, Steps};
 
 /// A table of a store with its timeline: its events, and where those of its versions end. A
 /// contract sees the tables of the store, and the number of this one.
@@ -33,6 +33,19 @@ impl<'a> Model for TimedTable<'a> {
 
     ghost invariant = { λ t. HasTimeline
         (record { db = database_of t.store.now; number = t.number }) t.events.now t.ends.now };
+}
+
+// Whether the column at a place is one of numbers.
+fn is_int(columns: &[Column], place: u8) -> bool
+    ensures { result ≡ true → IsIntColumn columns.now place }
+{
+    match columns.get(place as usize) {
+        Some(column) => match column.kind {
+            ColumnKind::IntKind => true,
+            ColumnKind::TextKind => false,
+        },
+        None => false,
+    }
 }
 
 impl<'a> TimedTable<'a> {
@@ -121,6 +134,27 @@ impl<'a> TimedTable<'a> {
     {
         match column {
             Some(place) => Some(self.store.int_column(self.number, place)),
+            None => None,
+        }
+    }
+
+    // The numbers of the rows in a column, where that is one of numbers.
+    fn ints_in(&self, place: u8) -> Option<IntsRef<'a>>
+        ensures { AreKeys (rows_in self.now) (Some place) result }
+    {
+        let is_int = is_int(self.store.schema(self.number).columns(), place);
+        if is_int {
+            return Some(self.store.int_column(self.number, place));
+        }
+        None
+    }
+
+    /// The numbers of the rows in a column, where one is asked for and it is one of numbers.
+    pub(crate) fn int_keys(&self, column: Option<u8>) -> Option<IntsRef<'a>>
+        ensures { AreKeys (rows_in self.now) column result }
+    {
+        match column {
+            Some(place) => self.ints_in(place),
             None => None,
         }
     }

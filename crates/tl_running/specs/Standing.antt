@@ -74,6 +74,10 @@ StandsFor kept column rows = Counts kept (map (number_in column) rows)
 abbrev pub counting : Kept → ℕ → Kept
 counting kept count = record kept { count = count }
 
+-- what is kept, with so many rows and this sum
+abbrev pub summing : Kept → ℕ → ℤ → Kept
+summing kept count sum = record kept { count = count; sum = sum }
+
 -- there is room for one number more
 pub record HasRoom (kept : Kept) : Type 0 where
   pub count : kept.count < 2 ^ 32 - 1

@@ -8,7 +8,7 @@ ghost use Rattle.tl_bits.specs.Bags.{times, AddsOne};
 ghost use Rattle.tl_query.specs.declared.ast.AggKind.TheVariants as kind;
 ghost use Rattle.tl_running.specs.Heaps.{bag_of, turned};
 ghost use Rattle.tl_query.specs.Aggregates.{total_of, sum_field, average_field, least_field, greatest_field, aggregate_of};
-ghost use Rattle.tl_running.specs.Standing.{is_ordered, Suits, Counts, StandsFor, HasRoom, CanLeave, Enters, Changes, CanChange, counting};
+ghost use Rattle.tl_running.specs.Standing.{is_ordered, Suits, Counts, StandsFor, HasRoom, CanLeave, Enters, Changes, CanChange, counting, summing};
 
 use crate::heaps::Heaps;
 use std::alloc::Global;
@@ -329,6 +329,21 @@ impl Running {
         ensures { self.new ≡ counting self.old count }
     {
         self.count = count;
+    }
+
+    /// Puts a number of rows and a sum that were made elsewhere. The numbers by size stay.
+    pub fn set_sums(&mut self, count: u32, sum: i128)
+        ensures { self.new ≡ summing self.old count sum }
+    {
+        self.count = count;
+        self.sum = sum;
+    }
+
+    /// The sum of the numbers.
+    pub fn sum(&self) -> i128
+        ensures { result ≡ self.now.sum }
+    {
+        self.sum
     }
 
     /// How many rows there are.

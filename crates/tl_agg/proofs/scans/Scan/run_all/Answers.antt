@@ -7,7 +7,7 @@ count_run-count-requires-clause-tracks g c =
     let made = all_advanced c.args.self.now c.args.at (set_after c.args.self.now.table c.args.place) c.args.groups.now c.advance.new.self c.requires.single c.in_ok-advance.ensures c.requires.tracks in
     made.0
 
-pub number_run-requires-clause-tracks : goal.number_run-requires-clause-tracks
-number_run-requires-clause-tracks g c =
+pub column_run-requires-clause-tracks : goal.column_run-requires-clause-tracks
+column_run-requires-clause-tracks g c =
     let made = all_advanced c.args.self.now c.args.at (set_after c.args.self.now.table c.args.place) c.args.groups.now c.advance.new.self c.requires.single c.in_ok-advance.ensures c.requires.tracks in
     made.0

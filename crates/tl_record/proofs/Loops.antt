@@ -2,11 +2,12 @@
 use Rattle.std.proofs.Common.{◌≡◌, ℕ, zero, suc, ◌+◌, ◌-◌, ◌<◌, ◌≤◌, ℤ, pos, ◌+ℤ◌, ◌≤ℤ◌, ◌<ℤ◌, List, [], ◌∷◌, ◌++◌, length, refl, sym, ap, ◌∙◌, subst, arith, Result, Ok, Err, append_assoc}
 use Rattle.std.proofs.lemmas.List.{append-nil}
 use Rattle.std.proofs.lemmas.Int.{ints}
+use Rattle.tl_types.specs.declared.cells.Cell.{Cell}
 use Rattle.tl_types.specs.declared.schemas.Column.{Column}
 use Rattle.tl_record.specs.declared.faults.Fault.{Fault}
 use Rattle.tl_record.specs.declared.faults.ReadError.{ReadError}
 use Rattle.tl_record.specs.declared.faults.ReadError.TheVariants as errors
-use Rattle.tl_record.specs.Reading.{Reader, Fails, in_turn, after, onward, mapped, cons, several, prepended, between, ascending, max_4, column_at, columns_at}
+use Rattle.tl_record.specs.Reading.{Reader, Fails, in_turn, after, onward, mapped, cons, several, prepended, between, ascending, max_4, column_at, columns_at, byte_between, cell_at, cells_at, row_of, row_of_cells, row_at, period_at}
 use Rattle.tl_record.proofs.Parts.{okay, same_value}
 
 regroup : {A : Type 0} (front : List A) (x : A) (read : Result (List A × List ℕ) Fault)
@@ -187,3 +188,22 @@ columns_end front count i bytes total le so_far =
 pub unstarted : {A : Type 0} (read : Result (List A × List ℕ) Fault) → prepended [] read ≡ read
 unstarted (Ok r) = refl
 unstarted (Err f) = refl
+
+-- a row behind the number of its cells
+pub row_behind : (bytes rest : List ℕ) (n : ℕ) → byte_between 1 16 bytes ≡ Ok (n, rest)
+    → row_at bytes ≡ row_of_cells n rest
+unfolding row_at cells_at row_of_cells
+row_behind bytes rest n e =
+    ap (λ r. mapped row_of (onward (λ (cells : List Cell). period_at) (mapped (λ p. p.1) (onward (several cell_at) r)))) e
+    ∙ regrouped (several cell_at n rest) where
+      regrouped : (r : Result (List Cell × List ℕ) Fault)
+          → mapped row_of (onward (λ (cells : List Cell). period_at) (mapped (λ p. p.1) (after n r)))
+          ≡ mapped row_of (onward (λ (cells : List Cell). period_at) r)
+      regrouped (Ok q) = refl
+      regrouped (Err f) = refl
+
+pub no_row : (e : ReadError) (bytes : List ℕ) → Fails e (byte_between 1 16 bytes) → Fails e (row_at bytes)
+unfolding row_at cells_at
+no_row errors.Memory bytes h = tt
+no_row (errors.Fault f) bytes h =
+    ap (λ r. mapped row_of (onward (λ (cells : List Cell). period_at) (mapped (λ p. p.1) (onward (several cell_at) r)))) h

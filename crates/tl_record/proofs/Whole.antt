@@ -7,7 +7,7 @@ use Rattle.std.proofs.lemmas.List.{length-append, length-take, take-append-drop}
 use Rattle.tl_record.specs.declared.faults.Fault.{Fault}
 use Rattle.tl_record.specs.declared.faults.Fault.TheVariants.{Short, Bad}
 use Rattle.tl_record.specs.Spelling.{short_number, number, signed_number, IsSigned}
-use Rattle.tl_record.specs.Reading.{between, judged, max_4, any_2, any_4, signed_between, least, greatest, IsBetween}
+use Rattle.tl_record.specs.Reading.{between, mapped, judged, max_4, any_2, any_4, distance, at_distance, turned_between, signed_between, least, greatest, IsBetween}
 use Rattle.tl_record.proofs.Exact.{Reads}
 use Rattle.tl_record.proofs.Parts.{same_value}
 use Rattle.tl_record.proofs.Fields.{bounded_reads, any_2_reads, any_4_reads, signed_reads, IsWithin}
@@ -59,6 +59,12 @@ module _ (bytes : List ℕ) (bound : (i : ℕ) → get_or bytes i 0 < 256) (long
   pub two_read : two_of bytes < 2 ^ 16 → between 2 0 65535 bytes ≡ Ok (two_of bytes, drop 2 bytes)
   two_read small = ap any_2 two_whole ∙ any_2_reads.again (two_of bytes) (drop 2 bytes) small
 
+-- fewer bytes are no number
+pub two_cut : (bytes rest : List ℕ) (n : ℕ) → length bytes < 2 → between 2 0 65535 bytes ≡ Ok (n, rest) → ⊥
+two_cut bytes rest n few e =
+    let t = any_2_reads.takes bytes rest n e in
+    omega (arith, few, ap length t.1, length-append (short_number n) rest)
+
 -- NUMBERS OF FOUR BYTES
 
 abbrev four_of : List ℕ → ℕ
@@ -95,6 +101,12 @@ module _ (bytes : List ℕ) (bound : (i : ℕ) → get_or bytes i 0 < 256) (long
         subst (IsBetween lo hi) (sym (ap (λ z. z.0) p)) f)
         (λ y. omega arith)
         (λ f. let g = inside lo hi some n f in absurd (cc))
+
+pub four_cut : (lo hi : ℕ) (bytes rest : List ℕ) (n : ℕ) → lo ≤ hi → hi ≤ max_4
+    → length bytes < 4 → between 4 lo hi bytes ≡ Ok (n, rest) → ⊥
+four_cut lo hi bytes rest n some most few e =
+    let t = (bounded_reads lo hi some most).takes bytes rest n e in
+    omega (arith, few, ap length t.1, length-append (number n) rest)
 
 -- SIGNED NUMBERS
 
@@ -156,3 +168,10 @@ module _ (bytes : List ℕ) (bound : (i : ℕ) → get_or bytes i 0 < 256) (long
         let y : int_le i hi ≡ true = grind (arith, ints) in
         let z : (int_le lo i && int_le i hi) ≡ true = rw (x, y) refl in
         absurd (cc))
+
+pub eight_cut : (lo hi : ℤ) (bytes rest : List ℕ) (d : ℕ) → lo ≤ℤ hi → IsSigned lo → IsSigned hi
+    → length bytes < 8 → turned_between (distance lo) (distance hi) bytes ≡ Ok (d, rest) → ⊥
+unfolding signed_between
+eight_cut lo hi bytes rest d some low high few e =
+    let t = (signed_reads lo hi some low high).takes bytes rest (at_distance d) (ap (mapped at_distance) e) in
+    omega (arith, few, ap length t.1, length-append (signed_number (at_distance d)) rest)

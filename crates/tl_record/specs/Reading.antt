@@ -259,6 +259,10 @@ row_of p = record { cells = p.0; period = p.1 }
 unfoldable pub cells_at : Reader (List Cell)
 cells_at bytes = behind (byte_between 1 16) (several cell_at) bytes
 
+-- so many cells and a period as a row
+unfoldable pub row_of_cells : ℕ → Reader plain.Opened
+row_of_cells n bytes = mapped row_of (in_turn (several cell_at n) (λ cells. period_at) bytes)
+
 -- an opened row
 unfoldable pub row_at : Reader plain.Opened
 row_at bytes =

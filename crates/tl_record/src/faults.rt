@@ -40,6 +40,16 @@ pub enum ReadError {
     Fault(Fault),
 }
 
+/// An error as it is. The call is cold, which tells LLVM that what leads to it is rare: else it takes
+/// the way on which readers stand in each other for the rare one, and does not inline there.
+#[cold]
+#[inline(never)]
+pub fn rare_error(error: ReadError) -> ReadError
+    ensures { result ≡ error }
+{
+    error
+}
+
 impl From<NoMemory> for ReadError {
     ghost from_gives = { λ _ e. e ≡ Memory };
 

@@ -2,6 +2,7 @@
 ghost use Rattle.std.specs.Prelude.{◌≡◌, ◌≤◌, ◌<◌, ◌≤ℤ◌, length, IfOk};
 ghost use Rattle.tl_record.specs.Reading.{
   Gives,
+  Fails,
   IsBetween,
   byte_between,
   turned,
@@ -10,13 +11,13 @@ ghost use Rattle.tl_record.specs.Reading.{
   between,
   weight,
   distance,
-  at_distance,
   signed_between,
 };
 
 use crate::faults::{Fault, ReadError};
 
 /// A byte from `lo` to `hi`, and what follows it.
+#[inline(always)]
 pub fn byte(lo: u8, hi: u8, bytes: &[u8]) -> Result<(u8, &[u8]), ReadError>
     ensures read { Gives (λ x. (x.0, x.1.now)) result (byte_between lo hi bytes.now) }
     ensures within { IfOk result (λ x. IsBetween lo hi x.0) }
@@ -70,6 +71,7 @@ pub fn between(count: u8, lo: u64, hi: u64, bytes: &[u8]) -> Result<(u64, &[u8])
 }
 
 #[tactic(auto, using(crate::proofs::Whole::four_read))]
+#[inline(always)]
 fn whole_number(lo: u32, hi: u32, bytes: &[u8]) -> Result<(u32, &[u8]), ReadError>
     requires some { lo ≤ hi }
     requires long { 4 ≤ length bytes.now }
@@ -85,7 +87,23 @@ fn whole_number(lo: u32, hi: u32, bytes: &[u8]) -> Result<(u32, &[u8]), ReadErro
     }
 }
 
+// Why no number of 4 bytes is read, where the bytes are fewer.
+#[tactic(auto, using(crate::proofs::Whole::four_cut))]
+#[cold]
+#[inline(never)]
+fn cut_number(lo: u32, hi: u32, bytes: &[u8]) -> ReadError
+    requires some { lo ≤ hi }
+    requires cut { length bytes.now < 4 }
+    ensures { Fails result (between 4 lo hi bytes.now) }
+{
+    match between(4, lo as u64, hi as u64, bytes) {
+        Ok(_) => unreachable!(),
+        Err(error) => error,
+    }
+}
+
 /// A number of 4 bytes from `lo` to `hi`, and what follows it.
+#[inline(always)]
 pub fn number(lo: u32, hi: u32, bytes: &[u8]) -> Result<(u32, &[u8]), ReadError>
     requires { lo ≤ hi }
     ensures read { Gives (λ x. (x.0, x.1.now)) result (between 4 lo hi bytes.now) }
@@ -94,11 +112,11 @@ pub fn number(lo: u32, hi: u32, bytes: &[u8]) -> Result<(u32, &[u8]), ReadError>
     if bytes.len() >= 4 {
         return whole_number(lo, hi, bytes);
     }
-    let (n, rest) = between(4, lo as u64, hi as u64, bytes)?;
-    Ok((n as u32, rest))
+    Err(cut_number(lo, hi, bytes))
 }
 
 #[tactic(auto, using(crate::proofs::Whole::two_read))]
+#[inline(always)]
 fn whole_short_number(bytes: &[u8]) -> Result<(u16, &[u8]), ReadError>
     requires { 2 ≤ length bytes.now }
     ensures { Gives (λ x. (x.0, x.1.now)) result (between 2 0 65535 bytes.now) }
@@ -108,15 +126,29 @@ fn whole_short_number(bytes: &[u8]) -> Result<(u16, &[u8]), ReadError>
     Ok((n, rest))
 }
 
+// Why no number of 2 bytes is read, where the bytes are fewer.
+#[tactic(auto, using(crate::proofs::Whole::two_cut))]
+#[cold]
+#[inline(never)]
+fn cut_short_number(bytes: &[u8]) -> ReadError
+    requires cut { length bytes.now < 2 }
+    ensures { Fails result (between 2 0 65535 bytes.now) }
+{
+    match between(2, 0, 65535, bytes) {
+        Ok(_) => unreachable!(),
+        Err(error) => error,
+    }
+}
+
 /// A number of 2 bytes, and what follows it.
+#[inline(always)]
 pub fn short_number(bytes: &[u8]) -> Result<(u16, &[u8]), ReadError>
     ensures { Gives (λ x. (x.0, x.1.now)) result (between 2 0 65535 bytes.now) }
 {
     if bytes.len() >= 2 {
         return whole_short_number(bytes);
     }
-    let (n, rest) = between(2, 0, 65535, bytes)?;
-    Ok((n as u16, rest))
+    Err(cut_short_number(bytes))
 }
 
 fn turned(byte: u8) -> u8
@@ -167,17 +199,8 @@ fn distance(i: i64) -> u64
     }
 }
 
-fn at_distance(distance: u64) -> i64
-    ensures { result ≡ at_distance distance }
-{
-    if distance < 9223372036854775808 {
-        -((9223372036854775807 - distance) as i64) - 1
-    } else {
-        (distance - 9223372036854775808) as i64
-    }
-}
-
 #[tactic(auto, using(crate::proofs::Whole::eight_read))]
+#[inline(always)]
 fn whole_signed(lo: i64, hi: i64, bytes: &[u8]) -> Result<(i64, &[u8]), ReadError>
     requires some { lo ≤ℤ hi }
     requires long { 8 ≤ length bytes.now }
@@ -197,8 +220,23 @@ fn whole_signed(lo: i64, hi: i64, bytes: &[u8]) -> Result<(i64, &[u8]), ReadErro
     Err(ReadError::Fault(Fault::Bad))
 }
 
+// Why no signed number is read, where the bytes are fewer than 8.
+#[tactic(auto, using(crate::proofs::Whole::eight_cut, crate::proofs::Steps::distances_ascend), unfolding(crate::specs::Reading::signed_between))]
+#[cold]
+#[inline(never)]
+fn cut_signed(lo: i64, hi: i64, bytes: &[u8]) -> ReadError
+    requires some { lo ≤ℤ hi }
+    requires cut { length bytes.now < 8 }
+    ensures { Fails result (signed_between lo hi bytes.now) }
+{
+    match turned_between(distance(lo), distance(hi), bytes) {
+        Ok(_) => unreachable!(),
+        Err(error) => error,
+    }
+}
+
 /// A signed number of 8 bytes from `lo` to `hi`, and what follows it.
-#[tactic(auto, using(crate::proofs::Steps::distances_ascend, crate::proofs::Steps::signed_within), unfolding(crate::specs::Reading::signed_between))]
+#[inline(always)]
 pub fn signed(lo: i64, hi: i64, bytes: &[u8]) -> Result<(i64, &[u8]), ReadError>
     requires { lo ≤ℤ hi }
     ensures read { Gives (λ x. (x.0, x.1.now)) result (signed_between lo hi bytes.now) }
@@ -207,6 +245,5 @@ pub fn signed(lo: i64, hi: i64, bytes: &[u8]) -> Result<(i64, &[u8]), ReadError>
     if bytes.len() >= 8 {
         return whole_signed(lo, hi, bytes);
     }
-    let (place, rest) = turned_between(distance(lo), distance(hi), bytes)?;
-    Ok((at_distance(place), rest))
+    Err(cut_signed(lo, hi, bytes))
 }

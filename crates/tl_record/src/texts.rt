@@ -19,7 +19,7 @@ ghost use Rattle.tl_record.specs.Reading.{
   text_at,
 };
 
-use crate::faults::{Fault, ReadError};
+use crate::faults::{Fault, ReadError, rare_error};
 use crate::numbers;
 use std::alloc::Global;
 use tl_types::{Column, NoMemory, Text, as_text, begins_word, continues_word, is_name};
@@ -152,6 +152,7 @@ fn begins_text(alloc: Global, count: usize, bytes: &[u8]) -> Result<bool, NoMemo
 }
 
 // A text of the bytes in front, where they are UTF-8, and the rest.
+#[inline(always)]
 fn whole_text<'a>(
     alloc: Global,
     front: &[u8],
@@ -161,9 +162,12 @@ fn whole_text<'a>(
     ensures { Gives (λ x. (x.0, x.1.now)) result (judged (is_utf8 front.now) front.now rest.now) }
 {
     let Some(text) = as_text(front) else {
-        return Err(ReadError::Fault(Fault::Bad));
+        return Err(rare_error(ReadError::Fault(Fault::Bad)));
     };
-    Ok((Text::new(alloc, text)?, rest))
+    match Text::new(alloc, text) {
+        Ok(text) => Ok((text, rest)),
+        Err(_) => Err(rare_error(ReadError::Memory)),
+    }
 }
 
 // Why no text of `count` bytes is read, where the bytes are fewer.
@@ -180,6 +184,7 @@ fn cut_text(alloc: Global, count: usize, bytes: &[u8]) -> ReadError
 }
 
 #[tactic(auto, unfolding(crate::specs::Reading::text_of))]
+#[inline(always)]
 fn text_of(alloc: Global, count: usize, bytes: &[u8]) -> Result<(Text, &[u8]), ReadError>
     requires { count ≤ 65535 }
     ensures { Gives (λ x. (x.0, x.1.now)) result (text_of count bytes.now) }
@@ -193,10 +198,12 @@ fn text_of(alloc: Global, count: usize, bytes: &[u8]) -> Result<(Text, &[u8]), R
 
 /// A text behind its length, and what follows it.
 #[tactic(auto, unfolding(crate::specs::Reading::text_at))]
+#[inline(always)]
 pub fn text(alloc: Global, bytes: &[u8]) -> Result<(Text, &[u8]), ReadError>
     ensures { Gives (λ x. (x.0, x.1.now)) result (text_at bytes.now) }
 {
-    let (count, rest) = numbers::short_number(bytes)?;
-    let (text, rest) = text_of(alloc, count as usize, rest)?;
-    Ok((text, rest))
+    match numbers::short_number(bytes) {
+        Ok((count, rest)) => text_of(alloc, count as usize, rest),
+        Err(error) => Err(rare_error(error)),
+    }
 }

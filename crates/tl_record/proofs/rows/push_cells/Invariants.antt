@@ -4,5 +4,5 @@ use Rattle.tl_record.proofs.rows.push_cells.Given as goal
 
 abbrev pub invariant-loop : goal.invariant-loop
 invariant-loop l =
-    prepended l.cells (several cell_at (l.count - l.counter) l.rest)
-    ≡ prepended l.fn.cells (several cell_at l.count l.bytes)
+    prepended l.cells.items (several cell_at (l.count - l.counter) l.rest)
+    ≡ prepended l.fn.cells.items (several cell_at l.count l.bytes)

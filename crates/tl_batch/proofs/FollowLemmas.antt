@@ -13,8 +13,6 @@ use Rattle.tl_types.specs.declared.commits.Body.{Body}
 use Rattle.tl_types.specs.declared.commits.Body.TheVariants as body
 use Rattle.tl_types.specs.Plain as plain
 use Rattle.tl_types.specs.History.{open_end, with_ids, row_after, new_row, new_table, table_after, at_place, after_body, after_commit, nothing, matches, match_columns, is_of_kind, rows_of, is_open_at, fits_body, has_id}
-use Rattle.tl_batch.specs.declared.following.KeyedRow.{KeyedRow}
-use Rattle.tl_batch.specs.ClosedRows.{has_keyed}
 use Rattle.tl_batch.specs.KeyIndex.{IdsByKey, has_row, no_ids}
 use Rattle.tl_batch.specs.Standing.{opens_with, has_key, is_open_with, table_has, rows_match, index_at, StandFor}
 use Rattle.tl_batch.proofs.IndexedRows.{opens_from}
@@ -64,10 +62,10 @@ joint : (h k o w : Bool) → (w ≡ true → k ≡ true) → (h ≡ true → o �
 joint h k o w f g = grind arith
 
 -- the index of a table after a change that fits
-new_after : (version : ℕ) (change : plain.Change) (t : plain.Table) (old : IdsByKey) (closing : List KeyedRow) (new : IdsByKey) → nat_eq version open_end ≡ false → list_all (is_open_at t.rows) change.closes ≡ true
+new_after : (version : ℕ) (change : plain.Change) (t : plain.Table) (old : IdsByKey) (closing : Cell → ℕ → Bool) (new : IdsByKey) → nat_eq version open_end ≡ false → list_all (is_open_at t.rows) change.closes ≡ true
     → ((x : Cell) (n : ℕ) → has_row old x n ≡ is_open_with t.schema.key x (slice_get t.rows n))
-    → ((x : Cell) (n : ℕ) → has_keyed closing x n ≡ (has_id change.closes n && has_key t.schema.key x (slice_get t.rows n)))
-    → ((x : Cell) (n : ℕ) → has_row new x n ≡ (not (has_keyed closing x n) && (opens_with t.schema.key (length t.rows) change.opens x n || has_row old x n)))
+    → ((x : Cell) (n : ℕ) → closing x n ≡ (has_id change.closes n && has_key t.schema.key x (slice_get t.rows n)))
+    → ((x : Cell) (n : ℕ) → has_row new x n ≡ (not (closing x n) && (opens_with t.schema.key (length t.rows) change.opens x n || has_row old x n)))
     → (x : Cell) (n : ℕ) → has_row new x n ≡ is_open_with t.schema.key x (slice_get (table_after version change t).rows n)
 new_after version change t old closing new apart current was gone left x n =
     let key : ℕ = t.schema.key in
@@ -265,16 +263,16 @@ fitting-below keys db change f index first old is number x n h =
     fitting-index keys db change f index old is x n ∙ ap (is_open_with f.table.schema.key x) (slice_get_past f.table.rows n (omega arith))
 
 -- the keys after the change
-pub fitting-after : (keys : List IdsByKey) (db : plain.Database) (change : plain.Change) (f : Fitting db change) (index : IdsByKey) (closing : List KeyedRow) (new : IdsByKey) (place first : ℕ) → StandFor keys db → db.version < 16777215 → index ≡ get_or keys change.table index
+pub fitting-after : (keys : List IdsByKey) (db : plain.Database) (change : plain.Change) (f : Fitting db change) (index : IdsByKey) (closing : Cell → ℕ → Bool) (new : IdsByKey) (place first : ℕ) → StandFor keys db → db.version < 16777215 → index ≡ get_or keys change.table index
     → first ≡ length (rows_of db change.table) → place ≡ f.table.schema.key
-    → ((x : Cell) (n : ℕ) → has_keyed closing x n ≡ (has_id change.closes n && has_key place x (slice_get (rows_of db change.table) n)))
-    → ((x : Cell) (n : ℕ) → has_row new x n ≡ (not (has_keyed closing x n) && (opens_with place first change.opens x n || has_row index x n)))
+    → ((x : Cell) (n : ℕ) → closing x n ≡ (has_id change.closes n && has_key place x (slice_get (rows_of db change.table) n)))
+    → ((x : Cell) (n : ℕ) → has_row new x n ≡ (not (closing x n) && (opens_with place first change.opens x n || has_row index x n)))
     → StandFor (slice_set keys change.table new) (record { version = db.version + 1; tables = after_body (db.version + 1) (body.Change change) db.tables })
 fitting-after keys db change f index closing new place first old version is number at gone left =
     stands_changed keys (slice_set keys change.table new) new db 0 change f.table old f.at f.opened refl (λ x n.
     new_after (db.version + 1) change f.table index closing new apart f.current (fitting-index keys db change f index old is)
     (λ y m. gone y m ∙ (ap (λ p. has_id change.closes m && has_key p y (slice_get (rows_of db change.table) m)) at ∙ ap (λ rs. has_id change.closes m && has_key f.table.schema.key y (slice_get rs m)) rows))
-    (λ y m. left y m ∙ (ap (λ p. not (has_keyed closing y m) && (opens_with p first change.opens y m || has_row index y m)) at ∙ ap (λ q. not (has_keyed closing y m) && (opens_with f.table.schema.key q change.opens y m || has_row index y m)) (number ∙ ap length rows))) x n) where
+    (λ y m. left y m ∙ (ap (λ p. not (closing y m) && (opens_with p first change.opens y m || has_row index y m)) at ∙ ap (λ q. not (closing y m) && (opens_with f.table.schema.key q change.opens y m || has_row index y m)) (number ∙ ap length rows))) x n) where
       rows : rows_of db change.table ≡ f.table.rows
       rows = fitting-rows db change f
 

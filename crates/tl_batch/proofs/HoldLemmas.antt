@@ -1,6 +1,6 @@
 -- What covers of keys hold, as one line more is covered.
-use Rattle.std.proofs.Common.{arith, ◌≡◌, ℕ, ◌+◌, ◌<◌, ℤ, Bool, true, false, ◌&&◌, ◌||◌, cond, List, [], ◌∷◌, ◌++◌, append-nil, length, take, get_or, Option, Some, None, subst, refl, sym, ap, ◌∙◌}
-use Rattle.std.specs.List.{list_any}
+use Rattle.std.proofs.Common.{arith, ◌≡◌, ℕ, suc, ◌+◌, ◌<◌, ℤ, Bool, true, false, ◌&&◌, ◌||◌, cond, List, [], ◌∷◌, ◌++◌, append-nil, length, take, get_or, Option, Some, None, subst, refl, sym, ap, ◌∙◌}
+use Rattle.std.specs.List.{list_any, All}
 use Rattle.std.specs.Map.{lookup}
 use Rattle.std.proofs.Math.Bool.{or_comm}
 use Rattle.std.proofs.lemmas.List.{take_more, map-append}
@@ -12,7 +12,7 @@ use Rattle.tl_types.specs.History.{same_cell, is_within}
 use Rattle.tl_types.specs.Resolving.{BatchLine, same_key}
 use Rattle.tl_types.specs.declared.batches.KeyLine.{KeyLine}
 use Rattle.tl_batch.specs.Pieces.{cuts, periods_with}
-use Rattle.tl_batch.specs.Covers.{Full, HoldLines, cover_at, is_between, is_covered, stretches_or}
+use Rattle.tl_batch.specs.Covers.{Full, HoldLines, StandIn, cover_at, is_between, is_covered, stretches_or}
 use Rattle.tl_batch.specs.Lines.{line_of, lines_of}
 use Rattle.tl_batch.proofs.KeyIndexLemmas.{cell_sym, copied, found_at, finds_same}
 
@@ -27,6 +27,11 @@ pub changed_at : (key copy : Cell) (w : Option (List (ℤ × ℤ))) (entries new
     → ((q : Cell) → lookup (equal.eq-value.it q) new ≡ cond (equal.eq-value.it copy q) w (lookup (equal.eq-value.it q) entries)) → entries ≡ all
     → (x : Cell) → cover_at x new ≡ cond (same_cell x key) (stretches_or w) (cover_at x all)
 changed_at key copy w entries new all same update view x = grind (arith, cell_sym key x, copied key copy w entries all new same view update x)
+
+-- what is found at the key of each entry
+pub stands : (all entries : List (Cell × List (ℤ × ℤ))) → All (λ e. lookup (equal.eq-value.it e.0) all ≡ Some e.1) entries → StandIn all entries
+stands all [] each = tt
+stands all (e ∷ entries) each = (sym (found_is e.0 all all (Some e.1) (sym (each 0 e (omega arith))) refl), stands all entries (λ k d h. each (suc k) d (omega arith)))
 
 -- a period more at one key
 pub period_added : (key : Cell) (from to : ℤ) (cover more : List (ℤ × ℤ)) (before after : List (Cell × List (ℤ × ℤ))) → cover ≡ cover_at key before → ((t : ℤ) → is_covered t more ≡ (is_between t from to || is_covered t cover))

@@ -61,18 +61,30 @@ opens_from place first [] x n h = refl
 opens_from place first (o ∷ rows) x n h = grind (arith, and_false (same_key (slice_get o.cells place) (Some x)), opens_from place (first + 1) rows x n (omega arith))
 
 -- one more row is added
+where_row_added : (place first : ℕ) (rows : List plain.Opened) (i id : ℕ) (o : plain.Opened) (key copy : Cell) (before start after : Cell → ℕ → Bool) → i < length rows → o ≡ get_or rows i o → place < length o.cells → key ≡ get_or o.cells place key → copy ≡ key → id ≡ first + i
+    → ((x : Cell) (n : ℕ) → before x n ≡ (opens_with place first (take i rows) x n || start x n))
+    → ((x : Cell) (n : ℕ) → after x n ≡ ((same_cell x copy && nat_eq n id) || before x n))
+    → (x : Cell) (n : ℕ) → after x n ≡ (opens_with place first (take (i + 1) rows) x n || start x n)
+where_row_added place first rows i id o key copy before start after h at there is same number e f x n = grind (arith, slice_get_read o.cells (length o.cells) place key refl there is, cell_sym x key, opens_more place first rows i o x n h)
+
 pub row_added : (place first : ℕ) (rows : List plain.Opened) (i id : ℕ) (o : plain.Opened) (key copy : Cell) (before start after : IdsByKey) → i < length rows → o ≡ get_or rows i o → place < length o.cells → key ≡ get_or o.cells place key → copy ≡ key → id ≡ first + i
     → ((x : Cell) (n : ℕ) → has_row before x n ≡ (opens_with place first (take i rows) x n || has_row start x n))
     → ((x : Cell) (n : ℕ) → has_row after x n ≡ ((same_cell x copy && nat_eq n id) || has_row before x n))
     → (x : Cell) (n : ℕ) → has_row after x n ≡ (opens_with place first (take (i + 1) rows) x n || has_row start x n)
-row_added place first rows i id o key copy before start after h at there is same number e f x n = grind (arith, slice_get_read o.cells (length o.cells) place key refl there is, cell_sym x key, opens_more place first rows i o x n h)
+row_added place first rows i id o key copy before start after h at there is same number e f x n = where_row_added place first rows i id o key copy (has_row before) (has_row start) (has_row after) h at there is same number e f x n
 
 -- a row less
+where_row_taken : (place first : ℕ) (rows : List plain.Opened) (i id : ℕ) (o : plain.Opened) (key : Cell) (before start after : Cell → ℕ → Bool) → i < length rows → o ≡ get_or rows i o → place < length o.cells → key ≡ get_or o.cells place key → id ≡ first + i
+    → ((x : Cell) (n : ℕ) → before x n ≡ (not (opens_with place first (take i rows) x n) && start x n))
+    → ((x : Cell) (n : ℕ) → after x n ≡ (not (same_cell x key && nat_eq n id) && before x n))
+    → (x : Cell) (n : ℕ) → after x n ≡ (not (opens_with place first (take (i + 1) rows) x n) && start x n)
+where_row_taken place first rows i id o key before start after h at there is number e f x n = grind (arith, slice_get_read o.cells (length o.cells) place key refl there is, cell_sym x key, opens_more place first rows i o x n h)
+
 pub row_taken : (place first : ℕ) (rows : List plain.Opened) (i id : ℕ) (o : plain.Opened) (key : Cell) (before start after : IdsByKey) → i < length rows → o ≡ get_or rows i o → place < length o.cells → key ≡ get_or o.cells place key → id ≡ first + i
     → ((x : Cell) (n : ℕ) → has_row before x n ≡ (not (opens_with place first (take i rows) x n) && has_row start x n))
     → ((x : Cell) (n : ℕ) → has_row after x n ≡ (not (same_cell x key && nat_eq n id) && has_row before x n))
     → (x : Cell) (n : ℕ) → has_row after x n ≡ (not (opens_with place first (take (i + 1) rows) x n) && has_row start x n)
-row_taken place first rows i id o key before start after h at there is number e f x n = grind (arith, slice_get_read o.cells (length o.cells) place key refl there is, cell_sym x key, opens_more place first rows i o x n h)
+row_taken place first rows i id o key before start after h at there is number e f x n = where_row_taken place first rows i id o key (has_row before) (has_row start) (has_row after) h at there is number e f x n
 
 -- the first rows are rows
 opens_front : (place first i : ℕ) (rows : List plain.Opened) (x : Cell) (n : ℕ) → opens_with place first (take i rows) x n ≡ true → opens_with place first rows x n ≡ true
@@ -85,12 +97,21 @@ pub most_so_far : (place first i : ℕ) (rows : List plain.Opened) (start now : 
     → has_row now x n ≡ true → (opens_with place first rows x n || has_row start x n) ≡ true
 most_so_far place first i rows start now x n e h = grind (arith, opens_front place first i rows x n)
 
+where_least_so_far : (place first i : ℕ) (rows : List plain.Opened) (start now : Cell → ℕ → Bool) (x : Cell) (n : ℕ) → now x n ≡ (opens_with place first (take i rows) x n || start x n)
+    → start x n ≡ true → now x n ≡ true
+where_least_so_far place first i rows start now x n e h = grind arith
+
 pub least_so_far : (place first i : ℕ) (rows : List plain.Opened) (start now : IdsByKey) (x : Cell) (n : ℕ) → has_row now x n ≡ (opens_with place first (take i rows) x n || has_row start x n)
     → has_row start x n ≡ true → has_row now x n ≡ true
-least_so_far place first i rows start now x n e h = grind arith
+least_so_far place first i rows start now x n e h = where_least_so_far place first i rows (has_row start) (has_row now) x n e h
 
 -- rows that were added in part and are taken away again
+where_rows_undone : (place first : ℕ) (rows : List plain.Opened) (old mid new : Cell → ℕ → Bool) → ((x : Cell) (n : ℕ) → first ≤ n → old x n ≡ false)
+    → ((x : Cell) (n : ℕ) → mid x n ≡ true → (opens_with place first rows x n || old x n) ≡ true) → ((x : Cell) (n : ℕ) → old x n ≡ true → mid x n ≡ true)
+    → ((x : Cell) (n : ℕ) → new x n ≡ (not (opens_with place first rows x n) && mid x n)) → (x : Cell) (n : ℕ) → new x n ≡ old x n
+where_rows_undone place first rows old mid new below most least undone x n = grind (arith, undone x n, most x n, least x n, below x n, opens_from place first rows x n)
+
 pub rows_undone : (place first : ℕ) (rows : List plain.Opened) (old mid new : IdsByKey) → ((x : Cell) (n : ℕ) → first ≤ n → has_row old x n ≡ false)
     → ((x : Cell) (n : ℕ) → has_row mid x n ≡ true → (opens_with place first rows x n || has_row old x n) ≡ true) → ((x : Cell) (n : ℕ) → has_row old x n ≡ true → has_row mid x n ≡ true)
     → ((x : Cell) (n : ℕ) → has_row new x n ≡ (not (opens_with place first rows x n) && has_row mid x n)) → (x : Cell) (n : ℕ) → has_row new x n ≡ has_row old x n
-rows_undone place first rows old mid new below most least undone x n = grind (arith, undone x n, most x n, least x n, below x n, opens_from place first rows x n)
+rows_undone place first rows old mid new below most least undone x n = where_rows_undone place first rows (has_row old) (has_row mid) (has_row new) below most least undone x n

@@ -1,5 +1,5 @@
 -- What a map from keys has at each key, after a change at one key.
-use Rattle.std.proofs.Common.{◌≡◌, ℕ, zero, suc, slice_get, ◌+◌, ◌≤◌, subst, Bool, true, false, ◌&&◌, ◌||◌, not, cond, nat_eq, List, [], ◌∷◌, ◌++◌, Option, Some, None, IfSome, refl, sym, ap, ◌∙◌, arith}
+use Rattle.std.proofs.Common.{◌≡◌, ℕ, pos, negsuc, zero, suc, slice_get, ◌+◌, ◌≤◌, subst, Bool, true, false, ◌&&◌, ◌||◌, not, cond, nat_eq, length, ◌<◌, List, [], ◌∷◌, ◌++◌, Option, Some, None, IfSome, refl, sym, ap, ◌∙◌, arith}
 use Rattle.std.specs.List.{list_any, remove, AllByRecursion, dedup, dedup_from}
 use Rattle.std.specs.Map.{lookup}
 use Rattle.std.specs.declared.cmp.Ordering.TheVariants.{Less}
@@ -9,14 +9,14 @@ use Rattle.std.proofs.lemmas.List.Folds.{list_any-append}
 use Rattle.std.proofs.lemmas.List.Sorted.{list_any-IsPermutation}
 use Rattle.std.proofs.lemmas.Map.Keys.{IsStrictlyIncreasing-dedup, sorted_from_strictly_increasing}
 use Rattle.tl_types.specs.Facts.{AscendFrom}
-use Rattle.std.specs.Cmp.{int_eq_equiv, nat_eq_equiv, unsigned_tied}
+use Rattle.std.specs.Cmp.{int_eq_equiv, unsigned_tied}
 use Rattle.std.specs.Cmp.Lexicographic.{nat_list_eq_equiv}
 use Rattle.std.specs.BTreeMap.{is_at}
 use Rattle.tl_types.specs.declared.cells.Cell.{Cell}
 use Rattle.tl_types.specs.declared.cells.Cell.TheVariants as cell
 use Rattle.tl_types.specs.contracts.cells.CellPartialEq.TheImpl as equal
 use Rattle.tl_types.specs.History.{same_cell, has_id}
-use Rattle.tl_batch.specs.KeyIndex.{has_further, has_row, no_ids, Changes}
+use Rattle.tl_batch.specs.KeyIndex.{IdsByKey, SmallIds, FewIdsByKey, has_small, has_few, has_further, has_row, no_ids, Changes}
 
 -- CELLS
 
@@ -117,11 +117,49 @@ from_zero (k ∷ keys) = (omega arith, from_zero keys)
 pub id_pushed : (id : ℕ) (ids more list : List ℕ) → more ≡ ids ++ id ∷ [] → ids ≡ list → (n : ℕ) → has_id more n ≡ (nat_eq n id || has_id list n)
 id_pushed id ids more list e view n = grind (arith, list_any-append (λ m. nat_eq m n) ids (id ∷ []))
 
--- an id taken from a place, of which the others stay
-pub id_cut : (at id : ℕ) (ids : List ℕ) → slice_get ids at ≡ Some id → (n : ℕ) → (not (nat_eq n id) && has_id (remove ids at) n) ≡ (not (nat_eq n id) && has_id ids n)
-id_cut at id [] e n = absurd (cc)
-id_cut zero id (m ∷ ids) e n = let same : m ≡ id = cc in rw same (grind (arith, nat_eq_equiv.symm id n))
-id_cut (suc at) id (m ∷ ids) e n = grind (arith, id_cut at id ids e n)
+-- an id below all others
+below_all : (low n : ℕ) (ids : List ℕ) → AscendFrom low ids → n < low → has_id ids n ≡ false
+below_all low n [] up h = refl
+below_all low n (k ∷ ids) up h = let later = below_all (k + 1) n ids up.1 (let a = up.0 in omega arith) in let a = up.0 in let apart : nat_eq k n ≡ false = grind (arith, a) in rw apart later
+
+at_least : (low at id : ℕ) (ids : List ℕ) → AscendFrom low ids → slice_get ids at ≡ Some id → low ≤ id
+at_least low at id [] up e = absurd (cc)
+at_least low zero id (k ∷ ids) up e = let same : k ≡ id = cc in let a = up.0 in omega arith
+at_least low (suc at) id (k ∷ ids) up e = let a = up.0 in let b = at_least (k + 1) at id ids up.1 e in omega arith
+
+-- an id taken out of ids that ascend
+pub id_cut : (low at id : ℕ) (ids : List ℕ) → AscendFrom low ids → slice_get ids at ≡ Some id → (n : ℕ) → has_id (remove ids at) n ≡ (not (nat_eq n id) && has_id ids n)
+id_cut low at id [] up e n = absurd (cc)
+id_cut low zero id (k ∷ ids) up e n = by_test (nat_eq n id) refl where
+  same : k ≡ id
+  same = cc
+
+  by_test : (b : Bool) → nat_eq n id ≡ b → has_id ids n ≡ (not (nat_eq n id) && (nat_eq k n || has_id ids n))
+  by_test true f = let here : n ≡ id = grind arith in let none = below_all (k + 1) n ids up.1 (omega (arith, here, same)) in grind (arith, none)
+  by_test false f = let apart : nat_eq k n ≡ false = grind (arith, same) in grind (arith, apart)
+id_cut low (suc at) id (k ∷ ids) up e n =
+    let above = at_least (k + 1) at id ids up.1 e in
+    let later = id_cut (k + 1) at id ids up.1 e n in
+    by_test (nat_eq n id) refl above later where
+      by_test : (b : Bool) → nat_eq n id ≡ b → k + 1 ≤ id → has_id (remove ids at) n ≡ (not (nat_eq n id) && has_id ids n) → (nat_eq k n || has_id (remove ids at) n) ≡ (not (nat_eq n id) && (nat_eq k n || has_id ids n))
+      by_test true f above later = let here : n ≡ id = grind arith in let apart : nat_eq k n ≡ false = grind arith in grind arith
+      by_test false f above later = grind arith
+
+pub cut_ascends : (low at : ℕ) (ids : List ℕ) → AscendFrom low ids → AscendFrom low (remove ids at)
+cut_ascends low zero [] up = tt
+cut_ascends low (suc at) [] up = tt
+cut_ascends low zero (k ∷ ids) up = lower (k + 1) low ids (let a = up.0 in omega arith) up.1 where
+  lower : (high low : ℕ) (ids : List ℕ) → low ≤ high → AscendFrom high ids → AscendFrom low ids
+  lower high low [] h up = tt
+  lower high low (m ∷ ids) h up = ((let a = up.0 in omega arith), up.1)
+cut_ascends low (suc at) (k ∷ ids) up = (up.0, cut_ascends (k + 1) at ids up.1)
+
+-- a greater id at the end
+pub ascends_more : (low i id last : ℕ) (ids : List ℕ) → i + 1 ≡ length ids → slice_get ids i ≡ Some last → last < id → AscendFrom low ids → AscendFrom low (ids ++ id ∷ [])
+ascends_more low i id last [] n e h up = absurd (cc)
+ascends_more low zero id last (k ∷ []) n e h up = let same : k ≡ last = cc in (up.0, (omega (arith, h, same), tt))
+ascends_more low zero id last (k ∷ (m ∷ ids)) n e h up = absurd (omega arith)
+ascends_more low (suc i) id last (k ∷ ids) n e h up = (up.0, ascends_more (k + 1) i id last ids (omega arith) e h up.1)
 
 -- after a sort and a `dedup` the ids ascend
 pub ids_ascend : (ids list : List ℕ) → IsSorted nat_cmp ids → list ≡ dedup nat_eq ids → AscendFrom 0 list
@@ -151,8 +189,23 @@ pub found_further : (key : Cell) (ids : List ℕ) (entries all : List (Cell × L
 found_further key ids entries all None there view has = tt
 found_further key ids entries all (Some id) there view has = grind arith
 
+-- AN ID LESS IN EACH PART
+
+less_each : (gone s f g s' f' g' : Bool) → s' ≡ (not gone && s) → f' ≡ (not gone && f) → g' ≡ (not gone && g) → (s' || f' || g') ≡ (not gone && (s || f || g))
+less_each gone s f g s' f' g' a b c = grind arith
+
+pub index_less : (small smaller : SmallIds) (few fewer : FewIdsByKey) (further less : List (Cell × List ℕ)) (all : IdsByKey) (key : Cell) (id : ℕ) → record { small = small; few = few; further = further } ≡ all
+    → ((x : Cell) (n : ℕ) → has_small smaller x n ≡ (not (same_cell x key && nat_eq n id) && has_small small x n))
+    → ((x : Cell) (n : ℕ) → has_few fewer x n ≡ (not (same_cell x key && nat_eq n id) && has_few few x n))
+    → ((x : Cell) (n : ℕ) → has_further less x n ≡ (not (same_cell x key && nat_eq n id) && has_further further x n))
+    → (x : Cell) (n : ℕ) → has_row (record { small = smaller; few = fewer; further = less }) x n ≡ (not (same_cell x key && nat_eq n id) && has_row all x n)
+index_less small smaller few fewer further less all key id view a b c x n =
+    less_each (same_cell x key && nat_eq n id) (has_small small x n) (has_few few x n) (has_further further x n) (has_small smaller x n) (has_few fewer x n) (has_further less x n) (a x n) (b x n) (c x n)
+    ∙ ap (λ (k : IdsByKey). not (same_cell x key && nat_eq n id) && has_row k x n) view
+
 -- NO IDS
 
 pub none_in : (x : Cell) (n : ℕ) → has_row no_ids x n ≡ false
-none_in (cell.Int i) n = refl
+none_in (cell.Int (pos i)) n = refl
+none_in (cell.Int (negsuc i)) n = refl
 none_in (cell.Text t) n = refl

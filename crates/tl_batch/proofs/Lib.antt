@@ -1,6 +1,7 @@
 pub mod BehindLemmas
 pub mod CellLemmas
 pub mod ChangeLemmas
+pub mod ClosedNumbers
 pub mod ClosingLemmas
 pub mod CommitLemmas
 pub mod PeriodSetLemmas
@@ -16,16 +17,17 @@ pub mod IndexedRows
 pub mod KeyIndexLemmas
 pub mod KeyLemmas
 pub mod KeySetLemmas
-pub mod LineLemmas
 pub mod AffectLemmas
 pub mod OpenTableLemmas
 pub mod OpeningLemmas
 pub mod OverlapLemmas
+pub mod FlagLemmas
 pub mod MetLemmas
 pub mod RemovalLemmas
 pub mod ResolvedLemmas
 pub mod RowIds
 pub mod Rows
+pub mod SmallLemmas
 pub mod SwapLemmas
 pub mod RowChangesLemmas
 pub mod LineFaultLemmas

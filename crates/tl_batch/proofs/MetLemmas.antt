@@ -1,10 +1,9 @@
 -- The periods of rows that lines affect tell what a line affects of what earlier lines left.
-use Rattle.std.proofs.Common.{◌≡◌, ℕ, ℤ, zero, suc, ◌<◌, Bool, true, false, ◌&&◌, ◌||◌, cond, List, [], ◌∷◌, ◌++◌, length, get_or, Option, Some, None, refl, sym, ap, ◌∙◌, arith}
+use Rattle.std.proofs.Common.{◌≡◌, ℕ, zero, suc, ◌<◌, Bool, true, false, ◌||◌, cond, List, [], ◌∷◌, length, get_or, Option, Some, None, refl, sym, ap, ◌∙◌, arith}
 use Rattle.std.specs.List.{list_any, flat_map}
 use Rattle.std.proofs.lemmas.Int.{ints}
 use Rattle.std.proofs.lemmas.List.Folds.{list_any-append}
 use Rattle.tl_types.specs.Plain as plain
-use Rattle.tl_types.specs.History.{is_within}
 use Rattle.tl_types.specs.declared.batches.KeyLine.{KeyLine}
 use Rattle.tl_batch.specs.Pieces.{affects_period, cut, cuts, periods_with}
 use Rattle.tl_batch.specs.Faults.{affected_periods}
@@ -63,29 +62,3 @@ pub said_among : (key_lines : List KeyLine) (i : ℕ) (s : KeyLine) (p : Option 
 said_among [] i s p h at e = absurd (omega arith)
 said_among (r ∷ key_lines) zero s p h at e = grind (arith, cell_self s.key)
 said_among (r ∷ key_lines) (suc i) s p h at e = grind (arith, said_among key_lines i s p (omega arith))
-
--- one period more
-pub affected_more : (lines ps : List (Option plain.Period)) (p : Option plain.Period) → affected_periods lines (ps ++ p ∷ []) ≡ affected_periods lines ps ++ affected_periods lines (p ∷ [])
-affected_more lines [] p = refl
-affected_more lines (q ∷ ps) p = by (list_any (λ l. affects_period true l q) lines) (affected_more lines ps p) where
-  by : (b : Bool) → affected_periods lines (ps ++ p ∷ []) ≡ affected_periods lines ps ++ affected_periods lines (p ∷ []) → cond b (q ∷ affected_periods lines (ps ++ p ∷ [])) (affected_periods lines (ps ++ p ∷ [])) ≡ cond b (q ∷ affected_periods lines ps) (affected_periods lines ps) ++ affected_periods lines (p ∷ [])
-  by true later = ap (λ rs. q ∷ rs) later
-  by false later = later
-
--- ONE PERIOD
-
-pub met_none : (lines : List (Option plain.Period)) (whole : Option plain.Period) (affected : Bool) → affected ≡ false → affected ≡ list_any (λ l. affects_period true l whole) lines → affected_periods lines (whole ∷ []) ≡ []
-met_none lines whole affected none is = ap (λ b. cond b (whole ∷ []) []) (sym is ∙ none)
-
-pub met_one : (lines : List (Option plain.Period)) (whole : Option plain.Period) (affected : Bool) → affected ≡ true → affected ≡ list_any (λ l. affects_period true l whole) lines → affected_periods lines (whole ∷ []) ≡ whole ∷ []
-met_one lines whole affected one is = ap (λ b. cond b (whole ∷ []) []) (sym is ∙ one)
-
-pub none_held : (k b : Bool) (t : ℤ) (ps : List (Option plain.Period)) → ps ≡ [] → b ≡ ((k && list_any (is_within t) ps) || b)
-none_held true b t ps e = sym (ap (λ qs. list_any (is_within t) qs || b) e)
-none_held false b t ps e = refl
-
-pub one_held : (k b c : Bool) (t : ℤ) (whole : Option plain.Period) (ps : List (Option plain.Period)) → ps ≡ whole ∷ [] → c ≡ ((k && is_within t whole) || b) → c ≡ ((k && list_any (is_within t) ps) || b)
-one_held k b c t whole ps e f = f ∙ (ap (λ w. (k && w) || b) (or_none (is_within t whole)) ∙ sym (ap (λ qs. (k && list_any (is_within t) qs) || b) e)) where
-  or_none : (w : Bool) → w ≡ (w || false)
-  or_none true = refl
-  or_none false = refl

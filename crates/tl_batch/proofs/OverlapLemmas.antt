@@ -9,7 +9,10 @@ use Rattle.tl_types.specs.Plain as plain
 use Rattle.tl_types.specs.History.{is_within}
 use Rattle.tl_batch.specs.Pieces.{affects_period}
 use Rattle.tl_batch.specs.Covers.{is_between, is_covered, Full, Beyond, before_all, first_begins}
-use Rattle.tl_batch.proofs.GapLemmas.{lt_false}
+use Rattle.tl_batch.specs.declared.cover.StretchesRef.{StretchesRef}
+use Rattle.tl_batch.specs.declared.cover.StretchesRef.TheVariants as one
+use Rattle.tl_batch.specs.StretchesRefs.{stretches_shown}
+use Rattle.tl_batch.proofs.GapLemmas.{lt_true, lt_false}
 use Rattle.tl_batch.proofs.PeriodSetLemmas.{ends_past}
 use Rattle.tl_batch.proofs.SwapLemmas.{affected_at}
 use Rattle.tl_batch.proofs.WholeLemmas.{shared}
@@ -102,3 +105,26 @@ pub meets_few : (lines : List (Option plain.Period)) (p : plain.Period) (found :
 meets_few lines p found from to list stretches all is first last lent some beyond view full hold =
     is ∙ (ap (λ z. first_begins z to list) first ∙ (ap (λ z. first_begins p.from z list) last ∙ (ap (first_begins p.from p.to) lent
     ∙ (first_ended p.from p.to before_all stretches beyond ∙ meets_affects lines p before_all stretches some beyond full (λ t. ap (is_covered t) view ∙ hold t)))))
+
+-- one stretch, which ends after the beginning of the period
+pub meets_one : (lines : List (Option plain.Period)) (p : plain.Period) (from end start low to : ℤ) → from ≡ p.from → low ≡ start → to ≡ p.to → from <ℤ end → p.from <ℤ p.to → Beyond before_all ((end, start) ∷ []) → Full lines → Hold ((end, start) ∷ []) lines
+    → int_lt low to ≡ list_any (λ line. affects_period true line (Some p)) lines
+meets_one lines p from end start low to first begins last behind some beyond full hold =
+    let b : p.from <ℤ end = let e = first in let h = behind in omega (arith, ints) in
+    let found : int_lt low to ≡ first_begins p.from p.to ((end, start) ∷ []) = rw (lt_true p.from end b) (ap (λ z. int_lt z to) begins ∙ ap (int_lt start) last) in
+    meets_few lines p (int_lt low to) p.from p.to ((end, start) ∷ []) ((end, start) ∷ []) ((end, start) ∷ []) found refl refl refl some beyond refl full hold
+
+-- one stretch, which does not
+pub meets_not : (lines : List (Option plain.Period)) (p : plain.Period) (from end start : ℤ) → from ≡ p.from → end ≤ℤ from → p.from <ℤ p.to → Beyond before_all ((end, start) ∷ []) → Full lines → Hold ((end, start) ∷ []) lines
+    → false ≡ list_any (λ line. affects_period true line (Some p)) lines
+meets_not lines p from end start first late some beyond full hold =
+    let b : end ≤ℤ p.from = let e = first in let h = late in omega (arith, ints) in
+    let found : false ≡ first_begins p.from p.to ((end, start) ∷ []) = rw (lt_false p.from end b) refl in
+    meets_few lines p false p.from p.to ((end, start) ∷ []) ((end, start) ∷ []) ((end, start) ∷ []) found refl refl refl some beyond refl full hold
+
+-- what tells of one stretch that is lent tells of the cover
+pub one_affects : (lines : List (Option plain.Period)) (whole : Option plain.Period) (p : plain.Period) (found : Bool) (high low end start : ℤ) (lent : StretchesRef) (all : List (ℤ × ℤ)) → whole ≡ Some p → high ≡ end → low ≡ start → lent ≡ one.One end start → stretches_shown lent ≡ all
+    → ((ls : List (Option plain.Period)) → Full ls → Hold ((high, low) ∷ []) ls → found ≡ list_any (λ line. affects_period true line (Some p)) ls) → Full lines → Hold all lines → found ≡ list_any (λ line. affects_period true line whole) lines
+one_affects lines whole p found high low end start lent all is e f kind view tells full hold =
+    let shown : (high, low) ∷ [] ≡ all = ap (λ z. (z, low) ∷ []) e ∙ (ap (λ z. (end, z) ∷ []) f ∙ (sym (ap stretches_shown kind) ∙ view)) in
+    tells lines full (λ t. ap (is_covered t) shown ∙ hold t) ∙ ap (λ w. list_any (λ line. affects_period true line w) lines) (sym is)

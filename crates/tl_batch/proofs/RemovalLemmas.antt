@@ -1,29 +1,23 @@
 -- Lines that remove rows of a table with valid time: what they affect, by the periods of the current rows of their keys.
-use Rattle.std.proofs.lemmas.List.{take_all, take_more, map-append}
+use Rattle.std.proofs.lemmas.List.{take_more, map-append}
 use Rattle.std.proofs.Common.{◌≡◌, ℕ, ℤ, zero, suc, ◌+◌, ◌<◌, ◌≤◌, Bool, true, false, ◌&&◌, ◌||◌, not, cond, List, [], ◌∷◌, ◌++◌, length, map, take, get_or, slice_get, Option, Some, None, option_map, subst, refl, sym, ap, ◌∙◌, arith}
 use Rattle.std.specs.List.{list_any}
 use Rattle.std.proofs.lemmas.List.Folds.{list_any-append}
 use Rattle.tl_types.specs.declared.cells.Cell.{Cell}
 use Rattle.tl_types.specs.declared.batches.BatchFault.TheVariants as fault
 use Rattle.tl_types.specs.Plain as plain
-use Rattle.tl_types.specs.Facts.{AscendFrom}
-use Rattle.tl_types.specs.History.{is_open, has_id, same_cell, is_within}
+use Rattle.tl_types.specs.History.{is_open, same_cell, is_within}
 use Rattle.tl_types.specs.Resolving.{BatchLine, same_key}
 use Rattle.tl_types.specs.declared.batches.KeyLine.{KeyLine}
-use Rattle.tl_batch.specs.Standing.{is_open_with}
 use Rattle.tl_batch.specs.Lines.{line_of, lines_of}
-use Rattle.tl_batch.specs.Pieces.{affects_period, cuts, periods_with}
+use Rattle.tl_batch.specs.Pieces.{affected_ids, affects_period, cuts, is_affected, periods_with}
 use Rattle.tl_batch.specs.Covers.{Full, HoldLines, cover_at, is_covered, is_said}
-use Rattle.tl_batch.specs.Untimed.{has_cell}
-use Rattle.tl_batch.specs.Faults.{HoldRows, affected_periods, fault_of, is_row_affected, met_periods, period_of, open_periods}
+use Rattle.tl_batch.specs.Faults.{HoldRows, affected_periods, fault_of, is_at, is_row_affected, met_periods, period_of, open_periods}
 use Rattle.tl_batch.proofs.HoldLemmas.{full_both}
-use Rattle.tl_batch.proofs.LineFaultLemmas.{key_congr, periods-same}
-use Rattle.tl_batch.proofs.ChangeLemmas.{ascend_same}
-use Rattle.tl_batch.proofs.KeyLemmas.{said_more}
-use Rattle.tl_batch.proofs.KeyIndexLemmas.{cell_self, cell_sym, same_as}
-use Rattle.tl_batch.proofs.RowIds.{ids_at, ids_at-ascend, ids_at-has}
+use Rattle.tl_batch.proofs.LineFaultLemmas.{periods-same}
+use Rattle.tl_batch.proofs.KeyIndexLemmas.{cell_self, cell_sym}
 use Rattle.tl_batch.proofs.SwapLemmas.{affects_rest}
-use Rattle.tl_batch.proofs.MetLemmas.{affected_more, met_rest, said_among}
+use Rattle.tl_batch.proofs.MetLemmas.{met_rest, said_among}
 
 -- a line affects a row where it affects what earlier lines left of the periods of the rows of its key
 pub open_row_affected : (schema : plain.Schema) (earlier : List BatchLine) (s : KeyLine) (rows : List plain.Row) → schema.valid ≡ true → affects_rest s.period (periods_with (Some s.key) earlier) (open_periods schema.key s.key rows) ≡ list_any (is_row_affected schema earlier (line_of s)) rows
@@ -46,32 +40,6 @@ open_row_affected schema earlier s (r ∷ rows) valid = by_key (is_open r) (same
   by_key true false g later = later
   by_key false k g later = later
 
-id_periods : (place : ℕ) (x : Cell) (all : List plain.Row) (n : ℕ) (rows : List plain.Row) → ((i : ℕ) → slice_get all (n + i) ≡ slice_get rows i) → map (λ id. period_of (slice_get all id)) (ids_at (is_open_with place x) n rows) ≡ open_periods place x rows
-id_periods place x all n [] stands = refl
-id_periods place x all n (r ∷ rows) stands = split (is_open r && same_key (slice_get r.cells place) (Some x)) (id_periods place x all (n + 1) rows (λ i. let e : n + 1 + i ≡ n + suc i = omega arith in ap (slice_get all) e ∙ stands (suc i))) where
-  first : slice_get all n ≡ Some r
-  first = let e : n ≡ n + 0 = omega arith in ap (slice_get all) e ∙ stands 0
-
-  split : (b : Bool) → map (λ id. period_of (slice_get all id)) (ids_at (is_open_with place x) (n + 1) rows) ≡ open_periods place x rows
-      → map (λ id. period_of (slice_get all id)) (cond b (n ∷ ids_at (is_open_with place x) (n + 1) rows) (ids_at (is_open_with place x) (n + 1) rows)) ≡ cond b (r.period ∷ open_periods place x rows) (open_periods place x rows)
-  split true later = ap (λ p. p ∷ map (λ id. period_of (slice_get all id)) (ids_at (is_open_with place x) (n + 1) rows)) (ap period_of first) ∙ ap (λ ps. r.period ∷ ps) later
-  split false later = later
-
--- the periods of the rows of a key, by their ids
-pub key_periods : (place : ℕ) (x : Cell) (rows : List plain.Row) (ids : List ℕ) → AscendFrom 0 ids → ((n : ℕ) → has_id ids n ≡ is_open_with place x (slice_get rows n)) → map (λ id. period_of (slice_get rows id)) ids ≡ open_periods place x rows
-key_periods place x rows ids ascend members =
-    ap (map (λ id. period_of (slice_get rows id))) (ascend_same 0 ids (ids_at (is_open_with place x) 0 rows) ascend (ids_at-ascend (is_open_with place x) 0 rows) equal) ∙ id_periods place x rows 0 rows (λ i. ap (slice_get rows) (let e : 0 + i ≡ i = omega arith in e)) where
-      equal : (n : ℕ) → has_id ids n ≡ has_id (ids_at (is_open_with place x) 0 rows) n
-      equal n = members n ∙ (sym (ids_at-has (is_open_with place x) refl 0 rows n) ∙ (let q : 0 + n ≡ n = omega arith in ap (has_id (ids_at (is_open_with place x) 0 rows)) q))
-
-pub whole_periods : (place : ℕ) (x : Cell) (rows : List plain.Row) (ids given : List ℕ) (i : ℕ) → given ≡ ids → length given ≤ i → AscendFrom 0 ids → ((n : ℕ) → has_id ids n ≡ is_open_with place x (slice_get rows n)) → map (λ id. period_of (slice_get rows id)) (take i given) ≡ open_periods place x rows
-whole_periods place x rows ids given i same h ascend members = ap (map (λ id. period_of (slice_get rows id))) (take_all i given h ∙ same) ∙ key_periods place x rows ids ascend members
-
-pub held_all : (key : Cell) (ps all : List (Option plain.Period)) (start now : List (Cell × List (ℤ × ℤ))) → ps ≡ all → ((x : Cell) (t : ℤ) → is_covered t (cover_at x now) ≡ ((same_cell x key && list_any (is_within t) ps) || is_covered t (cover_at x start)))
-    → (x : Cell) (t : ℤ) → is_covered t (cover_at x now) ≡ ((same_cell x key && list_any (is_within t) all) || is_covered t (cover_at x start))
-held_all key ps all start now same e x t = grind arith
-
--- a row more
 one_more : (rows : List plain.Row) (ids : List ℕ) (i id : ℕ) (whole : Option plain.Period) → i < length ids → id ≡ get_or ids i 0 → Some whole ≡ option_map (λ (r : plain.Row). r.period) (slice_get rows id)
     → map (λ row. period_of (slice_get rows row)) (take (i + 1) ids) ≡ map (λ row. period_of (slice_get rows row)) (take i ids) ++ whole ∷ []
 one_more rows ids i id whole h at period =
@@ -80,72 +48,123 @@ one_more rows ids i id whole h at period =
       is None e = absurd (cc)
       is (Some r) e = let f : r.period ≡ whole = cc in f
 
-affected_one : (own : List (Option plain.Period)) (rows : List plain.Row) (ids : List ℕ) (i id : ℕ) (whole : Option plain.Period) → i < length ids → id ≡ get_or ids i 0 → Some whole ≡ option_map (λ (r : plain.Row). r.period) (slice_get rows id)
-    → affected_periods own (map (λ row. period_of (slice_get rows row)) (take (i + 1) ids)) ≡ affected_periods own (map (λ row. period_of (slice_get rows row)) (take i ids)) ++ affected_periods own (whole ∷ [])
-affected_one own rows ids i id whole h at period = ap (affected_periods own) (one_more rows ids i id whole h at period) ∙ affected_more own (map (λ row. period_of (slice_get rows row)) (take i ids)) whole
+-- THE PERIODS OF THE ROWS THAT LINES AFFECT
 
-pub row_held : (own : List (Option plain.Period)) (rows : List plain.Row) (ids : List ℕ) (i id : ℕ) (whole : Option plain.Period) (key : Cell) (start before after : List (Cell × List (ℤ × ℤ))) → i < length ids → id ≡ get_or ids i 0 → Some whole ≡ option_map (λ (r : plain.Row). r.period) (slice_get rows id)
-    → ((x : Cell) (t : ℤ) → is_covered t (cover_at x before) ≡ ((same_cell x key && list_any (is_within t) (affected_periods own (map (λ row. period_of (slice_get rows row)) (take i ids)))) || is_covered t (cover_at x start)))
-    → ((x : Cell) (t : ℤ) → is_covered t (cover_at x after) ≡ ((same_cell x key && list_any (is_within t) (affected_periods own (whole ∷ []))) || is_covered t (cover_at x before)))
-    → (x : Cell) (t : ℤ) → is_covered t (cover_at x after) ≡ ((same_cell x key && list_any (is_within t) (affected_periods own (map (λ row. period_of (slice_get rows row)) (take (i + 1) ids)))) || is_covered t (cover_at x start))
-row_held own rows ids i id whole key start before after h at period e f x t =
-    let all = ap (list_any (is_within t)) (affected_one own rows ids i id whole h at period) ∙ list_any-append (is_within t) (affected_periods own (map (λ row. period_of (slice_get rows row)) (take i ids))) (affected_periods own (whole ∷ [])) in
-    by_parts (same_cell x key) (list_any (is_within t) (affected_periods own (map (λ row. period_of (slice_get rows row)) (take i ids)))) (list_any (is_within t) (affected_periods own (whole ∷ []))) (list_any (is_within t) (affected_periods own (map (λ row. period_of (slice_get rows row)) (take (i + 1) ids)))) (is_covered t (cover_at x start)) (is_covered t (cover_at x before)) (is_covered t (cover_at x after)) all (e x t) (f x t) where
-      by_parts : (k a b c s m n : Bool) → c ≡ (a || b) → m ≡ ((k && a) || s) → n ≡ ((k && b) || m) → n ≡ ((k && c) || s)
-      by_parts k a b c s m n e f g = grind arith
+-- a row more
+pub at_more : (place : ℕ) (rows : List plain.Row) (ids : List ℕ) (i id : ℕ) (key : Cell) (whole : Option plain.Period) (before after : List (Cell × List (ℤ × ℤ))) → i < length ids → id ≡ get_or ids i 0 → ((r : plain.Row) → slice_get rows id ≡ Some r → slice_get r.cells place ≡ Some key) → Some whole ≡ option_map (λ (r : plain.Row). r.period) (slice_get rows id)
+    → ((x : Cell) (t : ℤ) → is_covered t (cover_at x before) ≡ list_any (λ row. is_at place x t (slice_get rows row)) (take i ids))
+    → ((x : Cell) (t : ℤ) → is_covered t (cover_at x after) ≡ ((same_cell x key && is_within t whole) || is_covered t (cover_at x before)))
+    → (x : Cell) (t : ℤ) → is_covered t (cover_at x after) ≡ list_any (λ row. is_at place x t (slice_get rows row)) (take (i + 1) ids)
+at_more place rows ids i id key whole before after h at keyed timed e f x t =
+    let all : list_any told (take (i + 1) ids) ≡ (list_any told (take i ids) || (told id || false)) = ap (list_any told) (take_more ids i 0 h ∙ ap (λ m. take i ids ++ m ∷ []) (sym at)) ∙ list_any-append told (take i ids) (id ∷ []) in
+    let one : told id ≡ (same_cell x key && is_within t whole) = is (slice_get rows id) keyed timed in
+    by_parts (same_cell x key && is_within t whole) (list_any told (take i ids)) (told id) (list_any told (take (i + 1) ids)) (is_covered t (cover_at x before)) (is_covered t (cover_at x after)) all one (e x t) (f x t) where
+      told : ℕ → Bool
+      told row = is_at place x t (slice_get rows row)
 
-pub row_full : (own : List (Option plain.Period)) (rows : List plain.Row) (ids : List ℕ) (i id : ℕ) (whole : Option plain.Period) → i < length ids → id ≡ get_or ids i 0 → Some whole ≡ option_map (λ (r : plain.Row). r.period) (slice_get rows id) → Full (affected_periods own (map (λ row. period_of (slice_get rows row)) (take i ids))) → Full (affected_periods own (whole ∷ []))
-    → Full (affected_periods own (map (λ row. period_of (slice_get rows row)) (take (i + 1) ids)))
-row_full own rows ids i id whole h at period full one = subst Full (sym (affected_one own rows ids i id whole h at period)) (full_both (affected_periods own (map (λ row. period_of (slice_get rows row)) (take i ids))) (affected_periods own (whole ∷ [])) full one)
+      by_parts : (k a b c m n : Bool) → c ≡ (a || (b || false)) → b ≡ k → m ≡ a → n ≡ (k || m) → n ≡ c
+      by_parts k a b c m n p q r s = grind arith
 
--- ROWS OF THE KEYS SO FAR
+      is : (o : Option plain.Row) → ((r : plain.Row) → o ≡ Some r → slice_get r.cells place ≡ Some key) → Some whole ≡ option_map (λ (r : plain.Row). r.period) o → is_at place x t o ≡ (same_cell x key && is_within t whole)
+      is None k p = absurd (cc)
+      is (Some r) k p =
+          let span : r.period ≡ whole = cc in
+          ap (λ c. same_key c (Some x) && is_within t r.period) (k r refl) ∙ (ap (λ b. b && is_within t r.period) (cell_sym key x) ∙ ap (λ w. same_cell x key && is_within t w) span)
 
-same_open : (place : ℕ) (x y : Cell) (rows : List plain.Row) → same_cell x y ≡ true → open_periods place y rows ≡ open_periods place x rows
-same_open place x y [] e = refl
-same_open place x y (r ∷ rows) e =
-    ap (λ b. cond (is_open r && b) (r.period ∷ open_periods place y rows) (open_periods place y rows)) (of_key (slice_get r.cells place)) ∙ ap (λ ps. cond (is_open r && same_key (slice_get r.cells place) (Some x)) (r.period ∷ ps) ps) (same_open place x y rows e) where
-      of_key : (k : Option Cell) → same_key k (Some y) ≡ same_key k (Some x)
-      of_key None = refl
-      of_key (Some z) = cell_sym z y ∙ (sym (same_as x y z e) ∙ cell_sym x z)
+-- all rows
+pub at_all : (place : ℕ) (rows : List plain.Row) (ids : List ℕ) (i : ℕ) (covers : List (Cell × List (ℤ × ℤ))) → length ids ≤ i → ((x : Cell) (t : ℤ) → is_covered t (cover_at x covers) ≡ list_any (λ row. is_at place x t (slice_get rows row)) (take i ids))
+    → (x : Cell) (t : ℤ) → is_covered t (cover_at x covers) ≡ list_any (λ row. is_at place x t (slice_get rows row)) ids
+at_all place rows ids i covers h e x t = e x t ∙ ap (list_any (λ row. is_at place x t (slice_get rows row))) (whole ids i h) where
+  whole : (xs : List ℕ) (i : ℕ) → length xs ≤ i → take i xs ≡ xs
+  whole [] zero h = refl
+  whole [] (suc i) h = refl
+  whole (y ∷ ys) zero h = absurd (omega arith)
+  whole (y ∷ ys) (suc i) h = ap (λ zs. y ∷ zs) (whole ys i (omega arith))
 
-same_met : (place : ℕ) (all : List BatchLine) (x y : Cell) (rows : List plain.Row) → same_cell x y ≡ true → met_periods place all y rows ≡ met_periods place all x rows
-same_met place all x y rows e = ap (λ own. affected_periods own (open_periods place y rows)) (sym (periods-same (Some x) y all e)) ∙ ap (affected_periods (periods_with (Some x) all)) (same_open place x y rows e)
+-- and its period has a moment
+pub full_more : (rows : List plain.Row) (ids : List ℕ) (i id : ℕ) (whole : Option plain.Period) → i < length ids → id ≡ get_or ids i 0 → Some whole ≡ option_map (λ (r : plain.Row). r.period) (slice_get rows id)
+    → Full (map (λ row. period_of (slice_get rows row)) (take i ids)) → Full (whole ∷ []) → Full (map (λ row. period_of (slice_get rows row)) (take (i + 1) ids))
+full_more rows ids i id whole h at period full one = subst Full (sym (one_more rows ids i id whole h at period)) (full_both (map (λ row. period_of (slice_get rows row)) (take i ids)) (whole ∷ []) full one)
 
-pub fresh_rows : (place : ℕ) (all : List BatchLine) (rows : List plain.Row) (key_lines : List KeyLine) (i : ℕ) (s : KeyLine) (ps : List (Option plain.Period)) (before after : List (Cell × List (ℤ × ℤ))) → i < length key_lines → s ≡ get_or key_lines i s → ps ≡ met_periods place all s.key rows
-    → HoldRows place before (lines_of (take i key_lines)) all rows
-    → ((x : Cell) (t : ℤ) → is_covered t (cover_at x after) ≡ ((same_cell x s.key && list_any (is_within t) ps) || is_covered t (cover_at x before))) → Full ps → HoldRows place after (lines_of (take (i + 1) key_lines)) all rows
-fresh_rows place all rows key_lines i s ps before after h at made held adds full = record {
-  full = λ x e. all_full x (same_cell x s.key) refl (is_said (Some x) (lines_of (take i key_lines))) refl (sym (said_more (Some x) key_lines i s h at) ∙ e);
-  same = λ x t. adds x t ∙ (ap (λ b. (same_cell x s.key && list_any (is_within t) ps) || b) (held.same x t) ∙ (by_key x t (same_cell x s.key) refl ∙ ap (λ b. b && list_any (is_within t) (met_periods place all x rows)) (sym (said_more (Some x) key_lines i s h at))));
+-- the rows that lines affect, and their periods, among which are those of the rows of each key
+module _ (schema : plain.Schema) (lines : List BatchLine) (x : Cell) (all : List plain.Row) (valid : schema.valid ≡ true) where
+  abbrev own : List (Option plain.Period)
+  own = periods_with (Some x) lines
+
+  affected_own : (r : plain.Row) → same_key (slice_get r.cells schema.key) (Some x) ≡ true → list_any (λ line. affects_period true line r.period) own ≡ is_affected schema lines r
+  affected_own r g = ap (λ v. list_any (λ line. affects_period v line r.period) own) (sym valid) ∙ ap (list_any (λ line. affects_period schema.valid line r.period)) (sym (periods-same (slice_get r.cells schema.key) x lines g))
+
+  met_at : (t : ℤ) (n : ℕ) (rows : List plain.Row) → ((i : ℕ) → slice_get all (n + i) ≡ slice_get rows i) → list_any (λ id. is_at schema.key x t (slice_get all id)) (affected_ids schema lines n rows) ≡ list_any (is_within t) (met_periods schema.key lines x rows)
+  met_at t n [] stands = refl
+  met_at t n (r ∷ rows) stands = by (is_open r) (is_affected schema lines r) (same_key (slice_get r.cells schema.key) (Some x)) refl refl refl (met_at t (n + 1) rows (λ i. let e : n + 1 + i ≡ n + suc i = omega arith in ap (slice_get all) e ∙ stands (suc i))) where
+    first : slice_get all n ≡ Some r
+    first = let e : n ≡ n + 0 = omega arith in ap (slice_get all) e ∙ stands 0
+
+    here : is_at schema.key x t (slice_get all n) ≡ (same_key (slice_get r.cells schema.key) (Some x) && is_within t r.period)
+    here = ap (is_at schema.key x t) first
+
+    rest : List ℕ
+    rest = affected_ids schema lines (n + 1) rows
+
+    met : List (Option plain.Period)
+    met = open_periods schema.key x rows
+
+    by : (o a k : Bool) → is_open r ≡ o → is_affected schema lines r ≡ a → same_key (slice_get r.cells schema.key) (Some x) ≡ k → list_any (λ id. is_at schema.key x t (slice_get all id)) rest ≡ list_any (is_within t) (affected_periods own met)
+        → list_any (λ id. is_at schema.key x t (slice_get all id)) (cond (o && a) (n ∷ rest) rest) ≡ list_any (is_within t) (affected_periods own (cond (o && k) (r.period ∷ met) met))
+    by false a k e f g later = later
+    by true true true e f g later = rw (here, g, affected_own r g ∙ f) (ap (λ b. is_within t r.period || b) later)
+    by true true false e f g later = rw (here, g) later
+    by true false true e f g later = rw (affected_own r g ∙ f) later
+    by true false false e f g later = later
+
+  met_full : (n : ℕ) (rows : List plain.Row) → ((i : ℕ) → slice_get all (n + i) ≡ slice_get rows i) → Full (map (λ id. period_of (slice_get all id)) (affected_ids schema lines n rows)) → Full (met_periods schema.key lines x rows)
+  met_full n [] stands full = tt
+  met_full n (r ∷ rows) stands full = by (is_open r) (is_affected schema lines r) (same_key (slice_get r.cells schema.key) (Some x)) refl refl refl full (met_full (n + 1) rows (λ i. let e : n + 1 + i ≡ n + suc i = omega arith in ap (slice_get all) e ∙ stands (suc i))) where
+    first : period_of (slice_get all n) ≡ r.period
+    first = let e : n ≡ n + 0 = omega arith in ap period_of (ap (slice_get all) e ∙ stands 0)
+
+    rest : List ℕ
+    rest = affected_ids schema lines (n + 1) rows
+
+    met : List (Option plain.Period)
+    met = open_periods schema.key x rows
+
+    behind : (p : Option plain.Period) (ps : List (Option plain.Period)) → Full (p ∷ ps) → Full (p ∷ []) × Full ps
+    behind None ps h = (tt, h)
+    behind (Some p) ps h = ((h.0, tt), h.1)
+
+    by : (o a k : Bool) → is_open r ≡ o → is_affected schema lines r ≡ a → same_key (slice_get r.cells schema.key) (Some x) ≡ k → Full (map (λ id. period_of (slice_get all id)) (cond (o && a) (n ∷ rest) rest)) → (Full (map (λ id. period_of (slice_get all id)) rest) → Full (affected_periods own met))
+        → Full (affected_periods own (cond (o && k) (r.period ∷ met) met))
+    by false a k e f g h later = later h
+    by true true true e f g h later =
+        let both = behind (period_of (slice_get all n)) (map (λ id. period_of (slice_get all id)) rest) h in
+        rw (affected_own r g ∙ f) (full_both (r.period ∷ []) (affected_periods own met) (subst (λ p. Full (p ∷ [])) first both.0) (later both.1))
+    by true true false e f g h later = later (behind (period_of (slice_get all n)) (map (λ id. period_of (slice_get all id)) rest) h).1
+    by true false true e f g h later = rw (affected_own r g ∙ f) (later h)
+    by true false false e f g h later = later h
+
+-- a key that no line has
+not_said : (x : Cell) (lines : List BatchLine) → is_said (Some x) lines ≡ false → periods_with (Some x) lines ≡ []
+not_said x [] e = refl
+not_said x (l ∷ lines) e = grind (arith, not_said x lines)
+
+none_met : (ps : List (Option plain.Period)) → affected_periods [] ps ≡ []
+none_met [] = refl
+none_met (p ∷ ps) = none_met ps
+
+-- the periods of the rows that lines affect are, key by key, those of the rows that they meet
+pub rows_held : (schema : plain.Schema) (lines : List BatchLine) (rows : List plain.Row) (ids : List ℕ) (covers : List (Cell × List (ℤ × ℤ))) → schema.valid ≡ true → ids ≡ affected_ids schema lines 0 rows
+    → ((x : Cell) (t : ℤ) → is_covered t (cover_at x covers) ≡ list_any (λ row. is_at schema.key x t (slice_get rows row)) ids) → Full (map (λ row. period_of (slice_get rows row)) ids) → HoldRows schema.key covers lines lines rows
+rows_held schema lines rows ids covers valid is held full = record {
+  full = λ x e. met_full schema lines x rows valid 0 rows stands (subst (λ ns. Full (map (λ row. period_of (slice_get rows row)) ns)) is full);
+  same = λ x t. held x t ∙ (ap (list_any (λ row. is_at schema.key x t (slice_get rows row))) is ∙ (met_at schema lines x rows valid t 0 rows stands ∙ by x t (is_said (Some x) lines) refl));
 } where
-  all_full : (x : Cell) (k : Bool) → same_cell x s.key ≡ k → (a : Bool) → is_said (Some x) (lines_of (take i key_lines)) ≡ a → (is_said (Some x) (lines_of (take i key_lines)) || same_cell x s.key) ≡ true → Full (met_periods place all x rows)
-  all_full x true g a f e = subst Full (made ∙ same_met place all x s.key rows g) full
-  all_full x false g true f e = held.full x f
-  all_full x false g false f e = absurd (let bad : false ≡ true = sym (ap (λ b. b || same_cell x s.key) f ∙ g) ∙ e in cc)
+  stands : (i : ℕ) → slice_get rows (0 + i) ≡ slice_get rows i
+  stands i = ap (slice_get rows) (let e : 0 + i ≡ i = omega arith in e)
 
-  by_key : (x : Cell) (t : ℤ) (k : Bool) → same_cell x s.key ≡ k
-      → ((same_cell x s.key && list_any (is_within t) ps) || (is_said (Some x) (lines_of (take i key_lines)) && list_any (is_within t) (met_periods place all x rows))) ≡ ((is_said (Some x) (lines_of (take i key_lines)) || same_cell x s.key) && list_any (is_within t) (met_periods place all x rows))
-  by_key x t true g = let same = ap (list_any (is_within t)) (made ∙ same_met place all x s.key rows g) in grind arith
-  by_key x t false g = grind arith
-
-pub known_rows : (place : ℕ) (all : List BatchLine) (rows : List plain.Row) (key_lines : List KeyLine) (i : ℕ) (s : KeyLine) (seen : List Cell) (fresh : Bool) (covers : List (Cell × List (ℤ × ℤ))) → i < length key_lines → s ≡ get_or key_lines i s → fresh ≡ not (has_cell seen s.key) → fresh ≡ false
-    → ((x : Cell) → has_cell seen x ≡ is_said (Some x) (lines_of (take i key_lines))) → HoldRows place covers (lines_of (take i key_lines)) all rows → HoldRows place covers (lines_of (take (i + 1) key_lines)) all rows
-known_rows place all rows key_lines i s seen fresh covers h at new gone e held = record {
-  full = λ x f. held.full x (sym (more x) ∙ f);
-  same = λ x t. held.same x t ∙ ap (λ b. b && list_any (is_within t) (met_periods place all x rows)) (sym (more x));
-} where
-  has : is_said (Some s.key) (lines_of (take i key_lines)) ≡ true
-  has = sym (e s.key) ∙ turn (has_cell seen s.key) (sym new ∙ gone) where
-    turn : (b : Bool) → not b ≡ false → b ≡ true
-    turn true g = refl
-    turn false g = absurd (cc)
-
-  said_same : (x : Cell) (lines : List BatchLine) → same_cell x s.key ≡ true → is_said (Some x) lines ≡ is_said (Some s.key) lines
-  said_same x [] g = refl
-  said_same x (l ∷ lines) g = ap (λ b. b || is_said (Some x) lines) (key_congr (Some x) s.key l.key g) ∙ ap (λ b. same_key (Some s.key) l.key || b) (said_same x lines g)
-
-  more : (x : Cell) → is_said (Some x) (lines_of (take (i + 1) key_lines)) ≡ is_said (Some x) (lines_of (take i key_lines))
-  more x = grind (arith, said_more (Some x) key_lines i s h at, said_same x (lines_of (take i key_lines)), has)
+  by : (x : Cell) (t : ℤ) (b : Bool) → is_said (Some x) lines ≡ b → list_any (is_within t) (met_periods schema.key lines x rows) ≡ (is_said (Some x) lines && list_any (is_within t) (met_periods schema.key lines x rows))
+  by x t true e = rw e refl
+  by x t false e = rw e (ap (λ ps. list_any (is_within t) (affected_periods ps (open_periods schema.key x rows))) (not_said x lines e) ∙ ap (list_any (is_within t)) (none_met (open_periods schema.key x rows)))
 
 -- ONE LINE MORE
 

@@ -1,14 +1,11 @@
 -- What lines take from the current rows, and what they put.
-use Rattle.std.proofs.Common.{◌≡◌, ℕ, zero, suc, ◌+◌, ◌<◌, ◌≤◌, Bool, true, false, ◌&&◌, cond, List, [], ◌∷◌, ◌++◌, length, map, get_or, slice_get, Option, Some, None, subst, refl, sym, ap, ◌∙◌, arith}
+use Rattle.std.proofs.Common.{◌≡◌, ℕ, zero, suc, ◌+◌, ◌<◌, ◌≤◌, Bool, true, false, ◌&&◌, cond, List, [], ◌∷◌, ◌++◌, length, get_or, slice_get, Option, Some, None, subst, refl, sym, ap, ◌∙◌, arith}
 use Rattle.std.specs.List.{flat_map, All}
-use Rattle.tl_types.specs.declared.cells.Cell.{Cell}
 use Rattle.tl_types.specs.Plain as plain
 use Rattle.tl_types.specs.Facts.{AscendFrom}
 use Rattle.tl_types.specs.History.{is_open, has_id}
-use Rattle.tl_types.specs.Resolving.{BatchLine, put_lines}
-use Rattle.tl_types.specs.declared.batches.KeyLine.{KeyLine}
-use Rattle.tl_batch.specs.Pieces.{cuts, periods_with, is_affected, affected_ids, row_pieces, old_pieces, is_open_affected, pieces_at}
-use Rattle.tl_batch.specs.Lines.{lines_of, line_of_row}
+use Rattle.tl_types.specs.Resolving.{BatchLine}
+use Rattle.tl_batch.specs.Pieces.{cuts, is_affected, affected_ids, row_pieces, old_pieces, is_open_affected, pieces_at}
 use Rattle.tl_batch.proofs.ChangeLemmas.{affected_ids-at, affected_ids-ascend, ascend_same}
 use Rattle.tl_batch.proofs.RowIds.{ids_at, ids_at-has}
 use Rattle.tl_batch.proofs.AffectLemmas.{holds_at}
@@ -20,7 +17,7 @@ nothing_left (None ∷ lines) h = refl
 nothing_left (Some l ∷ lines) h = refl
 
 -- the ids that are affected, by rows
-affected_has : (schema : plain.Schema) (lines : List BatchLine) (rows : List plain.Row) (n : ℕ) → has_id (affected_ids schema lines 0 rows) n ≡ is_open_affected schema lines (slice_get rows n)
+pub affected_has : (schema : plain.Schema) (lines : List BatchLine) (rows : List plain.Row) (n : ℕ) → has_id (affected_ids schema lines 0 rows) n ≡ is_open_affected schema lines (slice_get rows n)
 affected_has schema lines rows n = grind (arith, affected_ids-at schema lines 0 rows, ids_at (is_open_affected schema lines) 0 rows, ids_at-has (is_open_affected schema lines) refl 0 rows n)
 
 -- an ascending list of the rows that lines affect is that of the ids that are affected
@@ -50,26 +47,3 @@ left_of schema lines f n (r ∷ rows) e = split (is_open r && is_affected schema
 pub opens_are : (schema : plain.Schema) (lines : List BatchLine) (rows : List plain.Row) (ids given : List ℕ) (opens : List plain.Opened) → given ≡ ids → ids ≡ affected_ids schema lines 0 rows → opens ≡ flat_map (λ id. pieces_at schema lines (slice_get rows id)) given → opens ≡ old_pieces schema lines rows
 opens_are schema lines rows ids given opens same affected made =
     made ∙ (ap (flat_map (λ id. pieces_at schema lines (slice_get rows id))) (same ∙ affected) ∙ left_of schema lines (λ id. pieces_at schema lines (slice_get rows id)) 0 rows (λ i. ap (λ k. pieces_at schema lines (slice_get rows k)) (let e : 0 + i ≡ i = omega arith in e)))
-
--- ROWS PUT
-
-periods-rows : (schema : plain.Schema) (key : Option Cell) (lines : List plain.Opened) → periods_with key (map (line_of_row schema.key) lines) ≡ periods_with key (put_lines schema lines)
-periods-rows schema key [] = refl
-periods-rows schema key (o ∷ lines) = grind (arith, periods-rows schema key lines)
-
--- the periods of lines that put rows, read off their keys and periods
-pub periods-key_lines : (schema : plain.Schema) (key_lines : List KeyLine) (lines : List plain.Opened) (key : Option Cell) → lines_of key_lines ≡ map (line_of_row schema.key) lines → periods_with key (lines_of key_lines) ≡ periods_with key (put_lines schema lines)
-periods-key_lines schema key_lines lines key same = ap (periods_with key) same ∙ periods-rows schema key lines
-
--- LINES WITH THE SAME PERIODS
-
-pub affected_ids-same : (schema : plain.Schema) (lines other : List BatchLine) → ((key : Option Cell) → periods_with key lines ≡ periods_with key other) → (n : ℕ) (rows : List plain.Row) → affected_ids schema lines n rows ≡ affected_ids schema other n rows
-affected_ids-same schema lines other same n [] = refl
-affected_ids-same schema lines other same n (r ∷ rows) = grind (arith, affected_ids-same schema lines other same (n + 1) rows)
-
-pub old_pieces-same : (schema : plain.Schema) (lines other : List BatchLine) → ((key : Option Cell) → periods_with key lines ≡ periods_with key other) → (rows : List plain.Row) → old_pieces schema lines rows ≡ old_pieces schema other rows
-old_pieces-same schema lines other same [] = refl
-old_pieces-same schema lines other same (r ∷ rows) = grind (arith, old_pieces-same schema lines other same rows)
-
-pub put_same : (schema given : plain.Schema) (place : ℕ) (rows : List plain.Opened) (lines lent : List KeyLine) → place ≡ given.key → given ≡ schema → lent ≡ lines → lines_of lines ≡ map (line_of_row place) rows → lines_of lent ≡ map (line_of_row schema.key) rows
-put_same schema given place rows lines lent at is same e = grind arith

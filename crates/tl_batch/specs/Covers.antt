@@ -82,10 +82,18 @@ pub record HoldLines (covers : List (Cell × List (ℤ × ℤ))) (lines : List B
 abbrev pub is_said : Option Cell → List BatchLine → Bool
 is_said key lines = list_any (λ said. same_key key said.key) lines
 
--- the row is there and current, its key is among those of the lines so far, and one of all lines
--- affects it
-abbrev pub affected_so_far : plain.Schema → List BatchLine → List BatchLine → Option plain.Row
-    → Bool
-affected_so_far schema lines front None = false
-affected_so_far schema lines front (Some row) =
-    is_open row && (is_said (slice_get row.cells schema.key) front && is_affected schema lines row)
+-- the stretches that stand with each key are those of the key among all
+abbrev pub StandIn : List (Cell × List (ℤ × ℤ)) → List (Cell × List (ℤ × ℤ)) → Type 0
+StandIn covers [] = Unit {0}
+StandIn covers (e ∷ entries) = (cover_at e.0 covers ≡ e.1) × StandIn covers entries
+
+-- the key is one of those of covers
+abbrev pub is_keyed : Option Cell → List (Cell × List (ℤ × ℤ)) → Bool
+is_keyed key covers = list_any (λ e. same_key key (Some e.0)) covers
+
+-- the row is there and current, its key is one of those of covers, and a line affects it
+abbrev pub affected_among : plain.Schema → List BatchLine → List (Cell × List (ℤ × ℤ))
+    → Option plain.Row → Bool
+affected_among schema lines covers None = false
+affected_among schema lines covers (Some row) =
+    is_open row && (is_keyed (slice_get row.cells schema.key) covers && is_affected schema lines row)

@@ -1,5 +1,5 @@
 -- The first fault of the lines of a batch, read off the rows of the table.
-use Rattle.std.specs.Prelude.{◌≡◌, ℤ, ℕ, ◌+◌, Bool, true, ◌&&◌, not, List, [], ◌∷◌, ◌++◌, Option, Some, None, if◌then◌else◌, slice_get}
+use Rattle.std.specs.Prelude.{◌≡◌, ℤ, ℕ, ◌+◌, Bool, true, false, ◌&&◌, not, List, [], ◌∷◌, ◌++◌, Option, Some, None, if◌then◌else◌, slice_get}
 use Rattle.std.specs.List.{list_any}
 use Rattle.tl_types.specs.declared.cells.Cell.{Cell}
 use Rattle.tl_types.specs.declared.batches.BatchFault.{BatchFault}
@@ -50,6 +50,12 @@ open_periods place x (row ∷ rows) =
     if is_open row
     && same_key (slice_get row.cells place) (Some x) then row.period ∷ open_periods place x rows
     else open_periods place x rows
+
+-- the row is there, has the key, which is the cell at a place, and its period has the moment
+abbrev pub is_at : ℕ → Cell → ℤ → Option plain.Row → Bool
+is_at place x t None = false
+is_at place x t (Some row) =
+    same_key (slice_get row.cells place) (Some x) && is_within t row.period
 
 -- of some periods those that a line affects
 abbrev pub affected_periods : List (Option plain.Period) → List (Option plain.Period)

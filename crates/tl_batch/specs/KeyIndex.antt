@@ -1,11 +1,12 @@
 -- The ids of rows by their keys: one id or two of each key that has any, and further ones.
 use Rattle.std.specs.Ordering.{int_eq}
-use Rattle.std.specs.Prelude.{◌≡◌, if◌then◌else◌, ℕ, ℤ, Bool, false, ◌||◌, ◌==◌, List, [], Option, Some, None}
+use Rattle.std.specs.Prelude.{◌≡◌, if◌then◌else◌, ℕ, ℤ, pos, negsuc, Bool, false, ◌||◌, ◌&&◌, ◌==◌, nat_lt, slice_get, List, [], Option, Some, None}
 use Rattle.std.specs.Map.{lookup}
 use Rattle.tl_types.specs.declared.cells.Cell.{Cell}
 use Rattle.tl_types.specs.declared.cells.Cell.TheVariants as cell
 use Rattle.tl_types.specs.Names.{same_bytes}
 use Rattle.tl_types.specs.History.{has_id, same_cell}
+use Rattle.tl_batch.specs.declared.two_ids.TwoIds.{TwoIds}
 use Rattle.tl_batch.specs.declared.few_ids.FewIds.{FewIds}
 
 -- one id or two of each key that has any: of numbers, and of texts
@@ -13,14 +14,26 @@ pub record FewIdsByKey : Type 0 where
   pub numbers : List (ℤ × FewIds)
   pub texts : List (List ℕ × FewIds)
 
--- the ids of rows by their keys: one or two of each, and the further ones
+-- the ids of small keys: one or two of each, and sets of further ones
+pub record SmallIds : Type 0 where
+  pub two : List TwoIds
+  pub sets : List (List ℕ)
+
+-- the ids of rows by their keys: those of small keys, one or two of each, and the further
+-- ones
 pub record IdsByKey : Type 0 where
+  pub small : SmallIds
   pub few : FewIdsByKey
   pub further : List (Cell × List ℕ)
 
 -- no ids
 abbrev pub no_ids : IdsByKey
-no_ids = record { few = record { numbers = []; texts = [] }; further = [] }
+no_ids =
+    record {
+      small = record { two = []; sets = [] };
+      few = record { numbers = []; texts = [] };
+      further = [];
+    }
 
 -- this is the one id or the other
 abbrev pub is_of : FewIds → ℕ → Bool
@@ -49,9 +62,46 @@ is_among_ids (Some ids) n = has_id ids n
 abbrev pub has_further : List (Cell × List ℕ) → Cell → ℕ → Bool
 has_further further x n = is_among_ids (lookup (same_cell x) further) n
 
+-- the number stands for the id: the greatest one of 32 bits stands for none
+abbrev pub stands_for_id : ℕ → ℕ → Bool
+stands_for_id number n = n == number && nat_lt n 4294967295
+
+-- this is one of the ids
+abbrev pub is_of_two : TwoIds → ℕ → Bool
+is_of_two ids n = stands_for_id ids.one n || stands_for_id ids.other n
+
+-- there are ids, and this is one of them
+abbrev pub is_among_two : Option TwoIds → ℕ → Bool
+is_among_two None n = false
+is_among_two (Some ids) n = is_of_two ids n
+
+-- the id is one of those at the place of a number
+abbrev pub has_number : List TwoIds → ℤ → ℕ → Bool
+has_number ids (pos place) n = is_among_two (slice_get ids place) n
+has_number ids (negsuc i) n = false
+
+-- the id is one of those at the place of the key
+abbrev pub has_two : List TwoIds → Cell → ℕ → Bool
+has_two ids (cell.Int i) n = has_number ids i n
+has_two ids (cell.Text t) n = false
+
+-- the id is in the set at the place of a number
+abbrev pub in_set_of : List (List ℕ) → ℤ → ℕ → Bool
+in_set_of sets (pos place) n = is_among_ids (slice_get sets place) n
+in_set_of sets (negsuc i) n = false
+
+-- the id is in the set at the place of the key
+abbrev pub has_set : List (List ℕ) → Cell → ℕ → Bool
+has_set sets (cell.Int i) n = in_set_of sets i n
+has_set sets (cell.Text t) n = false
+
+-- the id is one of those of the small key
+abbrev pub has_small : SmallIds → Cell → ℕ → Bool
+has_small ids x n = has_two ids.two x n || has_set ids.sets x n
+
 -- the id stands there under the key
 abbrev pub has_row : IdsByKey → Cell → ℕ → Bool
-has_row ids x n = has_few ids.few x n || has_further ids.further x n
+has_row ids x n = has_small ids.small x n || has_few ids.few x n || has_further ids.further x n
 
 -- what is found at each key after what is found at one key has become this
 abbrev pub Changes : {X : Type 0} → Cell → Option X → List (Cell × X) → List (Cell × X) → Type 0

@@ -11,3 +11,4 @@ pub mod StretchesRefs
 pub mod Faults
 pub mod Made
 pub mod PutRows
+pub mod Flags

@@ -1,6 +1,6 @@
 -- What the lines of a batch leave of the rows of their keys. In a table without valid time a row
 -- has no period, and a line of its key leaves nothing of it.
-use Rattle.std.specs.Prelude.{ℕ, ◌+◌, ℤ, Bool, false, ◌&&◌, ◌||◌, not, int_lt, List, [], ◌∷◌, ◌++◌, map, Option, Some, None, if◌then◌else◌, slice_get}
+use Rattle.std.specs.Prelude.{ℕ, suc, ◌+◌, ℤ, Bool, true, false, ◌&&◌, ◌||◌, not, int_lt, List, [], ◌∷◌, ◌++◌, map, Option, Some, None, if◌then◌else◌, slice_get}
 use Rattle.std.specs.List.{flat_map, list_any}
 use Rattle.tl_types.specs.declared.cells.Cell.{Cell}
 use Rattle.tl_types.specs.Plain as plain
@@ -95,3 +95,9 @@ pieces_at schema lines (Some row) = row_pieces schema lines row.cells row.period
 abbrev pub affected_by : Bool → List (Option plain.Period) → Option plain.Row → Bool
 affected_by valid lines None = false
 affected_by valid lines (Some row) = list_any (λ line. affects_period valid line row.period) lines
+
+-- the number of ids at the front of which no line with these periods affects the row
+abbrev pub apart_from : List (Option plain.Period) → List plain.Row → List ℕ → ℕ
+apart_from lines rows [] = 0
+apart_from lines rows (id ∷ ids) =
+    if affected_by true lines (slice_get rows id) then 0 else suc (apart_from lines rows ids)

@@ -1,65 +1,119 @@
 //! The open rows of a table with valid time that lines affect.
-ghost use Rattle.std.specs.Prelude.{◌≡◌, ◌&&◌, ◌||◌, ◌==◌, ℕ, ℤ, List, Option, true, Some, OnOk, IfOk, slice_get};
+ghost use Rattle.std.specs.Prelude.{◌≡◌, ◌<◌, ◌&&◌, ◌||◌, ℕ, ℤ, List, [], ◌∷◌, Option, true, All, OnOk, IfOk, length, slice_get};
 ghost use Rattle.std.specs.List.{list_any};
 ghost use Rattle.tl_types.specs.Plain as plain;
 ghost use Rattle.tl_types.specs.History.{has_id, is_within};
 ghost use Rattle.tl_types.specs.Resolving.{BatchLine};
-ghost use Rattle.tl_batch.specs.Covers.{Full, HoldLines, is_covered};
-ghost use Rattle.tl_batch.specs.Lines.{lines_of};
-ghost use Rattle.tl_batch.specs.Pieces.{affects_period, affected_by, is_open_affected, periods_with};
+ghost use Rattle.tl_batch.specs.Covers.{Beyond, Full, HoldLines, before_all, is_covered};
+ghost use Rattle.tl_batch.specs.Pieces.{affected_by, apart_from, is_open_affected};
 ghost use Rattle.tl_batch.specs.Standing.{is_open_with};
 
 use crate::cover::Cover;
+use crate::few_periods::meets;
 use crate::id_list::IdList;
-use crate::key_set::KeySet;
 use crate::open_table::OpenTable;
+use crate::period_set::PeriodSet;
 use crate::periods_by_key::PeriodsByKey;
 use std::alloc::Global;
 use std::sync::ledger::Ledger;
-use tl_types::{Cell, KeyLine, NoMemory, Period, Steps};
+use tl_types::{Cell, NoMemory, Steps};
 
-// Adds a row with a valid period, where a line of its key, whose moments are given, overlaps it.
-fn add_overlapped(
-    affected: &mut IdList,
-    cover: &Cover<'_>,
-    row: u32,
-    whole: &Option<Period>,
-) -> Result<(), NoMemory>
-    ensures { OnOk result ((lines : List (Option plain.Period)) → Full lines
-        → ((t : ℤ) → is_covered t cover.now ≡ list_any (is_within t) lines) → (n : ℕ)
-        → has_id affected.new n ≡ (((n == row)
-        && list_any (λ line. affects_period true line whole.now) lines) || has_id affected.old n)) }
+// The number of rows at the front that no line affects, where one stretch, given by its end and the
+// moment where it begins, covers the moments of the lines.
+#[inline(always)]
+fn rows_off<L: Ledger>(
+    rows: &[u32],
+    end: i64,
+    start: i64,
+    table: &OpenTable<'_>,
+    steps: &mut Steps<L>,
+) -> usize
+    requires valid { table.now.schema.valid ≡ true }
+    requires rows { All (λ row. row < length table.now.rows) rows.now }
+    requires apart { Beyond before_all ((end, start) ∷ []) }
+    ensures { (lines : List (Option plain.Period)) → Full lines
+        → ((t : ℤ) → is_covered t ((end, start) ∷ []) ≡ list_any (is_within t) lines)
+        → result ≡ apart_from lines table.now.rows rows.now }
 {
-    let overlapped = cover.affects(whole);
-    if !overlapped {
-        return Ok(());
+    for (i, row) in rows.iter().enumerate() {
+        let period = table.period_at(*row, steps);
+        let met = meets(end, start, period);
+        if met {
+            return i;
+        }
     }
-    affected.add(row)?;
-    Ok(())
+    rows.len()
 }
 
-// Adds the open rows of a key that a line of the key overlaps. The list of ids is for the rows of
-// the key, whatever it holds.
+// The number of rows at the front that no line affects, where a cover has the moments of the lines.
+fn rows_beside<L: Ledger>(
+    rows: &[u32],
+    cover: &Cover<'_>,
+    table: &OpenTable<'_>,
+    steps: &mut Steps<L>,
+) -> usize
+    requires valid { table.now.schema.valid ≡ true }
+    requires rows { All (λ row. row < length table.now.rows) rows.now }
+    ensures { (lines : List (Option plain.Period)) → Full lines
+        → ((t : ℤ) → is_covered t cover.now ≡ list_any (is_within t) lines)
+        → result ≡ apart_from lines table.now.rows rows.now }
+{
+    for (i, row) in rows.iter().enumerate() {
+        let whole = table.period(*row, steps);
+        let met = cover.affects(&whole);
+        if met {
+            return i;
+        }
+    }
+    rows.len()
+}
+
+// The same, by one stretch where one stands alone.
+fn rows_apart<L: Ledger>(
+    rows: &[u32],
+    cover: &Cover<'_>,
+    table: &OpenTable<'_>,
+    steps: &mut Steps<L>,
+) -> usize
+    requires valid { table.now.schema.valid ≡ true }
+    requires rows { All (λ row. row < length table.now.rows) rows.now }
+    ensures { (lines : List (Option plain.Period)) → Full lines
+        → ((t : ℤ) → is_covered t cover.now ≡ list_any (is_within t) lines)
+        → result ≡ apart_from lines table.now.rows rows.now }
+{
+    match cover.one() {
+        Some((end, start)) => rows_off(rows, end, start, table, steps),
+        None => rows_beside(rows, cover, table, steps),
+    }
+}
+
+// Adds the open rows of a key that a line of the key, whose moments are given, overlaps. The list
+// of ids is for the rows of the key, whatever it holds.
 fn add_rows<L: Ledger>(
     affected: &mut IdList,
     ids: &mut IdList,
-    periods: &PeriodsByKey,
+    moments: &PeriodSet,
     key: &Cell,
     table: &OpenTable<'_>,
     steps: &mut Steps<L>,
 ) -> Result<(), NoMemory>
     requires valid { table.now.schema.valid ≡ true }
-    ensures { OnOk result ((lines : List BatchLine) → HoldLines periods.now lines → (n : ℕ)
+    ensures { OnOk result ((lines : List (Option plain.Period)) → Full lines
+        → ((t : ℤ) → is_covered t moments.now ≡ list_any (is_within t) lines) → (n : ℕ)
         → has_id affected.new n
         ≡ ((is_open_with table.now.schema.key key.now (slice_get table.now.rows n)
-        && affected_by true (periods_with (Some key.now) lines) (slice_get table.now.rows n))
-        || has_id affected.old n)) }
+        && affected_by true lines (slice_get table.now.rows n)) || has_id affected.old n)) }
 {
     table.fill_ids(key, ids)?;
-    let cover = periods.cover(key);
-    for row in ids.as_slice() {
-        let whole = table.period(*row, steps);
-        add_overlapped(affected, &cover, *row, &whole)?;
+    let cover = Cover::new(Some(moments));
+    let mut rest = ids.as_slice();
+    let mut apart = rows_apart(rest, &cover, table, steps);
+    'rows: while apart < rest.len() {
+        let (_, met) = rest.split_at(apart);
+        affected.add(met[0])?;
+        let (_, behind) = met.split_at(1);
+        rest = behind;
+        apart = rows_apart(rest, &cover, table, steps);
     }
     Ok(())
 }
@@ -69,23 +123,19 @@ fn add_rows<L: Ledger>(
 pub(crate) fn affected_rows<L: Ledger>(
     alloc: Global,
     table: &OpenTable<'_>,
-    lines: &[KeyLine],
     periods: &PeriodsByKey,
     steps: &mut Steps<L>,
 ) -> Result<IdList, NoMemory>
     requires valid { table.now.schema.valid ≡ true }
-    requires held { HoldLines periods.now (lines_of lines.now) }
-    ensures { IfOk result (λ affected. (n : ℕ) → has_id affected n
-        ≡ is_open_affected table.now.schema (lines_of lines.now) (slice_get table.now.rows n)) }
+    ensures { IfOk result (λ affected. (lines : List BatchLine) → HoldLines periods.now lines
+        → (n : ℕ) → has_id affected n
+        ≡ is_open_affected table.now.schema lines (slice_get table.now.rows n)) }
 {
     let mut affected = IdList::new(alloc);
     let mut ids = IdList::new(alloc);
-    let mut seen = KeySet::new(alloc);
-    for line in lines {
-        let fresh = seen.add(&line.key)?;
-        if fresh {
-            add_rows(&mut affected, &mut ids, periods, &line.key, table, steps)?;
-        }
+    let mut entries = periods.entries();
+    'keys: while let Some((key, moments)) = entries.next() {
+        add_rows(&mut affected, &mut ids, moments, key, table, steps)?;
     }
     Ok(affected)
 }

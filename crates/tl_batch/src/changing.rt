@@ -1,18 +1,16 @@
 //! What lines make of the rows of a table with valid time.
-ghost use Rattle.std.specs.Prelude.{◌≡◌, ◌+◌, ◌<◌, ◌^◌, ◌++◌, true, IfOk, IsTrue, length};
+ghost use Rattle.std.specs.Prelude.{◌≡◌, ◌+◌, ◌<◌, ◌^◌, ◌++◌, List, true, IfOk, IsTrue, length};
 ghost use Rattle.std.specs.List.{list_all};
 ghost use Rattle.tl_types.specs.History.{matches};
-ghost use Rattle.tl_types.specs.Resolving.{put_lines, removal_lines};
+ghost use Rattle.tl_types.specs.Resolving.{BatchLine, put_lines, removal_lines};
 ghost use Rattle.tl_batch.specs.Covers.{HoldLines};
-ghost use Rattle.tl_batch.specs.Lines.{lines_of};
 ghost use Rattle.tl_batch.specs.Made.{IsMade};
 ghost use Rattle.tl_batch.specs.Pieces.{affected_ids, old_pieces, put_pieces};
 
 use crate::affected::affected_rows;
 use crate::faults::first_fault;
-use crate::lines::lines_of_rows;
 use crate::open_table::OpenTable;
-use crate::opening::{old_pieces, push_puts};
+use crate::opening::{PutPieces, append_back, old_pieces, pieces_behind};
 use crate::periods_by_key::{PeriodsByKey, covers_of};
 use std::alloc::Global;
 use std::sync::ledger::{Blank, Ledger};
@@ -25,27 +23,41 @@ pub(crate) struct RowChanges {
     pub(crate) opens: Vec<Opened>,
 }
 
-// The open rows that lines, whose periods are given by key, affect, and what the lines leave of
-// these.
-fn cut_rows<L: Ledger>(
+// The ids of the open rows that lines, whose periods are given by key, affect.
+fn rows_to_close<L: Ledger>(
     alloc: Global,
     table: &OpenTable<'_>,
-    lines: &[KeyLine],
     periods: &PeriodsByKey,
     steps: &mut Steps<L>,
-) -> Result<RowChanges, NoMemory>
+) -> Result<Seq<u32>, NoMemory>
     requires valid { table.now.schema.valid ≡ true }
-    requires held { HoldLines periods.now (lines_of lines.now) }
-    ensures closes { IfOk result (λ changes. changes.closes
-        ≡ affected_ids table.now.schema (lines_of lines.now) 0 table.now.rows) }
-    ensures opens { IfOk result (λ changes. changes.opens.items
-        ≡ old_pieces table.now.schema (lines_of lines.now) table.now.rows) }
+    ensures { IfOk result (λ closes. (lines : List BatchLine) → HoldLines periods.now lines
+        → closes ≡ affected_ids table.now.schema lines 0 table.now.rows) }
 {
-    let affected = affected_rows(alloc, table, lines, periods, steps)?;
+    let affected = affected_rows(alloc, table, periods, steps)?;
     let closes = affected.listed();
-    let ids = closes.as_slice();
-    let opens = old_pieces(alloc, table, periods, ids, steps)?;
-    Ok(RowChanges { closes, opens })
+    Ok(closes)
+}
+
+// What lines, whose periods are given by key, leave of the open rows that they affect, of which the
+// ids are given, with room for so many rows more.
+fn rows_left<L: Ledger>(
+    alloc: Global,
+    table: &OpenTable<'_>,
+    periods: &PeriodsByKey,
+    closes: &[u32],
+    room: usize,
+    steps: &mut Steps<L>,
+) -> Result<Vec<Opened>, NoMemory>
+    requires valid { table.now.schema.valid ≡ true }
+    requires closes { (lines : List BatchLine) × HoldLines periods.now lines
+        × (closes.now ≡ affected_ids table.now.schema lines 0 table.now.rows) }
+    ensures { IfOk result (λ opens. (lines : List BatchLine) → HoldLines periods.now lines
+        → closes.now ≡ affected_ids table.now.schema lines 0 table.now.rows
+        → opens.items ≡ old_pieces table.now.schema lines table.now.rows) }
+{
+    let opens = old_pieces(alloc, table, periods, closes, room, steps)?;
+    Ok(opens)
 }
 
 /// What rows that are put change in a table with valid time. The error is `NoMemory`.
@@ -68,11 +80,12 @@ pub(crate) fn put_timed<L: Ledger>(
 {
     let mut steps = Steps::<L>::new(blank);
     let schema = table.schema();
-    let lines = lines_of_rows(alloc, rows, schema.key())?;
-    let periods = covers_of(alloc, &lines)?;
-    let changes = cut_rows(alloc, table, &lines, &periods, &mut steps)?;
-    let RowChanges { closes, mut opens } = changes;
-    push_puts(alloc, &mut opens, schema, rows)?;
+    let _place = schema.key();
+    let PutPieces { back, periods } = pieces_behind(alloc, schema, rows)?;
+    let closes = rows_to_close(alloc, table, &periods, &mut steps)?;
+    let ids = closes.as_slice();
+    let mut opens = rows_left(alloc, table, &periods, ids, back.len(), &mut steps)?;
+    append_back(&mut opens, back)?;
     Ok(RowChanges { closes, opens })
 }
 
@@ -93,10 +106,12 @@ pub(crate) fn remove_timed<L: Ledger>(
 {
     let mut steps = Steps::<L>::new(blank);
     let periods = covers_of(alloc, lines)?;
-    let found = first_fault(alloc, table, lines, &periods, &mut steps)?;
+    let closes = rows_to_close(alloc, table, &periods, &mut steps)?;
+    let ids = closes.as_slice();
+    let found = first_fault(alloc, table, lines, ids, &mut steps)?;
     if let Some(fault) = found {
         return Ok(Err(fault));
     }
-    let changes = cut_rows(alloc, table, lines, &periods, &mut steps)?;
-    Ok(Ok(changes))
+    let opens = rows_left(alloc, table, &periods, ids, 0, &mut steps)?;
+    Ok(Ok(RowChanges { closes, opens }))
 }

@@ -1,14 +1,14 @@
 //! The moments that the lines of one key cover.
-ghost use Rattle.std.specs.Prelude.{◌≡◌, ℤ, true, List, Option, [], option_map};
+ghost use Rattle.std.specs.Prelude.{◌≡◌, ℤ, true, List, Option, [], ◌∷◌, IfSome, option_map};
 ghost use Rattle.std.specs.List.{list_any};
 ghost use Rattle.tl_types.specs.Plain as plain;
 ghost use Rattle.tl_types.specs.History.{is_within};
-ghost use Rattle.tl_batch.specs.Covers.{Full, is_covered, stretches_or};
+ghost use Rattle.tl_batch.specs.Covers.{Beyond, Full, before_all, is_covered, stretches_or};
 ghost use Rattle.tl_batch.specs.StretchesRefs.{AreApart, stretches_shown};
 ghost use Rattle.tl_batch.specs.Pieces.{affects_period};
 ghost use Rattle.tl_batch.specs.Stretches.{stretches_in};
 
-use crate::few_periods::overlap;
+use crate::few_periods::{end_of, meets, overlap, start_of};
 use crate::many_periods::ManyPeriods;
 use crate::period_set::{PeriodSet, Stretches};
 use std::marker::Model;
@@ -17,6 +17,8 @@ use tl_types::Period;
 /// Stretches that are lent, each as its end and the moment where it begins.
 #[derive(Drop)]
 pub(crate) enum StretchesRef<'a> {
+    /// One stretch.
+    One(i64, i64),
     /// Stretches that stand in a list.
     Few(&'a [(i64, i64)]),
     /// Stretches that stand in a tree.
@@ -40,13 +42,27 @@ impl<'a> Model for Cover<'a> {
     ghost invariant = { λ c. AreApart c.stretches };
 }
 
+// Stretches of a list, lent. One alone is read off.
+#[inline(always)]
+fn few_stretches(stretches: &[(i64, i64)]) -> StretchesRef<'_>
+    requires { Beyond before_all stretches.now }
+    ensures same { stretches_shown result ≡ stretches.now }
+    ensures apart { AreApart result }
+{
+    if stretches.len() == 1 {
+        let only = &stretches[0];
+        return StretchesRef::One(end_of(only), start_of(only));
+    }
+    StretchesRef::Few(stretches)
+}
+
 // The stretches of a set, lent.
 fn stretches_of(stretches: &Stretches) -> StretchesRef<'_>
     ensures same { stretches_shown result ≡ stretches_in stretches.now }
     ensures apart { AreApart result }
 {
     match stretches {
-        Stretches::Few(few) => StretchesRef::Few(few.as_slice()),
+        Stretches::Few(few) => few_stretches(few.as_slice()),
         Stretches::Many(many) => StretchesRef::Many(many),
     }
 }
@@ -61,6 +77,7 @@ fn none<'a>() -> StretchesRef<'a>
 
 impl<'a> Cover<'a> {
     /// The moments of a set, or none.
+    #[inline(always)]
     pub(crate) fn new(moments: Option<&'a PeriodSet>) -> Cover<'a>
         ensures { result ≡ stretches_or (option_map (λ m. m.now) moments.entry) }
     {
@@ -69,6 +86,19 @@ impl<'a> Cover<'a> {
                 stretches: stretches_of(set.stretches()),
             },
             None => Cover { stretches: none() },
+        }
+    }
+
+    /// The stretch, where one stands alone: its end, and the moment where it begins.
+    #[inline(always)]
+    pub(crate) fn one(&self) -> Option<(i64, i64)>
+        ensures same { IfSome result (λ s. self.now ≡ s ∷ []) }
+        ensures apart { IfSome result (λ s. Beyond before_all (s ∷ [])) }
+    {
+        match &self.stretches {
+            StretchesRef::One(end, start) => Some((*end, *start)),
+            StretchesRef::Few(_) => None,
+            StretchesRef::Many(_) => None,
         }
     }
 
@@ -83,6 +113,7 @@ impl<'a> Cover<'a> {
             return false;
         };
         match &self.stretches {
+            StretchesRef::One(end, start) => meets(*end, *start, *period),
             StretchesRef::Few(stretches) => overlap(stretches, *period),
             StretchesRef::Many(many) => many.overlaps(*period),
         }

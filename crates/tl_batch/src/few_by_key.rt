@@ -3,6 +3,7 @@ ghost use Rattle.std.specs.Prelude.{◌≡◌, ◌||◌, ◌&&◌, not, ◌==◌
 ghost use Rattle.std.specs.Ordering.{int_eq};
 ghost use Rattle.std.specs.Map.{lookup};
 ghost use Rattle.tl_types.specs.declared.cells.Cell.{Cell};
+ghost use Rattle.tl_types.specs.declared.cells.Cell.TheVariants as cell;
 ghost use Rattle.tl_types.specs.Names.{same_bytes};
 ghost use Rattle.tl_types.specs.History.{same_cell};
 ghost use Rattle.tl_batch.specs.KeyIndex.{has_few, is_among_few, is_at_key, no_ids};
@@ -91,7 +92,8 @@ fn add_text(few: &mut HashMap<Text, FewIds>, key: &Text, id: u32) -> Result<bool
 }
 
 // Takes an id of a key away.
-fn remove_from<K: Eq + Hash + Drop>(few: &mut HashMap<K, FewIds>, key: &K, id: u32)
+#[inline(never)]
+fn take_from<K: Eq + Hash + Drop>(few: &mut HashMap<K, FewIds>, key: &K, id: u32)
     ensures { (x : _) (n : ℕ) → is_at_key K.eq few.new.entries x n
         ≡ (not (K.eq x key.now && (n == id)) && is_at_key K.eq few.old.entries x n) }
 {
@@ -103,6 +105,18 @@ fn remove_from<K: Eq + Hash + Drop>(few: &mut HashMap<K, FewIds>, key: &K, id: u
         return;
     };
     *ids = left;
+}
+
+// Takes an id of a key away, where there are keys.
+#[inline(always)]
+fn remove_from<K: Eq + Hash + Drop>(few: &mut HashMap<K, FewIds>, key: &K, id: u32)
+    ensures { (x : _) (n : ℕ) → is_at_key K.eq few.new.entries x n
+        ≡ (not (K.eq x key.now && (n == id)) && is_at_key K.eq few.old.entries x n) }
+{
+    if few.is_empty() {
+        return;
+    }
+    take_from(few, key, id);
 }
 
 // The ids of a key.
@@ -166,6 +180,15 @@ impl FewByKey {
             Cell::Int(number) => add_number(&mut self.numbers, *number, id),
             Cell::Text(text) => add_text(&mut self.texts, text, id),
         }
+    }
+
+    /// Takes an id of a number away.
+    #[inline(always)]
+    pub(crate) fn remove_number(&mut self, key: i64, id: u32)
+        ensures { (x : Cell) (n : ℕ) → has_few self.new x n
+            ≡ (not (same_cell x (cell.Int key) && (n == id)) && has_few self.old x n) }
+    {
+        remove_from(&mut self.numbers, &key, id);
     }
 
     /// Takes an id of a key away.

@@ -1,5 +1,5 @@
 //! The moments that few periods cover, as stretches with something between neighbours.
-ghost use Rattle.std.specs.Prelude.{◌≡◌, ◌+◌, ◌<◌, ◌≤◌, ◌||◌, ◌++◌, ◌<ℤ◌, ℤ, true, List, Option, [], None, Some, IfOk, IfSome, IfNone, OnOk, length, nat_le, slice_get};
+ghost use Rattle.std.specs.Prelude.{◌≡◌, ◌+◌, ◌<◌, ◌≤◌, ◌||◌, ◌++◌, ◌<ℤ◌, ℤ, true, List, Option, [], ◌∷◌, None, Some, IfOk, IfSome, IfNone, OnOk, length, nat_le, slice_get};
 ghost use Rattle.std.specs.List.{list_any};
 ghost use Rattle.tl_types.specs.Plain as plain;
 ghost use Rattle.tl_types.specs.History.{is_within};
@@ -34,17 +34,17 @@ impl Model for FewPeriods {
     ghost invariant = { λ c. Beyond before_all c.stretches.items };
 }
 
-// The end of a stretch.
+/// The end of a stretch.
 #[inline]
-fn end_of(stretch: &(i64, i64)) -> i64
+pub(crate) fn end_of(stretch: &(i64, i64)) -> i64
     ensures { result ≡ stretch.now.0 }
 {
     stretch.0
 }
 
-// The moment where a stretch begins.
+/// The moment where a stretch begins.
 #[inline]
-fn start_of(stretch: &(i64, i64)) -> i64
+pub(crate) fn start_of(stretch: &(i64, i64)) -> i64
     ensures { result ≡ stretch.now.1 }
 {
     stretch.1
@@ -126,6 +126,20 @@ pub(crate) fn overlap(stretches: &[(i64, i64)], period: Period) -> bool
     first_begins(stretches, period.from(), period.to())
 }
 
+/// Whether a stretch, given by its end and the moment where it begins, has a moment of a period.
+#[inline(always)]
+pub(crate) fn meets(end: i64, start: i64, period: Period) -> bool
+    requires { Beyond before_all ((end, start) ∷ []) }
+    ensures { (lines : List (Option plain.Period)) → Full lines
+        → ((t : ℤ) → is_covered t ((end, start) ∷ []) ≡ list_any (is_within t) lines)
+        → result ≡ list_any (λ line. affects_period true line (Some period)) lines }
+{
+    if period.from() < end {
+        return start < period.to();
+    }
+    false
+}
+
 // The times between two moments that no stretch covers.
 fn gaps_between(
     alloc: Global,
@@ -160,6 +174,15 @@ impl FewPeriods {
         FewPeriods {
             stretches: SmallVec::new(alloc),
         }
+    }
+
+    /// The moments of one period. The error is `NoMemory`.
+    pub(crate) fn of(alloc: Global, period: Period) -> Result<FewPeriods, NoMemory>
+        ensures { IfOk result (λ set. set ≡ (period.to, period.from) ∷ []) }
+    {
+        let mut stretches = SmallVec::new(alloc);
+        stretches.push((period.to(), period.from()))?;
+        Ok(FewPeriods { stretches })
     }
 
     /// Whether there are as many stretches as few can be.

@@ -2,8 +2,8 @@
 ghost use Rattle.std.specs.Prelude.{◌≡◌, ◌||◌, ◌&&◌, not, ◌+◌, ◌<◌, ◌≤◌, ◌^◌, ℕ, true, false, OnOk, OnErr, IfOk, All, length, slice_get};
 ghost use Rattle.tl_types.specs.declared.cells.Cell.{Cell};
 ghost use Rattle.tl_types.specs.History.{database_of, rows_of, has_id};
-ghost use Rattle.tl_store.specs.Reading.{columns_of};
-ghost use Rattle.tl_batch.specs.ClosedRows.{has_keyed};
+ghost use Rattle.tl_store.specs.Reading.{columns_of, IsIntColumn};
+ghost use Rattle.tl_batch.specs.ClosedRows.{AreKnown, closes_number, has_closed, has_keyed};
 ghost use Rattle.tl_batch.specs.KeyIndex.{has_row};
 ghost use Rattle.tl_batch.specs.Standing.{has_key, opens_with};
 
@@ -11,14 +11,23 @@ use crate::key_index::KeyIndex;
 use std::alloc::Global;
 use std::marker::Brand;
 use std::sync::ledger::{Blank, Ledger};
-use tl_store::Store;
-use tl_types::{Cell, Change, NoMemory, Opened, Steps};
+use tl_store::{IntsRef, Store};
+use tl_types::{Cell, Change, Column, ColumnKind, NoMemory, Opened, Steps};
 
 /// A row that is closed: its key, and its id.
 #[derive(Drop)]
 pub(crate) struct KeyedRow {
     key: Cell,
     id: u32,
+}
+
+/// The keys of the rows that a change closes.
+#[derive(Drop)]
+pub(crate) enum ClosedKeys<'a> {
+    /// The numbers of all rows of the table.
+    Numbers(IntsRef<'a>),
+    /// The closed rows, each with its key.
+    Keyed(Vec<KeyedRow>),
 }
 
 // As `closed_rows`, by a ledger of its caller's.
@@ -49,9 +58,9 @@ fn closed_from<L: Ledger>(
     Ok(closed)
 }
 
-/// The rows that a change of a table closes; the key stands at a place among the cells. The error
-/// is `NoMemory`.
-pub(crate) fn closed_rows(
+// The rows that a change of a table closes; the key stands at a place among the cells. The error is
+// `NoMemory`.
+fn closed_rows(
     alloc: Global,
     store: &Store,
     change: &Change,
@@ -67,13 +76,96 @@ pub(crate) fn closed_rows(
     closed_from::<Brand>(alloc, store, change, place, Blank::new(1))
 }
 
+// Whether the column at a place is one of numbers.
+fn is_int(columns: &[Column], place: u8) -> bool
+    ensures { result ≡ true → IsIntColumn columns.now place }
+{
+    match columns.get(place as usize) {
+        Some(column) => match column.kind {
+            ColumnKind::IntKind => true,
+            ColumnKind::TextKind => false,
+        },
+        None => false,
+    }
+}
+
+/// The keys of the rows that a change of a table closes; the key stands at a place among the cells.
+/// The error is `NoMemory`.
+pub(crate) fn closed_keys<'a>(
+    alloc: Global,
+    store: &'a Store,
+    change: &Change,
+    place: u8,
+) -> Result<ClosedKeys<'a>, NoMemory>
+    requires there { change.now.table < length (database_of store.now).tables }
+    requires rows { All (λ id. id < length (rows_of (database_of store.now) change.now.table))
+        change.now.closes }
+    requires column { place < length (columns_of (database_of store.now) change.now.table) }
+    ensures keys { IfOk result (λ closed. (x : Cell) (n : ℕ)
+        → has_closed closed change.now.closes x n
+        ≡ (has_id change.now.closes n && has_key place x
+        (slice_get (rows_of (database_of store.now) change.now.table) n))) }
+    ensures known { IfOk result (λ closed. AreKnown closed change.now.closes) }
+{
+    let number = change.table();
+    let numbers = is_int(store.schema(number).columns(), place);
+    if numbers {
+        let keys = store.int_column(number, place);
+        return Ok(ClosedKeys::Numbers(keys));
+    }
+    let rows = closed_rows(alloc, store, change, place)?;
+    Ok(ClosedKeys::Keyed(rows))
+}
+
+// As `remove_numbers`, by a ledger of its caller's.
+fn remove_numbers_from<L: Ledger>(
+    index: &mut KeyIndex,
+    closes: &[u32],
+    keys: &IntsRef<'_>,
+    blank: Blank,
+)
+    requires name { blank.name ≡ L.name }
+    requires parts { blank.parts ≡ L.parts }
+    requires some { 0 < blank.parts }
+    requires known { All (λ id. id < length keys.now) closes.now }
+    ensures { (x : Cell) (n : ℕ) → has_row index.new x n
+        ≡ (not (closes_number closes.now keys.now x n) && has_row index.old x n) }
+{
+    let mut steps = Steps::<L>::new(blank);
+    for id in closes {
+        let key = keys.at(*id, &mut steps);
+        index.remove_number(key, *id);
+    }
+}
+
+// Takes away the ids of closed rows, whose keys are numbers of a column.
+fn remove_numbers(index: &mut KeyIndex, closes: &[u32], keys: &IntsRef<'_>)
+    requires { All (λ id. id < length keys.now) closes.now }
+    ensures { (x : Cell) (n : ℕ) → has_row index.new x n
+        ≡ (not (closes_number closes.now keys.now x n) && has_row index.old x n) }
+{
+    remove_numbers_from::<Brand>(index, closes, keys, Blank::new(1))
+}
+
 // Takes away the ids of closed rows.
-fn remove_closed(index: &mut KeyIndex, closed: &[KeyedRow])
+fn remove_keyed(index: &mut KeyIndex, closed: &[KeyedRow])
     ensures { (x : Cell) (n : ℕ) → has_row index.new x n
         ≡ (not (has_keyed closed.now x n) && has_row index.old x n) }
 {
     for row in closed {
         index.remove(&row.key, row.id);
+    }
+}
+
+// Takes away the ids of the rows that a change closes.
+fn remove_closed(index: &mut KeyIndex, closes: &[u32], keys: &ClosedKeys<'_>)
+    requires { AreKnown keys.now closes.now }
+    ensures { (x : Cell) (n : ℕ) → has_row index.new x n
+        ≡ (not (has_closed keys.now closes.now x n) && has_row index.old x n) }
+{
+    match keys {
+        ClosedKeys::Numbers(numbers) => remove_numbers(index, closes, numbers),
+        ClosedKeys::Keyed(rows) => remove_keyed(index, rows.as_slice()),
     }
 }
 
@@ -141,22 +233,29 @@ fn add_opened(
     }
 }
 
-// Makes room for the keys of opened rows, of which so many take the place of others. The key stands
-// at a place among the cells. The error is `NoMemory`; no id changes, then either.
+// Makes room for the keys of opened rows, of which the first has this id and so many take the place
+// of others. The key stands at a place among the cells. The error is `NoMemory`; no id changes, then
+// either.
 fn make_room(
     index: &mut KeyIndex,
     opens: &[Opened],
     place: u8,
     closed: usize,
+    first: u32,
 ) -> Result<(), NoMemory>
+    requires few { first + length opens.now < 2 ^ 32 }
     requires keyed { All (λ o. place < length o.cells) opens.now }
     ensures { (x : Cell) (n : ℕ) → has_row index.new x n ≡ has_row index.old x n }
 {
-    let [first, ..] = opens else {
+    let [opened, ..] = opens else {
         return Ok(());
     };
-    let cells = first.cells();
-    index.reserve(opens.len().saturating_sub(closed), &cells[place as usize])?;
+    let cells = opened.cells();
+    index.reserve(
+        opens.len().saturating_sub(closed),
+        &cells[place as usize],
+        first + opens.len() as u32,
+    )?;
     Ok(())
 }
 
@@ -167,22 +266,24 @@ pub(crate) fn change_index(
     index: &mut KeyIndex,
     alloc: Global,
     change: &Change,
-    closed: &[KeyedRow],
+    keys: &ClosedKeys<'_>,
     place: u8,
     first: u32,
 ) -> Result<(), NoMemory>
     requires few { first + length change.now.opens < 2 ^ 32 }
     requires keyed { All (λ o. place < length o.cells) change.now.opens }
     requires below { (x : Cell) (n : ℕ) → first ≤ n → has_row index.old x n ≡ false }
+    requires known { AreKnown keys.now change.now.closes }
     ensures ok { OnOk result ((x : Cell) (n : ℕ) → has_row index.new x n
-        ≡ (not (has_keyed closed.now x n)
+        ≡ (not (has_closed keys.now change.now.closes x n)
         && (opens_with place first change.now.opens x n || has_row index.old x n))) }
     ensures err { OnErr result ((x : Cell) (n : ℕ) → has_row index.new x n
         ≡ has_row index.old x n) }
 {
     let opens = change.opens();
-    make_room(index, opens, place, closed.len())?;
+    let closes = change.closes();
+    make_room(index, opens, place, closes.len(), first)?;
     add_opened(index, alloc, opens, place, first)?;
-    remove_closed(index, closed);
+    remove_closed(index, closes, keys);
     Ok(())
 }

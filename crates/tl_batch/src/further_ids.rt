@@ -2,6 +2,7 @@
 ghost use Rattle.std.specs.Prelude.{◌≡◌, ◌||◌, ◌&&◌, not, ◌==◌, ℕ, [], true, false, OnOk, OnErr, IfOk, IfSome, IfNone, IsTrue, Some, is_some};
 ghost use Rattle.std.specs.Map.{lookup};
 ghost use Rattle.tl_types.specs.declared.cells.Cell.{Cell};
+ghost use Rattle.tl_types.specs.declared.cells.Cell.TheVariants as cell;
 ghost use Rattle.tl_types.specs.History.{has_id, same_cell};
 ghost use Rattle.tl_batch.specs.KeyIndex.{has_further, Changes};
 
@@ -104,6 +105,16 @@ impl FurtherIds {
         }
     }
 
+    // Takes an id of a key away.
+    #[inline(never)]
+    fn take(&mut self, key: &Cell, id: u32)
+        ensures { (x : Cell) (n : ℕ) → has_further self.new x n
+            ≡ (not (same_cell x key.now && (n == id)) && has_further self.old x n) }
+    {
+        self.cut(key, id);
+        self.shed(key);
+    }
+
     /// Takes an id of a key away.
     #[inline(always)]
     pub(crate) fn remove(&mut self, key: &Cell, id: u32)
@@ -113,8 +124,20 @@ impl FurtherIds {
         if self.ids.is_empty() {
             return;
         }
-        self.cut(key, id);
-        self.shed(key);
+        self.take(key, id);
+    }
+
+    /// Takes an id of a number away.
+    #[inline(always)]
+    pub(crate) fn remove_number(&mut self, key: i64, id: u32)
+        ensures { (x : Cell) (n : ℕ) → has_further self.new x n
+            ≡ (not (same_cell x (cell.Int key) && (n == id)) && has_further self.old x n) }
+    {
+        if self.ids.is_empty() {
+            return;
+        }
+        let key = Cell::Int(key);
+        self.take(&key, id);
     }
 
     /// One of the ids of a key, where there is one.

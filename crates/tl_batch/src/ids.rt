@@ -1,5 +1,6 @@
 //! Sets of ids.
-ghost use Rattle.std.specs.Prelude.{◌≡◌, ◌<◌, ◌||◌, ◌&&◌, not, true, false, ◌==◌, IsTrue, ℕ, [], Some, OnOk, OnErr, IfSome, IfNone, length, slice_get};
+ghost use Rattle.std.specs.Prelude.{◌≡◌, ◌<◌, ◌||◌, ◌&&◌, not, true, false, ◌==◌, IsTrue, ℕ, ◌++◌, ◌∷◌, [], Some, OnOk, OnErr, IfSome, IfNone, length, slice_get};
+ghost use Rattle.tl_types.specs.Facts.{AscendFrom};
 ghost use Rattle.tl_types.specs.History.{has_id};
 
 use crate::id_list::IdList;
@@ -11,8 +12,8 @@ use tl_types::NoMemory;
 // So many ids stand in a list at most.
 const MOST: usize = 64;
 
-/// A set of ids, which contracts see as the list of them: a few in a list that is gone through, and
-/// those for which it has no room in a tree.
+/// A set of ids, which contracts see as the list of them: a few that ascend in a list that is gone
+/// through, and the others in a tree.
 #[derive(Drop)]
 pub(crate) struct IdSet {
     few: Vec<u32>,
@@ -21,16 +22,20 @@ pub(crate) struct IdSet {
 
 impl Model for IdSet {
     ghost use Rattle.std.specs.Prelude.{ℕ, List, ◌++◌};
+    ghost use Rattle.tl_types.specs.Facts.{AscendFrom};
 
     ghost Value = { List ℕ };
 
     ghost view = { λ s. s.few.items ++ s.further.keys };
+
+    ghost invariant = { λ s. AscendFrom 0 s.few.items };
 }
 
 // Adds an id to a list.
 fn push_id(few: &mut Vec<u32>, id: u32) -> Result<(), NoMemory>
     ensures ok { OnOk result ((n : ℕ) → has_id few.new.items n
         ≡ ((n == id) || has_id few.old.items n)) }
+    ensures pushed { OnOk result (few.new.items ≡ few.old.items ++ id ∷ []) }
     ensures err { OnErr result (few.new.items ≡ few.old.items) }
 {
     few.push(id)?;
@@ -61,12 +66,25 @@ fn place_of(few: &[u32], id: u32) -> Option<usize>
     None
 }
 
-// Takes an id out of a list, wherever it stands.
+// Takes an id out of a list, in which it stands once at most.
 fn take_out(few: &mut Vec<u32>, id: u32)
-    ensures { (n : ℕ) → has_id few.new.items n ≡ (not (n == id) && has_id few.old.items n) }
+    requires { AscendFrom 0 few.old.items }
+    ensures ascending { AscendFrom 0 few.new.items }
+    ensures ids { (n : ℕ) → has_id few.new.items n ≡ (not (n == id) && has_id few.old.items n) }
 {
-    'taking: while let Some(at) = place_of(few.as_slice(), id) {
-        few.remove(at);
+    let Some(at) = place_of(few.as_slice(), id) else {
+        return;
+    };
+    few.remove(at);
+}
+
+// Whether a list has room for an id, which is greater than those in it.
+fn has_room(few: &[u32], id: u32) -> bool
+    ensures { result ≡ true → AscendFrom 0 few.now → AscendFrom 0 (few.now ++ id ∷ []) }
+{
+    match few.last() {
+        Some(last) => *last < id && few.len() < MOST,
+        None => true,
     }
 }
 
@@ -123,7 +141,8 @@ impl IdSet {
         ensures ok { OnOk result ((n : ℕ) → has_id self.new n ≡ ((n == id) || has_id self.old n)) }
         ensures err { OnErr result (self.new ≡ self.old) }
     {
-        if self.few.len() < MOST {
+        let room = has_room(self.few.as_slice(), id);
+        if room {
             push_id(&mut self.few, id)?;
             return Ok(());
         }

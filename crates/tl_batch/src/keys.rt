@@ -8,7 +8,7 @@ ghost use Rattle.tl_types.specs.Resolving.{resolved};
 ghost use Rattle.tl_batch.specs.Made.{AreWithin, batch_matches};
 ghost use Rattle.tl_batch.specs.Standing.{StandFor};
 
-use crate::following::{change_index, closed_rows};
+use crate::following::{change_index, closed_keys};
 use crate::key_index::KeyIndex;
 use crate::open_tables::OpenTables;
 use crate::put_rows::PutRows;
@@ -195,7 +195,7 @@ fn follow_change(
 {
     let number = change.table();
     let place = before.schema(number).key();
-    let closed = closed_rows(alloc, before, change, place)?;
+    let closed = closed_keys(alloc, before, change, place)?;
     let first = before.rows(number);
     let index = &mut tables[number as usize];
     change_index(index, alloc, change, &closed, place, first)?;

@@ -1,7 +1,7 @@
 //! A table of a store, with the ids of its open rows by their keys.
-ghost use Rattle.std.specs.Prelude.{◌≡◌, ◌<◌, ◌≤◌, ℕ, true, Some, IfOk, OnOk, length, slice_get, option_map};
+ghost use Rattle.std.specs.Prelude.{◌≡◌, ◌<◌, ◌≤◌, ◌++◌, ℕ, true, Some, IfOk, OnOk, length, slice_get, option_map};
 ghost use Rattle.tl_types.specs.declared.cells.Cell.{Cell};
-ghost use Rattle.tl_types.specs.Facts.{AscendFrom};
+ghost use Rattle.tl_types.specs.Plain as plain;
 ghost use Rattle.tl_types.specs.History.{database_of, has_id};
 ghost use Rattle.tl_batch.specs.KeyIndex.{has_row};
 ghost use Rattle.tl_batch.specs.OpenTables.{IsIndexOf};
@@ -13,7 +13,7 @@ use std::alloc::Global;
 use std::marker::Model;
 use std::sync::ledger::Ledger;
 use tl_store::Store;
-use tl_types::{Cell, NoMemory, Period, Schema, Seq, Steps};
+use tl_types::{Cell, NoMemory, Period, Schema, Seq, SmallSeq, Steps};
 
 /// A table of a store, with the ids of its open rows by their keys. A contract sees the table.
 #[derive(Drop)]
@@ -87,26 +87,64 @@ impl<'a> OpenTable<'a> {
         Ok(())
     }
 
-    /// The ids of the open rows of a key, ascending. The error is `NoMemory`.
-    pub(crate) fn ids(&self, alloc: Global, key: &Cell) -> Result<Seq<u32>, NoMemory>
-        ensures ascending { IfOk result (λ ids. AscendFrom 0 ids) }
-        ensures members { IfOk result (λ ids. (n : ℕ) → has_id ids n
-            ≡ is_open_with self.now.schema.key key.now (slice_get self.now.rows n)) }
-    {
-        self.index.ids(alloc, key)
-    }
-
     /// The cells of a row, one for each column. The error is `NoMemory`.
     pub(crate) fn row_cells(&self, alloc: Global, row: u32) -> Result<Seq<Cell>, NoMemory>
         requires row { row < length self.now.rows }
         ensures value { IfOk result (λ cells. Some cells
             ≡ option_map (λ r. r.cells) (slice_get self.now.rows row)) }
         ensures number { IfOk result (λ cells. length cells ≡ length self.now.schema.columns) }
+        ensures some { IfOk result (λ cells. 1 ≤ length cells) }
         ensures few { IfOk result (λ cells. length cells ≤ 16) }
     {
         let _columns = self.schema.columns();
         let cells = self.store.row_cells(alloc, self.number, row)?;
         Ok(cells)
+    }
+
+    /// Appends the cells of a row, one for each column. The error is `NoMemory`.
+    #[inline(always)]
+    pub(crate) fn push_cells<L: Ledger>(
+        &self,
+        alloc: Global,
+        cells: &mut SmallSeq<Cell>,
+        row: u32,
+        steps: &mut Steps<L>,
+    ) -> Result<(), NoMemory>
+        requires row { row < length self.now.rows }
+        ensures value { OnOk result ((r : plain.Row) → slice_get self.now.rows row ≡ Some r
+            → cells.new ≡ cells.old ++ r.cells) }
+        ensures number { OnOk result ((r : plain.Row) → slice_get self.now.rows row ≡ Some r
+            → (1 ≤ length r.cells) × (length r.cells ≤ 16)) }
+    {
+        let count = self.schema.columns().len() as u8;
+        for column in 0..count {
+            let cell = self
+                .store
+                .cell(self.number, row, column, steps)
+                .to_cell(alloc)?;
+            cells.push(cell)?;
+        }
+        Ok(())
+    }
+
+    /// The cell of a row that is its key. The error is `NoMemory`.
+    #[inline(always)]
+    pub(crate) fn key<L: Ledger>(
+        &self,
+        alloc: Global,
+        row: u32,
+        steps: &mut Steps<L>,
+    ) -> Result<Cell, NoMemory>
+        requires row { row < length self.now.rows }
+        ensures { IfOk result (λ key. (r : plain.Row) → slice_get self.now.rows row ≡ Some r
+            → slice_get r.cells self.now.schema.key ≡ Some key) }
+    {
+        let place = self.schema.key();
+        let cell = self
+            .store
+            .cell(self.number, row, place, steps)
+            .to_cell(alloc)?;
+        Ok(cell)
     }
 
     /// The valid period of a row of a table with valid time.
@@ -116,5 +154,16 @@ impl<'a> OpenTable<'a> {
         ensures { Some result ≡ option_map (λ r. r.period) (slice_get self.now.rows row) }
     {
         Some(self.store.valid_at(self.number, row, steps))
+    }
+
+    /// The same, where it is known that there is one.
+    #[inline(always)]
+    pub(crate) fn period_at<L: Ledger>(&self, row: u32, steps: &mut Steps<L>) -> Period
+        requires row { row < length self.now.rows }
+        requires valid { self.now.schema.valid ≡ true }
+        ensures { (r : plain.Row) → slice_get self.now.rows row ≡ Some r
+            → r.period ≡ Some result }
+    {
+        self.store.valid_at(self.number, row, steps)
     }
 }

@@ -1,5 +1,5 @@
 //! The moments that periods cover.
-ghost use Rattle.std.specs.Prelude.{◌≡◌, ◌||◌, ◌<ℤ◌, ℤ, true, List, Option, [], Some, IfOk, IfSome, OnOk};
+ghost use Rattle.std.specs.Prelude.{◌≡◌, ◌||◌, ◌<ℤ◌, ℤ, true, List, Option, [], ◌∷◌, Some, IfOk, IfSome, OnOk};
 ghost use Rattle.std.specs.List.{list_any};
 ghost use Rattle.tl_types.specs.Plain as plain;
 ghost use Rattle.tl_types.specs.History.{is_within};
@@ -102,6 +102,16 @@ impl PeriodSet {
         PeriodSet {
             stretches: Stretches::Few(FewPeriods::new(alloc)),
         }
+    }
+
+    /// The moments of one period. The error is `NoMemory`.
+    pub(crate) fn of(alloc: Global, period: Period) -> Result<PeriodSet, NoMemory>
+        ensures { IfOk result (λ set. set ≡ (period.to, period.from) ∷ []) }
+    {
+        let few = FewPeriods::of(alloc, period)?;
+        Ok(PeriodSet {
+            stretches: Stretches::Few(few),
+        })
     }
 
     /// Covers a period too. The error is `NoMemory`.

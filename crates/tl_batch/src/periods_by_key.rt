@@ -1,19 +1,20 @@
 //! The moments that the lines of each key cover.
-ghost use Rattle.std.specs.Prelude.{◌≡◌, ◌&&◌, ◌||◌, ◌<ℤ◌, if◌then◌else◌, ℤ, true, List, Option, [], ◌∷◌, Some, IfOk, OnOk};
+ghost use Rattle.std.specs.Prelude.{◌≡◌, ◌&&◌, ◌||◌, ◌<ℤ◌, if◌then◌else◌, ℤ, true, List, Option, [], ◌∷◌, Some, IfOk, OnOk, option_map};
 ghost use Rattle.std.specs.List.{list_any};
 ghost use Rattle.tl_types.specs.declared.cells.Cell.{Cell};
 ghost use Rattle.tl_types.specs.Plain as plain;
 ghost use Rattle.tl_types.specs.History.{is_within, same_cell};
 ghost use Rattle.tl_types.specs.Resolving.{BatchLine};
-ghost use Rattle.tl_batch.specs.Covers.{Full, HoldLines, cover_at, is_covered};
+ghost use Rattle.tl_batch.specs.Covers.{Full, HoldLines, StandIn, cover_at, is_covered, stretches_or};
 ghost use Rattle.tl_batch.specs.Pieces.{cuts, affects_period, periods_with};
 ghost use Rattle.tl_batch.specs.Lines.{lines_of};
 
 use crate::cover::Cover;
-use crate::parts::Parts;
+use crate::parts::{Parts, whole_of};
 use crate::period_set::PeriodSet;
 use std::alloc::Global;
 use std::collections::HashMap;
+use std::collections::hash_map::Iter;
 use std::marker::Model;
 use tl_types::{Cell, KeyLine, NoMemory, Period};
 
@@ -63,8 +64,7 @@ impl PeriodsByKey {
         ensures full { OnOk result (Full (Some period ∷ [])) }
     {
         let Some(cover) = self.covers.get_mut(key) else {
-            let mut cover = PeriodSet::new(alloc);
-            cover.add(alloc, period)?;
+            let cover = PeriodSet::of(alloc, period)?;
             self.put(key, cover)?;
             return Ok(());
         };
@@ -89,6 +89,52 @@ impl PeriodsByKey {
         };
         self.add_period(alloc, key, *period)?;
         Ok(())
+    }
+
+    // What the lines of a key leave of a period, which is covered too from then on. The error is
+    // `NoMemory`.
+    fn cut_period(&mut self, alloc: Global, key: &Cell, period: Period) -> Result<Parts, NoMemory>
+        ensures lines { IfOk result (λ left. (lines : List (Option plain.Period)) → Full lines
+            → ((t : ℤ) → is_covered t (cover_at key.now self.old) ≡ list_any (is_within t) lines)
+            → left.items ≡ cuts true lines (Some period)) }
+        ensures held { OnOk result ((x : Cell) (t : ℤ) → is_covered t (cover_at x self.new)
+            ≡ ((same_cell x key.now && is_within t (Some period))
+            || is_covered t (cover_at x self.old))) }
+        ensures full { OnOk result (Full (Some period ∷ [])) }
+    {
+        let Some(cover) = self.covers.get_mut(key) else {
+            let cover = PeriodSet::of(alloc, period)?;
+            self.put(key, cover)?;
+            let left = whole_of(alloc, period)?;
+            return Ok(left);
+        };
+        let left = cover.gaps(alloc, period)?;
+        cover.add(alloc, period)?;
+        Ok(left)
+    }
+
+    /// What the lines of a key leave of the valid period of a further line, which is covered too
+    /// from then on. The error is `NoMemory`.
+    pub(crate) fn cut(
+        &mut self,
+        alloc: Global,
+        key: &Cell,
+        whole: &Option<Period>,
+    ) -> Result<Parts, NoMemory>
+        ensures lines { IfOk result (λ left. (lines : List BatchLine) → HoldLines self.old lines
+            → left.items ≡ cuts true (periods_with (Some key.now) lines) whole.now) }
+        ensures held { OnOk result ((x : Cell) (t : ℤ) → is_covered t (cover_at x self.new)
+            ≡ ((same_cell x key.now && is_within t whole.now)
+            || is_covered t (cover_at x self.old))) }
+        ensures full { OnOk result (Full (whole.now ∷ [])) }
+    {
+        let Some(period) = whole else {
+            let mut left = Parts::new(alloc);
+            left.push(None)?;
+            return Ok(left);
+        };
+        let left = self.cut_period(alloc, key, *period)?;
+        Ok(left)
     }
 
     // The parts of a period that no line of a key covers.
@@ -132,6 +178,21 @@ impl PeriodsByKey {
         };
         let left = self.gaps(alloc, key, *period)?;
         Ok(left)
+    }
+
+    /// The keys, each with its moments.
+    pub(crate) fn entries(&self) -> Iter<'_, Cell, PeriodSet>
+        ensures all { result ≡ self.now }
+        ensures each { StandIn self.now self.now }
+    {
+        self.covers.iter()
+    }
+
+    /// The moments of a key, where it has any.
+    pub(crate) fn moments(&self, key: &Cell) -> Option<&PeriodSet>
+        ensures { stretches_or (option_map (λ m. m.now) result) ≡ cover_at key.now self.now }
+    {
+        self.covers.get(key)
     }
 
     /// The moments that the lines of a key cover.

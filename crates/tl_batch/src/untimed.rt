@@ -13,6 +13,7 @@ ghost use Rattle.tl_batch.specs.Standing.{rows_match};
 ghost use Rattle.tl_batch.specs.Untimed.{has_open, fault_of_key, row_fault, key_fault, AreFresh};
 
 use crate::id_list::IdList;
+use crate::key_flags::stand_once;
 use crate::key_index::KeyIndex;
 use crate::key_set::KeySet;
 use crate::open_table::OpenTable;
@@ -93,7 +94,8 @@ fn set_for<'a>(alloc: Global, keys: &[&'a Cell]) -> Result<KeySet<'a>, NoMemory>
 }
 
 /// The first fault of lines with these keys, which remove rows or put them. Keys that rise stand
-/// once each and are not collected. The error is `NoMemory`.
+/// once each, and are not collected; nor are small numbers, each of which has a flag, unless one of
+/// them stands twice. The error is `NoMemory`.
 pub(crate) fn first_key_fault(
     alloc: Global,
     index: &KeyIndex,
@@ -106,6 +108,10 @@ pub(crate) fn first_key_fault(
         ≡ key_fault removes place rows 2 [] (map (λ k. k.now) keys.now)) }
 {
     if rise(keys) {
+        return Ok(first_missing_row(index, removes, keys));
+    }
+    let once = stand_once(alloc, keys)?;
+    if once {
         return Ok(first_missing_row(index, removes, keys));
     }
     let mut earlier = set_for(alloc, keys)?;

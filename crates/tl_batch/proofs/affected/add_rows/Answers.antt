@@ -1,15 +1,28 @@
-use Rattle.std.proofs.Common.{Some, true, arith, refl, get_or, slice_get, ap, ◌∙◌}
+use Rattle.std.proofs.Common.{◌<◌, ◌&&◌, ◌||◌, length, drop, true, arith, get_or, refl, slice_get, subst, sym, ap, ◌∙◌}
+use Rattle.std.specs.List.{All}
+use Rattle.std.proofs.lemmas.List.Elements.{All-drop}
+use Rattle.tl_types.specs.History.{has_id}
 use Rattle.tl_batch.specs.Covers.{is_covered}
-use Rattle.tl_batch.specs.Pieces.{affected_by, periods_with}
-use Rattle.tl_batch.proofs.AffectLemmas.{item-within, one_affected, all_affected, affected_here}
+use Rattle.tl_batch.specs.Pieces.{affected_by}
+use Rattle.tl_batch.proofs.AffectLemmas.{of_key-within, row_added, rows_added}
 use Rattle.tl_batch.proofs.affected.add_rows.Goals as goal
 
-pub period-whole-requires-clause-row : goal.period-whole-requires-clause-row
-period-whole-requires-clause-row g c = item-within c.args.table.now.schema.key c.args.key.now c.args.table.now.rows c.fill_ids.new.ids c.as_slice-row-items.result.now c.loop-row.row-index c.as_slice-row-items.ensures c.in_ok-fill_ids.ensures (omega arith)
+pub rows_apart-apart-requires-clause-rows : goal.rows_apart-apart-requires-clause-rows
+rows_apart-apart-requires-clause-rows g c = of_key-within c.args.table.now.schema.key c.args.key.now c.args.table.now.rows c.fill_ids.new.ids c.as_slice-rest.result.now c.as_slice-rest.ensures c.in_ok-fill_ids.ensures
 
-pub loop-row-preserved : goal.loop-row-preserved
-loop-row-preserved g c = λ lines held. one_affected c.as_slice-row-items.result.now c.loop-row.row-index (get_or c.as_slice-row-items.result.now c.loop-row.row-index 0) (affected_by true (periods_with (Some c.args.key.now) lines)) c.args.table.now.rows _ c.args.affected.now c.loop-row.affected c.add_overlapped.new.affected (omega arith) refl
-    (affected_here (periods_with (Some c.args.key.now) lines) c.period-whole.result (slice_get c.args.table.now.rows (get_or c.as_slice-row-items.result.now c.loop-row.row-index 0)) c.period-whole.ensures) (c.loop-row.invariant lines held) (c.in_ok-add_overlapped.ensures (periods_with (Some c.args.key.now) lines) (held.full c.args.key.now) (λ t. ap (is_covered t) c.cover-cover.ensures ∙ held.same c.args.key.now t))
+pub rows-init : goal.rows-init
+rows-init g c = record {
+  within = of_key-within c.args.table.now.schema.key c.args.key.now c.args.table.now.rows c.fill_ids.new.ids c.as_slice-rest.result.now c.as_slice-rest.ensures c.in_ok-fill_ids.ensures;
+  apart = λ lines full same. c.rows_apart-apart.ensures lines full (λ t. ap (is_covered t) c.new-cover.ensures ∙ same t);
+  affected = λ lines full same n. ap (λ b. (b && affected_by true lines (slice_get c.args.table.now.rows n)) || has_id c.args.affected.now n) (ap (λ ids. has_id ids n) c.as_slice-rest.ensures ∙ c.in_ok-fill_ids.ensures n);
+}
+
+pub rows-preserved : goal.rows-preserved
+rows-preserved g c = record {
+  within = subst (All (λ row. row < length c.args.table.now.rows)) (sym (c.split_at-in-rows.ensures.back ∙ ap (drop 1) c.split_at.ensures.back)) (All-drop (λ row. row < length c.args.table.now.rows) 1 (drop c.rows.apart c.rows.rest.now) (All-drop (λ row. row < length c.args.table.now.rows) c.rows.apart c.rows.rest.now c.rows.invariant.within));
+  apart = λ lines full same. c.rows_apart-apart-in-rows.ensures lines full (λ t. ap (is_covered t) c.new-cover.ensures ∙ same t);
+  affected = λ lines full same n. row_added lines c.args.table.now.rows c.rows.rest.now c.split_at.result.1.now c.split_at-in-rows.result.1.now c.rows.apart (get_or c.split_at.result.1.now 0 0) n c.rows.affected c.add.new.self _ (c.rows.invariant.apart lines full same) (omega arith) c.split_at.ensures.back refl c.split_at-in-rows.ensures.back (c.in_ok-add.ensures n) (c.rows.invariant.affected lines full same n);
+}
 
 pub returns : goal.returns
-returns g c = λ lines held. all_affected c.args.table.now.schema.key c.args.key.now c.fill_ids.new.ids c.as_slice-row-items.result.now c.loop-row.row-index (affected_by true (periods_with (Some c.args.key.now) lines)) c.args.table.now.rows c.args.affected.now c.loop-row.affected c.as_slice-row-items.ensures (omega arith) c.in_ok-fill_ids.ensures (c.loop-row.invariant lines held)
+returns g c = λ lines full same n. rows_added lines c.args.table.now.rows c.rows.rest.now c.rows.apart n c.rows.affected _ (c.rows.invariant.apart lines full same) (omega arith) (c.rows.invariant.affected lines full same n)

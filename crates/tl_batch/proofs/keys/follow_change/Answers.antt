@@ -1,11 +1,15 @@
 use Rattle.std.proofs.Common.{◌≡◌, rules, arith, length}
 use Rattle.std.specs.Vec.{vec_len}
 use Rattle.tl_types.specs.History.{database_of}
+use Rattle.tl_batch.specs.ClosedRows.{has_closed}
 use Rattle.tl_batch.proofs.FollowLemmas.{fitting, fitting-within, fitting-closes, fitting-place, fitting-keyed, fitting-below, fitting-after, stands_same, on_err}
 use Rattle.tl_batch.proofs.keys.follow_change.Goals as goal
 
-pub closed_rows-requires-clause-rows : goal.closed_rows-requires-clause-rows
-closed_rows-requires-clause-rows c = fitting-closes (database_of c.args.before.now) c.args.change.now (fitting (database_of c.args.before.now) c.args.change.now c.requires.fit)
+pub closed_keys-requires-clause-rows : goal.closed_keys-requires-clause-rows
+closed_keys-requires-clause-rows c = fitting-closes (database_of c.args.before.now) c.args.change.now (fitting (database_of c.args.before.now) c.args.change.now c.requires.fit)
+
+pub closed_keys-requires-clause-there : goal.closed_keys-requires-clause-there
+closed_keys-requires-clause-there c = fitting-within (database_of c.args.before.now) c.args.change.now (fitting (database_of c.args.before.now) c.args.change.now c.requires.fit)
 
 pub rows-first-requires : goal.rows-first-requires
 rows-first-requires c =
@@ -37,6 +41,5 @@ returns-in_err-change_index-clause-err c =
 pub returns-clause-ok : goal.returns-clause-ok
 returns-clause-ok c =
     let f = fitting (database_of c.args.before.now) c.args.change.now c.requires.fit in
-    let left = rw c.deref.ensures.value at c.in_ok-change_index.ensures.ok in
-    rw c.table-number.ensures (fitting-after c.args.tables.now.items (database_of c.args.before.now) c.args.change.now f c.index_mut-index.result.now c.in_ok-closed.closed.items c.change_index.new.index c.key-place.result c.rows-first.result c.requires.stands c.requires.version
-    (rw c.table-number.ensures at c.index_mut-index.ensures.value) (rw c.table-number.ensures at c.rows-first.ensures.number) (fitting-place (database_of c.args.before.now) c.args.change.now f c.schema.result.now c.key-place.result (rw c.table-number.ensures at c.schema.ensures.value) c.key-place.ensures.value) c.in_ok-closed.ensures left)
+    rw c.table-number.ensures (fitting-after c.args.tables.now.items (database_of c.args.before.now) c.args.change.now f c.index_mut-index.result.now (has_closed c.in_ok-closed.closed c.args.change.now.closes) c.change_index.new.index c.key-place.result c.rows-first.result c.requires.stands c.requires.version
+    (rw c.table-number.ensures at c.index_mut-index.ensures.value) (rw c.table-number.ensures at c.rows-first.ensures.number) (fitting-place (database_of c.args.before.now) c.args.change.now f c.schema.result.now c.key-place.result (rw c.table-number.ensures at c.schema.ensures.value) c.key-place.ensures.value) c.in_ok-closed.ensures.keys c.in_ok-change_index.ensures.ok)

@@ -15,3 +15,10 @@ returns-clause-few c =
     let same = ap (λ (s : plain.Schema). length s.columns) c.self.invariant.same in
     let few = c.columns-columns.ensures.few in
     omega arith
+
+pub returns-clause-some : goal.returns-clause-some
+returns-clause-some c =
+    let number = cells_at (database_of c.self.inside.store.now) c.self.inside.number c.args.row (table_at c.self.inside.store.now c.self.inside.number c.self.inside.schema.now) c.in_ok-cells.cells c.self.invariant.at c.self.invariant.matching c.in_ok-cells.ensures.value in
+    let same = ap (λ (s : plain.Schema). length s.columns) c.self.invariant.same in
+    let some = c.columns-columns.ensures.some in
+    omega arith

@@ -1,8 +1,9 @@
 -- Several things in order, and their first fault.
-use Rattle.std.proofs.Common.{◌≡◌, ℕ, zero, suc, ◌+◌, List, [], ◌∷◌, ◌++◌, ◌<◌, length, drop, ◌∙◌, Some, None, Result, Ok, Err, refl, ap, sym, append_assoc, length-append, slice_get, arith}
+use Rattle.std.proofs.Common.{◌≡◌, ◌≢◌, ℕ, zero, suc, ◌+◌, List, [], ◌∷◌, ◌++◌, ◌<◌, length, drop, ◌∙◌, Some, None, Result, Ok, Err, refl, ap, sym, append_assoc, length-append, slice_get, arith}
 use Rattle.std.proofs.lemmas.Option.{slice_get_within}
 use Rattle.csv.specs.Records.{field_at}
 use Rattle.tl_csv.specs.declared.faults.CsvFault.{CsvFault}
+use Rattle.tl_csv.specs.declared.faults.CsvFault.TheVariants as fault
 use Rattle.tl_csv.specs.Faults.{with_first, each_from, then_one, IsUnlessMemory}
 
 -- these items, and then the others where there is no fault
@@ -66,6 +67,15 @@ pub then_step : {X Y : Type 0} (f : ℕ → X → Result Y CsvFault) (ys new : L
 then_step f ys new x xs rest all e r h =
     let both = then_others ys new (f (length ys) x) (each_from f (length ys + 1) rest) all r (rw e at h) in
     (rw both.1 both.0, both.1)
+
+one_fault : {X : Type 0} (xs : List X) (r : Result X CsvFault) (e : CsvFault) → then_one xs r ≡ Err e → r ≡ Err e
+one_fault xs (Ok x) e h = absurd (cc)
+one_fault xs (Err d) e h = let same : d ≡ e = cc in rw same
+
+-- the next item of all has a fault
+pub line_fault : {X Y : Type 0} (f : ℕ → X → Result Y CsvFault) (ys : List Y) (x : X) (xs rest : List X) (all : Result (List Y) CsvFault) (e : CsvFault)
+    → xs ≡ x ∷ rest → (e ≢ fault.NoMemory → then_one ys (f (length ys) x) ≡ Err e) → behind ys (each_from f (length ys) xs) ≡ all → IsUnlessMemory (Err e) all
+line_fault f ys x xs rest all e next r h = λ memory. first_fault ys e (f (length ys) x) (each_from f (length ys + 1) rest) all (rw next at h) (one_fault ys (f (length ys) x) e (r memory))
 
 pub ruleset behind_steps = (one_behind, fault_behind)
 

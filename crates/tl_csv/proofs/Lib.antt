@@ -6,6 +6,7 @@ pub mod LayoutLemmas
 pub mod RowLemmas
 pub mod FittingLemmas
 pub mod ReadingLemmas
+pub mod SeparatorLemmas
 pub mod WritingLemmas
 pub mod SampleLemmas
 pub mod BoundTextLemmas

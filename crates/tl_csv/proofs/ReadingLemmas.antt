@@ -1,5 +1,4 @@
 -- Records, one after the other.
-use Rattle.std.specs.Borrow.{Bor}
 use Rattle.std.proofs.Common.{◌≡◌, ℕ, zero, suc, ◌+◌, ◌-◌, ◌<◌, ◌≤◌, ◌==◌, Bool, true, false, cond, ◌&&◌, List, [], ◌∷◌, ◌++◌, length, Option, Some, None, IsSome, refl, ap, ◌∙◌, arith, inl}
 use Rattle.csv.specs.Machine.{Read, next_record, step, in_field, start_field, start_record, ends_with, after_end, ends_at_end, is_end, is_byte, fields_after, field_after}
 use Rattle.csv.specs.Reading.{ReadRecord, default_config, records_from, records_next, strip_bom}
@@ -64,9 +63,9 @@ step_between cfg st.InComment c = chosen (c == 10) _ _ (never st.StartRecord act
 step_between cfg st.AfterCr c = chosen (c == 10) _ _ (never st.StartRecord act.Skip refl) (start_record_between cfg c)
 
 -- what stands behind a record: a state between two records, and fewer bytes
-record Behind (n : ℕ) (p : Read) : Type 0 where
-  between : ends_at_end p.1 ≡ false
-  fewer : length p.2 ≤ n - 1
+pub record Behind (n : ℕ) (p : Read) : Type 0 where
+  pub between : ends_at_end p.1 ≡ false
+  pub fewer : length p.2 ≤ n - 1
 
 end_behind : (t : Bool) (fields : List (List ℕ)) (p : Read) → cond t (Some (fields, st.StartRecord, [])) None ≡ Some p → Behind 0 p
 end_behind true fields p h =
@@ -74,7 +73,7 @@ end_behind true fields p h =
     rw (← e) (record { between = refl; fewer = omega arith })
 end_behind false fields p h = absurd (cc)
 
-next_behind : (cfg : Config) (s : State) (fields : List (List ℕ)) (field bytes : List ℕ) (p : Read) → next_record cfg s fields field bytes ≡ Some p → Behind (length bytes) p
+pub next_behind : (cfg : Config) (s : State) (fields : List (List ℕ)) (field bytes : List ℕ) (p : Read) → next_record cfg s fields field bytes ≡ Some p → Behind (length bytes) p
 unfolding next_record
 next_behind cfg s fields field [] p h = end_behind (ends_at_end s) (fields ++ (field ∷ [])) p h
 next_behind cfg s fields field (c ∷ bytes) p h = by_test (is_end (step cfg s c).1) refl (next_behind cfg (step cfg s c).0 (fields_after (step cfg s c).1 fields field) (field_after (step cfg s c).1 c field) bytes p) where
@@ -89,7 +88,7 @@ next_behind cfg s fields field (c ∷ bytes) p h = by_test (is_end (step cfg s c
       record { between = past.between; fewer = omega (arith, past.fewer) }
 
 -- no record stands between two records at the end of the bytes
-none_at_end : (cfg : Config) (s : State) → ends_at_end s ≡ false → next_record cfg s [] [] [] ≡ None
+pub none_at_end : (cfg : Config) (s : State) → ends_at_end s ≡ false → next_record cfg s [] [] [] ≡ None
 unfolding next_record
 none_at_end cfg s h = rw h refl
 
@@ -116,23 +115,23 @@ unfolding records_from
 records_suc cfg n s bytes = let e : n + 1 ≡ suc n = omega arith in rw e refl
 
 -- the first record, and those behind it
-first_record : (s : State) (bytes : List ℕ) (p : Read) → ends_at_end s ≡ false → next_record default_config s [] [] bytes ≡ Some p → records_on s (Some bytes) ≡ p.0 ∷ records_on p.1 (Some p.2)
+pub first_record : (s : State) (bytes : List ℕ) (p : Read) → ends_at_end s ≡ false → next_record default_config s [] [] bytes ≡ Some p → records_on s (Some bytes) ≡ p.0 ∷ records_on p.1 (Some p.2)
 first_record s [] p b h = absurd (let e = none_at_end default_config s b in cc)
 first_record s (c ∷ bytes) p b h =
     let past = next_behind default_config s [] [] (c ∷ bytes) p h in
     let e = enough default_config (length (c ∷ bytes)) (length p.2 + 1) p.1 p.2 past.between (omega (arith, past.fewer)) (omega arith) in
     records_suc default_config (length (c ∷ bytes)) s (c ∷ bytes) ∙ (rw h (ap (λ rows. p.0 ∷ rows) e))
 
-no_record : (s : State) (bytes : List ℕ) → next_record default_config s [] [] bytes ≡ None → records_on s (Some bytes) ≡ []
+pub no_record : (s : State) (bytes : List ℕ) → next_record default_config s [] [] bytes ≡ None → records_on s (Some bytes) ≡ []
 no_record s bytes h = records_suc default_config (length bytes) s bytes ∙ rw h refl
 
 -- READERS
 
-abbrev bytes_left : Bor (List ℕ) → Option (List ℕ)
-bytes_left s = Some s.now
+abbrev bytes_left : List ℕ → Option (List ℕ)
+bytes_left bytes = Some bytes
 
 abbrev Bytes : Type 0
-Bytes = Reader (Bor (List ℕ))
+Bytes = Reader (List ℕ)
 
 known_bytes : (o : Option (List ℕ)) → IsSome o → (bytes : List ℕ) × (o ≡ Some bytes)
 known_bytes None h = absurd (cc)
@@ -185,15 +184,15 @@ no_lengths a b (kind.Deserialize pos err) h w = tt
 pub read_fails : (a b : Bytes) (e : ErrorKind) → IsReading a → ExplainsRead bytes_left a b false e → NotLengths e
 read_fails a b e reading w = no_lengths a b e reading.flexible w
 
--- BYTE ORDER MARKS
+-- BYTE ORDER SEPARATORS
 
 -- past its byte order marks a block begins with none
-pub no_mark : (bytes : List ℕ) → strip_bom (past_byte_order_marks bytes) ≡ past_byte_order_marks bytes
+pub no_separator : (bytes : List ℕ) → strip_bom (past_byte_order_marks bytes) ≡ past_byte_order_marks bytes
 unfolding strip_bom
-no_mark [] = refl
-no_mark (a ∷ []) = refl
-no_mark (a ∷ b ∷ []) = refl
-no_mark (a ∷ b ∷ c ∷ bytes) = by_test (is_byte_order_mark a b c) refl (no_mark bytes) where
+no_separator [] = refl
+no_separator (a ∷ []) = refl
+no_separator (a ∷ b ∷ []) = refl
+no_separator (a ∷ b ∷ c ∷ bytes) = by_test (is_byte_order_mark a b c) refl (no_separator bytes) where
   by_test : (t : Bool) → is_byte_order_mark a b c ≡ t → strip_bom (past_byte_order_marks bytes) ≡ past_byte_order_marks bytes → strip_bom (past_byte_order_marks (a ∷ b ∷ c ∷ bytes)) ≡ past_byte_order_marks (a ∷ b ∷ c ∷ bytes)
   by_test true e more = rw e more
   by_test false e more = rw e (rw e refl)

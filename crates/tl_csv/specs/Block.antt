@@ -128,7 +128,7 @@ batch_with schema PutKind rows = batch.Put schema.name rows
 batch_with schema RemoveKind rows = batch.Remove schema.name (map key_line rows)
 
 -- the records of a block: those that csv's default reader gives for the block past its byte order
--- marks
+-- separators
 abbrev pub records_of : List ℕ → List (List (List ℕ))
 records_of block = records default_config (past_byte_order_marks block)
 

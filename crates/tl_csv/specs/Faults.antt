@@ -41,3 +41,8 @@ with_value x (Err e) = Err e
 abbrev pub IsUnlessMemory : {X : Type 0} → Result X CsvFault → Result X CsvFault → Type 0
 IsUnlessMemory (Ok x) meant = meant ≡ Ok x
 IsUnlessMemory (Err e) meant = e ≢ fault.NoMemory → meant ≡ Err e
+
+-- this is so, or memory ran out
+abbrev pub HoldsUnlessMemory : {X : Type 0} → Result X CsvFault → Type 0 → Type 0
+HoldsUnlessMemory (Ok x) holds = holds
+HoldsUnlessMemory (Err e) holds = e ≢ fault.NoMemory → holds

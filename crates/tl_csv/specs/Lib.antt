@@ -5,6 +5,8 @@ pub mod Layouts
 pub mod Header
 pub mod Block
 pub mod Reading
+pub mod Separators
+pub mod BlockRecords
 pub mod Answers
 pub mod BoundTexts
 pub mod Writing

@@ -19,6 +19,11 @@ pub record IsWriting (writer : Writer (Vec ℕ)) : Type 0 where
   pub fields : fields_written writer ≡ 0
   pub wrote : has_written writer ≡ false
 
+-- the writer writes so, and its buffer is empty
+pub record IsIdle (writer : Writer (Vec ℕ)) : Type 0 where
+  pub writing : IsWriting writer
+  pub empty : writer_pending writer ≡ []
+
 -- the writer has written these bytes, and behind them the fields of a row that is not ended
 pub record IsWithinRow (writer : Writer (Vec ℕ)) (bytes : List ℕ) (row : List (List ℕ))
     : Type 0 where

@@ -3,7 +3,7 @@ ghost use Rattle.std.specs.Prelude.{◌≡◌, ℕ, List, ◌<◌, ◌++◌, ◌
 ghost use Rattle.std.specs.List.{flat_map};
 ghost use Rattle.csv.specs.Writing.{default_writer, row_text};
 ghost use Rattle.tl_csv.specs.Answers.{answer_row, answer_text, field_text};
-ghost use Rattle.tl_csv.specs.Writing.{bytes_written, IsWithinRow, IsWriting, WritesField};
+ghost use Rattle.tl_csv.specs.Writing.{bytes_written, IsIdle, IsWithinRow, IsWriting, WritesField};
 ghost use Rattle.tl_query.specs.Answers.{run_fields};
 ghost use Rattle.tl_rows.specs.Fields.{field_shown};
 
@@ -71,15 +71,16 @@ fn write_row(
     Ok(())
 }
 
-// Writes rows of fields, behind nothing.
+// Writes rows of fields.
 fn write_rows(
     writer: &mut Writer<Vec<u8>>,
     text: &mut FieldText,
     rows: &FieldRows,
 ) -> Result<(), NoMemory>
-    requires writing { IsWriting writer.old }
-    requires empty { bytes_written writer.old ≡ [] }
-    ensures { OnOk result (bytes_written writer.new ≡ answer_text rows.now) }
+    requires { IsWriting writer.old }
+    ensures rows { OnOk result (bytes_written writer.new
+        ≡ bytes_written writer.old ++ answer_text rows.now) }
+    ensures writing { OnOk result (IsWriting writer.new) }
 {
     for row in 0..rows.len() {
         write_row(writer, text, &rows.row(row))?;
@@ -163,16 +164,16 @@ fn write_run(
     }
 }
 
-// Writes runs as rows, behind nothing.
+// Writes runs as rows.
 fn write_runs(
     writer: &mut Writer<Vec<u8>>,
     text: &mut FieldText,
     runs: &[Run],
 ) -> Result<(), NoMemory>
-    requires writing { IsWriting writer.old }
-    requires empty { bytes_written writer.old ≡ [] }
-    ensures { OnOk result
-        (bytes_written writer.new ≡ flat_map answer_row (map run_fields runs.now)) }
+    requires { IsWriting writer.old }
+    ensures rows { OnOk result (bytes_written writer.new
+        ≡ bytes_written writer.old ++ flat_map answer_row (map run_fields runs.now)) }
+    ensures writing { OnOk result (IsWriting writer.new) }
 {
     let mut bounds = BoundTexts::new();
     for run in runs {
@@ -181,15 +182,16 @@ fn write_runs(
     Ok(())
 }
 
-// Writes the rows of an answer, behind nothing.
-fn write_answer(
+/// Writes the rows of an answer. The error is `NoMemory`.
+pub(crate) fn write_answer(
     writer: &mut Writer<Vec<u8>>,
     text: &mut FieldText,
     answer: &AnswerRows,
 ) -> Result<(), NoMemory>
-    requires writing { IsWriting writer.old }
-    requires empty { bytes_written writer.old ≡ [] }
-    ensures { OnOk result (bytes_written writer.new ≡ answer_text answer.now) }
+    requires { IsWriting writer.old }
+    ensures rows { OnOk result (bytes_written writer.new
+        ≡ bytes_written writer.old ++ answer_text answer.now) }
+    ensures writing { OnOk result (IsWriting writer.new) }
 {
     match answer.lend() {
         RowsRef::Fields(rows) => {
@@ -203,15 +205,15 @@ fn write_answer(
     }
 }
 
-// A writer of rows of any length. It goes into a box where it is made: its buffer is 8 KB, which
-// each function that holds a writer among its locals would clear at its start.
-fn writer_of(alloc: Global) -> Result<Box<Writer<Vec<u8>>>, NoMemory>
+/// A writer of rows of any length into a list without bytes. It goes into a box where it is made:
+/// its buffer is 8 KB, which each function that holds a writer among its locals would clear at its
+/// start. The error is `NoMemory`.
+pub(crate) fn writer_of(alloc: Global, list: Vec<u8>) -> Result<Box<Writer<Vec<u8>>>, NoMemory>
+    requires { list.items ≡ [] }
     ensures empty { IfOk result (λ writer. bytes_written writer.value ≡ []) }
-    ensures writing { IfOk result (λ writer. IsWriting writer.value) }
+    ensures idle { IfOk result (λ writer. IsIdle writer.value) }
 {
-    let writer = WriterBuilder::new()
-        .flexible(true)
-        .from_writer(Vec::new(alloc));
+    let writer = WriterBuilder::new().flexible(true).from_writer(list);
     Ok(Box::new(alloc, writer)?)
 }
 
@@ -232,7 +234,7 @@ fn bytes_of(writer: Box<Writer<Vec<u8>>>) -> Result<Bytes, NoMemory>
 pub fn answer_bytes(alloc: Global, answer: &AnswerRows) -> Result<Bytes, NoMemory>
     ensures { IfOk result (λ bytes. bytes ≡ answer_text answer.now) }
 {
-    let mut writer = writer_of(alloc)?;
+    let mut writer = writer_of(alloc, Vec::new(alloc))?;
     let mut text = FieldText::new(alloc);
     write_answer(&mut writer, &mut text, answer)?;
     bytes_of(writer)

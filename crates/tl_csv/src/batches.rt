@@ -3,20 +3,20 @@ ghost use Rattle.std.specs.Prelude.{◌≡◌, ◌≢◌, ◌≤◌, ◌+◌, If
 ghost use Rattle.std.specs.Prelude.{length, map};
 ghost use Rattle.csv.specs.Records.{fields_of};
 ghost use Rattle.tl_csv.specs.declared.faults.CsvFault.TheVariants as fault;
-ghost use Rattle.tl_csv.specs.Faults.{each_from, with_value, then_one, IsUnlessMemory};
+ghost use Rattle.tl_csv.specs.Faults.{each_from, with_value, then_one, HoldsUnlessMemory, IsUnlessMemory};
 ghost use Rattle.tl_types.specs.Facts.{are_distinct, names_of};
 ghost use Rattle.tl_csv.specs.Header.{columns_of};
 ghost use Rattle.tl_csv.specs.Block.{batch_of, batch_with, key_line, line_of, records_of, rows_of};
 ghost use Rattle.tl_csv.specs.Block.{IsBatchFor};
-ghost use Rattle.tl_csv.specs.Reading.{records_left, IsReading};
+ghost use Rattle.tl_csv.specs.BlockRecords.{block_left, IsBlock, KeepsBlock};
 
 use crate::faults::CsvFault;
 use crate::headers::layout_of;
 use crate::layouts::Layout;
 use crate::needs::BatchKind;
-use crate::reading::{next_record, reader_of};
+use crate::reading::BlockRecords;
 use crate::rows::{Lines, push_row_of};
-use csv::{ByteRecord, Reader};
+use csv::ByteRecord;
 use std::alloc::Global;
 use tl_types::{Batch, Cell, KeyLine, Limits, NoMemory, Opened, Schema, Seq};
 
@@ -84,34 +84,64 @@ fn push_line(
     push_row_of(alloc, limits, layout, rec, row, lines)
 }
 
-// The rows of the records that the reader has left, put into an empty list.
+// The rows of the records that are left, put into an empty list.
 #[tactic(auto, using(crate::proofs::FaultLemmas::behind_steps))]
 fn lines_of(
     alloc: Global,
     limits: &Limits,
     layout: &Layout,
-    reader: &mut Reader<&[u8]>,
+    records: &mut BlockRecords<'_>,
     empty: Seq<Opened>,
 ) -> Result<Seq<Opened>, CsvFault>
     requires text { limits.now.text ≤ 65535 }
     requires batch { limits.now.batch ≤ 1000000 }
-    requires reading { IsReading reader.old }
+    requires block { IsBlock records.old }
     requires empty { empty ≡ [] }
-    ensures { IsUnlessMemory result
-        (each_from (line_of limits.now layout.now) 0 (records_left reader.old)) }
+    ensures lines { IsUnlessMemory result
+        (each_from (line_of limits.now layout.now) 0 (block_left records.old)) }
+    ensures kept { HoldsUnlessMemory result (KeepsBlock records.old records.new) }
 {
     let mut row = ByteRecord::new(alloc);
     let mut lines = Lines {
         rows: empty.into_vec(),
         cells: Vec::new(alloc),
     };
-    'records: while next_record(reader, &mut row)? {
+    'records: while records.next(&mut row)? {
         push_line(alloc, limits, layout, &row, &mut lines)?;
     }
     Ok(Seq::from_vec(lines.rows))
 }
 
-fn rows_of(
+/// The rows of the records of a block, of which the first is the header; the block's bytes only
+/// tell how much room is taken ahead.
+pub fn rows_of(
+    alloc: Global,
+    limits: &Limits,
+    schema: &Schema,
+    kind: BatchKind,
+    records: &mut BlockRecords<'_>,
+    block: &[u8],
+) -> Result<Seq<Opened>, CsvFault>
+    requires text { limits.now.text ≤ 65535 }
+    requires batch { limits.now.batch ≤ 1000000 }
+    requires block { IsBlock records.old }
+    ensures rows { IsUnlessMemory result
+        (rows_of limits.now schema.now kind (block_left records.old)) }
+    ensures some { OnOk result (1 ≤ length (columns_of schema.now kind)) }
+    ensures distinct { OnOk result (are_distinct (names_of (columns_of schema.now kind)) ≡ true) }
+    ensures kept { HoldsUnlessMemory result (KeepsBlock records.old records.new) }
+{
+    let mut header = ByteRecord::new(alloc);
+    if !records.next(&mut header)? {
+        return Err(CsvFault::HeaderMissing { column: 1 });
+    }
+    let layout = layout_of(alloc, schema, kind, &header)?;
+    let room = room_for(alloc, limits, block);
+    lines_of(alloc, limits, &layout, records, room)
+}
+
+/// The same of a block alone.
+pub fn rows_alone(
     alloc: Global,
     limits: &Limits,
     schema: &Schema,
@@ -125,14 +155,8 @@ fn rows_of(
     ensures some { OnOk result (1 ≤ length (columns_of schema.now kind)) }
     ensures distinct { OnOk result (are_distinct (names_of (columns_of schema.now kind)) ≡ true) }
 {
-    let mut reader = reader_of(alloc, block)?;
-    let mut header = ByteRecord::new(alloc);
-    if !next_record(&mut reader, &mut header)? {
-        return Err(CsvFault::HeaderMissing { column: 1 });
-    }
-    let layout = layout_of(alloc, schema, kind, &header)?;
-    let room = room_for(alloc, limits, block);
-    lines_of(alloc, limits, &layout, &mut reader, room)
+    let mut records = BlockRecords::alone(alloc, block)?;
+    rows_of(alloc, limits, schema, kind, &mut records, block)
 }
 
 fn key_line(row: &Opened) -> Result<KeyLine, NoMemory>
@@ -160,7 +184,8 @@ fn key_lines(alloc: Global, rows: &[Opened]) -> Result<Seq<KeyLine>, NoMemory>
     Ok(Seq::from_vec(lines))
 }
 
-fn batch_with(
+/// The batch of these rows.
+pub fn batch_with(
     alloc: Global,
     schema: &Schema,
     kind: BatchKind,
@@ -210,6 +235,6 @@ pub fn read_batch(
         batch_of limits.now schema.now kind block.now ≡ Err e) }
     ensures rows { IfOk result (λ batch. IsBatchFor limits.now schema.now kind batch) }
 {
-    let rows = rows_of(alloc, limits, schema, kind, block)?;
+    let rows = rows_alone(alloc, limits, schema, kind, block)?;
     Ok(batch_with(alloc, schema, kind, rows)?)
 }

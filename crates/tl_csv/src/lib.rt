@@ -3,8 +3,10 @@
 //! Answers are written as rows of CSV.
 #![tactic(auto)]
 
+mod answer_writers;
 mod answers;
 mod batches;
+mod block_readers;
 mod bound_texts;
 mod byte_order_marks;
 mod cells;
@@ -18,9 +20,12 @@ mod reading;
 mod records;
 mod rows;
 mod samples;
+mod sources;
 
+pub use answer_writers::AnswerWriter;
 pub use answers::answer_bytes;
 pub use batches::read_batch;
+pub use block_readers::BlockReader;
 pub use faults::CsvFault;
 pub use needs::BatchKind;
 pub use samples::Sample;

@@ -1,8 +1,7 @@
 use Rattle.std.proofs.Common.{refl}
-use Rattle.tl_csv.proofs.ReadingLemmas.{no_mark}
 use Rattle.tl_csv.proofs.reading.reader_of.Goals as goal
 
 pub returns-clause-whole : goal.returns-clause-whole
 returns-clause-whole c =
     let from = c.from_reader-reader.ensures in
-    rw (c.in_ok-new.ensures.ok, from.state, from.source, c.past_byte_order_marks.ensures, no_mark c.args.block.now) refl
+    rw (c.in_ok-new.ensures.ok, from.state, from.source) refl

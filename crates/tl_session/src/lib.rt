@@ -4,6 +4,7 @@
 #![tactic(auto)]
 
 mod access;
+mod crews;
 mod jobs;
 pub mod laws;
 mod paces;
@@ -18,7 +19,7 @@ pub use access::AccessParts;
 pub use jobs::LentJob;
 pub use paces::Pace;
 pub use phases::{SharedAccess, run_phase};
-pub use readings::{JobReading, read_job};
+pub use readings::JobReading;
 pub use replies::{AnswerText, Refusal, Reply, ReplyBody, put_reply};
 pub use runs::run_all;
 pub use sessions::Session;

@@ -14,13 +14,14 @@ ghost use Rattle.tl_csv.specs.declared.faults.CsvFault.TheVariants as csv_fault;
 ghost use Rattle.tl_session.specs.Reading.{IsReading, IsFaultTold, DoesMatch, IsKnown, create_reading, load_reading, query_reading, statement_reading, text_of_answer};
 ghost use Rattle.tl_session.specs.declared.replies.Refusal.TheVariants as refusal;
 
+use crate::crews::Crew;
 use crate::replies::{AnswerText, Refusal};
 use std::alloc::{AllocError, Global};
 use std::marker::Brand;
 use std::sync::ledger::{Blank, Ledger};
 use std::thread::Threads;
 use tl_check::{check, check_create};
-use tl_csv::{BatchKind, CsvFault, answer_bytes, read_batch};
+use tl_csv::{AnswerWriter, BatchKind, BlockReader, CsvFault};
 use tl_device::Gate;
 use tl_exec::answer;
 use tl_index::Snapshot;
@@ -81,6 +82,7 @@ fn load(
     name: &Name,
     kind: BatchKind,
     block: &[u8],
+    reader: &mut BlockReader<'_>,
 ) -> Result<JobReading, NoMemory>
     ensures reads { IfOk result
         (λ read. read ≡ load_reading store.now name.now.text kind block.now) }
@@ -94,7 +96,7 @@ fn load(
     };
     let schema = store.schema(number);
     let limits = Limits::standard();
-    match read_batch(alloc, block, schema, kind, &limits) {
+    match reader.read_batch(alloc, block, schema, kind, &limits) {
         Ok(batch) => Ok(JobReading::Loads(batch)),
         Err(fault) => Ok(JobReading::Fault(csv_refusal(fault)?)),
     }
@@ -123,10 +125,14 @@ fn answer_uncounted<L: Ledger, R: AllocGlobal + Threads + Sync, G: Gate>(
 }
 
 // The rows of an answer as CSV. The answer is let go. The error is `NoMemory`.
-fn text_of_answer(alloc: Global, answer: AnswerRows) -> Result<AnswerText, NoMemory>
+fn text_of_answer(
+    alloc: Global,
+    answer: AnswerRows,
+    writer: &mut AnswerWriter,
+) -> Result<AnswerText, NoMemory>
     ensures { IfOk result (λ text. text ≡ text_of_answer answer) }
 {
-    let bytes = answer_bytes(alloc, &answer)?;
+    let bytes = writer.bytes_of(alloc, &answer)?;
     Ok(AnswerText {
         rows: answer.len(),
         bytes,
@@ -138,12 +144,9 @@ fn ask<R: AllocGlobal + Threads + Sync, G: Gate>(
     rt: &R,
     snapshot: &Snapshot,
     query: &Query,
-    workers: u32,
-    gate: &G,
+    crew: &mut Crew<'_, '_, G>,
 ) -> Result<JobReading, NoMemory>
-    requires some { 0 < workers }
-    requires few { workers ≤ 64 }
-    requires query { IsQuery query.now }
+    requires { IsQuery query.now }
     ensures reads { IfOk result (λ read. read ≡ query_reading (commits_of snapshot.now)
         (checked (length (commits_of snapshot.now)) (database_of (commits_of snapshot.now))
         query.now)) }
@@ -154,8 +157,9 @@ fn ask<R: AllocGlobal + Threads + Sync, G: Gate>(
         Err(fault) => return Ok(JobReading::Fault(check_refusal(fault)?)),
     };
     let blank = Blank::new(1);
+    let (workers, gate) = (crew.pace.workers(), crew.gate);
     let answer = answer_uncounted::<Brand, R, G>(rt, snapshot, &typed, workers, gate, blank)?;
-    Ok(JobReading::Query(text_of_answer(rt.alloc(), answer)?))
+    Ok(JobReading::Query(text_of_answer(rt.alloc(), answer, &mut crew.writer)?))
 }
 
 // What a statement is.
@@ -164,12 +168,9 @@ fn read_statement<R: AllocGlobal + Threads + Sync, G: Gate>(
     snapshot: &Snapshot,
     statement: &Statement,
     block: &[u8],
-    workers: u32,
-    gate: &G,
+    crew: &mut Crew<'_, '_, G>,
 ) -> Result<JobReading, NoMemory>
     requires parsed { IsParsed statement.now }
-    requires some { 0 < workers }
-    requires few { workers ≤ 64 }
     ensures reads { IfOk result (λ read. read ≡ statement_reading
         (commits_of snapshot.now) statement.now block.now) }
     ensures told { IfOk result IsFaultTold }
@@ -178,11 +179,12 @@ fn read_statement<R: AllocGlobal + Threads + Sync, G: Gate>(
 {
     let alloc = rt.alloc();
     let store = snapshot.store();
+    let reader = &mut crew.reader;
     match statement {
         Statement::Create(form) => create(alloc, form),
-        Statement::Put(name) => load(alloc, store, name, BatchKind::PutKind, block),
-        Statement::Remove(name) => load(alloc, store, name, BatchKind::RemoveKind, block),
-        Statement::Ask(query) => ask(rt, snapshot, query, workers, gate),
+        Statement::Put(name) => load(alloc, store, name, BatchKind::PutKind, block, reader),
+        Statement::Remove(name) => load(alloc, store, name, BatchKind::RemoveKind, block, reader),
+        Statement::Ask(query) => ask(rt, snapshot, query, crew),
     }
 }
 
@@ -201,17 +203,14 @@ fn text_refusal(fault: TextFault) -> Result<Refusal, NoMemory>
 /// checked, and a query answered; a batch finds its table, and its block is read. The version that
 /// a query or a fault names is the number of the commits. The block is empty where there is none.
 /// A batch of rows matches the schema of its table, which is there. The work of a query may be
-/// shared by so many workers, from 1 to 64, and its pieces pass the gate. The error is `NoMemory`.
-pub fn read_job<R: AllocGlobal + Threads + Sync, G: Gate>(
+/// shared by the crew's workers, and its pieces pass the crew's gate. The error is `NoMemory`.
+pub(crate) fn read_job<R: AllocGlobal + Threads + Sync, G: Gate>(
     rt: &R,
     snapshot: &Snapshot,
     text: &str,
     block: &[u8],
-    workers: u32,
-    gate: &G,
+    crew: &mut Crew<'_, '_, G>,
 ) -> Result<JobReading, NoMemory>
-    requires some { 0 < workers }
-    requires few { workers ≤ 64 }
     ensures reads { IfOk result
         (λ read. IsReading (commits_of snapshot.now) text.now block.now read) }
     ensures told { IfOk result IsFaultTold }
@@ -219,7 +218,7 @@ pub fn read_job<R: AllocGlobal + Threads + Sync, G: Gate>(
     ensures known { IfOk result (IsKnown (database_of (commits_of snapshot.now))) }
 {
     match parse(rt.alloc(), text) {
-        Ok(statement) => read_statement(rt, snapshot, &statement, block, workers, gate),
+        Ok(statement) => read_statement(rt, snapshot, &statement, block, crew),
         Err(fault) => Ok(JobReading::Fault(text_refusal(fault)?)),
     }
 }

@@ -4,18 +4,57 @@ ghost use Rattle.tl_types.specs.Limits.{standard_limits};
 ghost use Rattle.tl_session.specs.Jobs.{job_of};
 ghost use Rattle.tl_session.specs.Phases.{AllRan, AreNumbered, Ran, own_jobs};
 
+use crate::crews::Crew;
 use crate::jobs::LentJob;
 use crate::paces::Pace;
 use crate::sessions::Session;
-use crate::statements::run_statement;
+use crate::statements::{run_job, run_statement};
+use std::alloc::Global;
 use std::sync::Wait;
 use std::thread;
 use std::thread::Threads;
+use tl_csv::{AnswerWriter, BlockReader};
 use tl_device::{Disk, Gate};
 use tl_engine::{Engine, Named};
+use tl_types::NoMemory;
 
-/// A session answers its own ones of these jobs, in order, until memory runs out.
-pub(crate) fn run_session<D: Disk, J: Named, G: Gate, R: AllocGlobal + Threads + Wait + Sync>(
+// The blocks of a session's jobs, in order.
+fn own_blocks<'a>(
+    alloc: Global,
+    author: u32,
+    jobs: &[LentJob<'a>],
+) -> Result<Vec<&'a [u8]>, NoMemory> {
+    let mut blocks = Vec::new(alloc);
+    for job in jobs {
+        if job.session == author {
+            if let Some(block) = job.block {
+                blocks.push(block)?;
+            }
+        }
+    }
+    Ok(blocks)
+}
+
+// A reader for the blocks of a session's jobs.
+fn reader_for<'a>(
+    alloc: Global,
+    author: u32,
+    jobs: &[LentJob<'a>],
+) -> Result<BlockReader<'a>, NoMemory> {
+    let blocks = own_blocks(alloc, author, jobs)?;
+    BlockReader::over(alloc, blocks.as_slice())
+}
+
+// The same, or, without memory for it, a reader that was made for no block.
+fn reader_of<'a>(alloc: Global, author: u32, jobs: &[LentJob<'a>]) -> BlockReader<'a> {
+    match reader_for(alloc, author, jobs) {
+        Ok(blocks) => blocks,
+        Err(_) => BlockReader::new(alloc),
+    }
+}
+
+// A session answers its own ones of these jobs, in order, until memory runs out, each by itself.
+fn run_apart<D: Disk, J: Named, G: Gate, R: AllocGlobal + Threads + Wait + Sync>(
     rt: &R,
     engine: &Engine<D, J>,
     session: &mut Session<J>,
@@ -27,16 +66,69 @@ pub(crate) fn run_session<D: Disk, J: Named, G: Gate, R: AllocGlobal + Threads +
     ensures { Ran (own_jobs session.old.access.author (map job_of jobs.now))
         session.old session.new }
 {
-    for job in jobs {
-        if job.session != session.access.author() {
+    for next in jobs {
+        if next.session != session.access.author() {
             continue;
         }
         let (workers, k) = (pace.workers(), pace.every());
-        let Ok(()) = run_statement(rt, engine, session, job, workers, k, gate) else {
+        let Ok(()) = run_statement(rt, engine, session, next, workers, k, gate) else {
             session.ran_out = true;
             return;
         };
     }
+}
+
+// A session answers its own ones of these jobs, in order, until memory runs out, by one crew.
+fn run_jobs<D: Disk, J: Named, G: Gate, R: AllocGlobal + Threads + Wait + Sync>(
+    rt: &R,
+    engine: &Engine<D, J>,
+    session: &mut Session<J>,
+    jobs: &[LentJob],
+    k: u32,
+    crew: &mut Crew<'_, '_, G>,
+)
+    requires standard { J.limits ≡ standard_limits }
+    ensures { Ran (own_jobs session.old.access.author (map job_of jobs.now))
+        session.old session.new }
+{
+    for job in jobs {
+        if job.session != session.access.author() {
+            continue;
+        }
+        let Ok(()) = run_job(rt, engine, session, job, k, crew) else {
+            session.ran_out = true;
+            return;
+        };
+    }
+}
+
+/// A session answers its own ones of these jobs, in order, until memory runs out. Where there are
+/// several, those of their blocks that may stand in one text are read by one reader, and their
+/// answers written by one writer.
+pub(crate) fn run_session<'a, D: Disk, J: Named, G: Gate, R: AllocGlobal + Threads + Wait + Sync>(
+    rt: &R,
+    engine: &Engine<D, J>,
+    session: &mut Session<J>,
+    jobs: &[LentJob],
+    pace: &'a Pace,
+    gate: &'a G,
+)
+    requires standard { J.limits ≡ standard_limits }
+    ensures { Ran (own_jobs session.old.access.author (map job_of jobs.now))
+        session.old session.new }
+{
+    if jobs.len() < 2 {
+        run_apart(rt, engine, session, jobs, pace, gate);
+        return;
+    }
+    let reader = reader_of(rt.alloc(), session.access.author(), jobs);
+    let mut crew = Crew {
+        pace,
+        gate,
+        reader,
+        writer: AnswerWriter::new(),
+    };
+    run_jobs(rt, engine, session, jobs, pace.every(), &mut crew);
 }
 
 // How many threads the sessions are run by: one where the jobs are of one session alone, and one

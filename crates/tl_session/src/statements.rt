@@ -12,13 +12,16 @@ ghost use Rattle.tl_session.specs.Statements.{AnswersJob, IsLook, SeesMore, Sett
 ghost use Rattle.tl_session.specs.Tending.{table_of, reading_table, if_done, IsThere, NamesTable, IsTended};
 
 use crate::access::{Access, Admission};
+use crate::crews::Crew;
 use crate::jobs::LentJob;
+use crate::paces::Pace;
 use crate::readings::{JobReading, read_job};
 use crate::replies::{Refusal, Reply, ReplyBody};
 use crate::sessions::Session;
 use std::alloc::AllocError;
 use std::sync::Wait;
 use std::thread::Threads;
+use tl_csv::{AnswerWriter, BlockReader};
 use tl_device::{Disk, Gate};
 use tl_engine::{CommitFault, Engine, Named, TendFault, Tended};
 use tl_store::Store;
@@ -46,13 +49,6 @@ struct Answered {
     version: u32,
     body: ReplyBody,
     table: Option<u16>,
-}
-
-// Who share the work of a query: so many workers, and the gate that its pieces pass.
-#[derive(Drop)]
-struct Crew<'a, G> {
-    workers: u32,
-    gate: &'a G,
 }
 
 // The number of the table that a batch of rows names.
@@ -107,11 +103,9 @@ fn look_at<D: Disk, J: Named, G: Gate, R: AllocGlobal + Threads + Wait + Sync>(
     access: &mut Access<J>,
     admission: Admission,
     job: &LentJob,
-    crew: &Crew<G>,
+    crew: &mut Crew<'_, '_, G>,
 ) -> Result<Look, NoMemory>
     requires admitted { admission.author ≡ access.old.author }
-    requires some { 0 < crew.now.workers }
-    requires few { crew.now.workers ≤ 64 }
     ensures sees { SeesMore access.old access.new }
     ensures look { IfOk result (λ l. IsLook (job_of job.now) l.version l.reading access.new) }
     ensures known { IfOk result
@@ -124,7 +118,7 @@ fn look_at<D: Disk, J: Named, G: Gate, R: AllocGlobal + Threads + Wait + Sync>(
     let snapshot = access.look(rt, engine, admission)?;
     let version = snapshot.store().versions();
     let block = block_of(job);
-    let reading = read_job(rt, &snapshot, job.text, block, crew.workers, crew.gate)?;
+    let reading = read_job(rt, &snapshot, job.text, block, crew)?;
     let table = reading_table(snapshot.store(), &reading);
     Ok(Look {
         version,
@@ -177,13 +171,11 @@ fn answer<D: Disk, J: Named, G: Gate, R: AllocGlobal + Threads + Wait + Sync>(
     access: &mut Access<J>,
     admission: Admission,
     job: &LentJob,
-    crew: &Crew<G>,
+    crew: &mut Crew<'_, '_, G>,
 ) -> Result<Answered, NoMemory>
     requires standard { J.limits ≡ standard_limits }
     requires own { job.now.session ≡ access.old.author }
     requires admitted { admission.author ≡ access.old.author }
-    requires some { 0 < crew.now.workers }
-    requires few { crew.now.workers ≤ 64 }
     ensures ok { IfOk result
         (λ s. Tells (job_of job.now) s.version s.body access.old access.new) }
     ensures names { IfOk result (λ s. NamesTable s.table s.version s.body access.new.seen) }
@@ -248,6 +240,38 @@ fn tend<D: Disk, J: Named, R: AllocGlobal + Wait>(
     was_tended(access.tend(rt, engine, table, k))
 }
 
+/// A session answers a job of its own, as `run_statement` does with the crew's workers; its block
+/// is read by the crew's reader of blocks.
+pub(crate) fn run_job<D: Disk, J: Named, G: Gate, R: AllocGlobal + Threads + Wait + Sync>(
+    rt: &R,
+    engine: &Engine<D, J>,
+    session: &mut Session<J>,
+    job: &LentJob,
+    k: u32,
+    crew: &mut Crew<'_, '_, G>,
+) -> Result<(), NoMemory>
+    requires standard { J.limits ≡ standard_limits }
+    requires own { job.now.session ≡ session.old.access.author }
+    ensures ok { OnOk result (AnswersJob k (job_of job.now) session.old session.new) }
+    ensures err { OnErr result (Stops (job_of job.now) session.old session.new) }
+{
+    let admission = Admission::at(crew.gate, session.access.author());
+    session.replies.reserve(1)?;
+    let Answered {
+        version,
+        body,
+        table,
+    } = answer(rt, engine, &mut session.access, admission, job, crew)?;
+    let reply = Reply {
+        line: job.line,
+        version,
+        body,
+    };
+    session.replies.push_reserved(reply);
+    tend(rt, engine, &mut session.access, table, k)?;
+    Ok(())
+}
+
 /// A session answers a job of its own, once the gate has let it pass: it reads the engine's head
 /// once, and a batch is committed. There is exactly one reply more then. Room for it is made before
 /// a commit, so no commit and no break is without a reply. Then the table that a commit changed is
@@ -272,20 +296,12 @@ pub fn run_statement<D: Disk, J: Named, G: Gate, R: AllocGlobal + Threads + Wait
     ensures ok { OnOk result (AnswersJob k (job_of job.now) session.old session.new) }
     ensures err { OnErr result (Stops (job_of job.now) session.old session.new) }
 {
-    let admission = Admission::at(gate, session.access.author());
-    session.replies.reserve(1)?;
-    let crew = Crew { workers, gate };
-    let Answered {
-        version,
-        body,
-        table,
-    } = answer(rt, engine, &mut session.access, admission, job, &crew)?;
-    let reply = Reply {
-        line: job.line,
-        version,
-        body,
+    let pace = Pace::new(workers, k);
+    let mut crew = Crew {
+        pace: &pace,
+        gate,
+        reader: BlockReader::new(rt.alloc()),
+        writer: AnswerWriter::new(),
     };
-    session.replies.push_reserved(reply);
-    tend(rt, engine, &mut session.access, table, k)?;
-    Ok(())
+    run_job(rt, engine, session, job, k, &mut crew)
 }

@@ -336,8 +336,8 @@ def a_long_load_goes_on():
             loader = subprocess.Popen(words, cwd=room, stdout=subprocess.DEVNULL, stderr=subprocess.DEVNULL,
                                       start_new_session=True)
             try:
-                loader.wait(random.uniform(0.1, 0.5) if turn < 3 else 100)
-                break
+                if loader.wait(random.uniform(0.1, 0.5) if turn < 3 else 100) == 0:
+                    break
             except subprocess.TimeoutExpired:
                 os.killpg(loader.pid, signal.SIGKILL)
                 loader.wait()

@@ -22,12 +22,13 @@ stop_at_refusals() {
     exit 20
 }
 
-# The number of commits in the journal: any reply names it.
+# The number of commits in the journal: any reply names it, a refusal too. Without a reply the load ends: what it took
+# for the number would make it load again what is loaded.
 version() {
     local reply
-    reply=$(printf 'version> SELECT * FROM %s AS OF 0\n' "$table" | "$timeline" --wait --strict run)
-    reply=${reply#*@}
-    printf '%s\n' "${reply%% *}"
+    reply=$(printf 'version> SELECT * FROM %s AS OF 0\n' "$table" | "$timeline" --wait --strict run) || true
+    [[ $reply =~ ^version\ @([0-9]+)\  ]] || return 1
+    printf '%s\n' "${BASH_REMATCH[1]}"
 }
 
 if [[ -s $refused ]]; then stop_at_refusals; fi
@@ -35,7 +36,8 @@ if [[ ! -s $begun ]]; then
     version >"$begun.next"
     mv "$begun.next" "$begun"
 fi
-loaded=$(($(version) - $(<"$begun")))
+now=$(version)
+loaded=$((now - $(<"$begun")))
 printf '%d batches are loaded\n' "$loaded"
 status=0
 awk -v table="$table" -v lines="$lines" -v loaded="$loaded" '

@@ -2,7 +2,8 @@
 use Rattle.std.proofs.Common.{◌≡◌, ℕ, zero, suc, ◌+◌, Bool, true, false, ◌&&◌, cond, nat_lt, nat_le, List, [], ◌∷◌, ◌++◌, length, map, fold, Option, Some, None, refl, sym, subst, slice_get}
 use Rattle.std.specs.Bool.{beq}
 use Rattle.std.specs.Prelude.{is_some, IsTrue}
-use Rattle.std.specs.List.{enumerate_from, list_all}
+use Rattle.std.specs.List.{enumerate_from, list_all, AllByRecursion}
+use Rattle.tl_types.proofs.BodyLemmas.{IsKept, all_after}
 use Rattle.tl_types.proofs.Lists.{and_left, and_right}
 use Rattle.tl_types.proofs.EntryLemmas.{fit_behind}
 use Rattle.tl_types.specs.Plain as plain
@@ -12,11 +13,9 @@ use Rattle.tl_types.specs.declared.cells.ColumnKind.{ColumnKind}
 use Rattle.tl_types.specs.declared.cells.ColumnKind.TheVariants.{IntKind, TextKind}
 use Rattle.tl_types.specs.declared.schemas.Column.{Column}
 use Rattle.tl_types.specs.declared.commits.Commit.{Commit}
-use Rattle.tl_types.specs.declared.commits.Body.{Body}
-use Rattle.tl_types.specs.declared.commits.Body.TheVariants as body
 use Rattle.tl_types.specs.declared.commits.Entry.{Entry}
 use Rattle.tl_types.specs.Entries.{commits_of}
-use Rattle.tl_types.specs.History.{has_id, row_after, new_row, table_after, at_place, after_body, after_commit, nothing, database_of, fits_body, fits_table, is_of_kind, is_open_at, match_columns, matches, rows_of, cell_at}
+use Rattle.tl_types.specs.History.{has_id, row_after, new_row, table_after, after_commit, nothing, database_of, fits_body, fits_table, is_of_kind, is_open_at, match_columns, matches, rows_of, cell_at}
 use Rattle.tl_types.specs.Legality.{FitFrom, are_legal}
 use Rattle.tl_types.specs.Limits.{standard_limits}
 use Rattle.tl_query.specs.declared.ast.AggKind.{AggKind}
@@ -34,10 +33,13 @@ abbrev AreTyped : List Column → List plain.Row → Type 0
 AreTyped columns [] = Unit {0}
 AreTyped columns (row ∷ rows) = (match_columns columns row.cells ≡ true) × AreTyped columns rows
 
--- so has each row of each table
+-- so has each row of the table
+abbrev HasTypedRows : plain.Table → Type 0
+HasTypedRows table = AreTyped table.schema.columns table.rows
+
+-- and of each table
 abbrev HaveTypedRows : List plain.Table → Type 0
-HaveTypedRows [] = Unit {0}
-HaveTypedRows (table ∷ tables) = AreTyped table.schema.columns table.rows × HaveTypedRows tables
+HaveTypedRows tables = AllByRecursion HasTypedRows tables
 
 opened_typed : (w : ℕ) (schema : plain.Schema) (opens : List plain.Opened) → list_all (matches schema) opens ≡ true → AreTyped schema.columns (map (new_row w) opens)
 opened_typed w schema [] h = tt
@@ -53,25 +55,19 @@ changed_typed w n schema closes opens (r ∷ rows) m h = (closed (has_id closes 
   closed true = h.0
   closed false = h.0
 
-table_typed : (w i : ℕ) (change : plain.Change) (tables : List plain.Table) → fits_table standard_limits change (slice_get tables i) ≡ true → HaveTypedRows tables → HaveTypedRows (at_place i (table_after w change) tables)
-table_typed w i change [] f h = tt
-table_typed w zero change (t ∷ tables) f h =
+table_typed : (w : ℕ) (change : plain.Change) (t : plain.Table) → fits_table standard_limits change (Some t) ≡ true → HasTypedRows t → HasTypedRows (table_after w change t)
+table_typed w change t f h =
     let both = and_left (list_all (is_open_at t.rows) change.closes && list_all (matches t.schema) change.opens) (nat_le (length t.rows + length change.opens) standard_limits.rows) f in
-    (changed_typed w 0 t.schema change.closes change.opens t.rows (and_right (list_all (is_open_at t.rows) change.closes) (list_all (matches t.schema) change.opens) both) h.0, h.1)
-table_typed w (suc i) change (t ∷ tables) f h = (h.0, table_typed w i change tables f h.1)
+    changed_typed w 0 t.schema change.closes change.opens t.rows (and_right (list_all (is_open_at t.rows) change.closes) (list_all (matches t.schema) change.opens) both) h
 
-made_typed : (schema : plain.Schema) (tables : List plain.Table) → HaveTypedRows tables → HaveTypedRows (tables ++ record { schema = schema; floor = 0; rows = [] } ∷ [])
-made_typed schema [] h = (tt, tt)
-made_typed schema (t ∷ tables) h = (h.0, made_typed schema tables h.1)
-
-body_typed : (w : ℕ) (b : Body) (tables : List plain.Table) → fits_body standard_limits tables b ≡ true → HaveTypedRows tables → HaveTypedRows (after_body w b tables)
-body_typed w (body.Create schema) tables f h = made_typed schema tables h
-body_typed w (body.Change change) tables f h = table_typed w change.table change tables f h
+-- it stays so, whatever a commit does
+typed_kept : (w : ℕ) → IsKept w HasTypedRows
+typed_kept w = record { made = λ schema. tt; changed = table_typed w; floored = λ floor t h. h }
 
 commits_typed : (db : plain.Database) (cs : List Commit) → HaveTypedRows db.tables → FitFrom standard_limits db cs → HaveTypedRows (fold after_commit db cs).tables
 commits_typed db [] h f = h
 commits_typed db (c ∷ cs) h f =
-    commits_typed (after_commit db c) cs (body_typed (db.version + 1) c.body db.tables (and_right (nat_lt db.version standard_limits.versions) (fits_body standard_limits db.tables c.body) f.0) h) f.1
+    commits_typed (after_commit db c) cs (all_after (db.version + 1) HasTypedRows (typed_kept (db.version + 1)) db c.body (and_right (nat_lt db.version standard_limits.versions) (fits_body standard_limits db c.body) f.0) h) f.1
 
 typed_at : (tables : List plain.Table) (i : ℕ) (t : plain.Table) → HaveTypedRows tables → slice_get tables i ≡ Some t → AreTyped t.schema.columns t.rows
 typed_at [] i t h e = absurd (cc)

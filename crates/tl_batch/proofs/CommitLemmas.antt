@@ -1,26 +1,29 @@
 -- The commit that a batch resolves to.
-use Rattle.std.proofs.Common.{◌≡◌, ℕ, suc, ◌+◌, ◌<◌, ◌≤◌, Bool, true, false, ◌&&◌, ◌||◌, not, cond, nat_le, nat_lt, List, [], ◌∷◌, ◌++◌, append-nil, length, map, get_or, slice_get, Option, Some, None, is_some, Result, Ok, Err, ◌⊎◌, inr, refl, sym, ap, ◌∙◌, subst, arith}
+use Rattle.std.proofs.Common.{◌≡◌, ℕ, ℤ, pos, negsuc, nat_abs, int_lt, suc, ◌+◌, ◌<◌, ◌≤◌, Bool, true, false, ◌&&◌, ◌||◌, not, cond, nat_le, nat_lt, List, [], ◌∷◌, ◌++◌, append-nil, length, map, get_or, slice_get, Option, Some, None, is_some, Result, Ok, Err, ◌⊎◌, inr, refl, sym, ap, ◌∙◌, subst, arith}
 use Rattle.std.specs.Option.{option_map, IfSome}
 use Rattle.std.specs.Result.{IfOk, IfErr}
 use Rattle.std.specs.List.{list_any, list_all, All}
 use Rattle.std.specs.Bool.{beq, OnTrue}
-use Rattle.std.proofs.lemmas.Bool.{and_parts}
+use Rattle.std.proofs.lemmas.Bool.{and_parts, and_from, cond-false, lt-leb, lt-ltb}
+use Rattle.std.proofs.lemmas.Bool.Decides.{nat_tests}
+use Rattle.std.proofs.lemmas.Int.{ints}
 use Rattle.std.proofs.lemmas.List.Folds.{list_any-append}
 use Rattle.std.proofs.lemmas.List.Sums.{AllPass-from_list_all}
 use Rattle.tl_types.specs.declared.cells.Cell.{Cell}
 use Rattle.tl_types.specs.declared.commits.Commit.{Commit}
 use Rattle.tl_types.specs.declared.commits.Body.TheVariants as body
+use Rattle.tl_types.specs.declared.batches.Batch.TheVariants as batch
 use Rattle.tl_types.specs.declared.batches.BatchFault.{BatchFault}
 use Rattle.tl_types.specs.declared.batches.BatchFault.TheVariants as fault
 use Rattle.tl_types.specs.declared.limits.Limits.{Limits}
 use Rattle.tl_types.specs.Plain as plain
 use Rattle.tl_types.specs.Facts.{AscendFrom}
-use Rattle.tl_types.specs.History.{database_of, has_name, matches, match_columns, fits}
-use Rattle.tl_types.specs.Resolving.{BatchLine, same_key, open_rows, line_fault, put_lines, removal_lines, find_from, find_table, resolved_change}
+use Rattle.tl_types.specs.History.{database_of, has_name, matches, match_columns, fits, fits_floor, floor_of}
+use Rattle.tl_types.specs.Resolving.{BatchLine, same_key, open_rows, line_fault, put_lines, removal_lines, find_from, find_table, resolved, resolved_change, resolved_floor}
 use Rattle.tl_types.specs.declared.batches.KeyLine.{KeyLine}
 use Rattle.tl_types.proofs.FoundTables.{IsFound, table_found}
 use Rattle.tl_batch.specs.Faults.{fault_from}
-use Rattle.tl_batch.specs.Made.{change_by, unless_fault, made_by, change_made, committed, rows_fit_found, AreWithin, IsMade}
+use Rattle.tl_batch.specs.Made.{change_by, unless_fault, made_by, change_made, committed, floor_set, rows_fit_found, AreWithin, IsMade}
 use Rattle.tl_batch.specs.Pieces.{affected_ids, old_pieces, put_pieces}
 use Rattle.tl_batch.specs.declared.changing.RowChanges.{RowChanges}
 use Rattle.tl_batch.specs.KeyIndex.{IdsByKey, has_row}
@@ -199,6 +202,36 @@ ok_is (Err x) m s e f = tt
 pub err_is : (r m s : Result Commit BatchFault) → r ≡ s → m ≡ s → IfErr r (λ x. (x ≡ fault.NoMemory) ⊎ (m ≡ Err x))
 err_is (Ok c) m s e f = tt
 err_is (Err x) m s e f = inr (f ∙ sym e)
+
+-- A FLOOR
+
+-- what is made of the table that was found
+pub floor_value : (limits : Limits) (db : plain.Database) (author number now least : ℕ) (name : List ℕ) (floor : ℤ) (r : Result Commit BatchFault) → IsFound db name number → db.version < limits.versions → now ≡ db.version → least ≡ floor_of (slice_get db.tables number) → r ≡ floor_set author number now least floor
+    → r ≡ resolved limits db author (batch.Forget name floor)
+floor_value limits db author number now least name floor r n next same stands is =
+    is
+    ∙ (ap (λ v. floor_set author number v least floor) same
+    ∙ (ap (λ l. floor_set author number db.version l floor) (stands ∙ ap floor_of n.at)
+    ∙ sym (ap (resolved_floor limits db author floor) n.named ∙ cond-false _ _ _ (lt-leb _ _ next))))
+
+floor_passes : (least now : ℕ) (floor : ℤ) → int_lt (pos now) floor ≡ false → int_lt (pos least) floor ≡ true → (nat_lt least (nat_abs floor) && nat_le (nat_abs floor) now) ≡ true
+floor_passes least now (pos f) h k = grind (arith, ints, nat_tests)
+floor_passes least now (negsuc f) h k = absurd (cc)
+
+set_fits : (limits : Limits) (db : plain.Database) (author number : ℕ) (t : plain.Table) (floor : ℤ) → slice_get db.tables number ≡ Some t → db.version < limits.versions → IfOk (floor_set author number db.version t.floor floor) (λ c. fits limits db c ≡ true)
+set_fits limits db author number t floor at next = by_tests (int_lt (pos db.version) floor) refl (int_lt (pos t.floor) floor) refl where
+  by_tests : (a : Bool) → int_lt (pos db.version) floor ≡ a → (b : Bool) → int_lt (pos t.floor) floor ≡ b → IfOk (cond a (Err (fault.FloorAhead db.version)) (cond b (Ok (record { author = author; body = body.Forget number (nat_abs floor) })) (Err (fault.FloorFalls t.floor)))) (λ c. fits limits db c ≡ true)
+  by_tests true h b k = tt
+  by_tests false h true k = and_from (nat_lt db.version limits.versions) (fits_floor db.version (nat_abs floor) (slice_get db.tables number)) (lt-ltb _ _ next) (ap (fits_floor db.version (nat_abs floor)) at ∙ floor_passes t.floor db.version floor h k)
+  by_tests false h false k = tt
+
+-- the commit fits
+pub floor_fits : (limits : Limits) (db : plain.Database) (author number now least : ℕ) (name : List ℕ) (floor : ℤ) (r : Result Commit BatchFault) → IsFound db name number → db.version < limits.versions → now ≡ db.version → least ≡ floor_of (slice_get db.tables number) → r ≡ floor_set author number now least floor
+    → IfOk r (λ c. fits limits db c ≡ true)
+floor_fits limits db author number now least name floor r n next same stands is =
+    subst (λ (q : Result Commit BatchFault). IfOk q (λ c. fits limits db c ≡ true))
+    (sym (is ∙ (ap (λ v. floor_set author number v least floor) same ∙ ap (λ l. floor_set author number db.version l floor) (stands ∙ ap floor_of n.at))))
+    (set_fits limits db author number n.table floor n.at next)
 
 -- MORE ROOM
 

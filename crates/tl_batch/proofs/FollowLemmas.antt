@@ -1,5 +1,5 @@
 -- What a commit makes of the open rows of each key.
-use Rattle.std.proofs.Common.{subst, ◌≡◌, ℕ, zero, suc, ◌+◌, ◌<◌, ◌≤◌, Bool, true, false, ◌&&◌, ◌||◌, not, cond, nat_eq, List, [], ◌∷◌, ◌++◌, length, get_or, slice_get, slice_set, length-append, length-set, option_map, Option, Some, None, is_some, map, refl, sym, ap, ◌∙◌, arith, unwrap_or, Result, Ok, Err}
+use Rattle.std.proofs.Common.{subst, ◌≡◌, ℕ, ℤ, zero, suc, ◌+◌, ◌<◌, ◌≤◌, Bool, true, false, ◌&&◌, ◌||◌, not, cond, nat_eq, List, [], ◌∷◌, ◌++◌, length, get_or, slice_get, slice_set, length-append, length-set, option_map, Option, Some, None, is_some, map, refl, sym, ap, ◌∙◌, arith, unwrap_or, Result, Ok, Err}
 use Rattle.std.specs.List.{list_all, enumerate_from, All}
 use Rattle.std.specs.Bool.{beq}
 use Rattle.std.proofs.lemmas.Bool.{and_parts, and_from}
@@ -12,9 +12,10 @@ use Rattle.tl_types.specs.Limits.{standard_limits}
 use Rattle.tl_types.specs.declared.commits.Body.{Body}
 use Rattle.tl_types.specs.declared.commits.Body.TheVariants as body
 use Rattle.tl_types.specs.Plain as plain
-use Rattle.tl_types.specs.History.{open_end, with_ids, row_after, new_row, new_table, table_after, at_place, after_body, after_commit, nothing, matches, match_columns, is_of_kind, rows_of, is_open_at, fits_body, has_id}
+use Rattle.tl_types.specs.History.{open_end, with_ids, row_after, new_row, new_table, table_after, at_place, with_floor, after_commit, nothing, matches, match_columns, is_of_kind, rows_of, is_open_at, fits_body, has_id}
+use Rattle.tl_types.proofs.Lists.{length-at_place, get-at_place-unseen}
 use Rattle.tl_batch.specs.KeyIndex.{IdsByKey, has_row, no_ids}
-use Rattle.tl_batch.specs.Standing.{opens_with, has_key, is_open_with, table_has, rows_match, index_at, StandFor}
+use Rattle.tl_batch.specs.Standing.{opens_with, has_key, is_open_with, table_has, rows_match, index_at, StandFor, after_doing}
 use Rattle.tl_batch.proofs.IndexedRows.{opens_from}
 use Rattle.tl_batch.proofs.KeyIndexLemmas.{none_in}
 
@@ -138,10 +139,10 @@ stands_created keys fresh db author schema old none = record {
 }
 
 pub stands_more : (keys new : List IdsByKey) (fresh : IdsByKey) (db : plain.Database) (schema : plain.Schema) (b : Body) → StandFor keys db → fresh ≡ no_ids → new ≡ keys ++ fresh ∷ [] → b ≡ body.Create schema
-    → StandFor new (record { version = db.version + 1; tables = after_body (db.version + 1) b db.tables })
+    → StandFor new (after_doing db b)
 stands_more keys new fresh db schema b old none made is =
-    subst (λ (q : Body). StandFor new (record { version = db.version + 1; tables = after_body (db.version + 1) q db.tables })) (sym is)
-    (subst (λ (ks : List IdsByKey). StandFor ks (record { version = db.version + 1; tables = after_body (db.version + 1) (body.Create schema) db.tables })) (sym made)
+    subst (λ (q : Body). StandFor new (after_doing db q)) (sym is)
+    (subst (λ (ks : List IdsByKey). StandFor ks (after_doing db (body.Create schema))) (sym made)
     (stands_created keys fresh db 0 schema old (λ x n. ap (λ (ids : IdsByKey). has_row ids x n) none ∙ none_in x n)))
 
 -- a table changed
@@ -189,6 +190,17 @@ stands_changed keys new index db author change t old found opened made here = re
   matched : (s : plain.Table) → slice_get db.tables change.table ≡ Some s → rows_match (Some (table_after (db.version + 1) change s)) ≡ true
   matched s e = grind (arith, only s e, match_after (db.version + 1) change t opened (ap rows_match (sym found) ∙ old.matching change.table))
 
+-- a commit that changes no row leaves them as they are
+pub stands_stated : (keys : List IdsByKey) (db : plain.Database) (moment : ℤ) (b : Body) → StandFor keys db → b ≡ body.Moment moment → StandFor keys (after_doing db b)
+stands_stated keys db moment b old is = subst (λ (q : Body). StandFor keys (after_doing db q)) (sym is) (record { tables = old.tables; ids = old.ids; matching = old.matching })
+
+pub stands_floored : (keys : List IdsByKey) (db : plain.Database) (number floor : ℕ) (b : Body) → StandFor keys db → b ≡ body.Forget number floor → StandFor keys (after_doing db b)
+stands_floored keys db number floor b old is = subst (λ (q : Body). StandFor keys (after_doing db q)) (sym is) (record {
+  tables = old.tables ∙ sym (length-at_place number (with_floor floor) db.tables);
+  ids = λ table x id. old.ids table x id ∙ sym (get-at_place-unseen (λ o. table_has o x id) (with_floor floor) (λ t. refl) db.tables number table);
+  matching = λ table. get-at_place-unseen rows_match (with_floor floor) (λ t. refl) db.tables number table ∙ old.matching table;
+})
+
 -- A CHANGE THAT FITS
 
 -- what is known of a change that fits, and of its table
@@ -199,16 +211,16 @@ pub record Fitting (db : plain.Database) (change : plain.Change) : Type 0 where
   pub opened : list_all (matches table.schema) change.opens ≡ true
   pub few : length table.rows + length change.opens ≤ 16777216
 
-pub fitting : (db : plain.Database) (change : plain.Change) → fits_body standard_limits db.tables (body.Change change) ≡ true → Fitting db change
+pub fitting : (db : plain.Database) (change : plain.Change) → fits_body standard_limits db (body.Change change) ≡ true → Fitting db change
 fitting db change = grind arith
 
-rows_are : (version : ℕ) (tables : List plain.Table) (n : ℕ) (t : plain.Table) → slice_get tables n ≡ Some t → rows_of (record { version = version; tables = tables }) n ≡ t.rows
-rows_are version [] n t at = absurd (cc)
-rows_are version (u ∷ tables) zero t at = let e : u ≡ t = cc in ap (λ v. v.rows) e
-rows_are version (u ∷ tables) (suc n) t at = rows_are version tables n t at
+rows_are : (version : ℕ) (stamps : List plain.Stamp) (tables : List plain.Table) (n : ℕ) (t : plain.Table) → slice_get tables n ≡ Some t → rows_of (record { version = version; tables = tables; stamps = stamps }) n ≡ t.rows
+rows_are version stamps [] n t at = absurd (cc)
+rows_are version stamps (u ∷ tables) zero t at = let e : u ≡ t = cc in ap (λ v. v.rows) e
+rows_are version stamps (u ∷ tables) (suc n) t at = rows_are version stamps tables n t at
 
 pub fitting-rows : (db : plain.Database) (change : plain.Change) (f : Fitting db change) → rows_of db change.table ≡ f.table.rows
-fitting-rows db change f = rows_are db.version db.tables change.table f.table f.at
+fitting-rows db change f = rows_are db.version db.stamps db.tables change.table f.table f.at
 
 pub fitting-within : (db : plain.Database) (change : plain.Change) → Fitting db change → change.table < length db.tables
 fitting-within db change f = slice_get_within db.tables change.table f.table f.at
@@ -267,7 +279,7 @@ pub fitting-after : (keys : List IdsByKey) (db : plain.Database) (change : plain
     → first ≡ length (rows_of db change.table) → place ≡ f.table.schema.key
     → ((x : Cell) (n : ℕ) → closing x n ≡ (has_id change.closes n && has_key place x (slice_get (rows_of db change.table) n)))
     → ((x : Cell) (n : ℕ) → has_row new x n ≡ (not (closing x n) && (opens_with place first change.opens x n || has_row index x n)))
-    → StandFor (slice_set keys change.table new) (record { version = db.version + 1; tables = after_body (db.version + 1) (body.Change change) db.tables })
+    → StandFor (slice_set keys change.table new) (after_doing db (body.Change change))
 fitting-after keys db change f index closing new place first old version is number at gone left =
     stands_changed keys (slice_set keys change.table new) new db 0 change f.table old f.at f.opened refl (λ x n.
     new_after (db.version + 1) change f.table index closing new apart f.current (fitting-index keys db change f index old is)

@@ -1,5 +1,5 @@
 -- The commit of a batch, read off the rows of its table.
-use Rattle.std.specs.Prelude.{◌≡◌, ℕ, ◌+◌, ◌≤◌, Bool, true, nat_lt, List, [], ◌++◌, length, Option, Some, None, Result, Ok, Err, if◌then◌else◌}
+use Rattle.std.specs.Prelude.{◌≡◌, ℕ, ◌+◌, ◌≤◌, ℤ, pos, nat_abs, int_lt, Bool, true, nat_lt, List, [], ◌++◌, length, Option, Some, None, Result, Ok, Err, if◌then◌else◌}
 use Rattle.std.specs.List.{list_all}
 use Rattle.tl_types.specs.declared.commits.Commit.{Commit}
 use Rattle.tl_types.specs.declared.commits.Body.TheVariants as body
@@ -67,6 +67,15 @@ abbrev pub committed : ℕ → Result plain.Change BatchFault → Result Commit 
 committed author (Err f) = Err f
 committed author (Ok change) = Ok (record { author = author; body = body.Change change })
 
+-- the author's commit that sets the floor of the table with a number, at so many commits and where
+-- this floor stands, or its fault
+abbrev pub floor_set : ℕ → ℕ → ℕ → ℕ → ℤ → Result Commit BatchFault
+floor_set author number now least floor =
+    if int_lt (pos now) floor then Err (fault.FloorAhead now)
+    else (if int_lt (pos least) floor
+    then Ok (record { author = author; body = body.Forget number (nat_abs floor) })
+    else Err (fault.FloorFalls least))
+
 -- the rows match the schema of the table that was found, if one was
 abbrev pub rows_fit_found : List plain.Opened → Option (ℕ × plain.Table) → Bool
 rows_fit_found lines None = true
@@ -77,6 +86,8 @@ abbrev pub batch_matches : plain.Database → Batch → Bool
 batch_matches db (batch.Create schema) = true
 batch_matches db (batch.Put name lines) = rows_fit_found lines (find_table name db.tables)
 batch_matches db (batch.Remove name lines) = true
+batch_matches db (batch.Moment moment) = true
+batch_matches db (batch.Forget name floor) = true
 
 -- of tables, rows and versions the others allow what these limits allow
 pub record AreWithin (limits others : Limits) : Type 0 where

@@ -2,8 +2,9 @@
 use Rattle.std.specs.Prelude.{◌≡◌, ℕ, ◌+◌, Bool, true, false, ◌&&◌, ◌||◌, ◌==◌, List, [], ◌∷◌, length, Option, Some, None, slice_get, unwrap_or}
 use Rattle.std.specs.List.{list_all}
 use Rattle.tl_types.specs.declared.cells.Cell.{Cell}
+use Rattle.tl_types.specs.declared.commits.Body.{Body}
 use Rattle.tl_types.specs.Plain as plain
-use Rattle.tl_types.specs.History.{is_open, matches}
+use Rattle.tl_types.specs.History.{after_commit, is_open, matches}
 use Rattle.tl_types.specs.Resolving.{same_key}
 use Rattle.tl_batch.specs.KeyIndex.{IdsByKey, has_row, no_ids}
 
@@ -48,3 +49,7 @@ pub record StandFor (keys : List IdsByKey) (db : plain.Database) : Type 0 where
   pub ids : (table : ℕ) (x : Cell) (id : ℕ)
       → has_row (index_at keys table) x id ≡ table_has (slice_get db.tables table) x id
   pub matching : (table : ℕ) → rows_match (slice_get db.tables table) ≡ true
+
+-- the database after one commit more that does this, whoever makes it
+abbrev pub after_doing : plain.Database → Body → plain.Database
+after_doing db b = after_commit db (record { author = 0; body = b })

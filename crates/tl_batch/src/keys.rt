@@ -2,17 +2,19 @@
 ghost use Rattle.std.specs.Prelude.{◌≡◌, ◌+◌, ◌<◌, ◌++◌, ◌∷◌, [], IsTrue, IfOk, IfErr, OnOk, OnErr, ◌⊎◌, Ok, Err};
 ghost use Rattle.tl_types.specs.declared.batches.BatchFault.TheVariants as fault;
 ghost use Rattle.tl_types.specs.declared.commits.Body.TheVariants as body;
-ghost use Rattle.tl_types.specs.History.{database_of, after_body, fits, fits_body};
+ghost use Rattle.tl_types.specs.History.{database_of, fits, fits_body};
 ghost use Rattle.tl_types.specs.Limits.{standard_limits};
 ghost use Rattle.tl_types.specs.Resolving.{resolved};
 ghost use Rattle.tl_batch.specs.Made.{AreWithin, batch_matches};
-ghost use Rattle.tl_batch.specs.Standing.{StandFor};
+ghost use Rattle.tl_batch.specs.Standing.{StandFor, after_doing};
 
 use crate::following::{change_index, closed_keys};
 use crate::key_index::KeyIndex;
 use crate::open_tables::OpenTables;
 use crate::put_rows::PutRows;
-use crate::resolving::{resolve_create, resolve_put, resolve_remove};
+use crate::resolving::{
+    resolve_create, resolve_floor, resolve_moment, resolve_put, resolve_remove,
+};
 use std::alloc::Global;
 use std::marker::Model;
 use tl_store::Store;
@@ -68,7 +70,10 @@ impl Keys {
     /// `VersionsFull`; then line by line `KeyTwice` where the table has no valid time and an
     /// earlier line has the key, and `NoRow` where the line removes and affects no row; last
     /// `RowsFull` where the rows of the table and the opened ones together are more than the limits
-    /// allow. The record number of a line is its place from 0, plus 2. `NoMemory`: memory ran out,
+    /// allow. The record number of a line is its place from 0, plus 2. That of a moment is
+    /// `VersionsFull`; `MomentFalls` where it is not greater than the last one. That of a floor is
+    /// `UnknownTable`; `VersionsFull`; `FloorAhead` where it is greater than the number of commits;
+    /// `FloorFalls` where it is not greater than that of the table. `NoMemory`: memory ran out,
     /// or a batch is so large that its record numbers, or the number of rows that it
     /// opens, have no place in 32 bits.
     pub fn resolve(
@@ -106,6 +111,8 @@ impl Keys {
                 let tables = OpenTables::new(store, self.tables.as_slice());
                 resolve_remove(alloc, &tables, author, table, lines, limits)
             }
+            Batch::Moment { moment } => resolve_moment(store, author, *moment, limits),
+            Batch::Forget { table, floor } => resolve_floor(store, author, table, *floor, limits),
         }
     }
 
@@ -141,6 +148,8 @@ impl Keys {
                 let tables = OpenTables::new(store, self.tables.as_slice());
                 resolve_remove(alloc, &tables, author, &table, lines, limits)
             }
+            Batch::Moment { moment } => resolve_moment(store, author, moment, limits),
+            Batch::Forget { table, floor } => resolve_floor(store, author, &table, floor, limits),
         }
     }
 }
@@ -153,13 +162,9 @@ fn follow_body(
 ) -> Result<(), NoMemory>
     requires stands { StandFor tables.old.items (database_of before.now) }
     requires version { (database_of before.now).version < 16777215 }
-    requires fit { IsTrue (fits_body standard_limits (database_of before.now).tables body.now) }
+    requires fit { IsTrue (fits_body standard_limits (database_of before.now) body.now) }
     ensures ok { OnOk result (StandFor tables.new.items
-        (record {
-          version = (database_of before.now).version + 1;
-          tables = after_body
-              ((database_of before.now).version + 1) body.now (database_of before.now).tables;
-        })) }
+        (after_doing (database_of before.now) body.now)) }
     ensures err { OnErr result (StandFor tables.new.items (database_of before.now)) }
 {
     match body {
@@ -171,6 +176,8 @@ fn follow_body(
             follow_change(tables, alloc, before, change)?;
             Ok(())
         }
+        Body::Moment { .. } => Ok(()),
+        Body::Forget { .. } => Ok(()),
     }
 }
 
@@ -182,15 +189,10 @@ fn follow_change(
 ) -> Result<(), NoMemory>
     requires stands { StandFor tables.old.items (database_of before.now) }
     requires version { (database_of before.now).version < 16777215 }
-    requires fit { IsTrue (fits_body standard_limits (database_of before.now).tables
+    requires fit { IsTrue (fits_body standard_limits (database_of before.now)
         (body.Change change.now)) }
     ensures ok { OnOk result (StandFor tables.new.items
-        (record {
-          version = (database_of before.now).version + 1;
-          tables = after_body
-              ((database_of before.now).version + 1) (body.Change change.now)
-              (database_of before.now).tables;
-        })) }
+        (after_doing (database_of before.now) (body.Change change.now))) }
     ensures err { OnErr result (StandFor tables.new.items (database_of before.now)) }
 {
     let number = change.table();

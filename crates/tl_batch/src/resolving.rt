@@ -6,7 +6,7 @@ ghost use Rattle.tl_types.specs.declared.batches.BatchFault.TheVariants as fault
 ghost use Rattle.tl_types.specs.Facts.{AscendFrom};
 ghost use Rattle.tl_types.specs.History.{database_of, fits, has_name, matches};
 ghost use Rattle.tl_types.specs.Resolving.{find_table, resolved, removal_lines, put_lines};
-ghost use Rattle.tl_batch.specs.Made.{made_by, change_made, committed, rows_fit_found, IsMade, IsClosed};
+ghost use Rattle.tl_batch.specs.Made.{made_by, change_made, committed, floor_set, rows_fit_found, IsMade, IsClosed};
 ghost use Rattle.tl_batch.specs.PutRows.{rows_put};
 ghost use Rattle.tl_batch.specs.Standing.{rows_match};
 
@@ -66,6 +66,84 @@ pub(crate) fn resolve_create(
         author,
         body: Body::Create(schema),
     })
+}
+
+/// The commit of this author that states a moment, or its first fault: `VersionsFull` where there are
+/// as many commits as the limits allow, `MomentFalls` where the moment is not greater than the last
+/// one.
+pub(crate) fn resolve_moment(
+    store: &Store,
+    author: u32,
+    moment: i64,
+    limits: &Limits,
+) -> Result<Commit, BatchFault>
+    ensures value { result ≡ resolved limits.now (database_of store.now) author
+        (batch.Moment moment) }
+    ensures fit { IfOk result (λ c. IsTrue (fits limits.now (database_of store.now) c)) }
+{
+    if has_all_versions(store, limits) {
+        return Err(BatchFault::VersionsFull);
+    }
+    if let Some(now) = store.last_moment() {
+        if now >= moment {
+            return Err(BatchFault::MomentFalls { now });
+        }
+    }
+    Ok(Commit {
+        author,
+        body: Body::Moment { moment },
+    })
+}
+
+// The commit of this author that sets the floor of the table with this number, at so many commits
+// and where this floor stands, or its first fault.
+fn floor_set(
+    author: u32,
+    number: u16,
+    now: u32,
+    least: u32,
+    floor: i64,
+) -> Result<Commit, BatchFault>
+    ensures { result ≡ floor_set author number now least floor }
+{
+    if (now as i64) < floor {
+        return Err(BatchFault::FloorAhead { now });
+    }
+    if (least as i64) >= floor {
+        return Err(BatchFault::FloorFalls { floor: least });
+    }
+    Ok(Commit {
+        author,
+        body: Body::Forget {
+            table: number,
+            floor: floor as u32,
+        },
+    })
+}
+
+/// The commit of this author that sets the floor of the table with this name, or its first fault:
+/// `UnknownTable` where no table has the name, `VersionsFull` where there are as many commits as the
+/// limits allow, `FloorAhead` where the floor is greater than the number of commits, `FloorFalls`
+/// where it is not greater than that of the table.
+pub(crate) fn resolve_floor(
+    store: &Store,
+    author: u32,
+    name: &Text,
+    floor: i64,
+    limits: &Limits,
+) -> Result<Commit, BatchFault>
+    ensures value { result ≡ resolved limits.now (database_of store.now) author
+        (batch.Forget name.now floor) }
+    ensures fit { IfOk result (λ c. IsTrue (fits limits.now (database_of store.now) c)) }
+{
+    let Some(number) = store.find(name.as_str()) else {
+        return Err(BatchFault::UnknownTable);
+    };
+    if has_all_versions(store, limits) {
+        return Err(BatchFault::VersionsFull);
+    }
+    let commit = floor_set(author, number, store.versions(), store.floor(number), floor);
+    commit
 }
 
 // The change of what was made in the table with this number, or `RowsFull` where the table would

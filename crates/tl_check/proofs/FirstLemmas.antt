@@ -164,12 +164,13 @@ none_is fs h = every fs (all_none fs h) where
 
 -- THE PARTS OF A QUERY
 
--- the first fault of five parts of which the second is one place and the last are two
-pub parts_of_select : (items : List (Option CheckFault)) (name : Option CheckFault) (pred : List (Option CheckFault)) (point version : Option CheckFault) → first_of (items ++ (name ∷ []) ++ pred ++ (point ∷ version ∷ [])) ≡ first_of (first_of items ∷ name ∷ first_of pred ∷ point ∷ version ∷ [])
-parts_of_select items name pred point version =
-    first_of_append (items ++ (name ∷ []) ++ pred) (point ∷ version ∷ [])
-    ∙ (ap (λ x. earlier x (earlier point version)) (first_of_append (items ++ (name ∷ [])) pred ∙ ap (λ x. earlier x (first_of pred)) (first_of_append items (name ∷ [])))
-    ∙ sym (earlier_assoc (earlier (earlier (first_of items) name) (first_of pred)) point version))
+-- the first fault of six parts of which the second is one place and the last are three
+pub parts_of_select : (items : List (Option CheckFault)) (name : Option CheckFault) (pred : List (Option CheckFault)) (point version forgotten : Option CheckFault) → first_of (items ++ (name ∷ []) ++ pred ++ (point ∷ version ∷ forgotten ∷ [])) ≡ first_of (first_of items ∷ name ∷ first_of pred ∷ point ∷ version ∷ forgotten ∷ [])
+parts_of_select items name pred point version forgotten =
+    let front = earlier (earlier (first_of items) name) (first_of pred) in
+    first_of_append (items ++ (name ∷ []) ++ pred) (point ∷ version ∷ forgotten ∷ [])
+    ∙ (ap (λ x. earlier x (earlier (earlier point version) forgotten)) (first_of_append (items ++ (name ∷ [])) pred ∙ ap (λ x. earlier x (first_of pred)) (first_of_append items (name ∷ [])))
+    ∙ sym (ap (λ x. earlier x forgotten) (earlier_assoc front point version) ∙ earlier_assoc front (earlier point version) forgotten))
 
 -- the first fault of five parts of which the second is one place
 pub parts_of_agg : (measure : List (Option CheckFault)) (name : Option CheckFault) (pred by over : List (Option CheckFault)) → first_of (measure ++ (name ∷ []) ++ pred ++ by ++ over) ≡ first_of (first_of measure ∷ name ∷ first_of pred ∷ first_of by ∷ first_of over ∷ [])

@@ -8,6 +8,8 @@ use Rattle.tl_types.specs.declared.cells.Cmp.TheVariants as cmp
 use Rattle.tl_types.specs.Plain as plain
 use Rattle.tl_query.specs.declared.ast.Name.{Name}
 use Rattle.tl_query.specs.declared.ast.Stamp.{Stamp}
+use Rattle.tl_query.specs.declared.ast.AsOf.{AsOf}
+use Rattle.tl_query.specs.declared.ast.AsOf.TheVariants as as_ofs
 use Rattle.tl_query.specs.declared.ast.Pred.{Pred}
 use Rattle.tl_query.specs.declared.ast.Item.TheVariants as item
 use Rattle.tl_query.specs.declared.ast.AggKind.TheVariants as agg
@@ -37,7 +39,7 @@ emp = record {
 }
 
 abbrev staff : plain.Database
-staff = record { version = 5; tables = emp ∷ [] }
+staff = record { version = 5; tables = emp ∷ []; stamps = [] }
 
 -- q (k INT, x INT) KEY k VALID, at three commits
 abbrev q : plain.Table
@@ -53,7 +55,7 @@ q = record {
 }
 
 abbrev prices : plain.Database
-prices = record { version = 3; tables = q ∷ [] }
+prices = record { version = 3; tables = q ∷ []; stamps = [] }
 
 abbrev named : List ℕ → ℕ → Name
 named text at = record { text = text; at = at }
@@ -70,18 +72,18 @@ every_row = record { any = [] }
 abbrev one_test : Name → Cmp → ℕ → Cell → ℕ → Pred
 one_test column c cmp_at value value_at = record { any = (record { column = column; cmp = c; cmp_at = cmp_at; value = value; value_at = value_at } ∷ []) ∷ [] }
 
-abbrev ids : Pred → Option Stamp → Query
+abbrev ids : Pred → Option AsOf → Query
 ids pred as_of = query.Select (record { all = false; items = item.Column (named (codes "id") 7) ∷ []; table = named (codes "emp") 15; pred = pred; valid_at = None; as_of = as_of })
 
 abbrev count : Name → Over → Query
 count table over = query.Agg (record { kind = agg.Count; column = None; table = table; pred = all; by = None; over = over })
 
 -- SELECT id FROM emp AS OF 0
-version_zero : checked 5 staff (ids all (Some (stamp 0 25))) ≡ Ok (typed.Select 0 (typed_item.Column 0 ∷ []) every_row None 0)
+version_zero : checked 5 staff (ids all (Some (as_ofs.Version (stamp 0 25)))) ≡ Ok (typed.Select 0 (typed_item.Column 0 ∷ []) every_row None 0)
 version_zero = refl
 
 -- SELECT id FROM emp AS OF 6
-version_ahead : checked 5 staff (ids all (Some (stamp 6 25))) ≡ Err (fault.VersionAhead 25 6 5)
+version_ahead : checked 5 staff (ids all (Some (as_ofs.Version (stamp 6 25)))) ≡ Err (fault.VersionAhead 25 6 5)
 version_ahead = refl
 
 -- SELECT id FROM emp WHERE dept < 'ops'
@@ -116,6 +118,40 @@ to_the_last = refl
 -- COUNT FROM emp OVER SYSTEM 1 TO 7
 past_the_last : checked 5 staff (count (named (codes "emp") 11) (over.System (stamp 1 27) (stamp 7 32))) ≡ Err (fault.VersionAhead 32 7 5)
 past_the_last = refl
+
+-- SELECT id FROM emp AS OF 2, where versions below 3 were forgotten at version 6
+abbrev forgetful : plain.Database
+forgetful = record { version = 6; tables = record emp { floor = 3 } ∷ []; stamps = [] }
+
+before_the_floor : checked 6 forgetful (ids all (Some (as_ofs.Version (stamp 2 25)))) ≡ Err (fault.Forgotten 25 3)
+before_the_floor = refl
+
+-- SELECT id FROM emp AS OF 3
+at_the_floor : checked 6 forgetful (ids all (Some (as_ofs.Version (stamp 3 25)))) ≡ Ok (typed.Select 0 (typed_item.Column 0 ∷ []) every_row None 3)
+at_the_floor = refl
+
+-- COUNT FROM emp OVER SYSTEM ALL, 1 TO 6 and 1 TO 1: at one place the empty range comes first
+all_from_the_floor : checked 6 forgetful (count (named (codes "emp") 11) over.SystemAll) ≡ Ok (typed.Agg 0 agg.Count None None every_row (span.System 3 7))
+all_from_the_floor = refl
+
+range_before_the_floor : checked 6 forgetful (count (named (codes "emp") 11) (over.System (stamp 1 27) (stamp 6 32))) ≡ Err (fault.Forgotten 27 3)
+range_before_the_floor = refl
+
+empty_before_the_floor : checked 6 forgetful (count (named (codes "emp") 11) (over.System (stamp 1 27) (stamp 1 32))) ≡ Err (fault.EmptyRange 27)
+empty_before_the_floor = refl
+
+-- SELECT id FROM emp AS OF MOMENT .., where versions 6 and 8 state 1000 and 2000
+abbrev stamped : plain.Database
+stamped = record { version = 8; tables = emp ∷ []; stamps = record { version = 6; moment = pos 1000 } ∷ record { version = 8; moment = pos 2000 } ∷ [] }
+
+before_all_moments : checked 8 stamped (ids all (Some (as_ofs.Moment (stamp 999 32)))) ≡ Ok (typed.Select 0 (typed_item.Column 0 ∷ []) every_row None 5)
+before_all_moments = refl
+
+at_a_moment : checked 8 stamped (ids all (Some (as_ofs.Moment (stamp 1000 32)))) ≡ Ok (typed.Select 0 (typed_item.Column 0 ∷ []) every_row None 7)
+at_a_moment = refl
+
+behind_all_moments : checked 8 stamped (ids all (Some (as_ofs.Moment (stamp 5000 32)))) ≡ Ok (typed.Select 0 (typed_item.Column 0 ∷ []) every_row None 8)
+behind_all_moments = refl
 
 -- SUM dept FROM emp BY pay OVER SYSTEM ALL
 sum_of_texts : checked 5 staff (query.Agg (record { kind = agg.Sum; column = Some (named (codes "dept") 4); table = named (codes "emp") 14; pred = all; by = Some (named (codes "pay") 21); over = over.SystemAll })) ≡ Err (fault.WrongType 4)
@@ -171,7 +207,7 @@ sum_over_valid : checked 3 prices (query.Agg (record { kind = agg.Sum; column = 
 sum_over_valid = refl
 
 -- COUNT FROM q OVER VALID 9 TO 9 AS OF 2
-no_moment : checked 3 prices (count (named (codes "q") 11) (over.Valid 18 (stamp 9 24) (stamp 9 29) (Some (stamp 2 37)))) ≡ Err (fault.EmptyRange 24)
+no_moment : checked 3 prices (count (named (codes "q") 11) (over.Valid 18 (stamp 9 24) (stamp 9 29) (Some (as_ofs.Version (stamp 2 37))))) ≡ Err (fault.EmptyRange 24)
 no_moment = refl
 
 -- CREATE TABLE t (a INT, a INT) KEY a

@@ -1,5 +1,5 @@
 //! The check of a query for an aggregate over time.
-ghost use Rattle.std.specs.Prelude.{◌≡◌, ◌≤◌, option_map};
+ghost use Rattle.std.specs.Prelude.{◌≡◌, option_map};
 ghost use Rattle.tl_query.specs.Checking.{first_of, IsUnlessMemory};
 ghost use Rattle.tl_query.specs.CheckingQueries.{
   agg_checked,
@@ -17,6 +17,7 @@ use crate::columns::{column_fault, column_place, is_timeless, kind_of, table_fau
 use crate::first_fault::first_of;
 use crate::predicates::{pred_fault, typed_pred};
 use crate::ranges::{over_fault, span_of};
+use crate::times::StoreTimes;
 use std::alloc::Global;
 use tl_query::{AggForm, CheckFault, Name, Typed};
 use tl_types::{ColumnKind, Schema};
@@ -55,15 +56,19 @@ fn by_fault(table: Option<(u16, &Schema)>, form: &AggForm) -> Option<CheckFault>
 }
 
 #[tactic(auto, using(crate::proofs::FirstLemmas::parts_of_agg))]
-fn agg_fault(now: u32, table: Option<(u16, &Schema)>, form: &AggForm) -> Option<CheckFault>
+fn agg_fault(
+    times: &StoreTimes<'_>,
+    table: Option<(u16, &Schema)>,
+    form: &AggForm,
+) -> Option<CheckFault>
     requires { HasVersions form.now.over }
-    ensures { result ≡ first_of (agg_faults now (known table.entry) form.now) }
+    ensures { result ≡ first_of (agg_faults times.now (known table.entry) form.now) }
 {
     let measure = measure_fault(table, form);
     let name = table_fault(table, &form.table);
     let pred = pred_fault(table, &form.pred);
     let by = by_fault(table, form);
-    let over = over_fault(now, is_timeless(table), form.over);
+    let over = over_fault(times, is_timeless(table), form.over);
     first_of([measure, name, pred, by, over].as_slice())
 }
 
@@ -76,19 +81,18 @@ fn column_place_of(schema: &Schema, name: &Option<Name>) -> Option<u8>
     }
 }
 
-/// The aggregate by numbers at `now` commits, over the table that its name means if it means one,
+/// The aggregate by numbers, where this is known of versions, over the table that its name means if it means one,
 /// or its first fault. `NoMemory` says that memory ran out.
 pub(crate) fn check_agg(
     alloc: Global,
-    now: u32,
+    times: &StoreTimes<'_>,
     table: Option<(u16, &Schema)>,
     form: &AggForm,
 ) -> Result<Typed, CheckFault>
-    requires few { now ≤ 16777215 }
-    requires positive { HasVersions form.now.over }
-    ensures { IsUnlessMemory result (agg_checked now (known table.entry) form.now) }
+    requires { HasVersions form.now.over }
+    ensures { IsUnlessMemory result (agg_checked times.now (known table.entry) form.now) }
 {
-    match (agg_fault(now, table, form), table) {
+    match (agg_fault(times, table, form), table) {
         (Some(fault), _) => Err(fault),
         (None, None) => Err(CheckFault::UnknownTable { at: form.table.at }),
         (None, Some((number, schema))) => Ok(Typed::Agg {
@@ -97,7 +101,7 @@ pub(crate) fn check_agg(
             column: column_place_of(schema, &form.column),
             by: column_place_of(schema, &form.by),
             pred: typed_pred(alloc, schema, &form.pred)?,
-            span: span_of(now, is_timeless(table), form.over),
+            span: span_of(times, is_timeless(table), form.over),
         }),
     }
 }

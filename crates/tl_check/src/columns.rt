@@ -1,7 +1,7 @@
 //! Tables and columns that names mean.
 ghost use Rattle.std.specs.Prelude.{◌≡◌};
 ghost use Rattle.tl_types.specs.History.{database_of};
-ghost use Rattle.tl_query.specs.Checking.{place_among, table_named};
+ghost use Rattle.tl_query.specs.Checking.{floor_named, place_among, table_named};
 ghost use Rattle.tl_query.specs.CheckingQueries.{
   column_fault,
   column_place,
@@ -23,6 +23,16 @@ pub(crate) fn table_named<'a>(store: &'a Store, name: &Name) -> Option<(u16, &'a
     match store.find(name.text.as_str()) {
         None => None,
         Some(number) => Some((number, store.schema(number))),
+    }
+}
+
+/// The floor of the table of a store that a name means, 0 where it means none.
+pub(crate) fn floor_named(store: &Store, name: &Name) -> u32
+    ensures { result ≡ floor_named (database_of store.now) name.now }
+{
+    match store.find(name.text.as_str()) {
+        None => 0,
+        Some(number) => store.floor(number),
     }
 }
 

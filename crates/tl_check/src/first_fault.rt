@@ -16,6 +16,7 @@ fn place_of(fault: &CheckFault) -> u32
         CheckFault::EmptyRange { at } => *at,
         CheckFault::ColumnTwice { at } => *at,
         CheckFault::NoMemory => 0,
+        CheckFault::Forgotten { at, .. } => *at,
     }
 }
 
@@ -31,6 +32,7 @@ fn rank_of(fault: &CheckFault) -> u8
         CheckFault::EmptyRange { .. } => 6,
         CheckFault::ColumnTwice { .. } => 7,
         CheckFault::NoMemory => 8,
+        CheckFault::Forgotten { .. } => 9,
     }
 }
 

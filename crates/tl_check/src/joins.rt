@@ -1,5 +1,5 @@
 //! The check of a query for a join over time.
-ghost use Rattle.std.specs.Prelude.{◌≡◌, ◌≤◌, ◌∷◌, ◌||◌, [], Some};
+ghost use Rattle.std.specs.Prelude.{◌≡◌, ◌∷◌, ◌||◌, [], Some};
 ghost use Rattle.tl_query.specs.Checking.{first_of, IsUnlessMemory};
 ghost use Rattle.tl_query.specs.CheckingQueries.{
   column_fault,
@@ -18,6 +18,7 @@ use crate::columns::{column_fault, column_place, is_timeless, known_kind, table_
 use crate::first_fault::first_of;
 use crate::predicates::{pred_fault, typed_pred};
 use crate::ranges::{over_fault, span_of};
+use crate::times::StoreTimes;
 use std::alloc::Global;
 use tl_query::{CheckFault, JoinForm, Name, Typed};
 use tl_types::{ColumnKind, Schema};
@@ -84,38 +85,37 @@ fn is_either_timeless(left: Option<(u16, &Schema)>, right: Option<(u16, &Schema)
 
 #[tactic(auto, using(crate::proofs::FirstLemmas::parts_of_join))]
 fn join_fault(
-    now: u32,
+    times: &StoreTimes<'_>,
     left: Option<(u16, &Schema)>,
     right: Option<(u16, &Schema)>,
     form: &JoinForm,
 ) -> Option<CheckFault>
     requires { HasVersions form.now.over }
-    ensures { result ≡ first_of (join_faults now (known left.entry) (known right.entry) form.now) }
+    ensures { result ≡ first_of (join_faults times.now (known left.entry) (known right.entry) form.now) }
 {
     let left_name = table_fault(left, &form.left);
     let left_pred = pred_fault(left, &form.left_pred);
     let right_name = table_fault(right, &form.right);
     let right_pred = pred_fault(right, &form.right_pred);
     let columns = columns_fault(left, right, form);
-    let over = over_fault(now, is_either_timeless(left, right), form.over);
+    let over = over_fault(times, is_either_timeless(left, right), form.over);
     first_of([left_name, left_pred, right_name, right_pred, columns, over].as_slice())
 }
 
-/// The join by numbers at `now` commits, over the tables that its names mean if they mean any, or
+/// The join by numbers, where this is known of versions, over the tables that its names mean if they mean any, or
 /// its first fault. `NoMemory` says that memory ran out.
 pub(crate) fn check_join(
     alloc: Global,
-    now: u32,
+    times: &StoreTimes<'_>,
     left: Option<(u16, &Schema)>,
     right: Option<(u16, &Schema)>,
     form: &JoinForm,
 ) -> Result<Typed, CheckFault>
-    requires few { now ≤ 16777215 }
-    requires positive { HasVersions form.now.over }
+    requires { HasVersions form.now.over }
     ensures { IsUnlessMemory result
-        (join_checked now (known left.entry) (known right.entry) form.now) }
+        (join_checked times.now (known left.entry) (known right.entry) form.now) }
 {
-    if let Some(fault) = join_fault(now, left, right, form) {
+    if let Some(fault) = join_fault(times, left, right, form) {
         return Err(fault);
     }
     let timeless = is_either_timeless(left, right);
@@ -127,7 +127,7 @@ pub(crate) fn check_join(
             right_pred: typed_pred(alloc, right_schema, &form.right_pred)?,
             left_on: column_place(left_schema, &form.left_on),
             right_on: column_place(right_schema, &form.right_on),
-            span: span_of(now, timeless, form.over),
+            span: span_of(times, timeless, form.over),
         }),
         _ => Err(CheckFault::UnknownTable { at: form.left.at }),
     }

@@ -13,6 +13,7 @@ mod joins;
 mod predicates;
 mod ranges;
 mod selects;
+mod times;
 
 pub use checking::check;
 pub use creates::check_create;

@@ -1,29 +1,39 @@
 //! Versions and ranges of time.
 ghost use Rattle.std.specs.Prelude.{◌≡◌, ◌≤◌, ◌+◌, None, nat_abs};
 ghost use Rattle.std.specs.Option.{ForSome};
-ghost use Rattle.tl_query.specs.Checking.{fault_if, first_of, version_fault, version_of};
+ghost use Rattle.tl_query.specs.Checking.{
+  ahead_fault,
+  fault_if,
+  first_of,
+  forgotten_fault,
+  stamp_of,
+  version_fault,
+  version_meant,
+  version_of,
+};
 ghost use Rattle.tl_query.specs.CheckingQueries.{
   end_fault,
   moments_fault,
   over_faults,
   point_fault,
   span_of,
+  start_fault,
   versions_fault,
 };
 ghost use Rattle.tl_query.specs.declared.check_faults.CheckFault.TheVariants as fault;
-ghost use Rattle.tl_query.specs.Parsed.{HasVersions, IsVersion};
+ghost use Rattle.tl_query.specs.Parsed.{HasVersions, IsGiven, IsVersion};
 
 use crate::first_fault::first_of;
-use tl_query::{CheckFault, Over, Span, Stamp, ValidPoint};
+use crate::times::StoreTimes;
+use tl_query::{AsOf, CheckFault, Over, Span, Stamp, ValidPoint};
 
-/// `VersionAhead` at the version that is asked for, where it is after the last commit.
-pub(crate) fn version_fault(now: u32, asked: Option<Stamp>) -> Option<CheckFault>
-    requires { ForSome asked IsVersion }
-    ensures { result ≡ version_fault now asked }
+// `VersionAhead` at a version that is after the last commit. A moment never is.
+fn ahead_fault(now: u32, as_of: AsOf) -> Option<CheckFault>
+    requires { IsGiven as_of }
+    ensures { result ≡ ahead_fault now as_of }
 {
-    match asked {
-        None => None,
-        Some(stamp) => {
+    match as_of {
+        AsOf::Version(stamp) => {
             let version = stamp.value as u64;
             if version > now as u64 {
                 Some(CheckFault::VersionAhead {
@@ -35,18 +45,85 @@ pub(crate) fn version_fault(now: u32, asked: Option<Stamp>) -> Option<CheckFault
                 None
             }
         }
+        AsOf::Moment(_) => None,
+    }
+}
+
+/// `VersionAhead` at the version that is asked for, where it is after the last commit.
+pub(crate) fn version_fault(times: &StoreTimes<'_>, asked: Option<AsOf>) -> Option<CheckFault>
+    requires { ForSome asked IsGiven }
+    ensures { result ≡ version_fault times.now asked }
+{
+    match asked {
+        None => None,
+        Some(as_of) => ahead_fault(times.now(), as_of),
+    }
+}
+
+// The version that what follows AS OF stands for, which may be after the last commit.
+fn version_meant(times: &StoreTimes<'_>, as_of: AsOf) -> u64
+    requires { IsGiven as_of }
+    ensures { result ≡ version_meant times.now as_of }
+{
+    match as_of {
+        AsOf::Version(stamp) => stamp.value as u64,
+        AsOf::Moment(stamp) => times.at(stamp.value) as u64,
+    }
+}
+
+fn stamp_of(as_of: AsOf) -> Stamp
+    ensures { result ≡ stamp_of as_of }
+{
+    match as_of {
+        AsOf::Version(stamp) => stamp,
+        AsOf::Moment(stamp) => stamp,
+    }
+}
+
+/// `Forgotten` at the version that is asked for, where it is before the least one that may be
+/// asked.
+pub(crate) fn forgotten_fault(times: &StoreTimes<'_>, asked: Option<AsOf>) -> Option<CheckFault>
+    requires { ForSome asked IsGiven }
+    ensures { result ≡ forgotten_fault times.now asked }
+{
+    match asked {
+        None => None,
+        Some(as_of) => {
+            let floor = times.floor();
+            if version_meant(times, as_of) < floor as u64 {
+                Some(CheckFault::Forgotten {
+                    at: stamp_of(as_of).at,
+                    floor,
+                })
+            } else {
+                None
+            }
+        }
+    }
+}
+
+// The version that what follows AS OF stands for, where it is not after the last commit.
+fn reached_version(times: &StoreTimes<'_>, as_of: AsOf) -> u32
+    requires given { IsGiven as_of }
+    requires reached { ahead_fault times.now.now as_of ≡ None }
+    ensures { result ≡ version_meant times.now as_of }
+{
+    let now = times.now();
+    match as_of {
+        AsOf::Version(stamp) => (stamp.value as u64).min(now as u64) as u32,
+        AsOf::Moment(stamp) => times.at(stamp.value),
     }
 }
 
 /// The version that is asked for: the last one where none is given.
-pub(crate) fn version_of(now: u32, asked: Option<Stamp>) -> u32
-    requires positive { ForSome asked IsVersion }
-    requires reached { version_fault now asked ≡ None }
-    ensures { result ≡ version_of now asked }
+pub(crate) fn version_of(times: &StoreTimes<'_>, asked: Option<AsOf>) -> u32
+    requires positive { ForSome asked IsGiven }
+    requires reached { version_fault times.now asked ≡ None }
+    ensures { result ≡ version_of times.now asked }
 {
     match asked {
-        None => now,
-        Some(stamp) => (stamp.value as u64).min(now as u64) as u32,
+        None => times.now(),
+        Some(as_of) => reached_version(times, as_of),
     }
 }
 
@@ -103,6 +180,19 @@ fn versions_fault(from: Stamp, to: Stamp) -> Option<CheckFault>
     }
 }
 
+// `Forgotten` at the first bound of a range of versions, where it is before the least version that
+// may be asked.
+fn start_fault(floor: u32, from: Stamp) -> Option<CheckFault>
+    requires { IsVersion from }
+    ensures { result ≡ start_fault floor from }
+{
+    if (from.value as u64) < floor as u64 {
+        Some(CheckFault::Forgotten { at: from.at, floor })
+    } else {
+        None
+    }
+}
+
 fn moments_fault(from: Stamp, to: Stamp) -> Option<CheckFault>
     ensures { result ≡ moments_fault from to }
 {
@@ -113,17 +203,19 @@ fn moments_fault(from: Stamp, to: Stamp) -> Option<CheckFault>
     }
 }
 
-/// The first fault of a range of time at `now` commits, where the rows of a known table have no
-/// valid period, or not: `EmptyRange` at the first bound where it is not less than the second,
-/// `VersionAhead` at a version that is too great, and `NotValidTable` at `VALID`.
-pub(crate) fn over_fault(now: u32, timeless: bool, over: Over) -> Option<CheckFault>
+/// The first fault of a range of time, where the rows of a known table have no valid period, or not:
+/// `EmptyRange` at the first bound where it is not less than the second, `VersionAhead` at a version
+/// that is too great, `Forgotten` at one that is too small, and `NotValidTable` at `VALID`.
+pub(crate) fn over_fault(times: &StoreTimes<'_>, timeless: bool, over: Over) -> Option<CheckFault>
     requires { HasVersions over }
-    ensures { result ≡ first_of (over_faults now timeless over) }
+    ensures { result ≡ first_of (over_faults times.now timeless over) }
 {
     match over {
         Over::SystemAll => None,
         Over::System { from, to } => {
-            first_of([versions_fault(from, to), end_fault(now, to)].as_slice())
+            let end = end_fault(times.now(), to);
+            let start = start_fault(times.floor(), from);
+            first_of([versions_fault(from, to), end, start].as_slice())
         }
         Over::Valid {
             pos,
@@ -132,8 +224,9 @@ pub(crate) fn over_fault(now: u32, timeless: bool, over: Over) -> Option<CheckFa
             as_of,
         } => {
             let valid = valid_fault(timeless, pos);
-            let version = version_fault(now, as_of);
-            first_of([valid, moments_fault(from, to), version].as_slice())
+            let version = version_fault(times, as_of);
+            let forgotten = forgotten_fault(times, as_of);
+            first_of([valid, moments_fault(from, to), version, forgotten].as_slice())
         }
     }
 }
@@ -148,16 +241,16 @@ fn bound_of(now: u32, bound: Stamp) -> u32
     (bound.value as u64).min(now as u64 + 1) as u32
 }
 
-/// A range of time without a fault, at `now` commits.
-pub(crate) fn span_of(now: u32, timeless: bool, over: Over) -> Span
+/// A range of time without a fault. All versions are those from the least one that may be asked.
+pub(crate) fn span_of(times: &StoreTimes<'_>, timeless: bool, over: Over) -> Span
     requires positive { HasVersions over }
-    requires few { now ≤ 16777215 }
-    requires right { first_of (over_faults now timeless over) ≡ None }
-    ensures { result ≡ span_of now over }
+    requires right { first_of (over_faults times.now timeless over) ≡ None }
+    ensures { result ≡ span_of times.now over }
 {
+    let now = times.now();
     match over {
         Over::SystemAll => Span::System {
-            from: 0,
+            from: times.floor(),
             to: now + 1,
         },
         Over::System { from, to } => Span::System {
@@ -170,7 +263,7 @@ pub(crate) fn span_of(now: u32, timeless: bool, over: Over) -> Span
             as_of,
             ..
         } => Span::Valid {
-            version: version_of(now, as_of),
+            version: version_of(times, as_of),
             from: from.value,
             to: to.value,
         },

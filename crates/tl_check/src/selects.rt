@@ -12,13 +12,14 @@ ghost use Rattle.tl_query.specs.Checking.{
 };
 ghost use Rattle.tl_query.specs.CheckingQueries.{select_checked, select_faults, where_known};
 ghost use Rattle.tl_query.specs.declared.typed_queries.TypedItem.TheVariants as typed_item;
-ghost use Rattle.tl_query.specs.Parsed.{IsVersion};
+ghost use Rattle.tl_query.specs.Parsed.{IsGiven};
 ghost use Rattle.tl_check.specs.Known.{known};
 
 use crate::columns::{column_fault, column_place, is_timeless, table_fault};
 use crate::first_fault::{earlier, first_of};
 use crate::predicates::{pred_fault, typed_pred};
-use crate::ranges::{point_fault, version_fault, version_of};
+use crate::ranges::{forgotten_fault, point_fault, version_fault, version_of};
+use crate::times::StoreTimes;
 use std::alloc::Global;
 use tl_query::{CheckFault, Item, SelectForm, Typed, TypedItem};
 use tl_types::{Column, NoMemory, Schema, Seq};
@@ -60,16 +61,21 @@ fn known_items_fault(table: Option<(u16, &Schema)>, form: &SelectForm) -> Option
 }
 
 #[tactic(auto, using(crate::proofs::FirstLemmas::parts_of_select))]
-fn select_fault(now: u32, table: Option<(u16, &Schema)>, form: &SelectForm) -> Option<CheckFault>
-    requires { ForSome form.now.as_of IsVersion }
-    ensures { result ≡ first_of (select_faults now (known table.entry) form.now) }
+fn select_fault(
+    times: &StoreTimes<'_>,
+    table: Option<(u16, &Schema)>,
+    form: &SelectForm,
+) -> Option<CheckFault>
+    requires { ForSome form.now.as_of IsGiven }
+    ensures { result ≡ first_of (select_faults times.now (known table.entry) form.now) }
 {
     let items = known_items_fault(table, form);
     let name = table_fault(table, &form.table);
     let pred = pred_fault(table, &form.pred);
     let point = point_fault(is_timeless(table), form.valid_at);
-    let version = version_fault(now, form.as_of);
-    first_of([items, name, pred, point, version].as_slice())
+    let version = version_fault(times, form.as_of);
+    let forgotten = forgotten_fault(times, form.as_of);
+    first_of([items, name, pred, point, version, forgotten].as_slice())
 }
 
 fn typed_item(schema: &Schema, item: &Item) -> TypedItem
@@ -141,19 +147,19 @@ fn moment_of(form: &SelectForm) -> Option<i64>
     }
 }
 
-/// The query by numbers at `now` commits, over the table that its name means if it means one, or
+/// The query by numbers, where this is known of versions, over the table that its name means if it means one, or
 /// its first fault. `*` stands for all columns in order, and then the ends of the valid period
 /// where the table's rows have one. `NoMemory` says that memory ran out.
 pub(crate) fn check_select(
     alloc: Global,
-    now: u32,
+    times: &StoreTimes<'_>,
     table: Option<(u16, &Schema)>,
     form: &SelectForm,
 ) -> Result<Typed, CheckFault>
-    requires { ForSome form.now.as_of IsVersion }
-    ensures { IsUnlessMemory result (select_checked now (known table.entry) form.now) }
+    requires { ForSome form.now.as_of IsGiven }
+    ensures { IsUnlessMemory result (select_checked times.now (known table.entry) form.now) }
 {
-    match (select_fault(now, table, form), table) {
+    match (select_fault(times, table, form), table) {
         (Some(fault), _) => Err(fault),
         (None, None) => Err(CheckFault::UnknownTable { at: form.table.at }),
         (None, Some((number, schema))) => Ok(Typed::Select {
@@ -161,7 +167,7 @@ pub(crate) fn check_select(
             items: typed_items_of(alloc, schema, form)?,
             pred: typed_pred(alloc, schema, &form.pred)?,
             valid_at: moment_of(form),
-            version: version_of(now, form.as_of),
+            version: version_of(times, form.as_of),
         }),
     }
 }

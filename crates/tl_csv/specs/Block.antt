@@ -166,3 +166,5 @@ IsBatchFor limits schema kind (batch.Put name rows) =
     (kind ≡ PutKind) × (name ≡ schema.name) × AreRowsFor limits schema rows
 IsBatchFor limits schema kind (batch.Remove name lines) =
     (kind ≡ RemoveKind) × (name ≡ schema.name) × AreKeysFor limits schema lines
+IsBatchFor limits schema kind (batch.Moment moment) = ⊥
+IsBatchFor limits schema kind (batch.Forget name floor) = ⊥

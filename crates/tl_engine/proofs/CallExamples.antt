@@ -1,5 +1,5 @@
 -- Calls of two passes over an empty history: one creates a table, the other reads, and is refused the same name.
-use Rattle.std.proofs.Common.{◌≡◌, ◌+◌, ◌++◌, ℕ, subst, List, [], ◌∷◌, Some, None, Ok, Err, false, true, inl, inr, refl, arith}
+use Rattle.std.proofs.Common.{◌≡◌, ◌+◌, ◌++◌, ℕ, pos, subst, List, [], ◌∷◌, Some, None, Ok, Err, false, true, inl, inr, refl, arith}
 use mathlib.Core.List.{IsPrefix}
 use Rattle.tl_types.specs.Plain as plain
 use Rattle.tl_types.specs.Limits.{standard_limits}
@@ -134,3 +134,32 @@ two_are_counted = refl
 
 two_begin : IsPrefix all two
 two_begin = (entry.Commit change ∷ [], refl)
+
+-- MOMENTS AND FLOORS
+
+abbrev moment : Commit
+moment = record { author = 2; body = body.Moment (pos 5) }
+
+abbrev stated : List Entry
+stated = all ++ entry.Commit moment ∷ []
+
+-- a moment is a commit of its own, and the same one again is none
+states : CommitSays (becomes standard_limits 2 (batch.Moment (pos 5))) 0 all stated 0 1 (Ok 2)
+states = (record { base = all; commit = moment; begins = ([], refl); whole = refl; makes = refl; entries_are = refl }, refl, refl)
+
+falls : CommitSays (becomes standard_limits 2 (batch.Moment (pos 5))) 0 all stated 0 0 (Err (fault.Refused 2 (refusal.MomentFalls (pos 5))))
+falls = ((entry.Commit moment ∷ [], refl), refl, refl, refl, refl)
+
+-- a floor of the table, at most the number of commits
+abbrev floor : Commit
+floor = record { author = 2; body = body.Forget 0 2 }
+
+forgets : CommitSays (becomes standard_limits 2 (batch.Forget (101 ∷ []) (pos 2))) 0 all (stated ++ entry.Commit floor ∷ []) 0 1 (Ok 3)
+forgets = (record { base = stated; commit = floor; begins = (entry.Commit moment ∷ [], refl); whole = refl; makes = refl; entries_are = refl }, refl, refl)
+
+is_ahead : CommitSays (becomes standard_limits 2 (batch.Forget (101 ∷ []) (pos 3))) 0 all stated 0 0 (Err (fault.Refused 2 (refusal.FloorAhead 2)))
+is_ahead = ((entry.Commit moment ∷ [], refl), refl, refl, refl, refl)
+
+-- a table that is not there is no condition of the call, and a fault
+is_unknown : CommitSays (becomes standard_limits 2 (batch.Forget (102 ∷ []) (pos 1))) 0 all stated 0 0 (Err (fault.Refused 2 refusal.UnknownTable))
+is_unknown = ((entry.Commit moment ∷ [], refl), refl, refl, refl, refl)

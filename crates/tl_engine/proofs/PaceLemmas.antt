@@ -1,5 +1,5 @@
 -- The steps of a replay at a pace of marks.
-use Rattle.std.proofs.Common.{◌≡◌, ℕ, ◌<◌, ◌≤◌, Bool, true, false, List, [], ◌∷◌, ◌++◌, length, sym, ap, ◌∙◌, arith}
+use Rattle.std.proofs.Common.{◌≡◌, ℕ, ◌<◌, ◌≤◌, Bool, true, false, List, [], ◌∷◌, ◌++◌, length, Option, Some, IfSome, sym, ap, ◌∙◌, subst, arith}
 use Rattle.tl_types.specs.declared.commits.Commit.{Commit}
 use Rattle.tl_types.specs.declared.commits.Entry.{Entry}
 use Rattle.tl_types.specs.Checkpoints.{Checkpoint, checkpoint_at}
@@ -34,10 +34,12 @@ may_mark_now es table checkpoint there fresh built =
       value_is = made.is.value_is;
     }
 
-pub step_there : (es next : List Entry) (c : Commit) (store : List Commit) (table : ℕ) → fits standard_limits (database_behind es) c ≡ true → store ≡ commits_of es → ((entries : List Entry) → commits_of entries ≡ store → table ≡ table_in entries c.body) → next ≡ es ++ commit_entry c ∷ [] → table < length (database_behind next).tables
-step_there es next c store table fit is named more =
-    let e : table ≡ table_in es c.body = named es (sym is) in
-    rw (e, more) (table_there es c fit)
+-- the table of a commit that fits, if it has one, is there behind it
+pub step_there : (es next : List Entry) (c : Commit) (store : List Commit) (number : Option ℕ) (table : ℕ) → fits standard_limits (database_behind es) c ≡ true → store ≡ commits_of es → ((entries : List Entry) → commits_of entries ≡ store → number ≡ table_in entries c.body) → number ≡ Some table → next ≡ es ++ commit_entry c ∷ [] → table < length (database_behind next).tables
+step_there es next c store number table fit is named has more =
+    let e : table_in es c.body ≡ Some table = sym (named es (sym is)) ∙ has in
+    let there = subst (λ o. IfSome o (λ t. t < length (database_behind (es ++ commit_entry c ∷ [])).tables)) e (table_there es c fit) in
+    rw more there
 
 pub step_fresh : (next : List Entry) (table k : ℕ) (is_due : Bool) → is_due ≡ due next table k → is_due ≡ true → has_mark next table (length (commits_of next)) ≡ false
 step_fresh next table k is_due is yes_due = due_fresh next table k (sym is ∙ yes_due)

@@ -21,6 +21,8 @@ abbrev pub names_table : plain.Database → Batch → Bool
 names_table db (batch.Create schema) = true
 names_table db (batch.Put name lines) = is_some (find_table name db.tables)
 names_table db (batch.Remove name lines) = is_some (find_table name db.tables)
+names_table db (batch.Moment moment) = true
+names_table db (batch.Forget name floor) = true
 
 -- what a batch of an author becomes over the commits of these entries
 abbrev pub becomes : Limits → ℕ → Batch → List Entry → Result Commit BatchFault

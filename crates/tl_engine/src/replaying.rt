@@ -1,12 +1,12 @@
 //! The commits of a journal, applied one by one while it is opened.
-ghost use Rattle.std.specs.Prelude.{◌≡◌, ◌+◌, ◌<◌, ◌++◌, ◌∷◌, [], ℕ, length, List, Ok, Err, None, true, false, IsTrue, IfSome, IfOk, IfErr, OnOk, OnErr};
+ghost use Rattle.std.specs.Prelude.{◌≡◌, ◌+◌, ◌<◌, ◌++◌, ◌∷◌, [], ℕ, length, List, Ok, Err, None, true, false, IsTrue, IfSome, IfOk, IfErr, OnOk, OnErr, Some};
 ghost use Rattle.tl_types.specs.declared.commits.Commit.{Commit as CommitValue};
 ghost use Rattle.tl_types.specs.declared.commits.Entry.{Entry};
 ghost use Rattle.tl_types.specs.Entries.{commits_of, has_break};
 ghost use Rattle.tl_types.specs.History.{database_of, fits};
 ghost use Rattle.tl_types.specs.Legality.{FitInTurn, has_mark};
 ghost use Rattle.tl_types.specs.Limits.{standard_limits};
-ghost use Rattle.tl_types.specs.Marks.{paced, paced_step, table_in};
+ghost use Rattle.tl_types.specs.Marks.{paced, paced_step, table_in, with_due};
 ghost use Rattle.tl_batch.specs.Made.{AreWithin};
 ghost use Rattle.tl_index.specs.Snapshots.{mark_entry};
 ghost use Rattle.tl_journal.specs.Answers.{IsDamagedOrMemoryThere};
@@ -46,14 +46,16 @@ impl Model for Replay {
     ghost invariant = { λ r. IsReplay r.snapshot r.keys };
 }
 
-// The number of the table that a commit makes or changes.
-fn table_in(store: &Store, commit: &Commit) -> u16
+// The number of the table that a commit makes, changes or sets the floor of. A moment has none.
+fn table_in(store: &Store, commit: &Commit) -> Option<u16>
     ensures { (entries : List Entry) → commits_of entries ≡ store.now →
         result ≡ table_in entries commit.now.body }
 {
     match &commit.body {
-        Body::Create(_) => store.tables(),
-        Body::Change(change) => change.table(),
+        Body::Create(_) => Some(store.tables()),
+        Body::Change(change) => Some(change.table()),
+        Body::Moment { .. } => None,
+        Body::Forget { table, .. } => Some(*table),
     }
 }
 
@@ -69,19 +71,33 @@ fn with_mark(alloc: Global, snapshot: &Snapshot, table: u16) -> Result<Snapshot,
     snapshot.mark(alloc, checkpoint)
 }
 
-// The snapshot after a commit that fits, with its mark where that is due. The error is `NoMemory`.
-fn stepped(alloc: Global, snapshot: Snapshot, commit: &Commit, k: u32) -> Result<Snapshot, NoMemory>
-    requires whole { has_break snapshot ≡ false }
-    requires fit { IsTrue (fits standard_limits (database_of (commits_of snapshot)) commit.now) }
-    ensures { IfOk result (λ s. s ≡ paced_step k snapshot commit.now) }
+// The snapshot, and behind it a mark of a table at its version where that is due. The error is
+// `NoMemory`.
+fn with_due(alloc: Global, next: Snapshot, table: u16, k: u32) -> Result<Snapshot, NoMemory>
+    requires whole { has_break next ≡ false }
+    requires table { table < length (database_of (commits_of next)).tables }
+    ensures { IfOk result (λ s. s ≡ with_due k (Some table) next) }
 {
-    let table = table_in(snapshot.store(), commit);
-    let next = snapshot.follow(alloc, commit)?;
     let is_due = next.due(table, k);
     if !is_due {
         return Ok(next);
     }
     with_mark(alloc, &next, table)
+}
+
+// The snapshot after a commit that fits, with the mark of its table, if it has one, where that is
+// due. The error is `NoMemory`.
+fn stepped(alloc: Global, snapshot: Snapshot, commit: &Commit, k: u32) -> Result<Snapshot, NoMemory>
+    requires whole { has_break snapshot ≡ false }
+    requires fit { IsTrue (fits standard_limits (database_of (commits_of snapshot)) commit.now) }
+    ensures { IfOk result (λ s. s ≡ paced_step k snapshot commit.now) }
+{
+    let number = table_in(snapshot.store(), commit);
+    let next = snapshot.follow(alloc, commit)?;
+    let Some(table) = number else {
+        return Ok(next);
+    };
+    with_due(alloc, next, table, k)
 }
 
 impl Replay {

@@ -1,17 +1,16 @@
 -- Each row of a history has a cell for each column of its table.
 use Rattle.std.proofs.Common.{◌≡◌, ℕ, zero, suc, ◌+◌, ◌≤◌, Bool, true, false, ◌&&◌, cond, nat_lt, nat_le, List, [], ◌∷◌, ◌++◌, length, map, take, fold, Option, Some, None, refl, ap, sym, subst, ◌∙◌, arith, slice_get}
-use Rattle.std.specs.List.{enumerate_from, list_all}
+use Rattle.std.specs.List.{enumerate_from, list_all, AllByRecursion}
 use Rattle.std.proofs.lemmas.List.{take_more, map-append, take_all, append_assoc}
 use Rattle.std.proofs.lemmas.Option.{slice_get_within, get_or_from_slice_get}
+use Rattle.tl_types.proofs.BodyLemmas.{IsKept, all_after}
 use Rattle.tl_types.proofs.Lists.{and_left, and_right}
 use Rattle.tl_types.specs.Plain as plain
 use Rattle.tl_types.specs.declared.answers.Field.{Field}
 use Rattle.tl_types.specs.declared.cells.Cell.{Cell}
 use Rattle.tl_types.specs.declared.schemas.Column.{Column}
 use Rattle.tl_types.specs.declared.commits.Commit.{Commit}
-use Rattle.tl_types.specs.declared.commits.Body.{Body}
-use Rattle.tl_types.specs.declared.commits.Body.TheVariants as body
-use Rattle.tl_types.specs.History.{has_id, row_after, new_row, table_after, at_place, after_body, after_commit, nothing, database_of, fits_body, fits_table, is_of_kind, is_open_at, match_columns, matches, rows_of}
+use Rattle.tl_types.specs.History.{has_id, row_after, new_row, table_after, after_commit, nothing, database_of, fits_body, fits_table, is_of_kind, is_open_at, match_columns, matches, rows_of}
 use Rattle.tl_types.specs.Limits.{standard_limits}
 use Rattle.std.specs.Bool.{beq}
 use Rattle.std.specs.Prelude.{is_some, IsTrue}
@@ -28,10 +27,13 @@ abbrev pub AreFull : ℕ → List plain.Row → Type 0
 AreFull n [] = Unit {0}
 AreFull n (row ∷ rows) = (length row.cells ≡ n) × AreFull n rows
 
--- each row of each table has a cell for each column
+-- each row of the table has a cell for each column
+abbrev pub HasFullRows : plain.Table → Type 0
+HasFullRows table = AreFull (length table.schema.columns) table.rows
+
+-- so has each row of each table
 abbrev pub HaveFullRows : List plain.Table → Type 0
-HaveFullRows [] = Unit {0}
-HaveFullRows (table ∷ tables) = AreFull (length table.schema.columns) table.rows × HaveFullRows tables
+HaveFullRows tables = AllByRecursion HasFullRows tables
 
 match_length : (cs : List Column) (xs : List Cell) → match_columns cs xs ≡ true → length xs ≡ length cs
 match_length [] [] h = refl
@@ -53,25 +55,19 @@ changed_full w n schema closes opens (r ∷ rows) m h = (closed (has_id closes n
   closed true = h.0
   closed false = h.0
 
-table_full : (w i : ℕ) (change : plain.Change) (tables : List plain.Table) → fits_table standard_limits change (slice_get tables i) ≡ true → HaveFullRows tables → HaveFullRows (at_place i (table_after w change) tables)
-table_full w i change [] f h = tt
-table_full w zero change (t ∷ tables) f h =
+table_full : (w : ℕ) (change : plain.Change) (t : plain.Table) → fits_table standard_limits change (Some t) ≡ true → HasFullRows t → HasFullRows (table_after w change t)
+table_full w change t f h =
     let both = and_left (list_all (is_open_at t.rows) change.closes && list_all (matches t.schema) change.opens) (nat_le (length t.rows + length change.opens) standard_limits.rows) f in
-    (changed_full w 0 t.schema change.closes change.opens t.rows (and_right (list_all (is_open_at t.rows) change.closes) (list_all (matches t.schema) change.opens) both) h.0, h.1)
-table_full w (suc i) change (t ∷ tables) f h = (h.0, table_full w i change tables f h.1)
+    changed_full w 0 t.schema change.closes change.opens t.rows (and_right (list_all (is_open_at t.rows) change.closes) (list_all (matches t.schema) change.opens) both) h
 
-made_full : (schema : plain.Schema) (tables : List plain.Table) → HaveFullRows tables → HaveFullRows (tables ++ record { schema = schema; floor = 0; rows = [] } ∷ [])
-made_full schema [] h = (tt, tt)
-made_full schema (t ∷ tables) h = (h.0, made_full schema tables h.1)
-
-body_full : (w : ℕ) (b : Body) (tables : List plain.Table) → fits_body standard_limits tables b ≡ true → HaveFullRows tables → HaveFullRows (after_body w b tables)
-body_full w (body.Create schema) tables f h = made_full schema tables h
-body_full w (body.Change change) tables f h = table_full w change.table change tables f h
+-- it stays so, whatever a commit does
+full_kept : (w : ℕ) → IsKept w HasFullRows
+full_kept w = record { made = λ schema. tt; changed = table_full w; floored = λ floor t h. h }
 
 commits_full : (db : plain.Database) (cs : List Commit) → HaveFullRows db.tables → FitFrom standard_limits db cs → HaveFullRows (fold after_commit db cs).tables
 commits_full db [] h f = h
 commits_full db (c ∷ cs) h f =
-    commits_full (after_commit db c) cs (body_full (db.version + 1) c.body db.tables (and_right (nat_lt db.version standard_limits.versions) (fits_body standard_limits db.tables c.body) f.0) h) f.1
+    commits_full (after_commit db c) cs (all_after (db.version + 1) HasFullRows (full_kept (db.version + 1)) db c.body (and_right (nat_lt db.version standard_limits.versions) (fits_body standard_limits db c.body) f.0) h) f.1
 
 full_at : (tables : List plain.Table) (i : ℕ) (t : plain.Table) → HaveFullRows tables → slice_get tables i ≡ Some t → AreFull (length t.schema.columns) t.rows
 full_at [] i t h e = absurd (cc)

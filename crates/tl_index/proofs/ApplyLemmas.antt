@@ -1,17 +1,17 @@
 -- What a commit that fits asks of the timelines, and that it makes those of the longer history.
-use Rattle.std.proofs.Common.{◌≡◌, ℕ, suc, ◌+◌, ◌^◌, ◌<◌, ◌≤◌, true, ◌&&◌, nat_le, nat_lt, List, [], ◌∷◌, ◌++◌, length, map, set, Option, Some, None, refl, sym, ap, subst, ◌∙◌, arith, slice_get, get_or, length-append, IsTrue}
+use Rattle.std.proofs.Common.{◌≡◌, ℕ, ℤ, suc, ◌+◌, ◌^◌, ◌<◌, ◌≤◌, true, ◌&&◌, nat_le, nat_lt, List, [], ◌∷◌, ◌++◌, length, map, set, Option, Some, None, refl, sym, ap, subst, ◌∙◌, arith, slice_get, get_or, length-append, IsTrue}
 use Rattle.std.specs.List.{list_all, enumerate_from, range_with_len}
 use Rattle.std.proofs.lemmas.Bool.{leb-true, ltb-true}
 use Rattle.std.proofs.lemmas.List.{length-map}
 use Rattle.std.proofs.lemmas.List.FromFn.{length-range_with_len}
 use Rattle.std.proofs.lemmas.List.Sums.{fold-append}
 use Rattle.std.proofs.lemmas.Option.{get_or_from_slice_get, slice_get_within, slice_get-map}
-use Rattle.tl_types.proofs.Lists.{and_left, and_right}
+use Rattle.tl_types.proofs.Lists.{and_left, and_right, map-at_place-unseen}
 use Rattle.tl_types.specs.Plain as plain
 use Rattle.tl_types.specs.Facts.{IsChange}
 use Rattle.tl_types.specs.declared.commits.Commit.{Commit}
 use Rattle.tl_types.specs.declared.commits.Body.TheVariants as body
-use Rattle.tl_types.specs.History.{open_end, is_open_at, row_after, table_after, new_row, at_place, after_body, after_commit, nothing, database_of, fits, fits_table, fits_body, matches, rows_of}
+use Rattle.tl_types.specs.History.{open_end, is_open_at, row_after, table_after, new_row, at_place, with_floor, after_body, after_commit, nothing, database_of, fits, fits_table, fits_body, matches, rows_of}
 use Rattle.tl_types.specs.Events.{invalidation, activation, events_of}
 use Rattle.tl_types.specs.Limits.{standard_limits}
 use Rattle.tl_types.specs.Legality.{FitInTurn}
@@ -20,13 +20,13 @@ use Rattle.tl_types.proofs.WellFormedLemmas.{history_rows, table_formed}
 use Rattle.tl_index.specs.declared.timelines.Timeline.{Timeline}
 use Rattle.tl_index.specs.Timelines.{timeline_of, timelines_in, timelines_of, timeline_after}
 use Rattle.tl_types.proofs.EventLemmas.{events_few}
-use Rattle.tl_index.proofs.TimelineLemmas.{changed_timeline, changed_timelines, made_timelines, stands_after}
+use Rattle.tl_index.proofs.TimelineLemmas.{changed_timeline, changed_timelines, left_timelines, made_timelines, stands_after}
 
 next : (v : ℕ) → v + 1 ≡ suc v
 next v = omega arith
 
 room : (db : plain.Database) (c : Commit) → fits standard_limits db c ≡ true → suc db.version < open_end
-room db c f = let r = ltb-true db.version 16777215 (and_left (nat_lt db.version 16777215) (fits_body standard_limits db.tables c.body) f) in omega (arith, r)
+room db c f = let r = ltb-true db.version 16777215 (and_left (nat_lt db.version 16777215) (fits_body standard_limits db c.body) f) in omega (arith, r)
 
 -- a commit that creates a table
 pub create_after : (commits : List Commit) (c : Commit) (schema : plain.Schema) (ts : List Timeline) → FitInTurn standard_limits commits → IsTrue (fits standard_limits (database_of commits) c) → ts ≡ timelines_of commits → c.body ≡ body.Create schema
@@ -38,6 +38,29 @@ create_after commits c schema ts fitting fit is what =
     ∙ ap (λ w. map (timeline_of w) (db.tables ++ (record { schema = schema; floor = 0; rows = [] }) ∷ [])) (sym (next db.version))
     ∙ ap (λ b. map (timeline_of (db.version + 1)) (after_body (db.version + 1) b db.tables)) (sym what)
     ∙ ap timelines_in (sym (fold-append after_commit nothing commits (c ∷ [])))
+
+-- a commit of which no timeline sees what it does
+unseen_after : (commits : List Commit) (c : Commit) (ts : List Timeline) → FitInTurn standard_limits commits → IsTrue (fits standard_limits (database_of commits) c) → ts ≡ timelines_of commits
+    → ((w : ℕ) → map (timeline_of w) (after_body w c.body (database_of commits).tables) ≡ map (timeline_of w) (database_of commits).tables) → ts ≡ timelines_of (commits ++ c ∷ [])
+unseen_after commits c ts fitting fit is same =
+    let db = database_of commits in
+    is
+    ∙ left_timelines db.version db.tables (room db c fit) (history_rows commits fitting).formed
+    ∙ ap (λ w. map (timeline_of w) db.tables) (sym (next db.version))
+    ∙ sym (same (db.version + 1))
+    ∙ ap timelines_in (sym (fold-append after_commit nothing commits (c ∷ [])))
+
+-- a commit that states a moment
+pub stated_after : (commits : List Commit) (c : Commit) (moment : ℤ) (ts : List Timeline) → FitInTurn standard_limits commits → IsTrue (fits standard_limits (database_of commits) c) → ts ≡ timelines_of commits → c.body ≡ body.Moment moment → ts ≡ timelines_of (commits ++ c ∷ [])
+stated_after commits c moment ts fitting fit is what =
+    unseen_after commits c ts fitting fit is (λ w. ap (λ b. map (timeline_of w) (after_body w b (database_of commits).tables)) what)
+
+-- a commit that sets a floor
+pub floored_after : (commits : List Commit) (c : Commit) (number floor : ℕ) (ts : List Timeline) → FitInTurn standard_limits commits → IsTrue (fits standard_limits (database_of commits) c) → ts ≡ timelines_of commits → c.body ≡ body.Forget number floor → ts ≡ timelines_of (commits ++ c ∷ [])
+floored_after commits c number floor ts fitting fit is what =
+    unseen_after commits c ts fitting fit is (λ w.
+    ap (λ b. map (timeline_of w) (after_body w b (database_of commits).tables)) what
+    ∙ map-at_place-unseen (timeline_of w) (with_floor floor) (λ t. refl) (database_of commits).tables number)
 
 -- the table that a change names
 record Found (change : plain.Change) (o : Option plain.Table) : Type 0 where
@@ -75,7 +98,7 @@ module _ (commits : List Commit) (c : Commit) (change : plain.Change) (ts : List
   db = database_of commits
 
   of_change : Found change (slice_get db.tables change.table)
-  of_change = found change (slice_get db.tables change.table) (subst (λ b. fits_body standard_limits db.tables b ≡ true) what (and_right (nat_lt db.version 16777215) (fits_body standard_limits db.tables c.body) fit))
+  of_change = found change (slice_get db.tables change.table) (subst (λ b. fits_body standard_limits db b ≡ true) what (and_right (nat_lt db.version 16777215) (fits_body standard_limits db c.body) fit))
 
   pub table_there : change.table < length db.tables
   table_there = slice_get_within db.tables change.table of_change.table of_change.is

@@ -239,7 +239,7 @@ kept_after commits log timelines marks c kept fit =
     let takes : takes_commit es c ≡ true = and_both (not (has_break es)) (fits standard_limits (database_of (commits_of es)) c) whole (subst (λ cs. fits standard_limits (database_of cs) c ≡ true) own fit) in
     let legal = legal_push es (commit_entry c) kept.legal takes in
     let next : database_of (commits ++ c ∷ []) ≡ after_commit db c = fold-append after_commit nothing commits (c ∷ []) in
-    let room = ltb-true db.version 16777215 (and_left (nat_lt db.version 16777215) (fits_body standard_limits db.tables c.body) fit) in (
+    let room = ltb-true db.version 16777215 (and_left (nat_lt db.version 16777215) (fits_body standard_limits db c.body) fit) in (
       record {
         legal = subst (λ xs. IsTrue (are_legal xs)) (sym last) legal;
         known = subst (λ d. AreKnown d log) (sym next) (known_later db c log kept.known);

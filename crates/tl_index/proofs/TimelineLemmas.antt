@@ -34,7 +34,7 @@ left_timeline v table l h =
       parts : (a b : List Event) (c d : List VersionEnd) → a ≡ b → c ≡ d → ◌≡◌ {A = Timeline} (record { events = a; ends = c }) (record { events = b; ends = d })
       parts a b c d e f = rw (e, f) refl
 
-left_timelines : (v : ℕ) (tables : List plain.Table) → suc v < open_end → HaveWellFormedRows v tables → map (timeline_of v) tables ≡ map (timeline_of (suc v)) tables
+pub left_timelines : (v : ℕ) (tables : List plain.Table) → suc v < open_end → HaveWellFormedRows v tables → map (timeline_of v) tables ≡ map (timeline_of (suc v)) tables
 left_timelines v [] l h = refl
 left_timelines v (t ∷ tables) l h =
     ap (λ x. x ∷ map (timeline_of v) tables) (left_timeline v t l h.0) ∙ ap (λ xs. timeline_of (suc v) t ∷ xs) (left_timelines v tables l h.1)

@@ -163,5 +163,7 @@ pub(crate) fn timelines_after(
             list.insert(i, Shared::new(alloc, after)?)?;
             Ok(Timelines { list })
         }
+        Body::Moment { .. } => Ok(timelines),
+        Body::Forget { .. } => Ok(timelines),
     }
 }

@@ -7,6 +7,7 @@ pub mod KeyLemmas
 pub mod PairLemmas
 pub mod Places
 pub mod Searching
+pub mod StampLemmas
 pub mod Selecting
 pub mod TimeLemmas
 pub mod ValueLemmas

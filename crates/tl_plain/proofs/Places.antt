@@ -1,7 +1,7 @@
 -- A table at its place among the others.
 use Rattle.std.proofs.Common.{◌≡◌, ℕ, zero, suc, ◌+◌, ◌<◌, ◌≤◌, ◌^◌, true, false, leb, List, [], ◌∷◌, ◌++◌, length, map, length-append, get_or, set, All, ◌&&◌, Some, refl, sym, ap, ◌∙◌, arith, slice_get}
 use Rattle.std.specs.List.{list_all}
-use Rattle.tl_types.specs.History.{at_place, matches, is_open_at, is_open, fits_table, row_after, new_row, with_ids}
+use Rattle.tl_types.specs.History.{at_place, matches, is_open_at, is_open, fits_table, fits_floor, row_after, new_row, with_ids}
 use Rattle.tl_types.specs.Limits.{standard_limits}
 use Rattle.std.proofs.lemmas.List.{length-map}
 use Rattle.std.proofs.lemmas.List.FromFn.{length-enumerate_from}
@@ -42,3 +42,8 @@ table_within limits change (t ∷ ts) zero h = omega arith
 table_within limits change (t ∷ ts) (suc i) h = let later = table_within limits change ts i h in omega arith
 
 pub ruleset open_places = (is_open_at-within, is_open_at-past)
+
+pub floor_within : (now floor : ℕ) (tables : List plain.Table) (i : ℕ) → fits_floor now floor (slice_get tables i) ≡ true → i < length tables
+floor_within now floor [] i h = absurd cc
+floor_within now floor (t ∷ ts) zero h = omega arith
+floor_within now floor (t ∷ ts) (suc i) h = let later = floor_within now floor ts i h in omega arith

@@ -1,6 +1,6 @@
 //! One table.
 ghost use Rattle.std.specs.Prelude.{◌≡◌, ◌<◌, ◌^◌, IsTrue, OnOk, OnErr, Some, length};
-ghost use Rattle.tl_types.specs.History.{fits_table, table_after, new_table, has_name};
+ghost use Rattle.tl_types.specs.History.{fits_table, fits_floor, table_after, new_table, with_floor, has_name};
 ghost use Rattle.tl_types.specs.Limits.{standard_limits};
 ghost use Rattle.tl_types.specs.Plain as plain;
 
@@ -64,6 +64,21 @@ impl Table {
         all_open(self.rows.as_slice(), change.closes())
             && all_match(&self.schema, change.opens())
             && self.rows.len() as u64 + change.opens().len() as u64 <= limits.rows
+    }
+
+    /// Whether a floor fits the table: it is greater than the one that stands, and at most the
+    /// number of commits.
+    pub fn fits_floor(&self, now: u32, floor: u32) -> bool
+        ensures { result ≡ fits_floor now floor (Some self.now) }
+    {
+        self.floor < floor && floor <= now
+    }
+
+    /// Sets the floor.
+    pub fn set_floor(&mut self, floor: u32)
+        ensures { self.new ≡ with_floor floor self.old }
+    {
+        self.floor = floor;
     }
 
     /// Applies the change of a version. The error is out of memory, and leaves the table as it was.

@@ -1,21 +1,24 @@
 //! All tables.
-ghost use Rattle.std.specs.Prelude.{◌≡◌, ◌<◌, ◌≤◌, ◌^◌, IsTrue, OnOk, OnErr, Some, length};
+ghost use Rattle.std.specs.Prelude.{◌≡◌, ◌+◌, ◌<◌, ◌≤◌, ◌^◌, ◌++◌, IsTrue, OnOk, OnErr, Some, length, slice_get};
 ghost use Rattle.std.specs.List.{list_any};
-ghost use Rattle.tl_types.specs.History.{fits, fits_body, after_commit, after_body, nothing, has_name, rows_of};
+ghost use Rattle.tl_types.specs.History.{fits, fits_body, fits_floor, after_commit, after_body, stamps_of, nothing, has_name, rows_of};
 ghost use Rattle.tl_types.specs.Limits.{standard_limits};
 ghost use Rattle.tl_types.specs.Plain as plain;
 
 use crate::contents::Table;
 use crate::rows::Row;
+use crate::stamps::{self, Stamp};
 use std::alloc::Global;
 use std::marker::Model;
 use tl_types::{Body, Commit, Limits, NoMemory};
 
-/// The number of commits so far, and the tables after them, of which there are at most 64.
+/// The number of commits so far, the tables after them, of which there are at most 64, and the
+/// stamps of the moments that they state.
 #[derive(Drop)]
 pub struct Tables {
     version: u32,
     tables: Vec<Table>,
+    stamps: Vec<Stamp>,
 }
 
 impl Model for Tables {
@@ -24,7 +27,11 @@ impl Model for Tables {
 
     ghost Value = { plain.Database };
 
-    ghost view = { λ d. record { version = d.version; tables = d.tables.items } };
+    ghost view = { λ d. record {
+      version = d.version;
+      tables = d.tables.items;
+      stamps = d.stamps.items;
+    } };
 
     ghost invariant = { λ d. length d.tables.items ≤ 64 };
 }
@@ -37,6 +44,7 @@ impl Tables {
         Tables {
             version: 0,
             tables: Vec::new(alloc),
+            stamps: Vec::new(alloc),
         }
     }
 
@@ -69,12 +77,19 @@ impl Tables {
 
     /// Whether a commit fits: fewer commits than the limits allow are there; a new table has a new
     /// name, and there is room for it; a change names a table, closes open rows only, opens rows
-    /// that match the schema, and leaves few enough rows.
+    /// that match the schema, and leaves few enough rows; a moment is greater than the last one; a
+    /// floor is of a table, greater than the one that stands, and at most the number of commits.
     pub fn fits(&self, commit: &Commit, limits: &Limits) -> bool
         ensures { result ≡ fits limits.now self.now commit.now }
     {
         (self.version as u64) < limits.versions
-            && fits_body(self.tables.as_slice(), &commit.body, limits)
+            && fits_body(
+                self.version,
+                self.tables.as_slice(),
+                self.stamps.as_slice(),
+                &commit.body,
+                limits,
+            )
     }
 
     /// Applies a commit that fits. The error is out of memory, and leaves the tables as they were.
@@ -84,7 +99,13 @@ impl Tables {
         ensures err { OnErr result (self.new ≡ self.old) }
     {
         let version = self.version + 1;
-        apply_body(alloc, version, &commit.body, &mut self.tables)?;
+        apply_body(
+            alloc,
+            self.version,
+            &commit.body,
+            &mut self.tables,
+            &mut self.stamps,
+        )?;
         self.version = version;
         Ok(())
     }
@@ -96,9 +117,20 @@ fn is_named(tables: &[Table], name: &str) -> bool
     tables.iter().any(|table| table.has_name(name))
 }
 
-fn fits_body(tables: &[Table], body: &Body, limits: &Limits) -> bool
+fn fits_floor(tables: &[Table], now: u32, table: u16, floor: u32) -> bool
+    ensures { result ≡ fits_floor now floor (slice_get tables.now table) }
+{
+    match tables.get(table as usize) {
+        Some(table) => table.fits_floor(now, floor),
+        None => false,
+    }
+}
+
+// What fits at so many commits.
+fn fits_body(now: u32, tables: &[Table], stamps: &[Stamp], body: &Body, limits: &Limits) -> bool
     requires { length tables.now ≤ 64 }
-    ensures { result ≡ fits_body limits.now tables.now body.now }
+    ensures { result ≡ fits_body limits.now
+        (record { version = now; tables = tables.now; stamps = stamps.now }) body.now }
 {
     match body {
         Body::Create(schema) => {
@@ -108,18 +140,28 @@ fn fits_body(tables: &[Table], body: &Body, limits: &Limits) -> bool
             Some(table) => table.fits(change, limits),
             None => false,
         },
+        Body::Moment { moment } => stamps::is_later(stamps, *moment),
+        Body::Forget { table, floor } => fits_floor(tables, now, *table, *floor),
     }
 }
 
+// Does what the commit after so many others does.
 fn apply_body(
     alloc: Global,
-    version: u32,
+    now: u32,
     body: &Body,
     tables: &mut Vec<Table>,
+    stamps: &mut Vec<Stamp>,
 ) -> Result<(), NoMemory>
-    requires { IsTrue (fits_body standard_limits tables.old.items body.now) }
-    ensures ok { OnOk result (tables.new.items ≡ after_body version body.now tables.old.items) }
+    requires room { now < 16777215 }
+    requires fit { IsTrue (fits_body standard_limits
+        (record { version = now; tables = tables.old.items; stamps = stamps.old.items })
+        body.now) }
+    ensures ok { OnOk result (tables.new.items ≡ after_body (now + 1) body.now tables.old.items) }
+    ensures stamped { OnOk result
+        (stamps.new.items ≡ stamps.old.items ++ stamps_of (now + 1) body.now) }
     ensures err { OnErr result (tables.new.items ≡ tables.old.items) }
+    ensures unstamped { OnErr result (stamps.new.items ≡ stamps.old.items) }
     ensures few { length tables.old.items ≤ 64 → length tables.new.items ≤ 64 }
 {
     match body {
@@ -129,7 +171,19 @@ fn apply_body(
         }
         Body::Change(change) => {
             let table = &mut tables[change.table() as usize];
-            table.change(alloc, version, change)?;
+            table.change(alloc, now + 1, change)?;
+            Ok(())
+        }
+        Body::Moment { moment } => {
+            stamps.push(Stamp::new(now + 1, *moment))?;
+            Ok(())
+        }
+        Body::Forget {
+            table: number,
+            floor,
+        } => {
+            let table = &mut tables[*number as usize];
+            table.set_floor(*floor);
             Ok(())
         }
     }

@@ -14,6 +14,7 @@ mod keyed_rows;
 mod passing;
 mod rows;
 mod selects;
+mod stamps;
 mod stretches;
 mod times;
 mod values;

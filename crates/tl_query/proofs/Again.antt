@@ -10,6 +10,8 @@ use Rattle.tl_types.specs.declared.cells.ColumnKind.TheVariants as kinds
 use Rattle.tl_query.specs.declared.terminals.Terminal.{Terminal}
 use Rattle.tl_types.specs.declared.keywords.Keyword.TheVariants as words
 use Rattle.tl_query.specs.declared.terminals.Terminal.TheVariants as terminals
+use Rattle.tl_query.specs.declared.terminals.SoftWord.{SoftWord}
+use Rattle.tl_query.specs.declared.terminals.SoftWord.TheVariants as soft
 use Rattle.tl_query.specs.declared.tokens.Token.{Token}
 use Rattle.tl_query.specs.declared.tokens.Token.TheVariants.{Fixed, Word, Number}
 use Rattle.tl_query.specs.declared.tokens.Placed.{Placed}
@@ -22,6 +24,8 @@ use Rattle.tl_query.specs.declared.ast.AggForm.{AggForm}
 use Rattle.tl_query.specs.declared.ast.AggKind.{AggKind}
 use Rattle.tl_query.specs.declared.ast.AggKind.TheVariants as aggs
 use Rattle.tl_query.specs.declared.ast.JoinForm.{JoinForm}
+use Rattle.tl_query.specs.declared.ast.AsOf.{AsOf}
+use Rattle.tl_query.specs.declared.ast.AsOf.TheVariants as as_ofs
 use Rattle.tl_query.specs.declared.ast.Over.{Over}
 use Rattle.tl_query.specs.declared.ast.Over.TheVariants as overs
 use Rattle.tl_query.specs.declared.ast.Pred.{Pred}
@@ -32,12 +36,12 @@ use Rattle.tl_query.specs.declared.ast.Item.TheVariants as items
 use Rattle.tl_query.specs.declared.ast.Query.TheVariants as queries
 use Rattle.tl_query.specs.declared.ast.Statement.{Statement}
 use Rattle.tl_query.specs.declared.ast.Statement.TheVariants as statements
-use Rattle.tl_query.specs.Terminals.{same_terminal}
-use Rattle.tl_query.specs.Grammar.{keyword, Part, terminal, terminal_at, identifier, version, moment, bound, constant, IsPart, Fits, IsSpelling, IsCreate, IsSelect, IsAgg, IsJoin, IsAsked, IsPred, IsAggregate, name_by, version_by, kind_keyword, cmp_terminal, agg_keyword, item_part, column_parts, valid_parts, create_parts, item_parts, asked_parts, test_parts, conj_parts, any_parts, where_parts, valid_at_parts, as_of_parts, select_parts, column_name_parts, by_parts, over_parts, agg_parts, join_parts, end_parts, each_after, separated}
-use Rattle.tl_query.specs.Reading.{◌>>=◌, is_fixed, after, expect, as_name, as_version, as_moment, as_bound, as_constant, item_by, as_item, kind_by, as_kind, as_cmp, agg_by, as_agg, valid_by, as_valid, take_at, peek_at, last_of, statement_end, where_some, first_offset, with_first, up_to, further, several, column_at, columns_at, valid_at, create_at, put_at, remove_at, items_at, asked_at, test_at, conj_at, where_at, valid_point_at, as_of_at, parse_select, versions_at, system_at, moments_at, over_at, column_name_at, by_at, agg_at, side_at, on_at, join_at, statement_at}
+use Rattle.tl_query.specs.Terminals.{same_terminal, soft_spelling}
+use Rattle.tl_query.specs.Grammar.{keyword, Part, terminal, terminal_at, said, identifier, version, moment, number, bound, constant, IsPart, Fits, IsSpelling, IsCreate, IsSelect, IsAgg, IsJoin, IsAsked, IsPred, IsAggregate, name_by, version_by, kind_keyword, cmp_terminal, agg_keyword, item_part, column_parts, valid_parts, create_parts, item_parts, asked_parts, test_parts, conj_parts, any_parts, where_parts, valid_at_parts, version_or_moment_parts, as_of_parts, select_parts, column_name_parts, by_parts, over_parts, agg_parts, join_parts, end_parts, each_after, separated}
+use Rattle.tl_query.specs.Reading.{◌>>=◌, is_fixed, after, expect, as_name, as_version, as_moment, as_number, is_soft, as_soft, as_bound, as_constant, item_by, as_item, kind_by, as_kind, as_cmp, agg_by, as_agg, valid_by, as_valid, take_at, peek_at, last_of, statement_end, where_some, first_offset, with_first, up_to, further, several, column_at, columns_at, valid_at, create_at, put_at, remove_at, items_at, asked_at, test_at, conj_at, where_at, valid_point_at, version_or_moment_at, as_of_at, moment_stated_at, forget_at, agg_or_forget_at, agg_or_soft_at, parse_select, versions_at, system_at, moments_at, over_at, column_name_at, by_at, agg_at, side_at, on_at, join_at, statement_at}
 use Rattle.tl_query.proofs.Lists.{Reads}
 use Rattle.tl_query.proofs.SameTerminals.{same_itself}
-use Rattle.tl_query.proofs.Readers.{agg_or_join, select_or_less, remove_or_less, put_or_less}
+use Rattle.tl_query.proofs.Readers.{join_or_less, select_or_less, remove_or_less, put_or_less}
 use Rattle.tl_query.proofs.Takers.{some_one}
 
 -- a value is read, and what is left are the parts after it
@@ -94,6 +98,9 @@ name_again n w ts h = take_again as_name identifier (λ p x e. e) n w ts h
 version_again : (s : Stamp) (w : List Part) (ts : List Placed) → Fits (version s ∷ w) ts → Read s w (take_at as_version ts)
 version_again s w ts h = take_again as_version version (λ p x e. e) s w ts h
 
+number_again : (s : Stamp) (w : List Part) (ts : List Placed) → Fits (number s ∷ w) ts → Read s w (take_at as_number ts)
+number_again s w ts h = take_again as_number number (λ p x e. e) s w ts h
+
 bound_again : (s : Stamp) (w : List Part) (ts : List Placed) → Fits (bound s ∷ w) ts → Read s w (take_at as_bound ts)
 bound_again s w ts h = take_again as_bound bound (λ p x e. e) s w ts h
 
@@ -143,6 +150,45 @@ valid_word_none [] [] a h = refl
 valid_word_none [] (p ∷ ts) a h = absurd h
 valid_word_none (q ∷ w) [] a h = absurd h
 valid_word_none (q ∷ w) (p ∷ ts) a h = ap (option_map (λ x. (x, ts))) (no_valid p.at p.token (a p h.0))
+
+-- WORDS THAT ARE NAMES ELSEWHERE
+
+soft_itself : (m : SoftWord) → is_soft m (Word (soft_spelling m)) ≡ true
+unfolding soft_spelling
+soft_itself soft.Moment = refl
+soft_itself soft.Forget = refl
+soft_itself soft.Before = refl
+
+-- what such a word is taken for
+soft_value : (m : SoftWord) (p : Placed) (b : Bool) → is_soft m p.token ≡ b → as_soft m p ≡ cond b (Some p.at) None
+soft_value m p b e = ap (λ b. cond b (Some p.at) None) e
+
+soft_token : (m : SoftWord) (p : Placed) → IsPart (said m) p → as_soft m p ≡ Some p.at
+soft_token m p e = soft_value m p true (ap (is_soft m) e ∙ soft_itself m)
+
+soft_word_again : (m : SoftWord) (w : List Part) (ts : List Placed) → Fits (said m ∷ w) ts → (at : ℕ) × (rest : List Placed) × Fits w rest × (peek_at (as_soft m) ts ≡ Some (at, rest))
+unfolding peek_at
+soft_word_again m w [] h = absurd h
+soft_word_again m w (p ∷ ts) h = (p.at, ts, h.1, ap (option_map (λ x. (x, ts))) (soft_token m p h.0))
+
+soft_taken_again : (m : SoftWord) (w : List Part) (ts : List Placed) → Fits (said m ∷ w) ts → (at : ℕ) × (rest : List Placed) × Fits w rest × (take_at (as_soft m) ts ≡ Ok (at, rest))
+unfolding take_at
+soft_taken_again m w [] h = absurd h
+soft_taken_again m w (p ∷ ts) h = (p.at, ts, h.1, ap (λ o. where_some o (Err (Some p.at)) (λ x. Ok (x, ts))) (soft_token m p h.0))
+
+-- where another part comes
+soft_none : (m : SoftWord) (q : Part) (w : List Part) (ts : List Placed) → ((p : Placed) → IsPart q p → is_soft m p.token ≡ false) → Fits (q ∷ w) ts → peek_at (as_soft m) ts ≡ None
+unfolding peek_at
+soft_none m q w [] a h = absurd h
+soft_none m q w (p ∷ ts) a h = ap (option_map (λ x. (x, ts))) (soft_value m p false (a p h.0))
+
+version_not_soft : (m : SoftWord) (at : ℕ) (t : Token) (s : Stamp) → version_by at t ≡ Some s → is_soft m t ≡ false
+version_not_soft m at (Number n) s e = refl
+version_not_soft m at _ s e = absurd (cc)
+
+-- no keyword or symbol comes
+said_other : (m : Terminal) (w : SoftWord) → IsOther m (said w)
+said_other m w = λ p e. ap (is_fixed m) e
 
 ended_again : (s : Statement) (b : Bool) (ts : List Placed) → Fits (end_parts b) ts → statement_end s ts ≡ Ok s
 unfolding statement_end last_of
@@ -308,17 +354,28 @@ valid_point_again (Some v) w stop ts h =
           ∙ then_again (expect (terminals.Keyword words.At) a.0) o.0 _ _ o.2 (then_again (take_at as_moment o.0) (v.value, n.0) _ _ n.2 refl),
     )
 
-as_of_again : (o : Option Stamp) (w : List Part) → Apart (terminals.Keyword words.As) w → (ts : List Placed) → Fits (as_of_parts o ++ w) ts → Read o w (as_of_at ts)
+version_or_moment_again : (x : AsOf) (w : List Part) (ts : List Placed) → Fits (version_or_moment_parts x ++ w) ts → Read x w (version_or_moment_at ts)
+unfolding version_or_moment_at
+version_or_moment_again (as_ofs.Version s) w ts h =
+    let no : peek_at (as_soft soft.Moment) ts ≡ None = soft_none soft.Moment (version s) w ts (λ p e. version_not_soft soft.Moment p.at p.token s e) h in
+    let v = version_again s w ts h in
+    (v.0, v.1, ap (λ o. where_some o (take_at as_version ts >>= λ s. Ok (as_ofs.Version s.0, s.1)) (λ word. take_at as_number word.1 >>= λ s. Ok (as_ofs.Moment s.0, s.1))) no ∙ then_again (take_at as_version ts) (s, v.0) _ _ v.2 refl)
+version_or_moment_again (as_ofs.Moment s) w ts h =
+    let a = soft_word_again soft.Moment (number s ∷ w) ts h in
+    let v = number_again s w a.1 a.2 in
+    (v.0, v.1, ap (λ o. where_some o (take_at as_version ts >>= λ s. Ok (as_ofs.Version s.0, s.1)) (λ word. take_at as_number word.1 >>= λ s. Ok (as_ofs.Moment s.0, s.1))) a.3 ∙ then_again (take_at as_number a.1) (s, v.0) _ _ v.2 refl)
+
+as_of_again : (o : Option AsOf) (w : List Part) → Apart (terminals.Keyword words.As) w → (ts : List Placed) → Fits (as_of_parts o ++ w) ts → Read o w (as_of_at ts)
 unfolding as_of_at
-as_of_again None w stop ts h = (ts, h, ap (λ o. where_some o (Ok (None, ts)) (λ rest. expect (terminals.Keyword words.Of) rest >>= λ next. take_at as_version next >>= λ s. Ok (Some s.0, s.1))) (after_none (terminals.Keyword words.As) w ts stop h))
-as_of_again (Some s) w stop ts h =
-    let a = after_again (terminals.Keyword words.As) (keyword words.Of ∷ version s ∷ w) ts h in
-    let o = expect_again (terminals.Keyword words.Of) (version s ∷ w) a.0 a.1 in
-    let v = version_again s w o.0 o.1 in (
+as_of_again None w stop ts h = (ts, h, ap (λ o. where_some o (Ok (None, ts)) (λ rest. expect (terminals.Keyword words.Of) rest >>= λ next. version_or_moment_at next >>= λ x. Ok (Some x.0, x.1))) (after_none (terminals.Keyword words.As) w ts stop h))
+as_of_again (Some x) w stop ts h =
+    let a = after_again (terminals.Keyword words.As) (keyword words.Of ∷ (version_or_moment_parts x ++ w)) ts h in
+    let o = expect_again (terminals.Keyword words.Of) (version_or_moment_parts x ++ w) a.0 a.1 in
+    let v = version_or_moment_again x w o.0 o.1 in (
       v.0,
       v.1,
-      ap (λ o. where_some o (Ok (None, ts)) (λ rest. expect (terminals.Keyword words.Of) rest >>= λ next. take_at as_version next >>= λ s. Ok (Some s.0, s.1))) a.2
-          ∙ then_again (expect (terminals.Keyword words.Of) a.0) o.0 _ _ o.2 (then_again (take_at as_version o.0) (s, v.0) _ _ v.2 refl),
+      ap (λ o. where_some o (Ok (None, ts)) (λ rest. expect (terminals.Keyword words.Of) rest >>= λ next. version_or_moment_at next >>= λ x. Ok (Some x.0, x.1))) a.2
+          ∙ then_again (expect (terminals.Keyword words.Of) a.0) o.0 _ _ o.2 (then_again (version_or_moment_at o.0) (x, v.0) _ _ v.2 refl),
     )
 
 by_again : (o : Option Name) (w : List Part) → Apart (terminals.Keyword words.By) w → (ts : List Placed) → Fits (by_parts o ++ w) ts → Read o w (by_at ts)
@@ -337,7 +394,7 @@ versions_again from to w ts h =
     let b = version_again to w o.0 o.1 in
     (b.0, b.1, then_again (take_at as_version ts) (from, a.0) _ _ a.2 (then_again (expect (terminals.Keyword words.To) a.0) o.0 _ _ o.2 (then_again (take_at as_version o.0) (to, b.0) _ _ b.2 refl)))
 
-moments_again : (at : ℕ) (from to : Stamp) (as_of : Option Stamp) (w : List Part) → Apart (terminals.Keyword words.As) w → (ts : List Placed) → Fits (terminal_at (terminals.Keyword words.Valid) at ∷ bound from ∷ keyword words.To ∷ bound to ∷ (as_of_parts as_of ++ w)) ts → Read (overs.Valid at from to as_of) w (moments_at ts)
+moments_again : (at : ℕ) (from to : Stamp) (as_of : Option AsOf) (w : List Part) → Apart (terminals.Keyword words.As) w → (ts : List Placed) → Fits (terminal_at (terminals.Keyword words.Valid) at ∷ bound from ∷ keyword words.To ∷ bound to ∷ (as_of_parts as_of ++ w)) ts → Read (overs.Valid at from to as_of) w (moments_at ts)
 unfolding moments_at
 moments_again at from to as_of w stop ts h =
     let v = take_again as_valid (terminal_at (terminals.Keyword words.Valid)) (λ p x e. ap as_valid e) at (bound from ∷ keyword words.To ∷ bound to ∷ (as_of_parts as_of ++ w)) ts h in
@@ -407,11 +464,11 @@ end_apart : (m : Terminal) → same_terminal terminals.Semicolon m ≡ false →
 end_apart m e true = other_said m terminals.Semicolon e
 end_apart m e false = tt
 
-as_of_apart : (m : Terminal) → same_terminal terminals.Semicolon m ≡ false → same_terminal (terminals.Keyword words.As) m ≡ false → (o : Option Stamp) (b : Bool) → Apart m (as_of_parts o ++ end_parts b)
+as_of_apart : (m : Terminal) → same_terminal terminals.Semicolon m ≡ false → same_terminal (terminals.Keyword words.As) m ≡ false → (o : Option AsOf) (b : Bool) → Apart m (as_of_parts o ++ end_parts b)
 as_of_apart m e h None b = end_apart m e b
 as_of_apart m e h (Some s) b = other_said m (terminals.Keyword words.As) h
 
-valid_apart : (m : Terminal) → same_terminal terminals.Semicolon m ≡ false → same_terminal (terminals.Keyword words.As) m ≡ false → same_terminal (terminals.Keyword words.Valid) m ≡ false → (v : Option ValidPoint) (o : Option Stamp) (b : Bool) → Apart m (valid_at_parts v ++ (as_of_parts o ++ end_parts b))
+valid_apart : (m : Terminal) → same_terminal terminals.Semicolon m ≡ false → same_terminal (terminals.Keyword words.As) m ≡ false → same_terminal (terminals.Keyword words.Valid) m ≡ false → (v : Option ValidPoint) (o : Option AsOf) (b : Bool) → Apart m (valid_at_parts v ++ (as_of_parts o ++ end_parts b))
 valid_apart m e h k None o b = as_of_apart m e h o b
 valid_apart m e h k (Some v) o b = other_at m (terminals.Keyword words.Valid) v.pos k
 
@@ -512,6 +569,50 @@ join_again f is b ts h =
     then_again (side_at ts) ((f.left, f.left_pred), left.0) _ _ left.2 (then_again (expect (terminals.Keyword words.With) left.0) word.0 _ _ word.2 (then_again (side_at word.0) ((f.right, f.right_pred), right.0) _ _ right.2
     (then_again (on_at right.0) ((f.left_on, f.right_on), on.0) _ _ on.2 (then_again (over_at on.0) (f.over, over.0) _ _ over.2 (ended_again (statements.Ask (queries.Join f)) b over.0 over.1)))))
 
+moment_stated_again : (s : Stamp) (b : Bool) (ts : List Placed) → Fits (number s ∷ end_parts b) ts → moment_stated_at ts ≡ Ok (statements.Moment s)
+unfolding moment_stated_at
+moment_stated_again s b ts h = let x = number_again s (end_parts b) ts h in then_again (take_at as_number ts) (s, x.0) (λ x. statement_end (statements.Moment x.0) x.1) _ x.2 (ended_again (statements.Moment s) b x.0 x.1)
+
+forget_again : (n : Name) (s : Stamp) (b : Bool) (ts : List Placed) → Fits (identifier n ∷ said soft.Before ∷ version s ∷ end_parts b) ts → forget_at ts ≡ Ok (statements.Forget n s)
+unfolding forget_at
+forget_again n s b ts h =
+    let x = name_again n (said soft.Before ∷ version s ∷ end_parts b) ts h in
+    let w = soft_taken_again soft.Before (version s ∷ end_parts b) x.0 x.1 in
+    let v = version_again s (end_parts b) w.1 w.2 in
+    then_again (take_at as_name ts) (n, x.0) _ _ x.2 (then_again (take_at (as_soft soft.Before) x.0) (w.0, w.1) _ _ w.3 (then_again (take_at as_version w.1) (s, v.0) _ _ v.2 (ended_again (statements.Forget n s) b v.0 v.1)))
+
+-- where a keyword comes first, no such word does
+agg_first : (ts : List Placed) (k : Terminal) (w : List Part) → Fits (terminal k ∷ w) ts → agg_or_soft_at ts ≡ agg_at ts
+unfolding agg_or_soft_at
+agg_first ts k w h =
+    let no : (m : SoftWord) → peek_at (as_soft m) ts ≡ None = λ m. soft_none m (terminal k) w ts (λ p e. ap (is_soft m) e) h in
+    ap (λ o. where_some o (agg_or_forget_at ts) (λ word. moment_stated_at word.1)) (no soft.Moment) ∙ ap (λ o. where_some o (agg_at ts) (λ word. forget_at word.1)) (no soft.Forget)
+
+moment_first : (s : Stamp) (b : Bool) (ts : List Placed) → Fits (said soft.Moment ∷ number s ∷ end_parts b) ts → agg_or_soft_at ts ≡ Ok (statements.Moment s)
+unfolding agg_or_soft_at
+moment_first s b ts h =
+    let a = soft_word_again soft.Moment (number s ∷ end_parts b) ts h in
+    ap (λ o. where_some o (agg_or_forget_at ts) (λ word. moment_stated_at word.1)) a.3 ∙ moment_stated_again s b a.1 a.2
+
+forget_not_moment : is_soft soft.Moment (Word (soft_spelling soft.Forget)) ≡ false
+unfolding soft_spelling
+forget_not_moment = refl
+
+forget_first : (n : Name) (s : Stamp) (b : Bool) (ts : List Placed) → Fits (said soft.Forget ∷ identifier n ∷ said soft.Before ∷ version s ∷ end_parts b) ts → agg_or_soft_at ts ≡ Ok (statements.Forget n s)
+unfolding agg_or_soft_at
+forget_first n s b ts h =
+    let w : List Part = identifier n ∷ said soft.Before ∷ version s ∷ end_parts b in
+    let no : peek_at (as_soft soft.Moment) ts ≡ None = soft_none soft.Moment (said soft.Forget) w ts (λ p e. ap (is_soft soft.Moment) e ∙ forget_not_moment) h in
+    let a = soft_word_again soft.Forget w ts h in
+    ap (λ o. where_some o (agg_or_forget_at ts) (λ word. moment_stated_at word.1)) no ∙ ap (λ o. where_some o (agg_at ts) (λ word. forget_at word.1)) a.3 ∙ forget_again n s b a.1 a.2
+
+-- where such a word comes first, no keyword does
+keyword_none : (ts : List Placed) (m : SoftWord) (w : List Part) → Fits (said m ∷ w) ts → put_or_less ts ≡ agg_or_soft_at ts
+keyword_none ts m w h =
+    let no : (k : Terminal) → after k ts ≡ None = λ k. after_none k (said m ∷ w) ts (said_other k m) h in
+    ap (λ o. where_some o (remove_or_less ts) put_at) (no (terminals.Keyword words.Put)) ∙ ap (λ o. where_some o (select_or_less ts) remove_at) (no (terminals.Keyword words.Remove))
+    ∙ ap (λ o. where_some o (join_or_less ts) parse_select) (no (terminals.Keyword words.Select)) ∙ ap (λ o. where_some o (agg_or_soft_at ts) join_at) (no (terminals.Keyword words.Join))
+
 -- the word with which no other statement begins
 first_word : (ts : List Placed) (k : Terminal) (w : List Part) → Fits (terminal k ∷ w) ts → (m : Terminal) → same_terminal k m ≡ false → after m ts ≡ None
 first_word ts k w h m e = after_none m (terminal k ∷ w) ts (other_said m k e) h
@@ -535,16 +636,24 @@ statement_again ts (statements.Ask (queries.Select f)) h =
     let a = after_again (terminals.Keyword words.Select) _ ts k in
     let no : (m : Terminal) → same_terminal (terminals.Keyword words.Select) m ≡ false → after m ts ≡ None = first_word ts (terminals.Keyword words.Select) _ k in
     ap (λ o. where_some o (put_or_less ts) create_at) (no (terminals.Keyword words.Create) refl) ∙ ap (λ o. where_some o (remove_or_less ts) put_at) (no (terminals.Keyword words.Put) refl) ∙ ap (λ o. where_some o (select_or_less ts) remove_at) (no (terminals.Keyword words.Remove) refl)
-    ∙ ap (λ o. where_some o (agg_or_join ts) parse_select) a.2 ∙ select_again f h.0 h.1.0 a.0 a.1
+    ∙ ap (λ o. where_some o (join_or_less ts) parse_select) a.2 ∙ select_again f h.0 h.1.0 a.0 a.1
 statement_again ts (statements.Ask (queries.Join f)) h =
     let k = subst (λ z. Fits z ts) (join_whole f (end_parts h.1.0)) h.1.1 in
     let a = after_again (terminals.Keyword words.Join) (identifier f.left ∷ (where_parts f.left_pred ++ keyword words.With ∷ identifier f.right ∷ (where_parts f.right_pred ++ keyword words.On ∷ identifier f.left_on ∷ terminal terminals.Equal ∷ identifier f.right_on ∷ (over_parts f.over ++ end_parts h.1.0)))) ts k in
     let no : (m : Terminal) → same_terminal (terminals.Keyword words.Join) m ≡ false → after m ts ≡ None = first_word ts (terminals.Keyword words.Join) (identifier f.left ∷ (where_parts f.left_pred ++ keyword words.With ∷ identifier f.right ∷ (where_parts f.right_pred ++ keyword words.On ∷ identifier f.left_on ∷ terminal terminals.Equal ∷ identifier f.right_on ∷ (over_parts f.over ++ end_parts h.1.0)))) k in
     ap (λ o. where_some o (put_or_less ts) create_at) (no (terminals.Keyword words.Create) refl) ∙ ap (λ o. where_some o (remove_or_less ts) put_at) (no (terminals.Keyword words.Put) refl) ∙ ap (λ o. where_some o (select_or_less ts) remove_at) (no (terminals.Keyword words.Remove) refl)
-    ∙ ap (λ o. where_some o (agg_or_join ts) parse_select) (no (terminals.Keyword words.Select) refl) ∙ ap (λ o. where_some o (agg_at ts) join_at) a.2 ∙ join_again f h.0 h.1.0 a.0 a.1
+    ∙ ap (λ o. where_some o (join_or_less ts) parse_select) (no (terminals.Keyword words.Select) refl) ∙ ap (λ o. where_some o (agg_or_soft_at ts) join_at) a.2 ∙ join_again f h.0 h.1.0 a.0 a.1
 statement_again ts (statements.Ask (queries.Agg f)) h =
     let k = subst (λ z. Fits z ts) (agg_whole f (end_parts h.1.0)) h.1.1 in
     let e = agg_apart f.kind in
     let no : (m : Terminal) → same_terminal (terminals.Keyword (agg_keyword f.kind)) m ≡ false → after m ts ≡ None = first_word ts (terminals.Keyword (agg_keyword f.kind)) _ k in
     ap (λ o. where_some o (put_or_less ts) create_at) (no (terminals.Keyword words.Create) e.0) ∙ ap (λ o. where_some o (remove_or_less ts) put_at) (no (terminals.Keyword words.Put) e.1) ∙ ap (λ o. where_some o (select_or_less ts) remove_at) (no (terminals.Keyword words.Remove) e.2)
-    ∙ ap (λ o. where_some o (agg_or_join ts) parse_select) (no (terminals.Keyword words.Select) e.3) ∙ ap (λ o. where_some o (agg_at ts) join_at) (no (terminals.Keyword words.Join) e.4) ∙ agg_again f h.0 h.1.0 ts k
+    ∙ ap (λ o. where_some o (join_or_less ts) parse_select) (no (terminals.Keyword words.Select) e.3) ∙ ap (λ o. where_some o (agg_or_soft_at ts) join_at) (no (terminals.Keyword words.Join) e.4) ∙ agg_first ts (terminals.Keyword (agg_keyword f.kind)) _ k ∙ agg_again f h.0 h.1.0 ts k
+statement_again ts (statements.Moment s) h =
+    let w : List Part = number s ∷ end_parts h.1.0 in
+    let no : after (terminals.Keyword words.Create) ts ≡ None = after_none (terminals.Keyword words.Create) (said soft.Moment ∷ w) ts (said_other (terminals.Keyword words.Create) soft.Moment) h.1.1 in
+    ap (λ o. where_some o (put_or_less ts) create_at) no ∙ keyword_none ts soft.Moment w h.1.1 ∙ moment_first s h.1.0 ts h.1.1
+statement_again ts (statements.Forget n s) h =
+    let w : List Part = identifier n ∷ said soft.Before ∷ version s ∷ end_parts h.1.0 in
+    let no : after (terminals.Keyword words.Create) ts ≡ None = after_none (terminals.Keyword words.Create) (said soft.Forget ∷ w) ts (said_other (terminals.Keyword words.Create) soft.Forget) h.1.1 in
+    ap (λ o. where_some o (put_or_less ts) create_at) no ∙ keyword_none ts soft.Forget w h.1.1 ∙ forget_first n s h.1.0 ts h.1.1

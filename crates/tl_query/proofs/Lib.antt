@@ -19,3 +19,6 @@ pub mod Utf8
 pub mod Spelled
 pub mod Sorting
 pub mod PairOrder
+pub mod FloorLemmas
+pub mod CellOrder
+pub mod ValueOrder

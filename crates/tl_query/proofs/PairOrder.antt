@@ -1,7 +1,7 @@
 -- The order of pairs. Pairs of the same rows are one pair, so the pairs of a join have one order.
 use Rattle.std.proofs.Common.{◌≡◌, ℕ, suc, ◌+◌, ℤ, Bool, true, false, ◌&&◌, ◌||◌, not, cond, ◌==◌, int_lt, nat_lt, List, [], ◌∷◌, ◌++◌, Option, Some, None, refl, sym, ap, ◌∙◌, arith, slice_get}
 use mathlib.Core.Path.{fun_ext}
-use Rattle.std.specs.List.{enumerate_from, filter_map, flat_map, AllByRecursion}
+use Rattle.std.specs.List.{enumerate_from, filter, filter_map, flat_map, AllByRecursion}
 use Rattle.std.specs.List.Sorted.{IsSortedBy, IsStableBy, ties}
 use Rattle.std.specs.declared.cmp.Ordering.{Ordering}
 use Rattle.std.specs.declared.cmp.Ordering.TheVariants.{Less, Equal, Greater}
@@ -15,7 +15,7 @@ use Rattle.tl_query.specs.declared.typed_queries.Span.{Span}
 use Rattle.tl_query.specs.declared.typed_queries.TypedPred.{TypedPred}
 use Rattle.tl_query.specs.Ordered.{in_order, pair_before}
 use Rattle.tl_query.specs.Joins.{common_pair, match_rows, pair_of, pairs_of, times_of}
-use Rattle.tl_query.proofs.Sorting.{sorted_is}
+use Rattle.tl_query.proofs.Sorting.{sorted_is, order_filtered}
 
 -- THE ORDER OF PAIRS
 
@@ -133,5 +133,23 @@ module _ (left_pred right_pred : TypedPred) (left_on right_on : ℕ) (span : Spa
   pairs_sorted lefts rights given sorted is up stable =
       let all : AllByRecursion (IsOfRows lefts rights) given = rw is (left_pairs lefts rights (enumerate_from 0 lefts) (enumerate_from 0 rights) (numbered_at lefts lefts 0 (λ k. at_start lefts k)) (numbered_at rights rights 0 (λ k. at_start rights k))) in
       sorted_is (λ p q. is_lt (pair_order p q)) (ranks_by pair_total (λ p. p)) (IsOfRows lefts rights) (one_pair lefts rights) given sorted all up stable ∙ ap (λ lt. in_order lt given) same_order ∙ ap (in_order pair_before) is where
+        at_start : (xs : List plain.Row) (k : ℕ) → slice_get xs (0 + k) ≡ slice_get xs k
+        at_start xs k = let e : 0 + k ≡ k = omega arith in ap (slice_get xs) e
+
+  all_filtered : {X : Type 0} (P : X → Type 0) (t : X → Bool) (xs : List X) → AllByRecursion P xs → AllByRecursion P (filter t xs)
+  all_filtered P t [] h = tt
+  all_filtered P t (x ∷ xs) h = by_test (t x) refl (all_filtered P t xs h.1) where
+    by_test : (b : Bool) → t x ≡ b → AllByRecursion P (filter t xs) → AllByRecursion P (filter t (x ∷ xs))
+    by_test true e later = rw e (h.0, later)
+    by_test false e later = rw e later
+
+  -- a part of the pairs in order is the part, in order
+  pub part_in_order : (t : Pair → Bool) (lefts rights : List plain.Row) → filter t (in_order pair_before (pairs_of left_pred right_pred left_on right_on span lefts rights)) ≡ in_order pair_before (filter t (pairs_of left_pred right_pred left_on right_on span lefts rights))
+  part_in_order t lefts rights =
+      let pairs = pairs_of left_pred right_pred left_on right_on span lefts rights in
+      let all : AllByRecursion (IsOfRows lefts rights) pairs = left_pairs lefts rights (enumerate_from 0 lefts) (enumerate_from 0 rights) (numbered_at lefts lefts 0 (λ k. at_start lefts k)) (numbered_at rights rights 0 (λ k. at_start rights k)) in
+      ap (λ lt. filter t (in_order lt pairs)) (sym same_order)
+      ∙ order_filtered (λ p q. is_lt (pair_order p q)) (ranks_by pair_total (λ p. p)) (IsOfRows lefts rights) (one_pair lefts rights) t pairs all (all_filtered (IsOfRows lefts rights) t pairs all)
+      ∙ ap (λ lt. in_order lt (filter t pairs)) same_order where
         at_start : (xs : List plain.Row) (k : ℕ) → slice_get xs (0 + k) ≡ slice_get xs k
         at_start xs k = let e : 0 + k ≡ k = omega arith in ap (slice_get xs) e

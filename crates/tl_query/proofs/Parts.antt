@@ -3,6 +3,7 @@ use Rattle.std.proofs.Common.{◌≡◌, ℕ, ◌≤◌, Bool, true, false, List
 use Rattle.std.specs.List.{AllByRecursion}
 use Rattle.tl_types.specs.declared.keywords.Keyword.TheVariants as words
 use Rattle.tl_query.specs.declared.terminals.Terminal.TheVariants as terminals
+use Rattle.tl_query.specs.declared.terminals.SoftWord.TheVariants as soft
 use Rattle.tl_query.specs.declared.tokens.Placed.{Placed}
 use Rattle.tl_query.specs.declared.ast.Name.{Name}
 use Rattle.tl_query.specs.declared.ast.Stamp.{Stamp}
@@ -13,6 +14,7 @@ use Rattle.tl_query.specs.declared.ast.AggForm.{AggForm}
 use Rattle.tl_query.specs.declared.ast.AggKind.{AggKind}
 use Rattle.tl_query.specs.declared.ast.AggKind.TheVariants as aggs
 use Rattle.tl_query.specs.declared.ast.JoinForm.{JoinForm}
+use Rattle.tl_query.specs.declared.ast.AsOf.TheVariants as as_ofs
 use Rattle.tl_query.specs.declared.ast.Over.{Over}
 use Rattle.tl_query.specs.declared.ast.Over.TheVariants as overs
 use Rattle.tl_query.specs.declared.ast.Pred.{Pred}
@@ -22,12 +24,12 @@ use Rattle.tl_query.specs.declared.ast.Item.{Item}
 use Rattle.tl_query.specs.declared.ast.Query.TheVariants as queries
 use Rattle.tl_query.specs.declared.ast.Statement.{Statement}
 use Rattle.tl_query.specs.declared.ast.Statement.TheVariants as statements
-use Rattle.tl_query.specs.Grammar.{keyword, Part, terminal, terminal_at, identifier, version, moment, bound, constant, IsAsked, IsPred, IsAggregate, kind_keyword, cmp_terminal, agg_keyword, item_part, column_parts, valid_parts, create_parts, item_parts, asked_parts, test_parts, conj_parts, where_parts, valid_at_parts, as_of_parts, select_parts, column_name_parts, by_parts, over_parts, agg_parts, join_parts, separated}
-use Rattle.tl_query.specs.Reading.{◌>>=◌, after, expect, as_name, as_version, as_moment, as_bound, as_constant, as_item, as_kind, as_cmp, as_agg, as_valid, take_at, peek_at, statement_end, where_some, several, column_at, columns_at, valid_at, create_at, put_at, remove_at, items_at, asked_at, test_at, conj_at, where_at, valid_point_at, as_of_at, parse_select, versions_at, system_at, moments_at, over_at, column_name_at, by_at, agg_at, side_at, on_at, join_at, statement_at}
+use Rattle.tl_query.specs.Grammar.{keyword, Part, terminal, terminal_at, said, identifier, version, moment, number, bound, constant, IsAsked, IsPred, IsAggregate, kind_keyword, cmp_terminal, agg_keyword, item_part, column_parts, valid_parts, create_parts, item_parts, asked_parts, test_parts, conj_parts, where_parts, valid_at_parts, version_or_moment_parts, as_of_parts, select_parts, column_name_parts, by_parts, over_parts, agg_parts, join_parts, separated}
+use Rattle.tl_query.specs.Reading.{◌>>=◌, after, expect, as_name, as_version, as_moment, as_number, as_soft, as_bound, as_constant, as_item, as_kind, as_cmp, as_agg, as_valid, take_at, peek_at, statement_end, where_some, several, column_at, columns_at, valid_at, create_at, put_at, remove_at, items_at, asked_at, test_at, conj_at, where_at, valid_point_at, version_or_moment_at, as_of_at, moment_stated_at, forget_at, agg_or_forget_at, agg_or_soft_at, parse_select, versions_at, system_at, moments_at, over_at, column_name_at, by_at, agg_at, side_at, on_at, join_at, statement_at}
 use Rattle.tl_query.proofs.Laws.{Good, Takes, good_by, good_at, expect_good, take_good, peek_good, peek_token_good, end_good}
-use Rattle.tl_query.proofs.Takers.{name_takes, version_takes, moment_takes, bound_takes, constant_takes, item_takes, kind_takes, cmp_takes, agg_takes, valid_takes}
+use Rattle.tl_query.proofs.Takers.{name_takes, version_takes, moment_takes, number_takes, soft_takes, bound_takes, constant_takes, item_takes, kind_takes, cmp_takes, agg_takes, valid_takes}
 use Rattle.tl_query.proofs.Lists.{Shrinks, Law, regroup, where_then, several_good, first_good, ok_then, take_shrinks, several_shrinks}
-use Rattle.tl_query.proofs.Readers.{agg_or_join, select_or_less, remove_or_less, put_or_less}
+use Rattle.tl_query.proofs.Readers.{join_or_less, select_or_less, remove_or_less, put_or_less}
 
 -- no test of a value
 abbrev pub Any : {A : Type 0} → A → Type 0
@@ -124,13 +126,24 @@ valid_point_law n prefix g h =
     good_at n (prefix ++ valid_at_parts (point pos value)) (((prefix ++ (terminal_at (terminals.Keyword words.Valid) pos ∷ [])) ++ (keyword words.At ∷ [])) ++ (moment value ∷ [])) (λ ts. g (point pos value, ts)) (simp append_assoc) (h (point pos value) tt))))
     (good_at n (prefix ++ []) prefix (λ ts. g (None, ts)) (append-nil prefix) (h None tt))
 
+version_or_moment_law : Law Any version_or_moment_at version_or_moment_parts
+unfolding version_or_moment_at
+version_or_moment_law n prefix g h =
+    peek_token_good (as_soft soft.Moment) (λ _. said soft.Moment) (soft_takes soft.Moment) n prefix (λ ts. version_or_moment_at ts >>= g) (λ ts. take_at as_version ts >>= λ s. g (as_ofs.Version s.0, s.1)) (λ word. take_at as_number word.1 >>= λ s. g (as_ofs.Moment s.0, s.1))
+    (λ y. where_then (peek_at (as_soft soft.Moment) y) (take_at as_version y >>= λ s. Ok (as_ofs.Version s.0, s.1)) (λ word. take_at as_number word.1 >>= λ s. Ok (as_ofs.Moment s.0, s.1)) g
+    ∙ ap (λ r. where_some (peek_at (as_soft soft.Moment) y) r (λ word. (take_at as_number word.1 >>= λ s. Ok (as_ofs.Moment s.0, s.1)) >>= g)) (regroup (take_at as_version y) (λ s. Ok (as_ofs.Version s.0, s.1)) g)
+    ∙ where_same (peek_at (as_soft soft.Moment) y) (take_at as_version y >>= λ s. g (as_ofs.Version s.0, s.1)) _ _ (λ word. regroup (take_at as_number word.1) (λ s. Ok (as_ofs.Moment s.0, s.1)) g))
+    (λ at. take_good as_number number number_takes n (prefix ++ (said soft.Moment ∷ [])) _ (λ s.
+    good_at n (prefix ++ version_or_moment_parts (as_ofs.Moment s)) ((prefix ++ (said soft.Moment ∷ [])) ++ (number s ∷ [])) (λ ts. g (as_ofs.Moment s, ts)) (simp append_assoc) (h (as_ofs.Moment s) tt)))
+    (take_good as_version version version_takes n prefix _ (λ s. h (as_ofs.Version s) tt))
+
 as_of_law : Law Any as_of_at as_of_parts
 unfolding as_of_at
 as_of_law n prefix g h =
-    peek_good n prefix (terminals.Keyword words.As) (λ ts. as_of_at ts >>= g) (λ ts. g (None, ts)) (λ rest. expect (terminals.Keyword words.Of) rest >>= λ next. take_at as_version next >>= λ s. g (Some s.0, s.1))
-    (λ y. where_then (after (terminals.Keyword words.As) y) (Ok (None, y)) _ g ∙ where_same (after (terminals.Keyword words.As) y) (g (None, y)) _ _ (λ rest. regroup (expect (terminals.Keyword words.Of) rest) _ g ∙ then_same (expect (terminals.Keyword words.Of) rest) _ _ (λ next. regroup (take_at as_version next) _ g)))
-    (expect_good n (prefix ++ (keyword words.As ∷ [])) (terminals.Keyword words.Of) _ (take_good as_version version version_takes n ((prefix ++ (keyword words.As ∷ [])) ++ (keyword words.Of ∷ [])) _ (λ s.
-    good_at n (prefix ++ as_of_parts (Some s)) (((prefix ++ (keyword words.As ∷ [])) ++ (keyword words.Of ∷ [])) ++ (version s ∷ [])) (λ ts. g (Some s, ts)) (simp append_assoc) (h (Some s) tt))))
+    peek_good n prefix (terminals.Keyword words.As) (λ ts. as_of_at ts >>= g) (λ ts. g (None, ts)) (λ rest. expect (terminals.Keyword words.Of) rest >>= λ next. version_or_moment_at next >>= λ x. g (Some x.0, x.1))
+    (λ y. where_then (after (terminals.Keyword words.As) y) (Ok (None, y)) _ g ∙ where_same (after (terminals.Keyword words.As) y) (g (None, y)) _ _ (λ rest. regroup (expect (terminals.Keyword words.Of) rest) _ g ∙ then_same (expect (terminals.Keyword words.Of) rest) _ _ (λ next. regroup (version_or_moment_at next) _ g)))
+    (expect_good n (prefix ++ (keyword words.As ∷ [])) (terminals.Keyword words.Of) _ (version_or_moment_law n ((prefix ++ (keyword words.As ∷ [])) ++ (keyword words.Of ∷ [])) (λ x. g (Some x.0, x.1)) (λ x any.
+    good_at n (prefix ++ as_of_parts (Some x)) (((prefix ++ (keyword words.As ∷ [])) ++ (keyword words.Of ∷ [])) ++ version_or_moment_parts x) (λ ts. g (Some x, ts)) (simp append_assoc) (h (Some x) tt))))
     (good_at n (prefix ++ []) prefix (λ ts. g (None, ts)) (append-nil prefix) (h None tt))
 
 -- the parts of a range after OVER
@@ -293,11 +306,28 @@ join_good n =
     let form : JoinForm = record { left = left.0; left_pred = left.1; right = right.0; right_pred = right.1; left_on = names.0; right_on = names.1; over = range } in
     end_good n (on left right names ++ over_parts range) (statements.Ask (queries.Join form)) (record { left_tested = good; right_tested = fine }) (join_spelled form))))))
 
+moment_stated_good : (n : ℕ) → Good n (said soft.Moment ∷ []) moment_stated_at
+unfolding moment_stated_at
+moment_stated_good n = take_good as_number number number_takes n (said soft.Moment ∷ []) (λ x. statement_end (statements.Moment x.0) x.1) (λ s. end_good n (said soft.Moment ∷ number s ∷ []) (statements.Moment s) tt refl)
+
+forget_good : (n : ℕ) → Good n (said soft.Forget ∷ []) forget_at
+unfolding forget_at
+forget_good n =
+    take_good as_name identifier name_takes n (said soft.Forget ∷ []) _ (λ table. take_good (as_soft soft.Before) (λ _. said soft.Before) (soft_takes soft.Before) n (said soft.Forget ∷ identifier table ∷ []) _ (λ word.
+    take_good as_version version version_takes n (said soft.Forget ∷ identifier table ∷ said soft.Before ∷ []) (λ x. statement_end (statements.Forget table x.0) x.1) (λ s.
+    end_good n (said soft.Forget ∷ identifier table ∷ said soft.Before ∷ version s ∷ []) (statements.Forget table s) tt refl)))
+
+agg_or_soft_good : (n : ℕ) → Good n [] agg_or_soft_at
+unfolding agg_or_soft_at
+agg_or_soft_good n =
+    peek_token_good (as_soft soft.Moment) (λ _. said soft.Moment) (soft_takes soft.Moment) n [] agg_or_soft_at agg_or_forget_at (λ word. moment_stated_at word.1) (λ y. refl) (λ at. moment_stated_good n)
+    (peek_token_good (as_soft soft.Forget) (λ _. said soft.Forget) (soft_takes soft.Forget) n [] agg_or_forget_at agg_at (λ word. forget_at word.1) (λ y. refl) (λ at. forget_good n) (agg_good n))
+
 pub statement_good : (n : ℕ) → Good n [] statement_at
 unfolding statement_at
 statement_good n =
     peek_good n [] (terminals.Keyword words.Create) statement_at put_or_less create_at (λ y. refl) (create_good n)
     (peek_good n [] (terminals.Keyword words.Put) put_or_less remove_or_less put_at (λ y. refl) (put_good n)
     (peek_good n [] (terminals.Keyword words.Remove) remove_or_less select_or_less remove_at (λ y. refl) (remove_good n)
-    (peek_good n [] (terminals.Keyword words.Select) select_or_less agg_or_join parse_select (λ y. refl) (select_good n)
-    (peek_good n [] (terminals.Keyword words.Join) agg_or_join agg_at join_at (λ y. refl) (join_good n) (agg_good n)))))
+    (peek_good n [] (terminals.Keyword words.Select) select_or_less join_or_less parse_select (λ y. refl) (select_good n)
+    (peek_good n [] (terminals.Keyword words.Join) join_or_less agg_or_soft_at join_at (λ y. refl) (join_good n) (agg_or_soft_good n)))))

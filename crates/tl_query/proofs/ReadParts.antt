@@ -7,8 +7,9 @@ use Rattle.tl_types.specs.declared.keywords.Keyword.TheVariants as words
 use Rattle.tl_query.specs.declared.terminals.Terminal.{Terminal}
 use Rattle.tl_query.specs.declared.terminals.Terminal.TheVariants as terminals
 use Rattle.tl_query.specs.declared.ast.Name.{Name}
-use Rattle.tl_query.specs.declared.ast.Stamp.{Stamp}
 use Rattle.tl_query.specs.declared.ast.ColumnForm.{ColumnForm}
+use Rattle.tl_query.specs.declared.ast.AsOf.{AsOf}
+use Rattle.tl_query.specs.declared.ast.AsOf.TheVariants as as_ofs
 use Rattle.tl_query.specs.declared.ast.Over.{Over}
 use Rattle.tl_query.specs.declared.ast.Over.TheVariants as overs
 use Rattle.tl_query.specs.declared.ast.Pred.{Pred}
@@ -19,16 +20,18 @@ use Rattle.tl_query.specs.declared.ast.Item.TheVariants as items
 use Rattle.tl_query.specs.declared.ast.Query.TheVariants as queries
 use Rattle.tl_query.specs.declared.ast.Statement.{Statement}
 use Rattle.tl_query.specs.declared.ast.Statement.TheVariants as statements
-use Rattle.tl_query.specs.Grammar.{keyword, Part, terminal, terminal_at, identifier, version, moment, bound, constant, each_after, separated, column_parts, valid_parts, item_parts, IsAsked, IsPred, asked_parts, test_parts, conj_parts, any_parts, where_parts, valid_at_parts, as_of_parts, column_name_parts, by_parts, over_parts, statement_parts, IsStatement}
-use Rattle.tl_query.specs.Parsed.{IsNamed, IsVersion, IsI64, IsCell, IsItem, IsTest, HasTests, HasVersions, HasNumbers, IsParsed}
+use Rattle.tl_query.specs.Grammar.{keyword, Part, terminal, terminal_at, said, identifier, version, moment, number, bound, constant, each_after, separated, column_parts, valid_parts, item_parts, IsAsked, IsPred, asked_parts, test_parts, conj_parts, any_parts, where_parts, valid_at_parts, version_or_moment_parts, as_of_parts, column_name_parts, by_parts, over_parts, statement_parts, IsStatement}
+use Rattle.tl_query.specs.Parsed.{IsNamed, IsVersion, IsGiven, IsI64, IsGivenI64, IsCell, IsItem, IsTest, HasTests, HasVersions, HasNumbers, IsParsed}
 
 -- what one token of a text can say
 abbrev pub IsReadPart : Part → Type 0
 IsReadPart (terminal m) = Unit {0}
 IsReadPart (terminal_at m at) = Unit {0}
+IsReadPart (said w) = Unit {0}
 IsReadPart (identifier n) = IsNamed n
 IsReadPart (version s) = IsVersion s × IsI64 s.value
 IsReadPart (moment v) = IsI64 v
+IsReadPart (number s) = IsI64 s.value
 IsReadPart (bound s) = IsI64 s.value
 IsReadPart (constant c at) = IsCell c
 
@@ -85,13 +88,21 @@ point_read : (o : Option ValidPoint) → Read (valid_at_parts o) → IfSome o (�
 point_read None h = tt
 point_read (Some v) h = h.1.1.0
 
-version_read : (o : Option Stamp) → Read (as_of_parts o) → ForSome o IsVersion
-version_read None h = λ x e. absurd (cc)
-version_read (Some s) h = λ x e. let same : s ≡ x = cc in rw (← same) h.1.1.0.0
+given_read : (x : AsOf) → Read (version_or_moment_parts x) → IsGiven x
+given_read (as_ofs.Version s) h = h.0.0
+given_read (as_ofs.Moment s) h = tt
 
-number_read : (o : Option Stamp) → Read (as_of_parts o) → IfSome o (λ s. IsI64 s.value)
+given_i64_read : (x : AsOf) → Read (version_or_moment_parts x) → IsGivenI64 x
+given_i64_read (as_ofs.Version s) h = h.0.1
+given_i64_read (as_ofs.Moment s) h = h.1.0
+
+version_read : (o : Option AsOf) → Read (as_of_parts o) → ForSome o IsGiven
+version_read None h = λ x e. absurd (cc)
+version_read (Some s) h = λ x e. let same : s ≡ x = cc in rw (← same) (given_read s h.1.1)
+
+number_read : (o : Option AsOf) → Read (as_of_parts o) → IfSome o IsGivenI64
 number_read None h = tt
-number_read (Some s) h = h.1.1.0.1
+number_read (Some s) h = given_i64_read s h.1.1
 
 column_name_read : (o : Option Name) → Read (column_name_parts o) → IfSome o IsNamed
 column_name_read None h = tt
@@ -156,6 +167,8 @@ parsed_from (statements.Ask (queries.Join f)) is h =
         over = over.1;
       },
     )
+parsed_from (statements.Moment s) is h = h.1.0
+parsed_from (statements.Forget n s) is h = (h.1.0, h.1.1.1.0.0, h.1.1.1.0.1)
 
 -- FROM STATEMENTS TO PARTS
 
@@ -204,9 +217,13 @@ point_said : (o : Option ValidPoint) → IfSome o (λ v. IsI64 v.value) → Read
 point_said None h = tt
 point_said (Some v) h = (tt, (tt, (h, tt)))
 
-as_of_said : (o : Option Stamp) → ForSome o IsVersion → IfSome o (λ s. IsI64 s.value) → Read (as_of_parts o)
+given_said : (x : AsOf) → IsGiven x → IsGivenI64 x → Read (version_or_moment_parts x)
+given_said (as_ofs.Version s) h k = ((h, k), tt)
+given_said (as_ofs.Moment s) h k = (tt, (k, tt))
+
+as_of_said : (o : Option AsOf) → ForSome o IsGiven → IfSome o IsGivenI64 → Read (as_of_parts o)
 as_of_said None h k = tt
-as_of_said (Some s) h k = (tt, (tt, ((h s refl, k), tt)))
+as_of_said (Some s) h k = (tt, (tt, given_said s (h s refl) k))
 
 column_name_said : (o : Option Name) → IfSome o IsNamed → Read (column_name_parts o)
 column_name_said None h = tt
@@ -240,6 +257,8 @@ parts_of (statements.Ask (queries.Join f)) h =
     let right = join (where_parts f.right_pred) (keyword words.On ∷ identifier f.left_on ∷ terminal terminals.Equal ∷ identifier f.right_on ∷ over_parts f.over) (pred_said f.right_pred h.1.right_tests) on in
     let left = join (where_parts f.left_pred) (keyword words.With ∷ identifier f.right ∷ (where_parts f.right_pred ++ (keyword words.On ∷ identifier f.left_on ∷ terminal terminals.Equal ∷ identifier f.right_on ∷ over_parts f.over))) (pred_said f.left_pred h.1.left_tests) (tt, (h.1.right, right)) in
     (tt, (h.1.left, left))
+parts_of (statements.Moment s) h = (tt, (h, tt))
+parts_of (statements.Forget n s) h = (tt, (h.0, (tt, ((h.1, h.2), tt))))
 
 some_tests : (any : List (List Test)) → AllByRecursion (λ tests. (1 ≤ length tests) × AllByRecursion IsTest tests) any → AllByRecursion (λ tests. 1 ≤ length tests) any
 some_tests [] h = tt
@@ -252,3 +271,5 @@ whole_of (statements.Remove n) h = tt
 whole_of (statements.Ask (queries.Select f)) h = record { asked = h.1.asked; tested = some_tests f.pred.any h.1.tests }
 whole_of (statements.Ask (queries.Agg f)) h = record { aggregate = h.0.0; tested = some_tests f.pred.any h.1.tests }
 whole_of (statements.Ask (queries.Join f)) h = record { left_tested = some_tests f.left_pred.any h.1.left_tests; right_tested = some_tests f.right_pred.any h.1.right_tests }
+whole_of (statements.Moment s) h = tt
+whole_of (statements.Forget n s) h = tt

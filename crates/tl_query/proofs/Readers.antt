@@ -7,7 +7,7 @@ use Rattle.tl_query.specs.declared.tokens.Placed.{Placed}
 use Rattle.tl_query.specs.declared.ast.Statement.{Statement}
 use Rattle.tl_query.specs.declared.token_parsers.Stop.{Stop}
 use Rattle.tl_query.specs.declared.token_parsers.Stop.TheVariants as stops
-use Rattle.tl_query.specs.Reading.{◌>>=◌, Fails, IsStopAt, after, up_to, further, several, with_first, before, where_some, put_at, remove_at, parse_select, join_at, agg_at}
+use Rattle.tl_query.specs.Reading.{◌>>=◌, Fails, IsStopAt, after, up_to, further, several, with_first, before, where_some, put_at, remove_at, parse_select, join_at, agg_or_soft_at}
 use Rattle.tl_query.proofs.Lists.{Reads, Shrinks, further_is}
 
 -- where one reader stops, so does one that begins with it
@@ -92,11 +92,11 @@ unfolding several
 several_fails m one ts o e = first_fails one (further m one) ts o e
 
 -- the statements that are left where no CREATE comes, no PUT, no REMOVE, and no SELECT
-abbrev pub agg_or_join : List Placed → Result Statement (Option ℕ)
-agg_or_join ts = where_some (after (terminals.Keyword words.Join) ts) (agg_at ts) join_at
+abbrev pub join_or_less : List Placed → Result Statement (Option ℕ)
+join_or_less ts = where_some (after (terminals.Keyword words.Join) ts) (agg_or_soft_at ts) join_at
 
 abbrev pub select_or_less : List Placed → Result Statement (Option ℕ)
-select_or_less ts = where_some (after (terminals.Keyword words.Select) ts) (agg_or_join ts) parse_select
+select_or_less ts = where_some (after (terminals.Keyword words.Select) ts) (join_or_less ts) parse_select
 
 abbrev pub remove_or_less : List Placed → Result Statement (Option ℕ)
 remove_or_less ts = where_some (after (terminals.Keyword words.Remove) ts) (select_or_less ts) remove_at

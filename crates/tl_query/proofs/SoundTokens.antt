@@ -16,7 +16,7 @@ use Rattle.tl_query.specs.declared.faults.TextFault.TheVariants.{OpenText}
 use Rattle.tl_query.specs.declared.ast.Name.{Name}
 use Rattle.tl_query.specs.declared.ast.Stamp.{Stamp}
 use Rattle.tl_query.specs.declared.ast.Statement.{Statement}
-use Rattle.tl_query.specs.Grammar.{Part, terminal, terminal_at, identifier, version, moment, bound, constant, IsPart, Fits, IsSpelling, name_by, version_by, moment_by, bound_by, constant_by, statement_parts, end_parts}
+use Rattle.tl_query.specs.Grammar.{Part, terminal, terminal_at, said, identifier, version, moment, number, bound, constant, IsPart, Fits, IsSpelling, name_by, version_by, moment_by, number_by, bound_by, constant_by, statement_parts, end_parts}
 use Rattle.tl_query.specs.Parsed.{IsNamed, IsVersion, IsI64, IsCell, IsParsed}
 use Rattle.tl_query.specs.Scanning.{Tokens, scan, with_piece, is_blank, digits_value, other_token, word_token, word_piece, piece_at, number_piece, negative_piece, single_quotes, text_token, quoted_piece, less_piece, greater_piece, symbol_piece, closing_len, placed_token}
 use Rattle.tl_query.specs.Texts.{tokens_of, Spells, text_read, Answers}
@@ -143,6 +143,11 @@ moment_read (Number n) v e h = subst IsI64 (some_one e) (pos_fits n h)
 moment_read (Negative n) v e h = subst IsI64 (some_one e) h
 moment_read _ v e h = absurd (cc)
 
+number_read : (at : ℕ) (t : Token) (s : Stamp) → number_by at t ≡ Some s → IsSound t → IsI64 s.value
+number_read at (Number n) s e h = subst (λ (s : Stamp). IsI64 s.value) (some_one e) (pos_fits n h)
+number_read at (Negative n) s e h = subst (λ (s : Stamp). IsI64 s.value) (some_one e) h
+number_read at _ s e h = absurd (cc)
+
 bound_read : (at : ℕ) (t : Token) (s : Stamp) → bound_by at t ≡ Some s → IsSound t → IsI64 s.value
 bound_read at (Number n) s e h = subst (λ (s : Stamp). IsI64 s.value) (some_one e) (pos_fits n h)
 bound_read at (Negative n) s e h = subst (λ (s : Stamp). IsI64 s.value) (some_one e) h
@@ -158,9 +163,11 @@ constant_read _ c e h = absurd (cc)
 part_read : (q : Part) (p : Placed) → IsPart q p → IsSound p.token → IsReadPart q
 part_read (terminal m) p e h = tt
 part_read (terminal_at m at) p e h = tt
+part_read (said w) p e h = tt
 part_read (identifier n) p e h = name_read p.at p.token n e h
 part_read (version s) p e h = version_read p.at p.token s e h
 part_read (moment v) p e h = moment_read p.token v e h
+part_read (number s) p e h = number_read p.at p.token s e h
 part_read (bound s) p e h = bound_read p.at p.token s e h
 part_read (constant c at) p e h = constant_read p.token c e.0 h
 

@@ -18,8 +18,9 @@ use Rattle.tl_query.specs.declared.tokens.Token.TheVariants.{Fixed, Word, Quoted
 use Rattle.tl_query.specs.declared.tokens.Placed.{Placed}
 use Rattle.tl_query.specs.declared.scanning.Piece.{Piece}
 use Rattle.tl_query.specs.declared.ast.Name.{Name}
-use Rattle.tl_query.specs.declared.ast.Stamp.{Stamp}
 use Rattle.tl_query.specs.declared.ast.AggKind.{AggKind}
+use Rattle.tl_query.specs.declared.ast.AsOf.{AsOf}
+use Rattle.tl_query.specs.declared.ast.AsOf.TheVariants as as_ofs
 use Rattle.tl_query.specs.declared.ast.Over.{Over}
 use Rattle.tl_query.specs.declared.ast.Over.TheVariants as overs
 use Rattle.tl_query.specs.declared.ast.Test.{Test}
@@ -29,17 +30,17 @@ use Rattle.tl_query.specs.declared.ast.Item.TheVariants as items
 use Rattle.tl_query.specs.declared.ast.Query.TheVariants as queries
 use Rattle.tl_query.specs.declared.ast.Statement.{Statement}
 use Rattle.tl_query.specs.declared.ast.Statement.TheVariants as statements
-use Rattle.tl_query.specs.Terminals.{same_terminal, spelling}
+use Rattle.tl_query.specs.Terminals.{same_terminal, soft_spelling, spelling}
 use Rattle.tl_query.specs.Scanning.{Tokens, tokens_before, placed_token, scan}
-use Rattle.tl_query.specs.Grammar.{keyword, Part, terminal, terminal_at, identifier, version, moment, bound, constant, IsPart, Fits, IsStatement, IsSpelling, IsAsked, IsAggregate, agg_keyword, name_by, version_by, moment_by, bound_by, constant_by, each_after, separated, column_parts, valid_parts, item_parts, asked_parts, test_parts, conj_parts, any_parts, where_parts, valid_at_parts, as_of_parts, column_name_parts, by_parts, over_parts, statement_parts}
+use Rattle.tl_query.specs.Grammar.{keyword, Part, terminal, terminal_at, said, identifier, version, moment, number, bound, constant, IsPart, Fits, IsStatement, IsSpelling, IsAsked, IsAggregate, agg_keyword, name_by, version_by, moment_by, number_by, bound_by, constant_by, each_after, separated, column_parts, valid_parts, item_parts, asked_parts, test_parts, conj_parts, any_parts, where_parts, valid_at_parts, version_or_moment_parts, as_of_parts, column_name_parts, by_parts, over_parts, statement_parts}
 use Rattle.tl_query.specs.Parsed.{IsI64, IsCell, IsParsed}
 use Rattle.tl_query.proofs.ReadParts.{IsReadPart, parts_of, whole_of}
-use Rattle.tl_query.specs.Printing.{terminal_word, plain_word, word_of, Written, gap, put, write, nothing, text_of, unplaced_name, unplaced_stamp, unplaced_column, unplaced_item, unplaced_test, unplaced_point, unplaced_over, without_offsets}
+use Rattle.tl_query.specs.Printing.{terminal_word, plain_word, word_of, Written, gap, put, write, nothing, text_of, unplaced_name, unplaced_stamp, unplaced_column, unplaced_item, unplaced_test, unplaced_point, unplaced_as_of, unplaced_over, without_offsets}
 use Rattle.tl_query.specs.Reading.{statement_at}
 use Rattle.tl_query.specs.Texts.{tokens_of, SpellsAgain}
 use Rattle.tl_query.proofs.SameTerminals.{same_terminal_true}
 use Rattle.tl_query.proofs.Turns.{blank_turn, piece_turn, read_within}
-use Rattle.tl_query.proofs.Words.{IsSoft, Begins, cond_false, number_token, natural_begins, below_begins, text_begins, name_begins, is_spelled, open_begins, terminal_begins}
+use Rattle.tl_query.proofs.Words.{IsSoft, Begins, cond_false, number_token, natural_begins, below_begins, text_begins, name_begins, soft_begins, is_spelled, open_begins, terminal_begins}
 use Rattle.tl_query.proofs.Again.{statement_again}
 use Rattle.tl_query.proofs.Deciding.{at_whole}
 use Rattle.tl_query.proofs.Unplaced.{unplaced_token, zeros, changed, statement_agrees}
@@ -57,9 +58,11 @@ bound_token v = cond (int_eq v plain.forever) (Fixed (terminals.Keyword words.Fo
 abbrev token_of : Part → Token
 token_of (terminal m) = Fixed m
 token_of (terminal_at m at) = Fixed m
+token_of (said w) = Word (soft_spelling w)
 token_of (identifier n) = Word n.text
 token_of (version s) = number_token s.value
 token_of (moment v) = number_token v
+token_of (number s) = number_token s.value
 token_of (bound s) = bound_token s.value
 token_of (constant c at) = cell_token c
 
@@ -90,9 +93,11 @@ bound_any v z false h s = number_any v z h (s refl)
 begins_of : (q : Part) → IsReadPart q → (z : List ℕ) → ((word_of q).opens ≡ false → IsSoft z) → Begins (word_of q).text z (token_of q) (joins_of q)
 begins_of (terminal m) h z s = terminal_any m z s
 begins_of (terminal_at m at) h z s = terminal_any m z s
+begins_of (said w) h z s = soft_begins w z (s refl)
 begins_of (identifier n) h z s = name_begins n.text z h (s refl)
 begins_of (version v) h z s = number_any v.value z h.1 (s refl)
 begins_of (moment v) h z s = number_any v z h (s refl)
+begins_of (number v) h z s = number_any v.value z h (s refl)
 begins_of (bound v) h z s = bound_any v.value z (int_eq v.value plain.forever) h s
 begins_of (constant c at) h z s = constant_any c z h (s refl)
 
@@ -125,9 +130,11 @@ unfolding rest_of
 soft_rest [] = tt
 soft_rest (terminal m ∷ parts) = soft_terminal m (rest_of (same_terminal m terminals.Open) parts)
 soft_rest (terminal_at m at ∷ parts) = soft_terminal m (rest_of (same_terminal m terminals.Open) parts)
+soft_rest (said w ∷ parts) = refl
 soft_rest (identifier n ∷ parts) = refl
 soft_rest (version s ∷ parts) = refl
 soft_rest (moment v ∷ parts) = refl
+soft_rest (number s ∷ parts) = refl
 soft_rest (bound s ∷ parts) = soft_bound s.value (int_eq s.value plain.forever) _
 soft_rest (constant c at ∷ parts) = refl
 
@@ -155,9 +162,11 @@ closes_bound v false = refl
 closes_no_join : (q : Part) → (word_of q).closes ≡ true → joins_of q ≡ false
 closes_no_join (terminal m) e = closes_terminal m e
 closes_no_join (terminal_at m at) e = closes_terminal m e
+closes_no_join (said w) e = absurd (cc)
 closes_no_join (identifier n) e = absurd (cc)
 closes_no_join (version s) e = absurd (cc)
 closes_no_join (moment v) e = absurd (cc)
+closes_no_join (number s) e = absurd (cc)
 closes_no_join (bound s) e = let f = closes_bound s.value (int_eq s.value plain.forever) in absurd (cc)
 closes_no_join (constant c at) e = absurd (cc)
 
@@ -173,9 +182,11 @@ opens_bound v false = refl
 joins_opens : (q : Part) → (joins_of q && (word_of q).opens) ≡ false
 joins_opens (terminal m) = opens_terminal m
 joins_opens (terminal_at m at) = opens_terminal m
+joins_opens (said w) = refl
 joins_opens (identifier n) = refl
 joins_opens (version s) = refl
 joins_opens (moment v) = refl
+joins_opens (number s) = refl
 joins_opens (bound s) = opens_bound s.value (int_eq s.value plain.forever)
 joins_opens (constant c at) = refl
 
@@ -216,9 +227,11 @@ scan_rest (q ∷ parts) h tight joined at apart =
 abbrev bare : Part → Part
 bare (terminal m) = terminal m
 bare (terminal_at m at) = terminal_at m 0
+bare (said w) = said w
 bare (identifier n) = identifier (unplaced_name n)
 bare (version s) = version (unplaced_stamp s)
 bare (moment v) = moment v
+bare (number s) = number (unplaced_stamp s)
 bare (bound s) = bound (unplaced_stamp s)
 bare (constant c at) = constant c 0
 
@@ -229,6 +242,10 @@ number_version (negsuc n) h = absurd h
 number_moment : (v : ℤ) → moment_by (number_token v) ≡ Some v
 number_moment (pos n) = refl
 number_moment (negsuc n) = refl
+
+number_number : (v : ℤ) → number_by 0 (number_token v) ≡ Some (record { value = v; at = 0 })
+number_number (pos n) = refl
+number_number (negsuc n) = refl
 
 number_bound : (v : ℤ) → bound_by 0 (number_token v) ≡ Some (record { value = v; at = 0 })
 number_bound (pos n) = refl
@@ -248,9 +265,11 @@ cell_is (cells.Text t) = refl
 part_fits : (q : Part) (p : Placed) → IsReadPart q → p.token ≡ token_of q → IsPart (bare q) (unplaced_token p)
 part_fits (terminal m) p h e = e
 part_fits (terminal_at m at) p h e = ap (λ t. record { token = t; at = 0 }) e
+part_fits (said w) p h e = e
 part_fits (identifier n) p h e = ap (name_by 0) e
 part_fits (version s) p h e = ap (version_by 0) e ∙ number_version s.value h.0
 part_fits (moment v) p h e = ap moment_by e ∙ number_moment v
+part_fits (number s) p h e = ap (number_by 0) e ∙ number_number s.value
 part_fits (bound s) p h e = ap (bound_by 0) e ∙ bound_is s.value
 part_fits (constant c at) p h e = (ap constant_by e ∙ cell_is c, refl)
 
@@ -296,9 +315,13 @@ valid_at_bare : (o : Option ValidPoint) → valid_at_parts (option_map unplaced_
 valid_at_bare None = refl
 valid_at_bare (Some v) = refl
 
-as_of_bare : (o : Option Stamp) → as_of_parts (option_map unplaced_stamp o) ≡ map bare (as_of_parts o)
+version_or_moment_bare : (x : AsOf) → version_or_moment_parts (unplaced_as_of x) ≡ map bare (version_or_moment_parts x)
+version_or_moment_bare (as_ofs.Version s) = refl
+version_or_moment_bare (as_ofs.Moment s) = refl
+
+as_of_bare : (o : Option AsOf) → as_of_parts (option_map unplaced_as_of o) ≡ map bare (as_of_parts o)
 as_of_bare None = refl
-as_of_bare (Some s) = refl
+as_of_bare (Some x) = ap (λ y. keyword words.As ∷ keyword words.Of ∷ y) (version_or_moment_bare x)
 
 column_name_bare : (o : Option Name) → column_name_parts (option_map unplaced_name o) ≡ map bare (column_name_parts o)
 column_name_bare None = refl
@@ -336,6 +359,8 @@ statement_bare (statements.Ask (queries.Join f)) =
     (ap (λ y. keyword words.With ∷ identifier (unplaced_name f.right) ∷ y)
     (after_each _ (where_parts f.right_pred) _ (keyword words.On ∷ identifier f.left_on ∷ terminal terminals.Equal ∷ identifier f.right_on ∷ over_parts f.over) (any_bare f.right_pred.any)
     (ap (λ y. keyword words.On ∷ identifier (unplaced_name f.left_on) ∷ terminal terminals.Equal ∷ identifier (unplaced_name f.right_on) ∷ y) (over_bare f.over)))))
+statement_bare (statements.Moment s) = refl
+statement_bare (statements.Forget n s) = refl
 
 pred_unplaced : (any : List (List Test)) → AllByRecursion (λ tests. 1 ≤ length tests) any → AllByRecursion (λ tests. 1 ≤ length tests) (map (λ tests. map unplaced_test tests) any)
 pred_unplaced [] h = tt
@@ -356,6 +381,8 @@ statement_unplaced (statements.Remove n) h = tt
 statement_unplaced (statements.Ask (queries.Select f)) h = record { asked = asked_unplaced f.all f.items h.asked; tested = pred_unplaced f.pred.any h.tested }
 statement_unplaced (statements.Ask (queries.Agg f)) h = record { aggregate = aggregate_unplaced f.kind f.column h.aggregate; tested = pred_unplaced f.pred.any h.tested }
 statement_unplaced (statements.Ask (queries.Join f)) h = record { left_tested = pred_unplaced f.left_pred.any h.left_tested; right_tested = pred_unplaced f.right_pred.any h.right_tested }
+statement_unplaced (statements.Moment s) h = tt
+statement_unplaced (statements.Forget n s) h = tt
 
 like_spelled : (s : Statement) (ts : List Placed) → IsParsed s → Like (statement_parts s) ts → IsSpelling (zeros ts) (without_offsets s)
 like_spelled s ts h l = (statement_unplaced s (whole_of s h), (false, subst (λ parts. Fits parts (zeros ts)) (sym (append-nil (statement_parts (without_offsets s)) ∙ statement_bare s)) (like_fits (statement_parts s) ts (parts_of s h) l)))

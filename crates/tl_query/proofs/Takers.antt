@@ -1,5 +1,5 @@
 -- What is taken for a part is that part.
-use Rattle.std.proofs.Common.{◌≡◌, ℕ, ℤ, pos, [], ◌∷◌, Option, Some, None, refl, ◌∙◌, ap, subst}
+use Rattle.std.proofs.Common.{◌≡◌, ℕ, ℤ, pos, Bool, true, false, cond, [], ◌∷◌, Option, Some, None, refl, ◌∙◌, ap, subst}
 use Rattle.std.specs.Option.{option_map}
 use Rattle.tl_types.specs.declared.cells.Cell.{Cell}
 use Rattle.tl_types.specs.declared.cells.Cell.TheVariants as cells
@@ -10,6 +10,9 @@ use Rattle.tl_types.specs.declared.cells.ColumnKind.TheVariants as kinds
 use Rattle.tl_query.specs.declared.terminals.Terminal.{Terminal}
 use Rattle.tl_types.specs.declared.keywords.Keyword.TheVariants as words
 use Rattle.tl_query.specs.declared.terminals.Terminal.TheVariants as terminals
+use Rattle.tl_query.specs.declared.terminals.SoftWord.{SoftWord}
+use Rattle.tl_query.specs.Terminals.{soft_spelling}
+use Rattle.tl_types.proofs.FoundTables.{same_names}
 use Rattle.tl_query.specs.declared.tokens.Token.{Token}
 use Rattle.tl_query.specs.declared.tokens.Token.TheVariants.{Fixed, Word, Number}
 use Rattle.tl_query.specs.declared.tokens.Placed.{Placed}
@@ -19,8 +22,8 @@ use Rattle.tl_query.specs.declared.ast.AggKind.{AggKind}
 use Rattle.tl_query.specs.declared.ast.AggKind.TheVariants as aggs
 use Rattle.tl_query.specs.declared.ast.Item.{Item}
 use Rattle.tl_query.specs.declared.ast.Item.TheVariants as items
-use Rattle.tl_query.specs.Grammar.{keyword, terminal_at, identifier, version, moment, bound, constant, IsPart, constant_by, kind_keyword, item_part, cmp_terminal, agg_keyword}
-use Rattle.tl_query.specs.Reading.{as_name, as_version, as_moment, as_bound, as_constant, item_by, as_item, kind_by, as_kind, cmp_by, as_cmp, agg_by, as_agg, valid_by, as_valid}
+use Rattle.tl_query.specs.Grammar.{keyword, terminal_at, said, identifier, version, moment, number, bound, constant, IsPart, constant_by, kind_keyword, item_part, cmp_terminal, agg_keyword}
+use Rattle.tl_query.specs.Reading.{as_name, as_version, as_moment, as_number, is_soft, as_soft, as_bound, as_constant, item_by, as_item, kind_by, as_kind, cmp_by, as_cmp, agg_by, as_agg, valid_by, as_valid}
 use Rattle.tl_query.proofs.Laws.{Takes}
 
 pub some_one : {A : Type 0} {x y : A} → Some x ≡ Some y → x ≡ y
@@ -47,6 +50,22 @@ version_takes = record { is = λ p x e. e; some = a_stamp; token = record { toke
 
 pub moment_takes : Takes ℤ as_moment moment
 moment_takes = record { is = λ p x e. e; some = pos 0; token = record { token = Number (pos 0); at = 0 }; there = refl }
+
+pub number_takes : Takes Stamp as_number number
+unfolding a_stamp
+number_takes = record { is = λ p x e. e; some = a_stamp; token = record { token = Number (pos 0); at = 0 }; there = refl }
+
+-- a token that is taken for a word is it
+pub is_soft_true : (w : SoftWord) (t : Token) → is_soft w t ≡ true → t ≡ Word (soft_spelling w)
+is_soft_true w (Word name) e = ap Word (same_names name (soft_spelling w) e)
+is_soft_true w _ e = absurd (cc)
+
+test_of : (b : Bool) (n : ℕ) (x : ℕ) → cond b (Some n) None ≡ Some x → b ≡ true
+test_of true n x e = refl
+test_of false n x e = absurd (cc)
+
+pub soft_takes : (w : SoftWord) → Takes ℕ (as_soft w) (λ _. said w)
+soft_takes w = record { is = λ p x e. is_soft_true w p.token (test_of (is_soft w p.token) p.at x e); some = 0; token = record { token = Word (soft_spelling w); at = 0 }; there = refl }
 
 pub bound_takes : Takes Stamp as_bound bound
 unfolding a_stamp

@@ -6,23 +6,26 @@ use Rattle.tl_types.specs.declared.cells.Cmp.{Cmp}
 use Rattle.tl_query.specs.declared.terminals.Terminal.{Terminal}
 use Rattle.tl_types.specs.declared.keywords.Keyword.TheVariants as words
 use Rattle.tl_query.specs.declared.terminals.Terminal.TheVariants as terminals
+use Rattle.tl_query.specs.declared.terminals.SoftWord.{SoftWord}
+use Rattle.tl_query.specs.declared.terminals.SoftWord.TheVariants as soft
 use Rattle.tl_query.specs.declared.tokens.Token.{Token}
 use Rattle.tl_query.specs.declared.tokens.Token.TheVariants.{Fixed, Word, Number, Negative}
 use Rattle.tl_query.specs.declared.tokens.Placed.{Placed}
 use Rattle.tl_query.specs.declared.ast.Name.{Name}
 use Rattle.tl_query.specs.declared.ast.AggKind.{AggKind}
 use Rattle.tl_query.specs.declared.ast.AggKind.TheVariants as aggs
+use Rattle.tl_query.specs.declared.ast.AsOf.TheVariants as as_ofs
 use Rattle.tl_query.specs.declared.ast.Over.TheVariants as overs
 use Rattle.tl_query.specs.declared.ast.Pred.{Pred}
 use Rattle.tl_query.specs.declared.ast.Item.{Item}
 use Rattle.tl_query.specs.declared.ast.Query.TheVariants as queries
 use Rattle.tl_query.specs.declared.ast.Statement.{Statement}
 use Rattle.tl_query.specs.declared.ast.Statement.TheVariants as statements
-use Rattle.tl_query.specs.Grammar.{name_by, version_by, bound_by, constant_by}
-use Rattle.tl_query.specs.Printing.{unplaced_name, unplaced_stamp, unplaced_column, unplaced_item, unplaced_test, unplaced_pred, unplaced_point, unplaced_over, without_offsets}
-use Rattle.tl_query.specs.Reading.{◌>>=◌, first_offset, is_fixed, after, expect, as_name, as_version, as_moment, as_bound, as_constant, item_by, as_item, as_kind, cmp_by, as_cmp, as_agg, valid_by, as_valid, take_at, peek_at, last_of, statement_end, where_some, with_first, up_to, further, several, column_at, columns_at, valid_at, create_at, put_at, remove_at, items_at, asked_at, test_at, conj_at, where_at, valid_point_at, as_of_at, parse_select, versions_at, system_at, moments_at, over_at, column_name_at, by_at, agg_at, side_at, on_at, join_at, statement_at}
+use Rattle.tl_query.specs.Grammar.{name_by, version_by, number_by, bound_by, constant_by}
+use Rattle.tl_query.specs.Printing.{unplaced_name, unplaced_stamp, unplaced_column, unplaced_item, unplaced_test, unplaced_pred, unplaced_point, unplaced_as_of, unplaced_over, without_offsets}
+use Rattle.tl_query.specs.Reading.{◌>>=◌, first_offset, is_fixed, after, expect, as_name, as_version, as_moment, as_number, is_soft, as_soft, as_bound, as_constant, item_by, as_item, as_kind, cmp_by, as_cmp, as_agg, valid_by, as_valid, take_at, peek_at, last_of, statement_end, where_some, with_first, up_to, further, several, column_at, columns_at, valid_at, create_at, put_at, remove_at, items_at, asked_at, test_at, conj_at, where_at, valid_point_at, version_or_moment_at, as_of_at, moment_stated_at, forget_at, agg_or_forget_at, agg_or_soft_at, parse_select, versions_at, system_at, moments_at, over_at, column_name_at, by_at, agg_at, side_at, on_at, join_at, statement_at}
 use Rattle.tl_query.proofs.Lists.{Reads}
-use Rattle.tl_query.proofs.Readers.{agg_or_join, select_or_less, remove_or_less, put_or_less}
+use Rattle.tl_query.proofs.Readers.{join_or_less, select_or_less, remove_or_less, put_or_less}
 
 -- a token at the offset 0
 abbrev pub unplaced_token : Placed → Placed
@@ -75,6 +78,15 @@ version_same : (at : ℕ) (t : Token) → version_by 0 t ≡ option_map unplaced
 version_same at (Number n) = refl
 version_same at _ = refl
 
+number_same : (at : ℕ) (t : Token) → number_by 0 t ≡ option_map unplaced_stamp (number_by at t)
+number_same at (Number n) = refl
+number_same at (Negative n) = refl
+number_same at _ = refl
+
+soft_same : (b : Bool) (at : ℕ) → ◌≡◌ {A = Option ℕ} (cond {A = Option ℕ} b (Some 0) None) (option_map (λ _. 0) (cond {A = Option ℕ} b (Some at) None))
+soft_same true at = refl
+soft_same false at = refl
+
 bound_same : (at : ℕ) (t : Token) → bound_by 0 t ≡ option_map unplaced_stamp (bound_by at t)
 bound_same at (Number n) = refl
 bound_same at (Negative n) = refl
@@ -105,6 +117,12 @@ name_agrees = take_agrees as_name unplaced_name (λ p. name_same p.at p.token)
 
 version_agrees : Agrees (take_at as_version) unplaced_stamp
 version_agrees = take_agrees as_version unplaced_stamp (λ p. version_same p.at p.token)
+
+number_agrees : Agrees (take_at as_number) unplaced_stamp
+number_agrees = take_agrees as_number unplaced_stamp (λ p. number_same p.at p.token)
+
+soft_agrees : (w : SoftWord) → Agrees (take_at (as_soft w)) (λ _. 0)
+soft_agrees w = take_agrees (as_soft w) (λ _. 0) (λ p. soft_same (is_soft w p.token) p.at)
 
 bound_agrees : Agrees (take_at as_bound) unplaced_stamp
 bound_agrees = take_agrees as_bound unplaced_stamp (λ p. bound_same p.at p.token)
@@ -138,6 +156,11 @@ valid_peek : (ts : List Placed) → peek_at as_valid (zeros ts) ≡ option_map (
 unfolding peek_at
 valid_peek [] = refl
 valid_peek (p ∷ ts) = ap (option_map (λ x. (x, zeros ts))) (valid_same p.at p.token) ∙ peeked (as_valid p) ts
+
+soft_peek : (w : SoftWord) (ts : List Placed) → peek_at (as_soft w) (zeros ts) ≡ option_map (both (λ _. 0)) (peek_at (as_soft w) ts)
+unfolding peek_at
+soft_peek w [] = refl
+soft_peek w (p ∷ ts) = ap (option_map (λ x. (x, zeros ts))) (soft_same (is_soft w p.token) p.at) ∙ peeked (as_soft w p) ts
 
 after_by : (b : Bool) (ts : List Placed) → cond b (Some (zeros ts)) None ≡ option_map zeros (cond b (Some ts) None)
 after_by true ts = refl
@@ -240,12 +263,19 @@ valid_point_agrees ts =
     then zeros (both (option_map unplaced_point)) (expect (terminals.Keyword words.At) valid.1) _ _ _ (expect_agrees (terminals.Keyword words.At) valid.1) (λ rest.
     then (both same) (both (option_map unplaced_point)) (take_at as_moment rest) _ (λ value. Ok (Some (record { pos = valid.0; value = value.0 }), value.1)) (λ value. Ok (Some (record { pos = 0; value = value.0 }), value.1)) (moment_agrees rest) (λ value. refl)))
 
-as_of_agrees : Agrees as_of_at (option_map unplaced_stamp)
+version_or_moment_agrees : Agrees version_or_moment_at unplaced_as_of
+unfolding version_or_moment_at
+version_or_moment_agrees ts =
+    choice (both (λ _. 0)) (both unplaced_as_of) (peek_at (as_soft soft.Moment) ts) (peek_at (as_soft soft.Moment) (zeros ts)) (take_at as_version ts >>= λ s. Ok (as_ofs.Version s.0, s.1)) (take_at as_version (zeros ts) >>= λ s. Ok (as_ofs.Version s.0, s.1)) _ _ (soft_peek soft.Moment ts)
+    (then (both unplaced_stamp) (both unplaced_as_of) (take_at as_version ts) _ (λ s. Ok (as_ofs.Version s.0, s.1)) (λ s. Ok (as_ofs.Version s.0, s.1)) (version_agrees ts) (λ s. refl))
+    (λ word. then (both unplaced_stamp) (both unplaced_as_of) (take_at as_number word.1) _ (λ s. Ok (as_ofs.Moment s.0, s.1)) (λ s. Ok (as_ofs.Moment s.0, s.1)) (number_agrees word.1) (λ s. refl))
+
+as_of_agrees : Agrees as_of_at (option_map unplaced_as_of)
 unfolding as_of_at
 as_of_agrees ts =
-    choice zeros (both (option_map unplaced_stamp)) (after (terminals.Keyword words.As) ts) (after (terminals.Keyword words.As) (zeros ts)) (Ok (None, ts)) (Ok (None, zeros ts)) _ _ (after_agrees (terminals.Keyword words.As) ts) refl (λ rest.
-    then zeros (both (option_map unplaced_stamp)) (expect (terminals.Keyword words.Of) rest) _ _ _ (expect_agrees (terminals.Keyword words.Of) rest) (λ next.
-    then (both unplaced_stamp) (both (option_map unplaced_stamp)) (take_at as_version next) _ (λ s. Ok (Some s.0, s.1)) (λ s. Ok (Some s.0, s.1)) (version_agrees next) (λ s. refl)))
+    choice zeros (both (option_map unplaced_as_of)) (after (terminals.Keyword words.As) ts) (after (terminals.Keyword words.As) (zeros ts)) (Ok (None, ts)) (Ok (None, zeros ts)) _ _ (after_agrees (terminals.Keyword words.As) ts) refl (λ rest.
+    then zeros (both (option_map unplaced_as_of)) (expect (terminals.Keyword words.Of) rest) _ _ _ (expect_agrees (terminals.Keyword words.Of) rest) (λ next.
+    then (both unplaced_as_of) (both (option_map unplaced_as_of)) (version_or_moment_at next) _ (λ x. Ok (Some x.0, x.1)) (λ x. Ok (Some x.0, x.1)) (version_or_moment_agrees next) (λ x. refl)))
 
 versions_agrees : Agrees versions_at unplaced_over
 unfolding versions_at
@@ -265,7 +295,7 @@ moments_agrees ts =
     then (both unplaced_stamp) (both unplaced_over) (take_at as_bound valid.1) _ _ _ (bound_agrees valid.1) (λ from.
     then zeros (both unplaced_over) (expect (terminals.Keyword words.To) from.1) _ _ _ (expect_agrees (terminals.Keyword words.To) from.1) (λ word.
     then (both unplaced_stamp) (both unplaced_over) (take_at as_bound word) _ _ _ (bound_agrees word) (λ to.
-    then (both (option_map unplaced_stamp)) (both unplaced_over) (as_of_at to.1) _ (λ as_of. Ok (overs.Valid valid.0 from.0 to.0 as_of.0, as_of.1)) (λ as_of. Ok (overs.Valid 0 (unplaced_stamp from.0) (unplaced_stamp to.0) as_of.0, as_of.1)) (as_of_agrees to.1) (λ as_of. refl)))))
+    then (both (option_map unplaced_as_of)) (both unplaced_over) (as_of_at to.1) _ (λ as_of. Ok (overs.Valid valid.0 from.0 to.0 as_of.0, as_of.1)) (λ as_of. Ok (overs.Valid 0 (unplaced_stamp from.0) (unplaced_stamp to.0) as_of.0, as_of.1)) (as_of_agrees to.1) (λ as_of. refl)))))
 
 over_agrees : Agrees over_at unplaced_over
 unfolding over_at
@@ -342,7 +372,7 @@ select_agrees ts =
     then (both unplaced_name) without_offsets (take_at as_name from) _ _ _ (name_agrees from) (λ table.
     then (both unplaced_pred) without_offsets (where_at table.1) _ _ _ (where_agrees table.1) (λ p.
     then (both (option_map unplaced_point)) without_offsets (valid_point_at p.1) _ _ _ (valid_point_agrees p.1) (λ valid.
-    then (both (option_map unplaced_stamp)) without_offsets (as_of_at valid.1) _
+    then (both (option_map unplaced_as_of)) without_offsets (as_of_at valid.1) _
     (λ as_of. statement_end (statements.Ask (queries.Select (record { all = asked.0.0; items = asked.0.1; table = table.0; pred = p.0; valid_at = valid.0; as_of = as_of.0 }))) as_of.1)
     (λ as_of. statement_end (statements.Ask (queries.Select (record { all = asked.0.0; items = map unplaced_item asked.0.1; table = unplaced_name table.0; pred = unplaced_pred p.0; valid_at = option_map unplaced_point valid.0; as_of = as_of.0 }))) as_of.1)
     (as_of_agrees valid.1) (λ as_of. ended_agrees (statements.Ask (queries.Select (record { all = asked.0.0; items = asked.0.1; table = table.0; pred = p.0; valid_at = valid.0; as_of = as_of.0 }))) as_of.1))))))
@@ -373,11 +403,29 @@ join_agrees ts =
     (λ over. statement_end (statements.Ask (queries.Join (record { left = unplaced_name left.0.0; left_pred = unplaced_pred left.0.1; right = unplaced_name right.0.0; right_pred = unplaced_pred right.0.1; left_on = unplaced_name on.0.0; right_on = unplaced_name on.0.1; over = over.0 }))) over.1)
     (over_agrees on.1) (λ over. ended_agrees (statements.Ask (queries.Join (record { left = left.0.0; left_pred = left.0.1; right = right.0.0; right_pred = right.0.1; left_on = on.0.0; right_on = on.0.1; over = over.0 }))) over.1)))))
 
+moment_stated_agrees : AgreesWhole moment_stated_at
+unfolding moment_stated_at
+moment_stated_agrees ts = then (both unplaced_stamp) without_offsets (take_at as_number ts) _ (λ x. statement_end (statements.Moment x.0) x.1) (λ x. statement_end (statements.Moment x.0) x.1) (number_agrees ts) (λ x. ended_agrees (statements.Moment x.0) x.1)
+
+forget_agrees : AgreesWhole forget_at
+unfolding forget_at
+forget_agrees ts =
+    then (both unplaced_name) without_offsets (take_at as_name ts) _ _ _ (name_agrees ts) (λ table.
+    then (both (λ _. 0)) without_offsets (take_at (as_soft soft.Before) table.1) _ _ _ (soft_agrees soft.Before table.1) (λ word.
+    then (both unplaced_stamp) without_offsets (take_at as_version word.1) _ (λ x. statement_end (statements.Forget table.0 x.0) x.1) (λ x. statement_end (statements.Forget (unplaced_name table.0) x.0) x.1) (version_agrees word.1) (λ x. ended_agrees (statements.Forget table.0 x.0) x.1)))
+
+agg_or_soft_agrees : AgreesWhole agg_or_soft_at
+unfolding agg_or_soft_at
+agg_or_soft_agrees ts =
+    choice (both (λ _. 0)) without_offsets (peek_at (as_soft soft.Moment) ts) _ (agg_or_forget_at ts) (agg_or_forget_at (zeros ts)) (λ word. moment_stated_at word.1) (λ word. moment_stated_at word.1) (soft_peek soft.Moment ts)
+    (choice (both (λ _. 0)) without_offsets (peek_at (as_soft soft.Forget) ts) _ (agg_at ts) (agg_at (zeros ts)) (λ word. forget_at word.1) (λ word. forget_at word.1) (soft_peek soft.Forget ts) (agg_agrees_whole ts) (λ word. forget_agrees word.1))
+    (λ word. moment_stated_agrees word.1)
+
 pub statement_agrees : (ts : List Placed) → statement_at (zeros ts) ≡ changed without_offsets (statement_at ts)
 unfolding statement_at
 statement_agrees ts =
     choice zeros without_offsets (after (terminals.Keyword words.Create) ts) _ (put_or_less ts) (put_or_less (zeros ts)) create_at create_at (after_agrees (terminals.Keyword words.Create) ts)
     (choice zeros without_offsets (after (terminals.Keyword words.Put) ts) _ (remove_or_less ts) (remove_or_less (zeros ts)) put_at put_at (after_agrees (terminals.Keyword words.Put) ts)
     (choice zeros without_offsets (after (terminals.Keyword words.Remove) ts) _ (select_or_less ts) (select_or_less (zeros ts)) remove_at remove_at (after_agrees (terminals.Keyword words.Remove) ts)
-    (choice zeros without_offsets (after (terminals.Keyword words.Select) ts) _ (agg_or_join ts) (agg_or_join (zeros ts)) parse_select parse_select (after_agrees (terminals.Keyword words.Select) ts)
-    (choice zeros without_offsets (after (terminals.Keyword words.Join) ts) _ (agg_at ts) (agg_at (zeros ts)) join_at join_at (after_agrees (terminals.Keyword words.Join) ts) (agg_agrees_whole ts) join_agrees) select_agrees) remove_agrees) put_agrees) create_agrees
+    (choice zeros without_offsets (after (terminals.Keyword words.Select) ts) _ (join_or_less ts) (join_or_less (zeros ts)) parse_select parse_select (after_agrees (terminals.Keyword words.Select) ts)
+    (choice zeros without_offsets (after (terminals.Keyword words.Join) ts) _ (agg_or_soft_at ts) (agg_or_soft_at (zeros ts)) join_at join_at (after_agrees (terminals.Keyword words.Join) ts) (agg_or_soft_agrees ts) join_agrees) select_agrees) remove_agrees) put_agrees) create_agrees

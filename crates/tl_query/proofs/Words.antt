@@ -10,10 +10,12 @@ use Rattle.tl_query.specs.declared.terminals.Terminal.{Terminal}
 use Rattle.tl_types.specs.declared.keywords.Keyword.{Keyword}
 use Rattle.tl_types.specs.declared.keywords.Keyword.TheVariants as words
 use Rattle.tl_query.specs.declared.terminals.Terminal.TheVariants as terminals
+use Rattle.tl_query.specs.declared.terminals.SoftWord.{SoftWord}
+use Rattle.tl_query.specs.declared.terminals.SoftWord.TheVariants as soft
 use Rattle.tl_query.specs.declared.tokens.Token.{Token}
 use Rattle.tl_query.specs.declared.tokens.Token.TheVariants.{Fixed, Word, Number, Negative, Quoted, Stray}
 use Rattle.tl_query.specs.declared.faults.TextFault.TheVariants.{BadByte, OpenText, NumberTooLarge}
-use Rattle.tl_query.specs.Terminals.{spelling}
+use Rattle.tl_query.specs.Terminals.{soft_spelling, spelling}
 use Rattle.tl_query.specs.Scanning.{is_blank, digits_value, other_token, word_token, word_piece, number_piece, negative_piece, one_more, closing_len, single_quotes, text_token, quoted_piece, symbol, less_piece, greater_piece, symbol_piece, piece_at}
 use Rattle.tl_query.specs.Printing.{double_quotes, text_constant}
 
@@ -278,6 +280,16 @@ name_begins name z h s =
     let k = both_true (is_word name && nat_le (length name) 64) (not (is_keyword name)) h in
     let w = both_true (is_word name) (nat_le (length name) 64) k.0 in
     subst (λ t. Begins name z t true) (name_token name h) (word_begins name z w.0 s)
+
+-- a word that is a name elsewhere is a name
+soft_name : (w : SoftWord) → is_name (soft_spelling w) ≡ true
+unfolding soft_spelling spelling_of keywords
+soft_name soft.Moment = refl
+soft_name soft.Forget = refl
+soft_name soft.Before = refl
+
+pub soft_begins : (w : SoftWord) (z : List ℕ) → IsSoft z → Begins (soft_spelling w) z (Word (soft_spelling w)) true
+soft_begins w z s = name_begins (soft_spelling w) z (soft_name w) s
 
 -- whether a terminal is a word
 abbrev pub is_spelled : Terminal → Bool

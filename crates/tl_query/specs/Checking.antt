@@ -1,13 +1,17 @@
 -- The check of a new table, and the parts of the check of a query: what names mean, and the first
 -- of several faults.
-use Rattle.std.specs.Prelude.{ℕ, ◌≡◌, nat_abs, Bool, true, false, ◌&&◌, ◌||◌, not, nat_lt, ◌==◌, List, [], ◌∷◌, ◌++◌, map, take, Option, Some, None, is_some, Result, Ok, Err, if◌then◌else◌}
+use Rattle.std.specs.Prelude.{ℕ, nat_abs, Bool, true, false, ◌&&◌, ◌||◌, not, nat_lt, ◌==◌, List, [], ◌∷◌, ◌++◌, map, take, Option, Some, None, is_some, Result, Ok, Err, if◌then◌else◌}
 use Rattle.std.specs.List.{list_any, fold, position, enumerate_from}
 use Rattle.tl_types.specs.declared.schemas.Column.{Column}
 use Rattle.tl_types.specs.Names.{same_bytes}
 use Rattle.tl_types.specs.Plain as plain
+use Rattle.tl_types.specs.History.{version_at_moment}
 use Rattle.tl_types.specs.Resolving.{find_table}
+use Rattle.tl_types.specs.Results.{IsUnless}
 use Rattle.tl_query.specs.declared.ast.Name.{Name}
 use Rattle.tl_query.specs.declared.ast.Stamp.{Stamp}
+use Rattle.tl_query.specs.declared.ast.AsOf.{AsOf}
+use Rattle.tl_query.specs.declared.ast.AsOf.TheVariants as as_ofs
 use Rattle.tl_query.specs.declared.ast.Item.{Item}
 use Rattle.tl_query.specs.declared.ast.Item.TheVariants as item
 use Rattle.tl_query.specs.declared.ast.SelectForm.{SelectForm}
@@ -30,6 +34,7 @@ place_of (fault.VersionAhead at asked now) = at
 place_of (fault.EmptyRange at) = at
 place_of (fault.ColumnTwice at) = at
 place_of fault.NoMemory = 0
+place_of (fault.Forgotten at floor) = at
 
 -- the number of a fault, which decides between two at one place
 abbrev pub rank_of : CheckFault → ℕ
@@ -41,6 +46,7 @@ rank_of (fault.VersionAhead at asked now) = 5
 rank_of (fault.EmptyRange at) = 6
 rank_of (fault.ColumnTwice at) = 7
 rank_of fault.NoMemory = 8
+rank_of (fault.Forgotten at floor) = 9
 
 -- the first fault comes before the second: it stands further to the left, or at the same place with
 -- a lesser number
@@ -72,6 +78,13 @@ table_named db name = known (find_table name.text db.tables) where
   known None = None
   known (Some t) = Some (t.0, t.1.schema)
 
+-- the floor of the table that a name means, 0 where it means none
+abbrev pub floor_named : plain.Database → Name → ℕ
+floor_named db name = known (find_table name.text db.tables) where
+  known : Option (ℕ × plain.Table) → ℕ
+  known None = 0
+  known (Some t) = t.1.floor
+
 -- the place of a name among columns
 abbrev pub place_among : List Column → List ℕ → Option ℕ
 place_among columns name = position (λ c. same_bytes c.name name) columns
@@ -87,12 +100,41 @@ item_fault schema (item.Column name) =
 item_fault schema (item.ValidFrom at) = fault_if (not schema.valid) (fault.NotValidTable at)
 item_fault schema (item.ValidTo at) = fault_if (not schema.valid) (fault.NotValidTable at)
 
--- the version that is asked for is after the last commit
-abbrev pub version_fault : ℕ → Option Stamp → Option CheckFault
-version_fault now None = None
-version_fault now (Some stamp) =
+-- what is known of versions where a query is checked: the number of commits, the stamps, and the
+-- least version that may be asked of the query's tables
+pub record Times : Type 0 where
+  pub now : ℕ
+  pub stamps : List plain.Stamp
+  pub floor : ℕ
+
+-- the number after AS OF, with MOMENT or without
+abbrev pub stamp_of : AsOf → Stamp
+stamp_of (as_ofs.Version stamp) = stamp
+stamp_of (as_ofs.Moment stamp) = stamp
+
+-- the version that what follows AS OF stands for
+abbrev pub version_meant : Times → AsOf → ℕ
+version_meant times (as_ofs.Version stamp) = nat_abs stamp.value
+version_meant times (as_ofs.Moment stamp) = version_at_moment times.now times.stamps stamp.value
+
+-- a version is after the last commit, where it is spelled without MOMENT
+abbrev pub ahead_fault : ℕ → AsOf → Option CheckFault
+ahead_fault now (as_ofs.Version stamp) =
     fault_if (nat_lt now (nat_abs stamp.value))
     (fault.VersionAhead stamp.at (nat_abs stamp.value) now)
+ahead_fault now (as_ofs.Moment stamp) = None
+
+-- the version that is asked for is after the last commit
+abbrev pub version_fault : Times → Option AsOf → Option CheckFault
+version_fault times None = None
+version_fault times (Some as_of) = ahead_fault times.now as_of
+
+-- the version that is asked for is before the least one that may be asked
+abbrev pub forgotten_fault : Times → Option AsOf → Option CheckFault
+forgotten_fault times None = None
+forgotten_fault times (Some as_of) =
+    fault_if (nat_lt (version_meant times as_of) times.floor)
+    (fault.Forgotten (stamp_of as_of).at times.floor)
 
 -- a number, 0 where there is none
 abbrev pub or_zero : Option ℕ → ℕ
@@ -122,9 +164,9 @@ typed_items_of schema form =
     if form.all then all_items schema else map (typed_item_of schema) form.items
 
 -- the version that is asked for: the last one where none is given
-abbrev pub version_of : ℕ → Option Stamp → ℕ
-version_of now None = now
-version_of now (Some stamp) = nat_abs stamp.value
+abbrev pub version_of : Times → Option AsOf → ℕ
+version_of times None = times.now
+version_of times (Some as_of) = version_meant times as_of
 
 -- NEW TABLES
 
@@ -165,8 +207,6 @@ checked_create form = unless (create_fault form) where
         valid = form.valid;
       })
 
--- the answer is this one, or memory ran out
+-- the answer is the one that is meant, or memory ran out
 abbrev pub IsUnlessMemory : {X : Type 0} → Result X CheckFault → Result X CheckFault → Type 0
-IsUnlessMemory (Ok x) want = want ≡ Ok x
-IsUnlessMemory (Err fault.NoMemory) want = Unit {0}
-IsUnlessMemory (Err f) want = want ≡ Err f
+IsUnlessMemory answer meant = IsUnless fault.NoMemory answer meant

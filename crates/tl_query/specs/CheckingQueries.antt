@@ -1,6 +1,6 @@
 -- The check of a query: the faults at all of its places, the first of them, and the query by
 -- numbers where there is none.
-use Rattle.std.specs.Prelude.{ℕ, ◌+◌, ◌≡◌, nat_abs, Bool, false, not, ◌||◌, nat_lt, int_lt, List, [], ◌∷◌, ◌++◌, map, flat_map, Option, Some, None, is_some, option_map, option_and_then, Result, Ok, Err, IfSome}
+use Rattle.std.specs.Prelude.{ℕ, ◌+◌, ◌≡◌, nat_abs, Bool, false, not, ◌||◌, nat_lt, int_lt, max, List, [], ◌∷◌, ◌++◌, map, flat_map, Option, Some, None, is_some, option_map, option_and_then, Result, Ok, Err, IfSome}
 use Rattle.std.specs.List.{AllByRecursion, Contains}
 use Rattle.tl_types.specs.declared.cells.ColumnKind.{ColumnKind}
 use Rattle.tl_types.specs.declared.cells.ColumnKind.TheVariants as kind
@@ -26,7 +26,7 @@ use Rattle.tl_query.specs.declared.typed_queries.Typed.{Typed}
 use Rattle.tl_query.specs.declared.typed_queries.Typed.TheVariants as typed
 use Rattle.tl_query.specs.declared.check_faults.CheckFault.{CheckFault}
 use Rattle.tl_query.specs.declared.check_faults.CheckFault.TheVariants as fault
-use Rattle.tl_query.specs.Checking.{comes_before, fault_if, first_of, table_named, column_of, item_fault, version_fault, version_of, or_zero, typed_items_of}
+use Rattle.tl_query.specs.Checking.{comes_before, fault_if, first_of, table_named, floor_named, column_of, item_fault, Times, version_fault, forgotten_fault, version_of, or_zero, typed_items_of}
 use Rattle.tl_query.specs.TypedFor.{is_ordered, kind_at, same_kinds}
 
 -- TABLES AND COLUMNS
@@ -112,27 +112,34 @@ abbrev pub versions_fault : Stamp → Stamp → Option CheckFault
 versions_fault from to =
     fault_if (not (nat_lt (nat_abs from.value) (nat_abs to.value))) (fault.EmptyRange from.at)
 
+-- the version that begins a range is before the least one that may be asked
+abbrev pub start_fault : ℕ → Stamp → Option CheckFault
+start_fault floor from =
+    fault_if (nat_lt (nat_abs from.value) floor) (fault.Forgotten from.at floor)
+
 -- no valid time is in the range
 abbrev pub moments_fault : Stamp → Stamp → Option CheckFault
 moments_fault from to = fault_if (not (int_lt from.value to.value)) (fault.EmptyRange from.at)
 
 -- the faults of a range of time, where the rows of a known table have no valid period or all have
-abbrev pub over_faults : ℕ → Bool → Over → List (Option CheckFault)
-over_faults now timeless over.SystemAll = []
-over_faults now timeless (over.System from to) = versions_fault from to ∷ end_fault now to ∷ []
-over_faults now timeless (over.Valid pos from to as_of) =
-    fault_if timeless (fault.NotValidTable pos) ∷ moments_fault from to ∷ version_fault now as_of
-    ∷ []
+abbrev pub over_faults : Times → Bool → Over → List (Option CheckFault)
+over_faults times timeless over.SystemAll = []
+over_faults times timeless (over.System from to) =
+    versions_fault from to ∷ end_fault times.now to ∷ start_fault times.floor from ∷ []
+over_faults times timeless (over.Valid pos from to as_of) =
+    fault_if timeless (fault.NotValidTable pos) ∷ moments_fault from to
+    ∷ version_fault times as_of ∷ forgotten_fault times as_of ∷ []
 
 -- THE FAULTS OF A QUERY, PLACE BY PLACE
 
--- of a SELECT at so many commits: at its items, its table, its predicate, VALID AT and its version
-abbrev pub select_faults : ℕ → Known → SelectForm → List (Option CheckFault)
-select_faults now table form =
+-- of a SELECT: at its items, its table, its predicate, VALID AT and its version
+abbrev pub select_faults : Times → Known → SelectForm → List (Option CheckFault)
+select_faults times table form =
     where_known table (λ s. map (item_fault s) form.items)
     ++ (table_fault table form.table ∷ [])
     ++ where_known table (λ s. pred_faults s form.pred)
-    ++ (point_fault (is_timeless table) form.valid_at ∷ version_fault now form.as_of ∷ [])
+    ++ (point_fault (is_timeless table) form.valid_at ∷ version_fault times form.as_of
+    ∷ forgotten_fault times form.as_of ∷ [])
 
 -- the column is one of texts, where numbers are wanted
 abbrev pub number_fault : Option ColumnKind → Name → Option CheckFault
@@ -152,13 +159,13 @@ by_faults schema None = []
 by_faults schema (Some name) = column_fault schema name ∷ []
 
 -- of an aggregate: at its column, its table, its predicate, BY and its range
-abbrev pub agg_faults : ℕ → Known → AggForm → List (Option CheckFault)
-agg_faults now table form =
+abbrev pub agg_faults : Times → Known → AggForm → List (Option CheckFault)
+agg_faults times table form =
     where_known table (λ s. measure_faults s form.column)
     ++ (table_fault table form.table ∷ [])
     ++ where_known table (λ s. pred_faults s form.pred)
     ++ where_known table (λ s. by_faults s form.by)
-    ++ over_faults now (is_timeless table) form.over
+    ++ over_faults times (is_timeless table) form.over
 
 -- the columns after ON are both known and of two kinds
 abbrev pub kinds_fault : Option ColumnKind → Option ColumnKind → ℕ → Option CheckFault
@@ -176,21 +183,36 @@ on_faults left right form =
     ∷ [])
 
 -- of a join: at its tables and their predicates, at the columns after ON and its range
-abbrev pub join_faults : ℕ → Known → Known → JoinForm → List (Option CheckFault)
-join_faults now left right form =
+abbrev pub join_faults : Times → Known → Known → JoinForm → List (Option CheckFault)
+join_faults times left right form =
     (table_fault left form.left ∷ [])
     ++ where_known left (λ s. pred_faults s form.left_pred)
     ++ (table_fault right form.right ∷ [])
     ++ where_known right (λ s. pred_faults s form.right_pred)
     ++ on_faults left right form
-    ++ over_faults now (is_timeless left || is_timeless right) form.over
+    ++ over_faults times (is_timeless left || is_timeless right) form.over
 
--- the faults at all places of a query
+-- the greatest floor of the known tables of a query: the least version that may be asked of it
+abbrev pub query_floor : plain.Database → Query → ℕ
+query_floor db (query.Select form) = floor_named db form.table
+query_floor db (query.Agg form) = floor_named db form.table
+query_floor db (query.Join form) = max (floor_named db form.left) (floor_named db form.right)
+
+-- what is known of versions where a query is checked at so many commits
+abbrev pub times_for : ℕ → plain.Database → Query → Times
+times_for now db query =
+    record { now = now; stamps = db.stamps; floor = query_floor db query }
+
+-- the faults at all places of a query, where this is known of versions
+abbrev pub faults_at : Times → plain.Database → Query → List (Option CheckFault)
+faults_at times db (query.Select form) = select_faults times (table_named db form.table) form
+faults_at times db (query.Agg form) = agg_faults times (table_named db form.table) form
+faults_at times db (query.Join form) =
+    join_faults times (table_named db form.left) (table_named db form.right) form
+
+-- the faults at all places of a query at so many commits
 abbrev pub faults_of : ℕ → plain.Database → Query → List (Option CheckFault)
-faults_of now db (query.Select form) = select_faults now (table_named db form.table) form
-faults_of now db (query.Agg form) = agg_faults now (table_named db form.table) form
-faults_of now db (query.Join form) =
-    join_faults now (table_named db form.left) (table_named db form.right) form
+faults_of now db query = faults_at (times_for now db query) db query
 
 -- where there is a fault, it does not come before this one
 abbrev pub IsNotBefore : CheckFault → Option CheckFault → Type 0
@@ -220,31 +242,33 @@ typed_test_of schema test =
 abbrev pub typed_pred_of : plain.Schema → Pred → TypedPred
 typed_pred_of schema pred = record { any = map (map (typed_test_of schema)) pred.any }
 
--- a range of time: all versions are those up to the last one, and valid time is that of a version
-abbrev pub span_of : ℕ → Over → Span
-span_of now over.SystemAll = span.System 0 (now + 1)
-span_of now (over.System from to) = span.System (nat_abs from.value) (nat_abs to.value)
-span_of now (over.Valid pos from to as_of) = span.Valid (version_of now as_of) from.value to.value
+-- a range of time: all versions are those from the least one that may be asked up to the last one,
+-- and valid time is that of a version
+abbrev pub span_of : Times → Over → Span
+span_of times over.SystemAll = span.System times.floor (times.now + 1)
+span_of times (over.System from to) = span.System (nat_abs from.value) (nat_abs to.value)
+span_of times (over.Valid pos from to as_of) =
+    span.Valid (version_of times as_of) from.value to.value
 
 -- a SELECT over a table
-abbrev pub select_by_numbers : ℕ → ℕ × plain.Schema → SelectForm → Typed
-select_by_numbers now table form =
+abbrev pub select_by_numbers : Times → ℕ × plain.Schema → SelectForm → Typed
+select_by_numbers times table form =
     typed.Select table.0 (typed_items_of table.1 form) (typed_pred_of table.1 form.pred)
-    (option_map (λ p. p.value) form.valid_at) (version_of now form.as_of)
+    (option_map (λ p. p.value) form.valid_at) (version_of times form.as_of)
 
 -- an aggregate over a table
-abbrev pub agg_by_numbers : ℕ → ℕ × plain.Schema → AggForm → Typed
-agg_by_numbers now table form =
+abbrev pub agg_by_numbers : Times → ℕ × plain.Schema → AggForm → Typed
+agg_by_numbers times table form =
     typed.Agg table.0 form.kind (option_map (column_place table.1) form.column)
     (option_map (column_place table.1) form.by) (typed_pred_of table.1 form.pred)
-    (span_of now form.over)
+    (span_of times form.over)
 
 -- a join of two tables
-abbrev pub join_by_numbers : ℕ → ℕ × plain.Schema → ℕ × plain.Schema → JoinForm → Typed
-join_by_numbers now left right form =
+abbrev pub join_by_numbers : Times → ℕ × plain.Schema → ℕ × plain.Schema → JoinForm → Typed
+join_by_numbers times left right form =
     typed.Join left.0 (typed_pred_of left.1 form.left_pred) right.0
     (typed_pred_of right.1 form.right_pred) (column_place left.1 form.left_on)
-    (column_place right.1 form.right_on) (span_of now form.over)
+    (column_place right.1 form.right_on) (span_of times form.over)
 
 -- THE CHECK
 
@@ -254,29 +278,33 @@ fault_or (Some f) typed name = Err f
 fault_or None (Some typed) name = Ok typed
 fault_or None None name = Err (fault.UnknownTable name.at)
 
--- a SELECT at so many commits, over the table that its name means if it means one
-abbrev pub select_checked : ℕ → Known → SelectForm → Result Typed CheckFault
-select_checked now table form =
-    fault_or (first_of (select_faults now table form))
-    (option_map (λ t. select_by_numbers now t form) table) form.table
+-- a SELECT over the table that its name means if it means one
+abbrev pub select_checked : Times → Known → SelectForm → Result Typed CheckFault
+select_checked times table form =
+    fault_or (first_of (select_faults times table form))
+    (option_map (λ t. select_by_numbers times t form) table) form.table
 
 -- an aggregate
-abbrev pub agg_checked : ℕ → Known → AggForm → Result Typed CheckFault
-agg_checked now table form =
-    fault_or (first_of (agg_faults now table form))
-    (option_map (λ t. agg_by_numbers now t form) table) form.table
+abbrev pub agg_checked : Times → Known → AggForm → Result Typed CheckFault
+agg_checked times table form =
+    fault_or (first_of (agg_faults times table form))
+    (option_map (λ t. agg_by_numbers times t form) table) form.table
 
 -- a join
-abbrev pub join_checked : ℕ → Known → Known → JoinForm → Result Typed CheckFault
-join_checked now left right form =
-    fault_or (first_of (join_faults now left right form))
-    (option_and_then (λ l. option_map (λ r. join_by_numbers now l r form) right) left) form.left
+abbrev pub join_checked : Times → Known → Known → JoinForm → Result Typed CheckFault
+join_checked times left right form =
+    fault_or (first_of (join_faults times left right form))
+    (option_and_then (λ l. option_map (λ r. join_by_numbers times l r form) right) left) form.left
+
+-- a query, where this is known of versions
+abbrev pub checked_at : Times → plain.Database → Query → Result Typed CheckFault
+checked_at times db (query.Select form) = select_checked times (table_named db form.table) form
+checked_at times db (query.Agg form) = agg_checked times (table_named db form.table) form
+checked_at times db (query.Join form) =
+    join_checked times (table_named db form.left) (table_named db form.right) form
 
 -- The query by numbers at so many commits, over these tables; or, among the faults at all of its
 -- places, the one that stands furthest to the left, and of several at one place the one of the
 -- least number.
 abbrev pub checked : ℕ → plain.Database → Query → Result Typed CheckFault
-checked now db (query.Select form) = select_checked now (table_named db form.table) form
-checked now db (query.Agg form) = agg_checked now (table_named db form.table) form
-checked now db (query.Join form) =
-    join_checked now (table_named db form.left) (table_named db form.right) form
+checked now db query = checked_at (times_for now db query) db query

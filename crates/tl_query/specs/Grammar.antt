@@ -13,6 +13,9 @@ use Rattle.tl_query.specs.declared.terminals.Terminal.{Terminal}
 use Rattle.tl_types.specs.declared.keywords.Keyword.{Keyword}
 use Rattle.tl_types.specs.declared.keywords.Keyword.TheVariants as words
 use Rattle.tl_query.specs.declared.terminals.Terminal.TheVariants as terminals
+use Rattle.tl_query.specs.declared.terminals.SoftWord.{SoftWord}
+use Rattle.tl_query.specs.declared.terminals.SoftWord.TheVariants as soft
+use Rattle.tl_query.specs.Terminals.{soft_spelling}
 use Rattle.tl_query.specs.declared.tokens.Token.{Token}
 use Rattle.tl_query.specs.declared.tokens.Token.TheVariants.{Fixed, Word, Number, Negative, Quoted}
 use Rattle.tl_query.specs.declared.tokens.Placed.{Placed}
@@ -25,6 +28,8 @@ use Rattle.tl_query.specs.declared.ast.AggForm.{AggForm}
 use Rattle.tl_query.specs.declared.ast.AggKind.{AggKind}
 use Rattle.tl_query.specs.declared.ast.AggKind.TheVariants as aggs
 use Rattle.tl_query.specs.declared.ast.JoinForm.{JoinForm}
+use Rattle.tl_query.specs.declared.ast.AsOf.{AsOf}
+use Rattle.tl_query.specs.declared.ast.AsOf.TheVariants as as_ofs
 use Rattle.tl_query.specs.declared.ast.Over.{Over}
 use Rattle.tl_query.specs.declared.ast.Over.TheVariants as overs
 use Rattle.tl_query.specs.declared.ast.Pred.{Pred}
@@ -54,6 +59,12 @@ moment_by (Number n) = Some n
 moment_by (Negative n) = Some n
 moment_by _ = None
 
+-- a number, with its offset
+abbrev pub number_by : ℕ → Token → Option Stamp
+number_by at (Number n) = Some (record { value = n; at = at })
+number_by at (Negative n) = Some (record { value = n; at = at })
+number_by at _ = None
+
 -- a bound of valid time: a number, or FOREVER
 abbrev pub bound_by : ℕ → Token → Option Stamp
 bound_by at (Number n) = Some (record { value = n; at = at })
@@ -75,20 +86,25 @@ constant_by _ = None
 pub data Part : Type 0 where
   terminal : Terminal → Part
   terminal_at : Terminal → ℕ → Part
+  said : SoftWord → Part
   identifier : Name → Part
   version : Stamp → Part
   moment : ℤ → Part
+  number : Stamp → Part
   bound : Stamp → Part
   constant : Cell → ℕ → Part
 
--- The token is the part: a keyword or symbol, anywhere or at an offset that the statement keeps; a
--- name, a version, a valid time, a bound, or a constant at its offset.
+-- The token is the part: a keyword or symbol, anywhere or at an offset that the statement keeps;
+-- a word that is a name elsewhere; a name, a version, a valid time, a number at an offset, a bound,
+-- or a constant at its offset.
 abbrev pub IsPart : Part → Placed → Type 0
 IsPart (terminal m) p = p.token ≡ Fixed m
 IsPart (terminal_at m at) p = p ≡ record { token = Fixed m; at = at }
+IsPart (said w) p = p.token ≡ Word (soft_spelling w)
 IsPart (identifier n) p = name_by p.at p.token ≡ Some n
 IsPart (version s) p = version_by p.at p.token ≡ Some s
 IsPart (moment v) p = moment_by p.token ≡ Some v
+IsPart (number s) p = number_by p.at p.token ≡ Some s
 IsPart (bound s) p = bound_by p.at p.token ≡ Some s
 IsPart (constant c at) p = (constant_by p.token ≡ Some c) × (p.at ≡ at)
 
@@ -185,12 +201,17 @@ valid_at_parts None = []
 valid_at_parts (Some v) =
     terminal_at (terminals.Keyword words.Valid) v.pos ∷ keyword words.At ∷ moment v.value ∷ []
 
--- AS OF version, or nothing
-abbrev pub as_of_parts : Option Stamp → List Part
-as_of_parts None = []
-as_of_parts (Some s) = keyword words.As ∷ keyword words.Of ∷ version s ∷ []
+-- a version, or MOMENT number
+abbrev pub version_or_moment_parts : AsOf → List Part
+version_or_moment_parts (as_ofs.Version s) = version s ∷ []
+version_or_moment_parts (as_ofs.Moment s) = said soft.Moment ∷ number s ∷ []
 
--- SELECT, `*` or items, FROM name, and which rows, at which valid time, at which version
+-- AS OF version, AS OF MOMENT number, or nothing
+abbrev pub as_of_parts : Option AsOf → List Part
+as_of_parts None = []
+as_of_parts (Some x) = keyword words.As ∷ keyword words.Of ∷ version_or_moment_parts x
+
+-- SELECT, `*` or items, FROM name, and which rows, at which valid time, at which version or moment
 abbrev pub select_parts : SelectForm → List Part
 select_parts f =
     keyword words.Select
@@ -252,6 +273,9 @@ statement_parts (statements.Remove n) = keyword words.Remove ∷ identifier n �
 statement_parts (statements.Ask (queries.Select f)) = select_parts f
 statement_parts (statements.Ask (queries.Agg f)) = agg_parts f
 statement_parts (statements.Ask (queries.Join f)) = join_parts f
+statement_parts (statements.Moment s) = said soft.Moment ∷ number s ∷ []
+statement_parts (statements.Forget n s) =
+    said soft.Forget ∷ identifier n ∷ said soft.Before ∷ version s ∷ []
 
 -- `;`, or nothing
 abbrev pub end_parts : Bool → List Part
@@ -309,6 +333,8 @@ IsStatement (statements.Remove n) = Unit {0}
 IsStatement (statements.Ask (queries.Select f)) = IsSelect f
 IsStatement (statements.Ask (queries.Agg f)) = IsAgg f
 IsStatement (statements.Ask (queries.Join f)) = IsJoin f
+IsStatement (statements.Moment s) = Unit {0}
+IsStatement (statements.Forget n s) = Unit {0}
 
 -- The tokens spell the statement: they are its parts, and a `;` or nothing.
 abbrev pub IsSpelling : List Placed → Statement → Type 0

@@ -1,6 +1,6 @@
 -- Lists in order.
-use Rattle.std.specs.Prelude.{ℕ, Bool, true, false, ◌&&◌, ◌||◌, nat_lt, ◌==◌, int_lt, List, [], ◌∷◌, if◌then◌else◌}
-use Rattle.std.specs.List.{list_any, fold, filter_map}
+use Rattle.std.specs.Prelude.{ℕ, Bool, true, false, ◌&&◌, ◌||◌, nat_lt, ◌==◌, ◌≡◌, int_lt, List, [], ◌∷◌, if◌then◌else◌}
+use Rattle.std.specs.List.{list_any, fold, filter_map, AllByRecursion}
 use Rattle.std.specs.Ordering.{int_eq, is_lt, nat_cmp}
 use Rattle.std.specs.Cmp.Lexicographic.{slice_cmp}
 use Rattle.tl_types.specs.declared.cells.Cell.{Cell}
@@ -42,3 +42,12 @@ pair_before p q =
     int_lt p.from q.from
     || int_eq p.from q.from
     && (nat_lt p.left q.left || (p.left == q.left) && nat_lt p.right q.right)
+
+-- the value is among them
+abbrev pub has : List Cell → Cell → Bool
+has values z = list_any (λ y. same_cell y z) values
+
+-- each value comes before all later ones
+abbrev pub Rises : List Cell → Type 0
+Rises [] = Unit {0}
+Rises (x ∷ xs) = AllByRecursion (λ y. cell_before x y ≡ true) xs × Rises xs

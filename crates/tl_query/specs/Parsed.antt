@@ -12,6 +12,8 @@ use Rattle.tl_query.specs.declared.ast.CreateForm.{CreateForm}
 use Rattle.tl_query.specs.declared.ast.SelectForm.{SelectForm}
 use Rattle.tl_query.specs.declared.ast.AggForm.{AggForm}
 use Rattle.tl_query.specs.declared.ast.JoinForm.{JoinForm}
+use Rattle.tl_query.specs.declared.ast.AsOf.{AsOf}
+use Rattle.tl_query.specs.declared.ast.AsOf.TheVariants as as_ofs
 use Rattle.tl_query.specs.declared.ast.Over.{Over}
 use Rattle.tl_query.specs.declared.ast.Over.TheVariants as overs
 use Rattle.tl_query.specs.declared.ast.Pred.{Pred}
@@ -36,15 +38,20 @@ pub record IsNewTable (f : CreateForm) : Type 0 where
 abbrev pub IsVersion : Stamp → Type 0
 IsVersion s = IsNonNegative s.value
 
+-- a version after AS OF is not negative; a moment may be
+abbrev pub IsGiven : AsOf → Type 0
+IsGiven (as_ofs.Version s) = IsVersion s
+IsGiven (as_ofs.Moment s) = Unit {0}
+
 -- the versions of a range are not negative
 abbrev pub HasVersions : Over → Type 0
 HasVersions overs.SystemAll = Unit {0}
 HasVersions (overs.System from to) = IsVersion from × IsVersion to
-HasVersions (overs.Valid at from to as_of) = ForSome as_of IsVersion
+HasVersions (overs.Valid at from to as_of) = ForSome as_of IsGiven
 
 -- a query whose versions are not negative, and whose aggregate has a column where it works on one
 abbrev pub IsQuery : Query → Type 0
-IsQuery (queries.Select f) = ForSome f.as_of IsVersion
+IsQuery (queries.Select f) = ForSome f.as_of IsGiven
 IsQuery (queries.Agg f) = IsAggregate f.kind f.column × HasVersions f.over
 IsQuery (queries.Join f) = HasVersions f.over
 
@@ -58,6 +65,11 @@ IsNamed n = IsTrue (is_name n.text)
 abbrev pub IsI64 : ℤ → Type 0
 IsI64 (pos n) = n < 2 ^ 63
 IsI64 (negsuc n) = n < 2 ^ 63
+
+-- the number after AS OF has 64 bits
+abbrev pub IsGivenI64 : AsOf → Type 0
+IsGivenI64 (as_ofs.Version s) = IsI64 s.value
+IsGivenI64 (as_ofs.Moment s) = IsI64 s.value
 
 -- a number of 64 bits, or a text of at most 65,535 bytes
 abbrev pub IsCell : Cell → Type 0
@@ -84,7 +96,7 @@ abbrev pub HasNumbers : Over → Type 0
 HasNumbers overs.SystemAll = Unit {0}
 HasNumbers (overs.System from to) = IsI64 from.value × IsI64 to.value
 HasNumbers (overs.Valid at from to as_of) =
-    IsI64 from.value × IsI64 to.value × IfSome as_of (λ s. IsI64 s.value)
+    IsI64 from.value × IsI64 to.value × IfSome as_of IsGivenI64
 
 -- a table with a column, and a name after KEY
 pub record IsSpelledTable (f : CreateForm) : Type 0 where
@@ -98,7 +110,7 @@ pub record IsSpelledSelect (f : SelectForm) : Type 0 where
   pub table : IsNamed f.table
   pub tests : HasTests f.pred
   pub valid_at : IfSome f.valid_at (λ v. IsI64 v.value)
-  pub as_of : IfSome f.as_of (λ s. IsI64 s.value)
+  pub as_of : IfSome f.as_of IsGivenI64
 
 -- an aggregate
 pub record IsSpelledAgg (f : AggForm) : Type 0 where
@@ -131,3 +143,5 @@ IsParsed (statements.Create f) = IsNewTable f × IsSpelledTable f
 IsParsed (statements.Put n) = IsNamed n
 IsParsed (statements.Remove n) = IsNamed n
 IsParsed (statements.Ask q) = IsQuery q × IsSpelledQuery q
+IsParsed (statements.Moment s) = IsI64 s.value
+IsParsed (statements.Forget n s) = IsNamed n × IsVersion s × IsI64 s.value

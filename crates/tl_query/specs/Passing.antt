@@ -1,5 +1,5 @@
 -- Which rows pass a predicate.
-use Rattle.std.specs.Prelude.{ℕ, ℤ, Bool, false, ◌||◌, not, ◌==◌, int_le, int_lt, List, length, Option, Some, None}
+use Rattle.std.specs.Prelude.{ℕ, ℤ, Bool, false, ◌||◌, not, ◌==◌, int_le, int_lt, List, length, map, Option, Some, None}
 use Rattle.std.specs.List.{list_all, list_any}
 use Rattle.std.specs.Ordering.{int_eq}
 use Rattle.tl_types.specs.declared.cells.Cell.{Cell}
@@ -53,3 +53,7 @@ passes_all row tests = list_all (passes_test row) tests
 -- the row passes all tests of one of the lists, or there is no list
 abbrev pub passes : TypedPred → plain.Row → Bool
 passes pred row = (length pred.any == 0) || list_any (passes_all row) pred.any
+
+-- which rows pass
+abbrev pub passing : TypedPred → List plain.Row → List Bool
+passing pred rows = map (passes pred) rows

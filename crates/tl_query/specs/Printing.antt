@@ -16,6 +16,8 @@ use Rattle.tl_query.specs.declared.ast.CreateForm.{CreateForm}
 use Rattle.tl_query.specs.declared.ast.SelectForm.{SelectForm}
 use Rattle.tl_query.specs.declared.ast.AggForm.{AggForm}
 use Rattle.tl_query.specs.declared.ast.JoinForm.{JoinForm}
+use Rattle.tl_query.specs.declared.ast.AsOf.{AsOf}
+use Rattle.tl_query.specs.declared.ast.AsOf.TheVariants as as_ofs
 use Rattle.tl_query.specs.declared.ast.Over.{Over}
 use Rattle.tl_query.specs.declared.ast.Over.TheVariants as overs
 use Rattle.tl_query.specs.declared.ast.Pred.{Pred}
@@ -26,8 +28,8 @@ use Rattle.tl_query.specs.declared.ast.Item.TheVariants as items
 use Rattle.tl_query.specs.declared.ast.Query.TheVariants as queries
 use Rattle.tl_query.specs.declared.ast.Statement.{Statement}
 use Rattle.tl_query.specs.declared.ast.Statement.TheVariants as statements
-use Rattle.tl_query.specs.Terminals.{same_terminal, spelling}
-use Rattle.tl_query.specs.Grammar.{Part, terminal, terminal_at, identifier, version, moment, bound, constant, statement_parts}
+use Rattle.tl_query.specs.Terminals.{same_terminal, soft_spelling, spelling}
+use Rattle.tl_query.specs.Grammar.{Part, terminal, terminal_at, said, identifier, version, moment, number, bound, constant, statement_parts}
 
 -- THE TEXT
 
@@ -75,9 +77,11 @@ bound_word v =
 abbrev pub word_of : Part → Word
 word_of (terminal m) = terminal_word m
 word_of (terminal_at m at) = terminal_word m
+word_of (said w) = plain_word (soft_spelling w)
 word_of (identifier n) = plain_word n.text
 word_of (version s) = plain_word (signed_decimal s.value)
 word_of (moment v) = plain_word (signed_decimal v)
+word_of (number s) = plain_word (signed_decimal s.value)
 word_of (bound s) = bound_word s.value
 word_of (constant c at) = plain_word (cell_text c)
 
@@ -116,6 +120,10 @@ unplaced_name n = record { text = n.text; at = 0 }
 abbrev pub unplaced_stamp : Stamp → Stamp
 unplaced_stamp s = record { value = s.value; at = 0 }
 
+abbrev pub unplaced_as_of : AsOf → AsOf
+unplaced_as_of (as_ofs.Version s) = as_ofs.Version (unplaced_stamp s)
+unplaced_as_of (as_ofs.Moment s) = as_ofs.Moment (unplaced_stamp s)
+
 abbrev pub unplaced_column : ColumnForm → ColumnForm
 unplaced_column c = record { name = unplaced_name c.name; kind = c.kind }
 
@@ -144,7 +152,7 @@ abbrev pub unplaced_over : Over → Over
 unplaced_over overs.SystemAll = overs.SystemAll
 unplaced_over (overs.System from to) = overs.System (unplaced_stamp from) (unplaced_stamp to)
 unplaced_over (overs.Valid at from to as_of) =
-    overs.Valid 0 (unplaced_stamp from) (unplaced_stamp to) (option_map unplaced_stamp as_of)
+    overs.Valid 0 (unplaced_stamp from) (unplaced_stamp to) (option_map unplaced_as_of as_of)
 
 abbrev pub unplaced_create : CreateForm → CreateForm
 unplaced_create f =
@@ -163,7 +171,7 @@ unplaced_select f =
       table = unplaced_name f.table;
       pred = unplaced_pred f.pred;
       valid_at = option_map unplaced_point f.valid_at;
-      as_of = option_map unplaced_stamp f.as_of;
+      as_of = option_map unplaced_as_of f.as_of;
     }
 
 abbrev pub unplaced_agg : AggForm → AggForm
@@ -197,3 +205,5 @@ without_offsets (statements.Ask (queries.Select f)) =
     statements.Ask (queries.Select (unplaced_select f))
 without_offsets (statements.Ask (queries.Agg f)) = statements.Ask (queries.Agg (unplaced_agg f))
 without_offsets (statements.Ask (queries.Join f)) = statements.Ask (queries.Join (unplaced_join f))
+without_offsets (statements.Moment s) = statements.Moment (unplaced_stamp s)
+without_offsets (statements.Forget n s) = statements.Forget (unplaced_name n) (unplaced_stamp s)

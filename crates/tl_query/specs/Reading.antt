@@ -10,6 +10,9 @@ use Rattle.tl_types.specs.declared.cells.ColumnKind.TheVariants as kinds
 use Rattle.tl_query.specs.declared.terminals.Terminal.{Terminal}
 use Rattle.tl_types.specs.declared.keywords.Keyword.TheVariants as words
 use Rattle.tl_query.specs.declared.terminals.Terminal.TheVariants as terminals
+use Rattle.tl_query.specs.declared.terminals.SoftWord.{SoftWord}
+use Rattle.tl_query.specs.declared.terminals.SoftWord.TheVariants as soft
+use Rattle.tl_types.specs.Names.{same_bytes}
 use Rattle.tl_query.specs.declared.tokens.Token.{Token}
 use Rattle.tl_query.specs.declared.tokens.Token.TheVariants.{Fixed, Word}
 use Rattle.tl_query.specs.declared.tokens.Placed.{Placed}
@@ -18,6 +21,8 @@ use Rattle.tl_query.specs.declared.ast.Stamp.{Stamp}
 use Rattle.tl_query.specs.declared.ast.ColumnForm.{ColumnForm}
 use Rattle.tl_query.specs.declared.ast.AggKind.{AggKind}
 use Rattle.tl_query.specs.declared.ast.AggKind.TheVariants as aggs
+use Rattle.tl_query.specs.declared.ast.AsOf.{AsOf}
+use Rattle.tl_query.specs.declared.ast.AsOf.TheVariants as as_ofs
 use Rattle.tl_query.specs.declared.ast.Over.{Over}
 use Rattle.tl_query.specs.declared.ast.Over.TheVariants as overs
 use Rattle.tl_query.specs.declared.ast.Pred.{Pred}
@@ -30,8 +35,8 @@ use Rattle.tl_query.specs.declared.ast.Statement.{Statement}
 use Rattle.tl_query.specs.declared.ast.Statement.TheVariants as statements
 use Rattle.tl_query.specs.declared.token_parsers.Stop.{Stop}
 use Rattle.tl_query.specs.declared.token_parsers.Stop.TheVariants as stops
-use Rattle.tl_query.specs.Terminals.{same_terminal}
-use Rattle.tl_query.specs.Grammar.{name_by, version_by, moment_by, bound_by, constant_by}
+use Rattle.tl_query.specs.Terminals.{same_terminal, soft_spelling}
+use Rattle.tl_query.specs.Grammar.{name_by, version_by, moment_by, number_by, bound_by, constant_by}
 
 infixl 10 ◌>>=◌
 abbrev pub ◌>>=◌ : {A B : Type 0} → Result A (Option ℕ) → (A → Result B (Option ℕ))
@@ -84,6 +89,19 @@ as_version p = version_by p.at p.token
 -- the valid time that the token is
 abbrev pub as_moment : Placed → Option ℤ
 as_moment p = moment_by p.token
+
+-- the number that the token is, with its offset
+abbrev pub as_number : Placed → Option Stamp
+as_number p = number_by p.at p.token
+
+-- the token is this word
+abbrev pub is_soft : SoftWord → Token → Bool
+is_soft w (Word name) = same_bytes name (soft_spelling w)
+is_soft w _ = false
+
+-- the offset of this word, where the token is it
+abbrev pub as_soft : SoftWord → Placed → Option ℕ
+as_soft w p = if is_soft w p.token then Some p.at else None
 
 -- the bound that the token is
 abbrev pub as_bound : Placed → Option Stamp
@@ -301,12 +319,19 @@ valid_point_at ts =
     (λ valid. expect (terminals.Keyword words.At) valid.1 >>= λ rest. take_at as_moment rest
     >>= λ value. Ok (Some (record { pos = valid.0; value = value.0 }), value.1))
 
--- the version after AS OF, where AS comes
-unfoldable pub as_of_at : List Placed → Result (Option Stamp × List Placed) (Option ℕ)
+-- a version, or a moment after MOMENT
+unfoldable pub version_or_moment_at : List Placed → Result (AsOf × List Placed) (Option ℕ)
+version_or_moment_at ts =
+    where_some (peek_at (as_soft soft.Moment) ts)
+    (take_at as_version ts >>= λ s. Ok (as_ofs.Version s.0, s.1))
+    (λ word. take_at as_number word.1 >>= λ s. Ok (as_ofs.Moment s.0, s.1))
+
+-- the version or the moment after AS OF, where AS comes
+unfoldable pub as_of_at : List Placed → Result (Option AsOf × List Placed) (Option ℕ)
 as_of_at ts =
     where_some (after (terminals.Keyword words.As) ts) (Ok (None, ts))
-    (λ rest. expect (terminals.Keyword words.Of) rest >>= λ next. take_at as_version next
-    >>= λ s. Ok (Some s.0, s.1))
+    (λ rest. expect (terminals.Keyword words.Of) rest >>= λ next. version_or_moment_at next
+    >>= λ x. Ok (Some x.0, x.1))
 
 -- what follows SELECT
 unfoldable pub parse_select : List Placed → Result Statement (Option ℕ)
@@ -424,6 +449,31 @@ join_at ts = do
         over = over.0;
       }))) over.1
 
+-- what follows MOMENT
+unfoldable pub moment_stated_at : List Placed → Result Statement (Option ℕ)
+moment_stated_at ts = do
+  moment ← take_at as_number ts
+  statement_end (statements.Moment moment.0) moment.1
+
+-- what follows FORGET
+unfoldable pub forget_at : List Placed → Result Statement (Option ℕ)
+forget_at ts = do
+  table ← take_at as_name ts
+  word ← take_at (as_soft soft.Before) table.1
+  floor ← take_at as_version word.1
+  statement_end (statements.Forget table.0 floor.0) floor.1
+
+-- a statement that begins with FORGET, or an aggregate
+abbrev pub agg_or_forget_at : List Placed → Result Statement (Option ℕ)
+agg_or_forget_at ts =
+    where_some (peek_at (as_soft soft.Forget) ts) (agg_at ts) (λ word. forget_at word.1)
+
+-- a statement that begins with MOMENT or FORGET, or an aggregate
+unfoldable pub agg_or_soft_at : List Placed → Result Statement (Option ℕ)
+agg_or_soft_at ts =
+    where_some (peek_at (as_soft soft.Moment) ts) (agg_or_forget_at ts)
+    (λ word. moment_stated_at word.1)
+
 -- the statement that the tokens spell, or where reading it stops
 unfoldable pub statement_at : List Placed → Result Statement (Option ℕ)
 statement_at ts =
@@ -432,4 +482,4 @@ statement_at ts =
     where_some (after (terminals.Keyword words.Remove) ts) (
     where_some (after (terminals.Keyword words.Select) ts) (
     where_some (after (terminals.Keyword words.Join) ts) (
-    agg_at ts) join_at) parse_select) remove_at) put_at) create_at
+    agg_or_soft_at ts) join_at) parse_select) remove_at) put_at) create_at

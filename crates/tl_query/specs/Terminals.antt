@@ -1,4 +1,4 @@
--- The keywords and symbols of the language.
+-- The keywords and symbols of the language, and its words that are names elsewhere.
 use Rattle.std.specs.Prelude.{ℕ, Bool, ◌==◌, List, codes}
 use denote.Enum.Bare.{sameb}
 use Rattle.tl_types.specs.Names.{spelling_of}
@@ -6,6 +6,8 @@ use Rattle.tl_types.specs.declared.keywords.Keyword.{Keyword}
 use Rattle.tl_types.specs.contracts.keywords.Keyword.{the_type}
 use Rattle.tl_query.specs.declared.terminals.Terminal.{Terminal}
 use Rattle.tl_query.specs.declared.terminals.Terminal.TheVariants as terminals
+use Rattle.tl_query.specs.declared.terminals.SoftWord.{SoftWord}
+use Rattle.tl_query.specs.declared.terminals.SoftWord.TheVariants as soft
 
 -- two keywords are the same
 abbrev pub same_keyword : Keyword → Keyword → Bool
@@ -45,3 +47,9 @@ spelling terminals.Less = codes "<"
 spelling terminals.AtMost = codes "<="
 spelling terminals.Greater = codes ">"
 spelling terminals.AtLeast = codes ">="
+
+-- how a word that is a name elsewhere is spelled
+unfoldable pub soft_spelling : SoftWord → List ℕ
+soft_spelling soft.Moment = codes "MOMENT"
+soft_spelling soft.Forget = codes "FORGET"
+soft_spelling soft.Before = codes "BEFORE"

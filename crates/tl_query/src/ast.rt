@@ -11,10 +11,10 @@ pub struct Name {
     pub at: u32,
 }
 
-/// A number in a statement: a version or a bound, and where it stands.
+/// A number in a statement: a version, a moment or a bound, and where it stands.
 #[derive(Clone, Copy)]
 pub struct Stamp {
-    /// The number: a version or a valid time.
+    /// The number: a version, a moment or a valid time.
     pub value: i64,
     /// Its byte offset.
     pub at: u32,
@@ -32,6 +32,25 @@ pub enum Statement {
     Remove(Name),
     /// Asks for an answer.
     Ask(Query),
+    /// `MOMENT number`: says which moment it is.
+    Moment(Stamp),
+    /// `FORGET name BEFORE version`: from then on no version before this one may be asked of the
+    /// named table.
+    Forget {
+        /// The table's name.
+        table: Name,
+        /// The version.
+        floor: Stamp,
+    },
+}
+
+/// What follows `AS OF`.
+#[derive(Clone, Copy)]
+pub enum AsOf {
+    /// A version.
+    Version(Stamp),
+    /// `MOMENT number`: the last version before a greater moment was stated.
+    Moment(Stamp),
 }
 
 /// The making of a table: `CREATE TABLE name (columns) KEY key`, and `VALID` at its end where rows
@@ -81,7 +100,7 @@ pub enum Item {
 
 /// A query for rows: `SELECT` with `*` or one or more items, separated by commas, then `FROM
 /// table`, `WHERE` where rows are tested, `VALID AT number` where a valid time is given, and `AS OF
-/// version` where a version is given.
+/// version` or `AS OF MOMENT number` where a version or a moment is given.
 #[derive(Drop)]
 pub struct SelectForm {
     /// Whether `*` stands for the items; then `items` is empty.
@@ -94,8 +113,8 @@ pub struct SelectForm {
     pub pred: Pred,
     /// The valid time at which rows have to be valid, where it is given.
     pub valid_at: Option<ValidPoint>,
-    /// The version, where it is given.
-    pub as_of: Option<Stamp>,
+    /// The version or the moment, where one is given.
+    pub as_of: Option<AsOf>,
 }
 
 /// A valid time after `VALID AT`.
@@ -196,8 +215,8 @@ pub enum Over {
         /// The version that ends the range.
         to: Stamp,
     },
-    /// The valid times from the first up to before the second, at a version: `VALID from TO to [AS
-    /// OF version]`.
+    /// The valid times from the first up to before the second, at a version: `VALID from TO to`,
+    /// with `AS OF version` or `AS OF MOMENT number` where a version or a moment is given.
     Valid {
         /// The byte offset of `VALID`.
         pos: u32,
@@ -205,7 +224,7 @@ pub enum Over {
         from: Stamp,
         /// The valid time that ends the range.
         to: Stamp,
-        /// The version, where it is given.
-        as_of: Option<Stamp>,
+        /// The version or the moment, where one is given.
+        as_of: Option<AsOf>,
     },
 }

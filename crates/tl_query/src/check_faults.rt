@@ -48,6 +48,13 @@ pub enum CheckFault {
     },
     /// Out of memory.
     NoMemory,
+    /// The version is before the least one that may be asked of the query's tables.
+    Forgotten {
+        /// The byte offset of the number that is asked for.
+        at: u32,
+        /// The least version that may be asked.
+        floor: u32,
+    },
 }
 
 impl From<AllocError> for CheckFault {

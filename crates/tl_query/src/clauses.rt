@@ -2,13 +2,13 @@
 ghost use Rattle.std.specs.Prelude.{◌<◌, Some, None, Ok};
 ghost use Rattle.tl_types.specs.declared.keywords.Keyword.TheVariants as words;
 ghost use Rattle.tl_query.specs.declared.terminals.Terminal.TheVariants as terminals;
-ghost use Rattle.tl_query.specs.Reading.{Gives, after, expect, several, test_at, conj_at, where_at, valid_point_at, as_of_at, versions_at, system_at, moments_at, over_at, column_name_at, by_at, side_at, on_at};
+ghost use Rattle.tl_query.specs.Reading.{Gives, after, expect, several, test_at, conj_at, where_at, valid_point_at, version_or_moment_at, as_of_at, versions_at, system_at, moments_at, over_at, column_name_at, by_at, side_at, on_at};
 
-use crate::ast::{AggKind, Name, Over, Pred, Stamp, Test, ValidPoint};
-use crate::terminals::Terminal;
+use crate::ast::{AggKind, AsOf, Name, Over, Pred, Test, ValidPoint};
+use crate::terminals::{SoftWord, Terminal};
 use crate::token_parsers::{
     Stop, after_keyword, bound_at, cmp_at, constant_at, expect, expect_keyword, moment_at, name_at,
-    valid_word, valid_word_at, version_at,
+    number_at, soft_word, valid_word, valid_word_at, version_at,
 };
 use crate::tokens::Placed;
 use std::alloc::Global;
@@ -88,17 +88,30 @@ pub(crate) fn valid_point_at(tokens: &[Placed]) -> Result<(Option<ValidPoint>, &
     Ok((Some(ValidPoint { pos, value }), rest))
 }
 
-/// The version after `AS OF`, where `AS` comes.
+// A version, or a moment after `MOMENT`.
+#[tactic(auto, unfolding(crate::specs::Reading::version_or_moment_at))]
+fn version_or_moment_at(tokens: &[Placed]) -> Result<(AsOf, &[Placed]), Stop>
+    ensures { Gives (λ x. (x.0, x.1.now)) result (version_or_moment_at tokens.now) }
+{
+    let Some((_, rest)) = soft_word(tokens, SoftWord::Moment) else {
+        let (version, rest) = version_at(tokens)?;
+        return Ok((AsOf::Version(version), rest));
+    };
+    let (moment, rest) = number_at(rest)?;
+    Ok((AsOf::Moment(moment), rest))
+}
+
+/// The version or the moment after `AS OF`, where `AS` comes.
 #[tactic(auto, unfolding(crate::specs::Reading::as_of_at))]
-pub(crate) fn as_of_at(tokens: &[Placed]) -> Result<(Option<Stamp>, &[Placed]), Stop>
+pub(crate) fn as_of_at(tokens: &[Placed]) -> Result<(Option<AsOf>, &[Placed]), Stop>
     ensures { Gives (λ x. (x.0, x.1.now)) result (as_of_at tokens.now) }
 {
     let Some(rest) = after_keyword(tokens, Keyword::As) else {
         return Ok((None, tokens));
     };
     let rest = expect_keyword(rest, Keyword::Of)?;
-    let (version, rest) = version_at(rest)?;
-    Ok((Some(version), rest))
+    let (as_of, rest) = version_or_moment_at(rest)?;
+    Ok((Some(as_of), rest))
 }
 
 #[tactic(auto, unfolding(crate::specs::Reading::versions_at))]

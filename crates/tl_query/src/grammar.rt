@@ -1,15 +1,15 @@
 //! Reading the tokens of a statement, from left to right.
 ghost use Rattle.std.specs.Prelude.{◌≡◌, ◌-◌, ◌<◌, Some, None, Ok, true, false};
-ghost use Rattle.tl_query.specs.Reading.{Gives, after, expect, column_at, columns_at, valid_at, create_at, put_at, remove_at, items_at, asked_at, parse_select, agg_at, join_at, statement_at};
+ghost use Rattle.tl_query.specs.Reading.{Gives, after, expect, column_at, columns_at, valid_at, create_at, put_at, remove_at, items_at, asked_at, parse_select, agg_at, join_at, moment_stated_at, forget_at, agg_or_soft_at, statement_at};
 
 use crate::ast::{AggForm, ColumnForm, CreateForm, Item, JoinForm, Query, SelectForm, Statement};
 use crate::clauses::{
     as_of_at, by_at, column_name_at, on_at, over_at, side_at, valid_point_at, where_at,
 };
-use crate::terminals::Terminal;
+use crate::terminals::{SoftWord, Terminal};
 use crate::token_parsers::{
     Stop, after, after_keyword, agg_kind_at, expect, expect_keyword, item_at, kind_at, name_at,
-    statement_end,
+    number_at, soft_word, soft_word_at, statement_end, version_at,
 };
 use crate::tokens::Placed;
 use std::alloc::Global;
@@ -183,6 +183,40 @@ fn join_at(alloc: Global, tokens: &[Placed]) -> Result<Statement, Stop>
     statement_end(Statement::Ask(Query::Join(form)), rest)
 }
 
+// What follows `MOMENT`.
+#[tactic(auto, unfolding(crate::specs::Reading::moment_stated_at))]
+fn moment_stated_at(tokens: &[Placed]) -> Result<Statement, Stop>
+    ensures { Gives (λ s. s) result (moment_stated_at tokens.now) }
+{
+    let (moment, rest) = number_at(tokens)?;
+    statement_end(Statement::Moment(moment), rest)
+}
+
+// What follows `FORGET`.
+#[tactic(auto, unfolding(crate::specs::Reading::forget_at))]
+fn forget_at(tokens: &[Placed]) -> Result<Statement, Stop>
+    ensures { Gives (λ s. s) result (forget_at tokens.now) }
+{
+    let (table, rest) = name_at(tokens)?;
+    let (_, rest) = soft_word_at(rest, SoftWord::Before)?;
+    let (floor, rest) = version_at(rest)?;
+    statement_end(Statement::Forget { table, floor }, rest)
+}
+
+// A statement that begins with `MOMENT` or `FORGET`, or an aggregate.
+#[tactic(auto, unfolding(crate::specs::Reading::agg_or_soft_at))]
+fn agg_or_soft_at(alloc: Global, tokens: &[Placed]) -> Result<Statement, Stop>
+    ensures { Gives (λ s. s) result (agg_or_soft_at tokens.now) }
+{
+    if let Some((_, rest)) = soft_word(tokens, SoftWord::Moment) {
+        return moment_stated_at(rest);
+    }
+    if let Some((_, rest)) = soft_word(tokens, SoftWord::Forget) {
+        return forget_at(rest);
+    }
+    agg_at(alloc, tokens)
+}
+
 /// The statement that the tokens spell, or where reading it stops.
 #[tactic(auto, unfolding(crate::specs::Reading::statement_at))]
 pub(crate) fn statement_at(alloc: Global, tokens: &[Placed]) -> Result<Statement, Stop>
@@ -203,5 +237,5 @@ pub(crate) fn statement_at(alloc: Global, tokens: &[Placed]) -> Result<Statement
     if let Some(rest) = after_keyword(tokens, Keyword::Join) {
         return join_at(alloc, rest);
     }
-    agg_at(alloc, tokens)
+    agg_or_soft_at(alloc, tokens)
 }

@@ -3,6 +3,7 @@
 //! answers it.
 #![tactic(auto)]
 
+pub mod answer_laws;
 mod ast;
 mod check_faults;
 mod clauses;
@@ -17,8 +18,8 @@ mod tokens;
 mod typed_queries;
 
 pub use ast::{
-    AggForm, AggKind, ColumnForm, CreateForm, Item, JoinForm, Name, Over, Pred, Query, SelectForm,
-    Stamp, Statement, Test, ValidPoint,
+    AggForm, AggKind, AsOf, ColumnForm, CreateForm, Item, JoinForm, Name, Over, Pred, Query,
+    SelectForm, Stamp, Statement, Test, ValidPoint,
 };
 pub use check_faults::CheckFault;
 pub use faults::TextFault;

@@ -4,16 +4,17 @@ ghost use Rattle.std.specs.Fmt.{signed_decimal};
 ghost use Rattle.tl_types.specs.declared.keywords.Keyword.TheVariants as words;
 ghost use Rattle.tl_query.specs.declared.terminals.Terminal.TheVariants as terminals;
 ghost use Rattle.tl_query.specs.declared.ast.Statement.{Statement};
-ghost use Rattle.tl_query.specs.Grammar.{terminal, version, bound, constant, kind_keyword, cmp_terminal, agg_keyword, item_parts, column_parts, valid_parts, test_parts, conj_parts, where_parts, valid_at_parts, as_of_parts, column_name_parts, by_parts, over_parts, create_parts, asked_parts, select_parts, agg_parts, join_parts, each_after, separated, statement_parts};
+ghost use Rattle.tl_query.specs.Grammar.{terminal, version, bound, constant, kind_keyword, cmp_terminal, agg_keyword, item_parts, column_parts, valid_parts, test_parts, conj_parts, where_parts, valid_at_parts, version_or_moment_parts, as_of_parts, column_name_parts, by_parts, over_parts, create_parts, asked_parts, select_parts, agg_parts, join_parts, each_after, separated, statement_parts};
 ghost use Rattle.tl_query.specs.Parsed.{IsParsed};
 ghost use Rattle.tl_query.specs.Printing.{Written, text_constant, cell_text, gap, terminal_word, plain_word, bound_word, put, write, nothing, text_of};
+ghost use Rattle.tl_query.specs.Terminals.{soft_spelling};
 ghost use Rattle.tl_query.specs.Texts.{SpellsAgain};
 
 use crate::ast::{
-    AggForm, AggKind, ColumnForm, CreateForm, Item, JoinForm, Name, Over, Pred, Query, SelectForm,
-    Stamp, Statement, Test, ValidPoint,
+    AggForm, AggKind, AsOf, ColumnForm, CreateForm, Item, JoinForm, Name, Over, Pred, Query,
+    SelectForm, Stamp, Statement, Test, ValidPoint,
 };
-use crate::terminals::{Terminal, same_terminal, spelling};
+use crate::terminals::{SoftWord, Terminal, same_terminal, soft_spelling, spelling};
 use std::alloc::Global;
 use std::marker::Model;
 use tl_types::{Bytes, Cell, Cmp, ColumnKind, Keyword, NoMemory, Seq};
@@ -364,13 +365,33 @@ impl Printer {
         Ok(())
     }
 
-    fn as_of(&mut self, stamp: Option<Stamp>) -> Result<(), NoMemory>
-        ensures { OnOk result (self.new ≡ write self.old (as_of_parts stamp)) }
+    // A word that is a name elsewhere.
+    fn soft_word(&mut self, word: SoftWord) -> Result<(), NoMemory>
+        ensures { OnOk result (self.new ≡ put self.old (plain_word (soft_spelling word))) }
     {
-        if let Some(stamp) = stamp {
+        self.word(soft_spelling(word).as_bytes())
+    }
+
+    fn version_or_moment(&mut self, as_of: AsOf) -> Result<(), NoMemory>
+        ensures { OnOk result (self.new ≡ write self.old (version_or_moment_parts as_of)) }
+    {
+        match as_of {
+            AsOf::Version(version) => self.version(version)?,
+            AsOf::Moment(moment) => {
+                self.soft_word(SoftWord::Moment)?;
+                self.number(moment.value)?;
+            }
+        }
+        Ok(())
+    }
+
+    fn as_of(&mut self, as_of: Option<AsOf>) -> Result<(), NoMemory>
+        ensures { OnOk result (self.new ≡ write self.old (as_of_parts as_of)) }
+    {
+        if let Some(as_of) = as_of {
             self.keyword(Keyword::As)?;
             self.keyword(Keyword::Of)?;
-            self.version(stamp)?;
+            self.version_or_moment(as_of)?;
         }
         Ok(())
     }
@@ -487,6 +508,16 @@ impl Printer {
             Statement::Ask(Query::Select(form)) => self.select(form)?,
             Statement::Ask(Query::Agg(form)) => self.agg(form)?,
             Statement::Ask(Query::Join(form)) => self.join(form)?,
+            Statement::Moment(moment) => {
+                self.soft_word(SoftWord::Moment)?;
+                self.number(moment.value)?;
+            }
+            Statement::Forget { table, floor } => {
+                self.soft_word(SoftWord::Forget)?;
+                self.name(table)?;
+                self.soft_word(SoftWord::Before)?;
+                self.version(*floor)?;
+            }
         }
         Ok(())
     }

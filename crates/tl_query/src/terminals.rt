@@ -1,6 +1,6 @@
-//! The keywords and symbols of the language.
+//! The keywords and symbols of the language, and its words that are names elsewhere.
 ghost use Rattle.std.specs.Prelude.{◌≡◌};
-ghost use Rattle.tl_query.specs.Terminals.{same_terminal, spelling};
+ghost use Rattle.tl_query.specs.Terminals.{same_terminal, soft_spelling, spelling};
 
 use tl_types::Keyword;
 
@@ -58,5 +58,28 @@ pub(crate) fn spelling(terminal: Terminal) -> &'static str
         Terminal::AtMost => "<=",
         Terminal::Greater => ">",
         Terminal::AtLeast => ">=",
+    }
+}
+
+/// A word that is a keyword at its places alone, and a name elsewhere.
+#[derive(Clone, Copy)]
+pub(crate) enum SoftWord {
+    /// `MOMENT`, at the start of a statement and after `AS OF`.
+    Moment,
+    /// `FORGET`, at the start of a statement.
+    Forget,
+    /// `BEFORE`, after the table of a `FORGET`.
+    Before,
+}
+
+/// How such a word is spelled.
+#[tactic(auto, unfolding(crate::specs::Terminals::soft_spelling))]
+pub(crate) fn soft_spelling(word: SoftWord) -> &'static str
+    ensures { result.now ≡ soft_spelling word }
+{
+    match word {
+        SoftWord::Moment => "MOMENT",
+        SoftWord::Forget => "FORGET",
+        SoftWord::Before => "BEFORE",
     }
 }

@@ -18,6 +18,9 @@ ghost use Rattle.tl_query.specs.Reading.{
   as_cmp,
   as_agg,
   as_valid,
+  as_number,
+  is_soft,
+  as_soft,
   first_token,
   take_at,
   peek_at,
@@ -26,7 +29,7 @@ ghost use Rattle.tl_query.specs.Reading.{
 };
 
 use crate::ast::{AggKind, Item, Name, Stamp, Statement};
-use crate::terminals::{Terminal, same_terminal};
+use crate::terminals::{SoftWord, Terminal, same_terminal, soft_spelling};
 use crate::tokens::{Placed, Token};
 use std::alloc::AllocFailed;
 use tl_types::{Cell, Cmp, ColumnKind, Keyword, NoMemory};
@@ -178,6 +181,20 @@ pub(crate) fn moment_at(tokens: &[Placed]) -> Result<(i64, &[Placed]), Stop>
     }
 }
 
+/// The number that comes first, with its offset.
+#[tactic(auto, unfolding(crate::specs::Reading::take_at))]
+pub(crate) fn number_at(tokens: &[Placed]) -> Result<(Stamp, &[Placed]), Stop>
+    ensures { Gives (λ x. (x.0, x.1.now)) result (take_at as_number tokens.now) }
+{
+    let (first, rest) = first_token(tokens)?;
+    let at = first.at;
+    match &first.token {
+        Token::Number(value) => Ok((Stamp { value: *value, at }, rest)),
+        Token::Negative(value) => Ok((Stamp { value: *value, at }, rest)),
+        _ => Err(Stop::Token(at)),
+    }
+}
+
 /// The bound that comes first: a number, or `FOREVER`.
 #[tactic(auto, unfolding(crate::specs::Reading::take_at))]
 pub(crate) fn bound_at(tokens: &[Placed]) -> Result<(Stamp, &[Placed]), Stop>
@@ -298,6 +315,48 @@ pub(crate) fn valid_word(tokens: &[Placed]) -> Option<(u32, &[Placed])>
             Token::Fixed(Terminal::Keyword(Keyword::Valid)) => Some((first.at, rest)),
             _ => None,
         },
+    }
+}
+
+// Whether a token is this word.
+fn is_soft(token: &Token, word: SoftWord) -> bool
+    ensures { result ≡ is_soft word token.now }
+{
+    match token {
+        Token::Word(text) => text.as_str() == soft_spelling(word),
+        _ => false,
+    }
+}
+
+/// The offset of a word that is a name elsewhere, which has to come first.
+#[tactic(auto, unfolding(crate::specs::Reading::take_at))]
+pub(crate) fn soft_word_at(tokens: &[Placed], word: SoftWord) -> Result<(u32, &[Placed]), Stop>
+    ensures { Gives (λ x. (x.0, x.1.now)) result (take_at (as_soft word) tokens.now) }
+{
+    let (first, rest) = first_token(tokens)?;
+    let at = first.at;
+    if is_soft(&first.token, word) {
+        Ok((at, rest))
+    } else {
+        Err(Stop::Token(at))
+    }
+}
+
+/// The offset of a word that is a name elsewhere, where it comes first, and the tokens after it.
+#[tactic(auto, unfolding(crate::specs::Reading::peek_at))]
+pub(crate) fn soft_word(tokens: &[Placed], word: SoftWord) -> Option<(u32, &[Placed])>
+    ensures { MatchOption result (peek_at (as_soft word) tokens.now ≡ None)
+        (λ x. peek_at (as_soft word) tokens.now ≡ Some (x.0, x.1.now)) }
+{
+    match tokens {
+        [] => None,
+        [first, rest @ ..] => {
+            if is_soft(&first.token, word) {
+                Some((first.at, rest))
+            } else {
+                None
+            }
+        }
     }
 }
 

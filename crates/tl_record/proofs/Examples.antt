@@ -65,3 +65,12 @@ closed = refl
 opened_again : spelling (change [] (row 2 (codes "dev") 50 ∷ []))
     ≡ 0 ∷ 0 ∷ 0 ∷ 0 ∷ 2 ∷ 0 ∷ 0 ∷ 0 ∷ 0 ∷ 0 ∷ 0 ∷ 0 ∷ 0 ∷ 0 ∷ 1 ∷ row_2
 opened_again = refl
+
+-- a moment, and a floor
+moment_stated : spelling (record { author = 0; body = body.Moment (pos 1000) })
+    ≡ 0 ∷ 0 ∷ 0 ∷ 0 ∷ 4 ∷ 0 ∷ 0 ∷ 0 ∷ 0 ∷ 0 ∷ 0 ∷ 3 ∷ 232 ∷ []
+moment_stated = refl
+
+floor_set : spelling (record { author = 0; body = body.Forget 0 3 })
+    ≡ 0 ∷ 0 ∷ 0 ∷ 0 ∷ 5 ∷ 0 ∷ 0 ∷ 0 ∷ 0 ∷ 0 ∷ 3 ∷ []
+floor_set = refl

@@ -1,7 +1,9 @@
 -- Commits are read exactly, and what decoding tells.
-use Rattle.std.proofs.Common.{◌≡◌, ℕ, zero, suc, ◌+◌, ◌-◌, ◌<◌, ◌≤◌, ◌^◌, List, [], ◌∷◌, ◌++◌, length, drop, refl, sym, ap, ◌∙◌, arith, Result, Ok, Err, IfOk, IfErr, IsErrOf, append_assoc}
+use Rattle.std.proofs.Common.{◌≡◌, ◌≢◌, ℕ, ℤ, pos, zero, suc, Bool, true, false, get_or, subst, ◌+◌, ◌-◌, ◌<◌, ◌≤◌, ◌^◌, List, [], ◌∷◌, ◌++◌, length, drop, refl, sym, ap, ◌∙◌, arith, Result, Ok, Err, IfOk, IfErr, IsErrOf, append_assoc}
 use Rattle.std.specs.List.{flat_map, AllByRecursion}
 use Rattle.std.proofs.lemmas.List.{length-append, append-nil, length-drop}
+use Rattle.std.proofs.lemmas.Int.{ints}
+use Rattle.std.proofs.lemmas.Bool.Decides.{nat_tests}
 use Rattle.tl_types.specs.declared.commits.Commit.{Commit}
 use Rattle.tl_types.specs.declared.commits.Body.{Body}
 use Rattle.tl_types.specs.declared.commits.Body.TheVariants as body
@@ -11,16 +13,15 @@ use Rattle.tl_record.specs.declared.faults.Fault.TheVariants.{Short, Bad}
 use Rattle.tl_record.specs.declared.faults.RecordFault.{RecordFault}
 use Rattle.tl_record.specs.declared.faults.RecordFault.TheVariants as fault
 use Rattle.tl_record.specs.declared.decoding.Decoded.{Decoded}
-use Rattle.tl_record.specs.Spelling.{short_number, number, row_bytes, schema_bytes, change_bytes, body_bytes, spelling, IsNumber, IsRow, IsBody, IsCommit}
+use Rattle.tl_record.specs.Spelling.{short_number, number, signed_number, row_bytes, schema_bytes, change_bytes, floor_bytes, body_bytes, spelling, IsNumber, IsSigned, IsRow, IsBody, IsCommit}
 use Rattle.tl_record.specs.Decoding.{BeginsWith, IsCutRecord, IsNoRecord, IsAt, IsDecoded, FindsUnlessMemory, FailsUnlessMemory}
-use Rattle.tl_record.specs.Reading.{Reader, in_turn, byte_between, any_2, any_4, closes_at, row_at, opens_at, change_from, change_at, schema_at, body_of, body_at, commit_from, commit_at, IsBetween}
+use Rattle.tl_record.specs.Reading.{Reader, in_turn, judged, is_kind, kind_at, signed_between, least, greatest, floor_from, floor_at, any_2, any_4, closes_at, row_at, opens_at, change_from, change_at, schema_at, body_of, body_at, commit_from, commit_at}
 use Rattle.tl_record.proofs.Exact.{Reads, SpellsIn, FitsIn, one}
 use Rattle.tl_record.proofs.Turns.{turns}
 use Rattle.tl_record.proofs.Parts.{same_value, maps, restated, behinds}
-use Rattle.tl_record.proofs.Bounds.{byte_reads}
 use Rattle.tl_record.proofs.Fields.{any_2_reads, any_4_reads, list_reads, closes_read, AreCloses}
 use Rattle.tl_record.proofs.Columns.{schema_reads, some_schema, IsASchema}
-use Rattle.tl_record.proofs.RowsRead.{row_reads, some_row}
+use Rattle.tl_record.proofs.RowsRead.{row_reads, some_row, any_signed}
 
 -- CHANGES
 
@@ -80,22 +81,70 @@ change_reads =
     (λ c f.
     ((f.0, ((f.1.ascending, f.2, f.1.few_closes), (f.3, f.1.few_opens))), refl))
 
+-- THE KIND OF A BODY
+
+abbrev IsKind : ℕ → Type 0
+IsKind n = is_kind n ≡ true
+
+kind_small : (n : ℕ) → IsKind n → n ≤ 5
+kind_small n h = grind (arith, nat_tests)
+
+kind_takes : (bytes rest : List ℕ) (x : ℕ) → kind_at bytes ≡ Ok (x, rest)
+    → IsKind x × (bytes ≡ (x ∷ []) ++ rest)
+kind_takes [] rest x e = absurd (cc)
+kind_takes (b ∷ bytes) rest x e = by_test (is_kind b) refl e where
+  by_test : (t : Bool) → is_kind b ≡ t → judged t b bytes ≡ Ok (x, rest)
+      → IsKind x × (b ∷ bytes ≡ x ∷ rest)
+  by_test true t e' =
+      let p : (b, bytes) ≡ (x, rest) = same_value (b, bytes) (x, rest) e' in
+      (subst IsKind (ap (λ z. z.0) p) t, ap (λ z. z.0 ∷ z.1) p)
+  by_test false t e' = absurd (cc)
+
+kind_short : (bytes : List ℕ) → kind_at bytes ≡ Err Short
+    → (x : ℕ) × (more : List ℕ) × IsKind x × (more ≢ []) × (bytes ++ more ≡ x ∷ [])
+kind_short [] e = (1, 1 ∷ [], refl, (λ f. absurd (cc)), refl)
+kind_short (b ∷ bytes) e = by_test (is_kind b) e where
+  by_test : (t : Bool) → judged t b bytes ≡ Err Short
+      → (x : ℕ) × (more : List ℕ) × IsKind x × (more ≢ []) × ((b ∷ bytes) ++ more ≡ x ∷ [])
+  by_test true e' = absurd (cc)
+  by_test false e' = absurd (cc)
+
+kind_bad : (bytes : List ℕ) → kind_at bytes ≡ Err Bad
+    → (x : ℕ) (more rest : List ℕ) → IsKind x → bytes ++ more ≢ (x ∷ []) ++ rest
+kind_bad [] e x more rest fits same = absurd (cc)
+kind_bad (b ∷ bytes) e x more rest fits same =
+    let is : b ≡ x = ap (λ l. get_or l 0 0) same in
+    let t : is_kind b ≡ true = ap is_kind is ∙ fits in
+    absurd (let f : judged true b bytes ≡ Err Bad = ap (λ z. judged z b bytes) (sym t) ∙ e in cc)
+
+kind_reads : Reads kind_at one IsKind
+kind_reads = record {
+  again = λ x rest fits. ap (λ t. judged t x rest) fits;
+  takes = kind_takes;
+  short = kind_short;
+  bad = kind_bad;
+}
+
 -- BODIES
 
 abbrev body_tag : Body → ℕ
 body_tag (body.Create s) = 1
 body_tag (body.Change c) = 2
+body_tag (body.Moment m) = 4
+body_tag (body.Forget t f) = 5
 
 abbrev body_rest : Body → List ℕ
 body_rest (body.Create s) = schema_bytes s
 body_rest (body.Change c) = change_bytes c
+body_rest (body.Moment m) = signed_number m
+body_rest (body.Forget t f) = floor_bytes t f
 
 abbrev BodyAs : ℕ → Body → Type 0
 BodyAs n y = IsBody y × (body_tag y ≡ n)
 
 abbrev schema_in : Body → plain.Schema
 schema_in (body.Create s) = s
-schema_in (body.Change c) = some_schema.0
+schema_in _ = some_schema.0
 
 abbrev no_change : plain.Change
 no_change = record { table = 0; closes = []; opens = [] }
@@ -103,49 +152,101 @@ no_change = record { table = 0; closes = []; opens = [] }
 abbrev change_in : Body → plain.Change
 change_in (body.Create s) = no_change
 change_in (body.Change c) = c
+change_in _ = no_change
+
+abbrev moment_in : Body → ℤ
+moment_in (body.Moment m) = m
+moment_in _ = pos 0
 
 create_back : (y : Body) → BodyAs 1 y → IsASchema (schema_in y) × (body.Create (schema_in y) ≡ y)
 create_back (body.Create s) f = (f.0, refl)
 create_back (body.Change c) f = absurd (omega (arith, f.1))
+create_back (body.Moment m) f = absurd (omega (arith, f.1))
+create_back (body.Forget t n) f = absurd (omega (arith, f.1))
 
 change_back : (y : Body) → BodyAs 2 y → IsAChange (change_in y) × (body.Change (change_in y) ≡ y)
 change_back (body.Create s) f = absurd (omega (arith, f.1))
 change_back (body.Change c) f = (f.0, refl)
+change_back (body.Moment m) f = absurd (omega (arith, f.1))
+change_back (body.Forget t n) f = absurd (omega (arith, f.1))
 
-body_of_reads : (n : ℕ) → IsBetween 1 2 n → Reads (body_of n) body_rest (BodyAs n)
-body_of_reads zero h = absurd (omega (arith, h.0))
+moment_back : (y : Body) → BodyAs 4 y → IsSigned (moment_in y) × (body.Moment (moment_in y) ≡ y)
+moment_back (body.Create s) f = absurd (omega (arith, f.1))
+moment_back (body.Change c) f = absurd (omega (arith, f.1))
+moment_back (body.Moment m) f = (f.0, refl)
+moment_back (body.Forget t n) f = absurd (omega (arith, f.1))
+
+-- a table and a floor
+abbrev pair_in : Body → ℕ × ℕ
+pair_in (body.Forget t n) = (t, n)
+pair_in _ = (0, 0)
+
+abbrev IsAFloor : ℕ × ℕ → Type 0
+IsAFloor p = IsTable p.0 × IsNumber p.1
+
+floor_back : (y : Body) → BodyAs 5 y → IsAFloor (pair_in y) × (floor_from (pair_in y) ≡ y)
+floor_back (body.Create s) f = absurd (omega (arith, f.1))
+floor_back (body.Change c) f = absurd (omega (arith, f.1))
+floor_back (body.Moment m) f = absurd (omega (arith, f.1))
+floor_back (body.Forget t n) f = (f.0, refl)
+
+pair_reads : Reads (in_turn any_2 (λ table. any_4)) (SpellsIn short_number (λ table. number)) (FitsIn IsTable (λ table. IsNumber))
+pair_reads =
+    turns any_2 (λ table. any_4) short_number (λ table. number) IsTable (λ table. IsNumber)
+    any_2_reads (λ table f. any_4_reads) (λ table f. (0, omega arith))
+
+floor_reads : Reads floor_at body_rest (BodyAs 5)
+unfolding floor_at
+floor_reads =
+    maps (in_turn any_2 (λ table. any_4)) floor_from pair_in (SpellsIn short_number (λ table. number)) body_rest
+    (FitsIn IsTable (λ table. IsNumber)) (BodyAs 5) pair_reads (λ p f. ((f, refl), refl)) floor_back
+
+body_of_reads : (n : ℕ) → IsKind n → Reads (body_of n) body_rest (BodyAs n)
+body_of_reads zero h = absurd (cc)
 body_of_reads (suc zero) h =
     maps schema_at (λ s. body.Create s) schema_in schema_bytes body_rest IsASchema (BodyAs 1) schema_reads
     (λ s f. ((f, refl), refl)) create_back
 body_of_reads (suc (suc zero)) h =
     maps change_at (λ c. body.Change c) change_in change_bytes body_rest IsAChange (BodyAs 2) change_reads
     (λ c f. ((f, refl), refl)) change_back
-body_of_reads (suc (suc (suc n))) h = absurd (omega (arith, h.1))
+body_of_reads (suc (suc (suc zero))) h = absurd (cc)
+body_of_reads (suc (suc (suc (suc zero)))) h =
+    maps (signed_between least greatest) (λ m. body.Moment m) moment_in signed_number body_rest IsSigned (BodyAs 4) any_signed
+    (λ m f. ((f, refl), refl)) moment_back
+body_of_reads (suc (suc (suc (suc (suc zero))))) h = floor_reads
+body_of_reads (suc (suc (suc (suc (suc (suc n)))))) h = absurd (let l = kind_small (suc (suc (suc (suc (suc (suc n)))))) h in omega (arith, l))
 
 change_fits : IsAChange no_change
 change_fits =
     (omega arith, record { ascending = tt; few_closes = omega arith; few_opens = omega arith }, tt, tt)
 
-some_body : (n : ℕ) → IsBetween 1 2 n → (y : Body) × BodyAs n y
-some_body zero h = absurd (omega (arith, h.0))
+some_body : (n : ℕ) → IsKind n → (y : Body) × BodyAs n y
+some_body zero h = absurd (cc)
 some_body (suc zero) h = (body.Create some_schema.0, (some_schema.1, refl))
 some_body (suc (suc zero)) h = (body.Change no_change, (change_fits, refl))
-some_body (suc (suc (suc n))) h = absurd (omega (arith, h.1))
+some_body (suc (suc (suc zero))) h = absurd (cc)
+some_body (suc (suc (suc (suc zero)))) h = (body.Moment (pos 0), ((omega (arith, ints), omega (arith, ints)), refl))
+some_body (suc (suc (suc (suc (suc zero))))) h = (body.Forget 0 0, ((omega arith, omega arith), refl))
+some_body (suc (suc (suc (suc (suc (suc n)))))) h = absurd (let l = kind_small (suc (suc (suc (suc (suc (suc n)))))) h in omega (arith, l))
 
-tag_within : (y : Body) → IsBetween 1 2 (body_tag y)
-tag_within (body.Create s) = (omega arith, omega arith)
-tag_within (body.Change c) = (omega arith, omega arith)
+tag_within : (y : Body) → IsKind (body_tag y)
+tag_within (body.Create s) = refl
+tag_within (body.Change c) = refl
+tag_within (body.Moment m) = refl
+tag_within (body.Forget t f) = refl
 
 body_whole : (y : Body) → body_bytes y ≡ one (body_tag y) ++ body_rest y
 body_whole (body.Create s) = refl
 body_whole (body.Change c) = refl
+body_whole (body.Moment m) = refl
+body_whole (body.Forget t f) = refl
 
 body_reads : Reads body_at body_bytes IsBody
 unfolding body_at
 body_reads =
     restated body_at (λ y. one (body_tag y) ++ body_rest y) body_bytes IsBody IsBody
-    (behinds (byte_between 1 2) body_of one body_rest (IsBetween 1 2) IsBody body_tag
-    (byte_reads 1 2 (omega arith)) (λ y f. tag_within y) body_of_reads some_body)
+    (behinds kind_at body_of one body_rest IsKind IsBody body_tag
+    kind_reads (λ y f. tag_within y) body_of_reads some_body)
     (λ y f. (f, body_whole y)) (λ y f. f)
 
 -- COMMITS

@@ -73,7 +73,7 @@ text_back : (y : Cell) → CellAs 2 y → IsText (letters_of y) × (cell.Text (l
 text_back (cell.Int i) f = absurd (omega (arith, f.1))
 text_back (cell.Text t) f = (f.0, refl)
 
-any_signed : Reads (signed_between least greatest) signed_number (IsWithin least greatest)
+pub any_signed : Reads (signed_between least greatest) signed_number (IsWithin least greatest)
 any_signed =
     signed_reads least greatest (omega (arith, ints)) (omega (arith, ints), omega (arith, ints))
     (omega (arith, ints), omega (arith, ints))

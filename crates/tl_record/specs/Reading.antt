@@ -338,15 +338,39 @@ change_at bytes =
     mapped change_from
     (in_turn any_2 (λ table. in_turn closes_at (λ closes. opens_at)) bytes)
 
--- a new table or a change
+-- a table and a floor as a body
+abbrev pub floor_from : ℕ × ℕ → Body
+floor_from p = body.Forget p.0 p.1
+
+-- a floor
+unfoldable pub floor_at : Reader Body
+floor_at bytes = mapped floor_from (in_turn any_2 (λ table. any_4) bytes)
+
+-- a moment or a floor
+abbrev pub body_without_rows : ℕ → Reader Body
+body_without_rows kind bytes =
+    if kind == 4 then mapped (λ m. body.Moment m) (signed_between least greatest bytes)
+    else floor_at bytes
+
+-- a new table, a change, a moment or a floor
 abbrev pub body_of : ℕ → Reader Body
 body_of kind bytes =
     if kind == 1 then mapped (λ s. body.Create s) (schema_at bytes)
-    else mapped (λ c. body.Change c) (change_at bytes)
+    else (if kind == 2 then mapped (λ c. body.Change c) (change_at bytes)
+    else body_without_rows kind bytes)
 
--- a new table or a change behind what says which
+-- the byte says what a commit does
+abbrev pub is_kind : ℕ → Bool
+is_kind b = (b == 1) || (b == 2) || (b == 4) || (b == 5)
+
+-- a byte that says what a commit does
+abbrev pub kind_at : Reader ℕ
+kind_at [] = Err Short
+kind_at (b ∷ rest) = judged (is_kind b) b rest
+
+-- what a commit does, behind what says which
 unfoldable pub body_at : Reader Body
-body_at bytes = behind (byte_between 1 2) body_of bytes
+body_at bytes = behind kind_at body_of bytes
 
 -- an author and a body as a commit
 abbrev pub commit_from : ℕ × Body → Commit

@@ -70,10 +70,16 @@ change_bytes change =
     short_number change.table ++ number (length change.closes) ++ flat_map number change.closes
     ++ number (length change.opens) ++ flat_map row_bytes change.opens
 
--- what a commit does: 1 and a new table, or 2 and a change
+-- a floor: its table, and the least version that may be asked of it
+abbrev pub floor_bytes : ℕ → ℕ → List ℕ
+floor_bytes table floor = short_number table ++ number floor
+
+-- what a commit does: 1 and a new table, 2 and a change, 4 and a moment, or 5 and a floor
 abbrev pub body_bytes : Body → List ℕ
 body_bytes (body.Create schema) = 1 ∷ schema_bytes schema
 body_bytes (body.Change change) = 2 ∷ change_bytes change
+body_bytes (body.Moment moment) = 4 ∷ signed_number moment
+body_bytes (body.Forget table floor) = 5 ∷ floor_bytes table floor
 
 -- the record of a commit: its author, and what it does
 abbrev pub spelling : Commit → List ℕ
@@ -103,12 +109,14 @@ IsRow row = IsOpened row × AllByRecursion IsCell row.cells × IsPeriod row.peri
 abbrev pub IsNumber : ℕ → Type 0
 IsNumber n = n < 2 ^ 32
 
--- what a body keeps: a schema's facts, or a change's, with numbers of their sizes
+-- what a body keeps: a schema's facts, or a change's, or none, with numbers of their sizes
 abbrev pub IsBody : Body → Type 0
 IsBody (body.Create schema) = IsTrue (is_schema schema)
 IsBody (body.Change change) =
     (change.table < 2 ^ 16) × IsChange change × AllByRecursion IsNumber change.closes
     × AllByRecursion IsRow change.opens
+IsBody (body.Moment moment) = IsSigned moment
+IsBody (body.Forget table floor) = (table < 2 ^ 16) × IsNumber floor
 
 -- what every commit keeps
 abbrev pub IsCommit : Commit → Type 0

@@ -2,7 +2,7 @@
 ghost use Rattle.std.specs.Prelude.{◌≡◌, ◌≤◌, ◌+◌, List, ℕ, ◌++◌, length, drop, IfOk, IfErr, IsErrOf};
 ghost use Rattle.tl_types.specs.declared.commits.Commit.{Commit as CommitValue};
 ghost use Rattle.tl_record.specs.Spelling.{spelling, IsCommit};
-ghost use Rattle.tl_record.specs.Reading.{Gives, body_of, body_at, commit_at};
+ghost use Rattle.tl_record.specs.Reading.{Gives, floor_at, body_without_rows, body_of, body_at, commit_at};
 ghost use Rattle.tl_record.specs.Decoding.{
   BeginsWith,
   IsCutRecord,
@@ -27,6 +27,26 @@ pub struct Decoded {
     pub end: usize,
 }
 
+#[tactic(auto, unfolding(crate::specs::Reading::floor_at))]
+fn floor(bytes: &[u8]) -> Result<(Body, &[u8]), ReadError>
+    ensures { Gives (λ x. (x.0, x.1.now)) result (floor_at bytes.now) }
+{
+    let (table, rest) = numbers::short_number(bytes)?;
+    let (floor, rest) = numbers::number(0, u32::MAX, rest)?;
+    Ok((Body::Forget { table, floor }, rest))
+}
+
+fn body_without_rows(kind: u8, bytes: &[u8]) -> Result<(Body, &[u8]), ReadError>
+    ensures { Gives (λ x. (x.0, x.1.now)) result (body_without_rows kind bytes.now) }
+{
+    if kind == 4 {
+        let (moment, rest) = numbers::signed(i64::MIN, i64::MAX, bytes)?;
+        return Ok((Body::Moment { moment }, rest));
+    }
+    let (body, rest) = floor(bytes)?;
+    Ok((body, rest))
+}
+
 fn body_of(alloc: Global, kind: u8, bytes: &[u8]) -> Result<(Body, &[u8]), ReadError>
     ensures { Gives (λ x. (x.0, x.1.now)) result (body_of kind bytes.now) }
 {
@@ -34,15 +54,19 @@ fn body_of(alloc: Global, kind: u8, bytes: &[u8]) -> Result<(Body, &[u8]), ReadE
         let (schema, rest) = tables::schema(alloc, bytes)?;
         return Ok((Body::Create(schema), rest));
     }
-    let (change, rest) = changes::change(alloc, bytes)?;
-    Ok((Body::Change(change), rest))
+    if kind == 2 {
+        let (change, rest) = changes::change(alloc, bytes)?;
+        return Ok((Body::Change(change), rest));
+    }
+    let (body, rest) = body_without_rows(kind, bytes)?;
+    Ok((body, rest))
 }
 
 #[tactic(auto, unfolding(crate::specs::Reading::body_at))]
 fn body(alloc: Global, bytes: &[u8]) -> Result<(Body, &[u8]), ReadError>
     ensures { Gives (λ x. (x.0, x.1.now)) result (body_at bytes.now) }
 {
-    let (kind, rest) = numbers::byte(1, 2, bytes)?;
+    let (kind, rest) = numbers::kind(bytes)?;
     let (body, rest) = body_of(alloc, kind, rest)?;
     Ok((body, rest))
 }

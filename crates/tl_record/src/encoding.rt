@@ -47,6 +47,15 @@ fn put_commit(out: &mut Vec<u8>, len: usize, commit: &Commit) -> Result<(), NoMe
             out.push(2)?;
             put_change(out, len, change)?;
         }
+        Body::Moment { moment } => {
+            out.push(4)?;
+            out.extend_from_slice(&moment.to_be_bytes())?;
+        }
+        Body::Forget { table, floor } => {
+            out.push(5)?;
+            out.extend_from_slice(&table.to_be_bytes())?;
+            put_number(out, *floor)?;
+        }
     }
     Ok(())
 }

@@ -49,6 +49,15 @@ pub fn record_len(commit: &Commit) -> usize
     match &commit.body {
         Body::Create(schema) => 5 + schema_len(schema),
         Body::Change(change) => 5 + change_len(change),
+        Body::Moment { moment } => {
+            let _moment = *moment;
+            13
+        }
+        Body::Forget { table, floor } => {
+            let _table = *table;
+            let _floor = *floor;
+            11
+        }
     }
 }
 

@@ -5,6 +5,8 @@ ghost use Rattle.tl_record.specs.Reading.{
   Fails,
   IsBetween,
   byte_between,
+  is_kind,
+  kind_at,
   turned,
   turned_byte,
   turned_between,
@@ -26,6 +28,29 @@ pub fn byte(lo: u8, hi: u8, bytes: &[u8]) -> Result<(u8, &[u8]), ReadError>
         [] => Err(ReadError::Fault(Fault::Short)),
         [first, rest @ ..] => {
             if lo <= *first && *first <= hi {
+                Ok((*first, rest))
+            } else {
+                Err(ReadError::Fault(Fault::Bad))
+            }
+        }
+    }
+}
+
+// Whether a byte says what a commit does.
+fn is_kind(byte: u8) -> bool
+    ensures { result ≡ is_kind byte }
+{
+    byte == 1 || byte == 2 || byte == 4 || byte == 5
+}
+
+/// A byte that says what a commit does, and what follows it.
+pub fn kind(bytes: &[u8]) -> Result<(u8, &[u8]), ReadError>
+    ensures { Gives (λ x. (x.0, x.1.now)) result (kind_at bytes.now) }
+{
+    match bytes {
+        [] => Err(ReadError::Fault(Fault::Short)),
+        [first, rest @ ..] => {
+            if is_kind(*first) {
                 Ok((*first, rest))
             } else {
                 Err(ReadError::Fault(Fault::Bad))

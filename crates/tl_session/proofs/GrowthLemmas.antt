@@ -12,6 +12,7 @@ use Rattle.tl_types.specs.Plain as plain
 use Rattle.tl_types.specs.Entries.{commits_of}
 use Rattle.tl_types.specs.History.{database_of, after_commit, nothing}
 use Rattle.tl_types.specs.Resolving.{find_table}
+use Rattle.tl_types.proofs.BodyLemmas.{StaysKnown, known_later}
 use Rattle.tl_csv.specs.declared.needs.BatchKind.{BatchKind}
 use Rattle.tl_csv.specs.declared.needs.BatchKind.TheVariants.{PutKind, RemoveKind}
 use Rattle.tl_csv.specs.Block.{batch_of}
@@ -24,7 +25,6 @@ use Rattle.tl_session.specs.declared.readings.JobReading.{JobReading}
 use Rattle.tl_session.specs.declared.readings.JobReading.TheVariants as reading
 use Rattle.tl_session.specs.Jobs.{Job}
 use Rattle.tl_session.specs.Reading.{Reads, IsReading, block_of, block_reading, load_into, load_reading, query_reading, statement_reading}
-use Rattle.tl_engine.proofs.MatchLemmas.{StaysFound, found_later}
 use Rattle.tl_session.proofs.EntryLemmas.{commits_split}
 
 -- the schema of the table that a name finds
@@ -33,16 +33,16 @@ schema_in None = None
 schema_in (Some found) = Some found.1.schema
 
 -- what is found still has its schema
-schema_stays : (old now : Option (ℕ × plain.Table)) (schema : plain.Schema) → StaysFound old now → schema_in old ≡ Some schema → schema_in now ≡ Some schema
+schema_stays : (old now : Option (ℕ × plain.Table)) (schema : plain.Schema) → StaysKnown old now → schema_in old ≡ Some schema → schema_in now ≡ Some schema
 schema_stays None now schema stays h = absurd (cc)
 schema_stays (Some x) None schema stays h = absurd stays
-schema_stays (Some x) (Some y) schema stays h = ap Some stays ∙ h
+schema_stays (Some x) (Some y) schema stays h = ap Some stays.1 ∙ h
 
 -- a table that a name finds is found after more commits, with its schema
 found_more : (name : List ℕ) (schema : plain.Schema) (commits more : List Commit) → schema_in (find_table name (database_of commits).tables) ≡ Some schema → schema_in (find_table name (database_of (commits ++ more)).tables) ≡ Some schema
 found_more name schema commits more h =
     let found = find_table name (database_of commits).tables in
-    let stays = subst (λ (db : plain.Database). StaysFound found (find_table name db.tables)) (sym (fold-append after_commit nothing commits more)) (found_later name (database_of commits) more) in
+    let stays = subst (λ (db : plain.Database). StaysKnown found (find_table name db.tables)) (sym (fold-append after_commit nothing commits more)) (known_later name (database_of commits) more) in
     schema_stays found (find_table name (database_of (commits ++ more)).tables) schema stays h
 
 -- READINGS
@@ -74,6 +74,8 @@ loads_more : (commits more : List Commit) (s : Statement) (block : List ℕ) (b 
 loads_more commits more (statement.Create form) block b h = h
 loads_more commits more (statement.Put name) block b h = load_more commits more name.text PutKind block b h
 loads_more commits more (statement.Remove name) block b h = load_more commits more name.text RemoveKind block b h
+loads_more commits more (statement.Moment moment) block b h = h
+loads_more commits more (statement.Forget name floor) block b h = h
 loads_more commits more (statement.Ask query) block b h = absurd (no_query commits (checked (Rattle.std.specs.Prelude.length commits) (database_of commits) query) b h)
 
 text_more : (commits more : List Commit) (text block : List ℕ) (b : Batch) → IsReading commits text block (reading.Loads b) → IsReading (commits ++ more) text block (reading.Loads b)

@@ -1,5 +1,5 @@
 -- The table that a commit of a batch of rows changes, and what is seen of its marks afterwards.
-use Rattle.std.proofs.Common.{◌≡◌, ◌≢◌, ℕ, ◌+◌, ◌-◌, ◌<◌, ◌≤◌, ◌||◌, Bool, true, false, cond, List, [], ◌∷◌, ◌++◌, length, slice_get, Option, Some, None, IfSome, Result, Ok, Err, inl, inr, refl, sym, ap, ◌∙◌, subst, arith, append-nil}
+use Rattle.std.proofs.Common.{◌≡◌, ◌≢◌, ℕ, ◌+◌, ◌-◌, ◌<◌, ◌≤◌, ◌||◌, ℤ, pos, nat_abs, int_lt, Bool, true, false, cond, List, [], ◌∷◌, ◌++◌, length, slice_get, Option, Some, None, IfSome, Result, Ok, Err, inl, inr, refl, sym, ap, ◌∙◌, subst, arith, append-nil}
 use Rattle.std.specs.Prelude.{is_some, nat_le, nat_lt, OnOk}
 use Rattle.std.specs.Option.{option_map}
 use Rattle.std.specs.List.{list_any}
@@ -15,10 +15,10 @@ use Rattle.tl_types.specs.declared.commits.Commit.{Commit}
 use Rattle.tl_types.specs.declared.commits.Entry.{Entry}
 use Rattle.tl_types.specs.declared.limits.Limits.{Limits}
 use Rattle.tl_types.specs.Entries.{commits_of}
-use Rattle.tl_types.specs.History.{database_of, has_name}
+use Rattle.tl_types.specs.History.{database_of, has_name, last_moment}
 use Rattle.tl_types.specs.Legality.{has_mark, is_mark}
 use Rattle.tl_types.specs.Plain as types
-use Rattle.tl_types.specs.Resolving.{BatchLine, find_table, resolved, resolved_change, put_lines, removal_lines, line_fault, open_rows, change_of}
+use Rattle.tl_types.specs.Resolving.{BatchLine, find_table, resolved, resolved_change, resolved_floor, resolved_moment, put_lines, removal_lines, line_fault, open_rows, change_of}
 use Rattle.tl_types.proofs.FoundTables.{table_found}
 use Rattle.tl_index.specs.Snapshots.{commit_entry, mark_entry}
 use Rattle.tl_engine.specs.declared.faults.Tended.{Tended}
@@ -73,6 +73,8 @@ of_change limits db a (Some (number, table)) lines =
       table_in : Rattle.tl_types.specs.declared.commits.Body.Body → Option ℕ
       table_in (made.Create schema) = None
       table_in (made.Change change) = Some change.table
+      table_in (made.Moment moment) = None
+      table_in (made.Forget number floor) = None
 
 of_create : (limits : Limits) (db : types.Database) (a : ℕ) (schema : types.Schema) → Of None (resolved limits db a (batch.Create schema))
 of_create limits db a schema =
@@ -82,10 +84,29 @@ of_create limits db a schema =
     of_cond None (list_any (has_name schema.name) db.tables) (Err fault.TableExists) second tt
     (of_cond None (nat_le limits.tables (length db.tables)) (Err fault.TablesFull) third tt (of_cond None (nat_le limits.versions db.version) (Err fault.VersionsFull) made tt (λ c is. absurd (cc))))
 
+of_moment : (limits : Limits) (db : types.Database) (a : ℕ) (moment : ℤ) (last : Option ℤ) → Of None (resolved_moment limits db a moment last)
+of_moment limits db a moment None =
+    of_cond None (nat_le limits.versions db.version) (Err fault.VersionsFull) (Ok (record { author = a; body = made.Moment moment })) tt (λ c is. absurd (cc))
+of_moment limits db a moment (Some now) =
+    let made : Result Commit BatchFault = Ok (record { author = a; body = made.Moment moment }) in
+    of_cond None (nat_le limits.versions db.version) (Err fault.VersionsFull) (cond (int_lt now moment) made (Err (fault.MomentFalls now))) tt
+    (of_cond None (int_lt now moment) made (Err (fault.MomentFalls now)) (λ c is. absurd (cc)) tt)
+
+of_floor : (limits : Limits) (db : types.Database) (a : ℕ) (floor : ℤ) (found : Option (ℕ × types.Table)) → Of None (resolved_floor limits db a floor found)
+of_floor limits db a floor None = tt
+of_floor limits db a floor (Some (number, table)) =
+    let made : Result Commit BatchFault = Ok (record { author = a; body = made.Forget number (nat_abs floor) }) in
+    let third = cond (int_lt (pos table.floor) floor) made (Err (fault.FloorFalls table.floor)) in
+    let second = cond (int_lt (pos db.version) floor) (Err (fault.FloorAhead db.version)) third in
+    of_cond None (nat_le limits.versions db.version) (Err fault.VersionsFull) second tt
+    (of_cond None (int_lt (pos db.version) floor) (Err (fault.FloorAhead db.version)) third tt (of_cond None (int_lt (pos table.floor) floor) made (Err (fault.FloorFalls table.floor)) (λ c is. absurd (cc)) tt))
+
 of_resolved : (limits : Limits) (db : types.Database) (a : ℕ) (b : Batch) → Of (table_of db b) (resolved limits db a b)
 of_resolved limits db a (batch.Create schema) = of_create limits db a schema
 of_resolved limits db a (batch.Put name lines) = of_change limits db a (find_table name db.tables) (λ schema. put_lines schema lines)
 of_resolved limits db a (batch.Remove name lines) = of_change limits db a (find_table name db.tables) (λ schema. removal_lines lines)
+of_resolved limits db a (batch.Moment moment) = of_moment limits db a moment (last_moment db.stamps)
+of_resolved limits db a (batch.Forget name floor) = of_floor limits db a floor (find_table name db.tables)
 
 some_number : (o : Option (ℕ × types.Table)) → is_some o ≡ true → (n : ℕ) × (option_map (λ (found : ℕ × types.Table). found.0) o ≡ Some n)
 some_number None h = absurd (cc)
@@ -102,6 +123,8 @@ same_table : (old new : List Entry) (b : Batch) (n : ℕ) → IsPrefix old new �
 same_table old new (batch.Create schema) n begins known is = absurd (cc)
 same_table old new (batch.Put name lines) n begins known is = same_number old new name n begins known is
 same_table old new (batch.Remove name lines) n begins known is = same_number old new name n begins known is
+same_table old new (batch.Moment moment) n begins known is = absurd (cc)
+same_table old new (batch.Forget name floor) n begins known is = absurd (cc)
 
 pub adds_later : (old base new : List Entry) (e : Entry) → IsPrefix old base → new ≡ base ++ e ∷ [] → IsPrefix old new
 adds_later old base new e begins is = begins_on old base new begins (e ∷ [], sym is)
@@ -140,6 +163,8 @@ there_of : (old new : List Entry) (b : Batch) (table : Option ℕ) → IsPrefix 
 there_of old new (batch.Create schema) table begins is = subst (λ t. IsThere t new) (sym is) tt
 there_of old new (batch.Put name lines) table begins is = there_some old new name table begins is
 there_of old new (batch.Remove name lines) table begins is = there_some old new name table begins is
+there_of old new (batch.Moment moment) table begins is = subst (λ t. IsThere t new) (sym is) tt
+there_of old new (batch.Forget name floor) table begins is = subst (λ t. IsThere t new) (sym is) tt
 
 there_if : (answer : ReplyBody) (new : List Entry) (table : Option ℕ) → IsThere table new → IsThere (if_done answer table) new
 there_if (body.Rows r) new table h = tt

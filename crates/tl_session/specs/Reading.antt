@@ -81,6 +81,10 @@ statement_reading commits (statement.Remove name) block =
     load_reading commits name.text RemoveKind block
 statement_reading commits (statement.Ask query) block =
     query_reading commits (checked (length commits) (database_of commits) query)
+statement_reading commits (statement.Moment moment) block =
+    reading.Loads (batch.Moment moment.value)
+statement_reading commits (statement.Forget name floor) block =
+    reading.Loads (batch.Forget name.text floor.value)
 
 -- a text with a block is the fault of the text, or what the statement is that the text spells
 abbrev pub IsReading : List Commit → List ℕ → List ℕ → JobReading → Type 0

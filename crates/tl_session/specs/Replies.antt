@@ -1,6 +1,6 @@
 -- How replies are spelled.
 use Rattle.std.specs.Prelude.{ℕ, List, [], ◌++◌, codes}
-use Rattle.std.specs.Fmt.{decimal}
+use Rattle.std.specs.Fmt.{decimal, signed_decimal}
 use Rattle.tl_types.specs.declared.batches.BatchFault.{BatchFault}
 use Rattle.tl_types.specs.declared.batches.BatchFault.TheVariants as batch
 use Rattle.tl_query.specs.declared.faults.TextFault.{TextFault}
@@ -38,6 +38,8 @@ check_fault_words (check.VersionAhead at asked now) =
 check_fault_words (check.EmptyRange at) = codes "EmptyRange " ++ decimal at
 check_fault_words (check.ColumnTwice at) = codes "ColumnTwice " ++ decimal at
 check_fault_words check.NoMemory = []
+check_fault_words (check.Forgotten at floor) =
+    codes "Forgotten " ++ (decimal at ++ (codes " " ++ decimal floor))
 
 -- of a block that is no batch for its table
 abbrev pub csv_fault_words : CsvFault → List ℕ
@@ -65,6 +67,9 @@ batch_fault_words (batch.NoRow rec) = codes "NoRow " ++ decimal rec
 batch_fault_words batch.RowsFull = codes "RowsFull"
 batch_fault_words batch.VersionsFull = codes "VersionsFull"
 batch_fault_words batch.NoMemory = []
+batch_fault_words (batch.MomentFalls now) = codes "MomentFalls " ++ signed_decimal now
+batch_fault_words (batch.FloorAhead now) = codes "FloorAhead " ++ decimal now
+batch_fault_words (batch.FloorFalls floor) = codes "FloorFalls " ++ decimal floor
 
 -- of any of these
 abbrev pub refusal_words : Refusal → List ℕ

@@ -2,6 +2,7 @@
 ghost use Rattle.std.specs.Prelude.{◌≡◌, ◌≢◌, ◌<◌, ◌≤◌, IfOk, OnOk, length, Some};
 ghost use Rattle.tl_types.specs.Entries.{commits_of};
 ghost use Rattle.tl_types.specs.History.{database_of};
+ghost use Rattle.tl_types.specs.Plain.{Database};
 ghost use Rattle.tl_types.specs.declared.batches.Batch.TheVariants as batch;
 ghost use Rattle.tl_query.specs.Answers.{answer_of};
 ghost use Rattle.tl_query.specs.Checking.{checked_create};
@@ -11,6 +12,7 @@ ghost use Rattle.tl_query.specs.TypedFor.{IsTypedFor};
 ghost use Rattle.tl_query.specs.declared.check_faults.CheckFault.TheVariants as check_fault;
 ghost use Rattle.tl_query.specs.declared.faults.TextFault.TheVariants as text_fault;
 ghost use Rattle.tl_csv.specs.declared.faults.CsvFault.TheVariants as csv_fault;
+ghost use Rattle.tl_session.specs.declared.readings.JobReading.TheVariants as reading;
 ghost use Rattle.tl_session.specs.Reading.{IsReading, IsFaultTold, DoesMatch, IsKnown, create_reading, load_reading, query_reading, statement_reading, text_of_answer};
 ghost use Rattle.tl_session.specs.declared.replies.Refusal.TheVariants as refusal;
 
@@ -162,6 +164,27 @@ fn ask<R: AllocGlobal + Threads + Sync, G: Gate>(
     Ok(JobReading::Query(text_of_answer(rt.alloc(), answer, &mut crew.writer)?))
 }
 
+// A batch that states a moment.
+fn state(moment: i64) -> JobReading
+    ensures reads { result ≡ reading.Loads (batch.Moment moment) }
+    ensures told { IsFaultTold result }
+    ensures matching { (db : Database) → DoesMatch db result }
+    ensures known { (db : Database) → IsKnown db result }
+{
+    JobReading::Loads(Batch::Moment { moment })
+}
+
+// A batch that sets the floor of the table with a name. The error is `NoMemory`.
+fn forget(name: &Name, floor: i64) -> Result<JobReading, NoMemory>
+    ensures reads { IfOk result (λ read. read ≡ reading.Loads (batch.Forget name.now.text floor)) }
+    ensures told { IfOk result IsFaultTold }
+    ensures matching { (db : Database) → IfOk result (DoesMatch db) }
+    ensures known { (db : Database) → IfOk result (IsKnown db) }
+{
+    let table = name.text.clone()?;
+    Ok(JobReading::Loads(Batch::Forget { table, floor }))
+}
+
 // What a statement is.
 fn read_statement<R: AllocGlobal + Threads + Sync, G: Gate>(
     rt: &R,
@@ -185,6 +208,8 @@ fn read_statement<R: AllocGlobal + Threads + Sync, G: Gate>(
         Statement::Put(name) => load(alloc, store, name, BatchKind::PutKind, block, reader),
         Statement::Remove(name) => load(alloc, store, name, BatchKind::RemoveKind, block, reader),
         Statement::Ask(query) => ask(rt, snapshot, query, crew),
+        Statement::Moment(stamp) => Ok(state(stamp.value)),
+        Statement::Forget { table, floor } => forget(table, floor.value),
     }
 }
 

@@ -83,6 +83,7 @@ fn check_fault_words(alloc: Global, fault: &CheckFault) -> Result<String, NoMemo
         CheckFault::EmptyRange { at } => format!(in alloc; "EmptyRange {at}"),
         CheckFault::ColumnTwice { at } => format!(in alloc; "ColumnTwice {at}"),
         CheckFault::NoMemory => Ok(String::new(alloc)),
+        CheckFault::Forgotten { at, floor } => format!(in alloc; "Forgotten {at} {floor}"),
     }
 }
 
@@ -115,6 +116,9 @@ fn batch_fault_words(alloc: Global, fault: &BatchFault) -> Result<String, NoMemo
         BatchFault::RowsFull => String::from_str(alloc, "RowsFull"),
         BatchFault::VersionsFull => String::from_str(alloc, "VersionsFull"),
         BatchFault::NoMemory => Ok(String::new(alloc)),
+        BatchFault::MomentFalls { now } => format!(in alloc; "MomentFalls {now}"),
+        BatchFault::FloorAhead { now } => format!(in alloc; "FloorAhead {now}"),
+        BatchFault::FloorFalls { floor } => format!(in alloc; "FloorFalls {floor}"),
     }
 }
 

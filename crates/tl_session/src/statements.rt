@@ -59,6 +59,8 @@ fn table_of(store: &Store, batch: &Batch) -> Option<u16>
         Batch::Create(_) => None,
         Batch::Put { table, .. } => store.find(table.as_str()),
         Batch::Remove { table, .. } => store.find(table.as_str()),
+        Batch::Moment { .. } => None,
+        Batch::Forget { .. } => None,
     }
 }
 

@@ -190,10 +190,10 @@ module _ (schema : plain.Schema) (cs : List ColumnData) (ps : List plain.Period)
 
 -- A WHOLE TABLE
 
-abbrev pub mk_kept : plain.Schema → List plain.Row → List ℕ → Kept
-mk_kept schema rows closed = record { schema = schema; rows = rows; closed = closed }
+abbrev pub mk_kept : plain.Schema → ℕ → List plain.Row → List ℕ → Kept
+mk_kept schema floor rows closed = record { schema = schema; floor = floor; rows = rows; closed = closed }
 
-module _ (schema : plain.Schema) (cs : List ColumnData) (ps : List plain.Period) (fs ts closed : List ℕ) (kept : Kept) (change : plain.Change) (table : IsTable schema cs ps fs ts) (is : mk_kept schema (rows_in cs ps 0 fs ts) closed ≡ kept) (fit : fits_table standard_limits change (Some (table_of kept)) ≡ true) where
+module _ (schema : plain.Schema) (cs : List ColumnData) (ps : List plain.Period) (fs ts closed : List ℕ) (floor : ℕ) (kept : Kept) (change : plain.Change) (table : IsTable schema cs ps fs ts) (is : mk_kept schema floor (rows_in cs ps 0 fs ts) closed ≡ kept) (fit : fits_table standard_limits change (Some (table_of kept)) ≡ true) where
   schema_is : schema ≡ kept.schema
   schema_is = ap (λ (k : Kept). k.schema) is
 
@@ -230,10 +230,10 @@ module _ (schema : plain.Schema) (cs : List ColumnData) (ps : List plain.Period)
       narrow = omega (arith, ap length cs_made, length-longer_from change.opens 0 cs, table.narrow);
     }
 
-    pub kept_made : mk_kept schema2 (rows_in cs2 ps2 0 fs2 ts2) closed2 ≡ kept_after v change kept
+    pub kept_made : mk_kept schema2 floor (rows_in cs2 ps2 0 fs2 ts2) closed2 ≡ kept_after v change kept
     kept_made =
         let rows : rows_in cs2 ps2 0 fs2 ts2 ≡ (table_after v change (table_of kept)).rows =
         rw (cs_made, ps_made, fs_made, ts_made) (rows_after schema cs ps fs ts table v change.closes change.opens all_match_schema)
         ∙ ap (λ rs. map (row_after v change.closes) (enumerate_from 0 rs) ++ map (new_row v) change.opens) rows_are in
         let ids : closed2 ≡ kept.closed ++ change.closes = closed_made ∙ ap (λ (k : Kept). k.closed ++ change.closes) is in
-        rw (schema_same, schema_is, rows, ids) refl
+        rw (schema_same, schema_is, ap (λ (k : Kept). k.floor) is, rows, ids) refl

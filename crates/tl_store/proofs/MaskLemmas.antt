@@ -188,7 +188,7 @@ pub record Shown (commits : List Commit) (number : ℕ) (kept : Kept) : Type 0 w
   pub columns : columns_of (database_of commits) number ≡ kept.schema.columns
   pub rows : rows_of (database_of commits) number ≡ kept.rows
 
-module _ (tables : List Kept) (log : List LogEntry) (commits : List Commit) (number : ℕ) (history : IsHistory tables log) (is : history_of tables log ≡ commits) where
+module _ (tables : List Kept) (log : List LogEntry) (stamps : List plain.Stamp) (commits : List Commit) (number : ℕ) (history : IsHistory tables log stamps) (is : history_of tables log ≡ commits) where
   made : (database_of commits).tables ≡ map table_of tables
   made = sym (ap (λ cs. (database_of cs).tables) is) ∙ ap (λ (db : plain.Database). db.tables) history.stands
 

@@ -5,8 +5,7 @@ use Rattle.tl_types.specs.declared.cells.Cell.TheVariants as cell
 use Rattle.tl_types.specs.declared.schemas.Column.{Column}
 use Rattle.tl_types.specs.declared.cells.ColumnKind.TheVariants.{IntKind}
 use Rattle.tl_types.specs.declared.commits.Body.{Body}
-use Rattle.tl_types.specs.declared.commits.Body.TheVariants as body
-use Rattle.tl_types.specs.History.{rows_of, cell_at}
+use Rattle.tl_types.specs.History.{rows_of, cell_at, closed_by, opened_by}
 use Rattle.tl_types.specs.Plain as plain
 use Rattle.tl_query.specs.declared.typed_queries.TypedTest.{TypedTest}
 use Rattle.tl_query.specs.Passing.{cell_passes}
@@ -77,5 +76,4 @@ IsShort (shown.Text text) = length text.now ≤ 65535
 
 -- how many rows are closed or opened
 abbrev pub rows_changed : Body → ℕ
-rows_changed (body.Create schema) = 0
-rows_changed (body.Change change) = length change.closes + length change.opens
+rows_changed body = length (closed_by body) + length (opened_by body)

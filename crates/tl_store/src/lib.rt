@@ -4,8 +4,9 @@
 //! was, and the older one stays as it was.
 //!
 //! Inside, a table is kept by columns, with the first and the last version of each row; a log
-//! says for each commit which closed and which opened rows of its table are its own, so that each
-//! commit can be read again.
+//! says for each commit what it did, and which closed and which opened rows of its table are its
+//! own, so that each commit can be read again. The stamps of the moments that were stated stand
+//! beside the log.
 #![tactic(auto)]
 
 mod columns;
@@ -13,6 +14,7 @@ mod log;
 mod periods;
 mod ready;
 mod shown;
+mod stamps;
 mod store;
 mod table;
 

@@ -1,14 +1,14 @@
-//! What is kept of a commit beside the rows of its table.
+//! What is kept of a commit beside the rows of its table and the stamps.
 use std::alloc::Global;
 use tl_shared::Shareable;
 use tl_types::NoMemory;
 
-/// What a commit did to its table.
+/// What a commit did.
 #[derive(Clone, Copy)]
 pub(crate) enum Deed {
     /// It made the table.
     Create,
-    /// It closed and opened rows.
+    /// It closed and opened rows of its table.
     Change {
         /// Where its closes begin among the table's closed ids.
         first_close: u64,
@@ -19,9 +19,20 @@ pub(crate) enum Deed {
         /// How many rows it opened.
         opens: u32,
     },
+    /// It stated a moment. It has no table.
+    Moment {
+        /// The moment, in the user's unit.
+        moment: i64,
+    },
+    /// It set the floor of its table.
+    Forget {
+        /// The floor.
+        floor: u32,
+    },
 }
 
-/// One commit: who made it (the session's number), the number of its table, and what it did to it.
+/// One commit: who made it (the session's number), the number of its table (0 where it has none),
+/// and what it did.
 #[derive(Clone, Copy)]
 pub(crate) struct LogEntry {
     pub author: u32,

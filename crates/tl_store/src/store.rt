@@ -2,18 +2,20 @@
 ghost use Rattle.std.specs.Prelude.{◌≡◌, ℕ, ◌+◌, ◌-◌, ◌%◌, ◌<◌, ◌≤◌, ◌++◌, ◌∷◌, [], IsTrue, IfOk, IfSome, Some, length, map, take, drop, option_map, slice_get};
 ghost use Rattle.std.specs.List.{list_any, position_from};
 ghost use Rattle.tl_types.specs.declared.commits.Body.TheVariants as body;
-ghost use Rattle.tl_types.specs.History.{database_of, database_at, fits, fits_body, has_name, rows_of};
+ghost use Rattle.tl_types.specs.History.{database_of, database_at, fits, fits_body, fits_floor, floor_of, has_name, last_moment, rows_of, version_at_moment};
 ghost use Rattle.tl_types.specs.Resolving.{find_table};
 ghost use Rattle.tl_types.specs.Limits.{standard_limits};
 ghost use Rattle.tl_types.specs.Facts.{IsChange};
+ghost use Rattle.tl_types.specs.WellFormed.{HasTimes};
 ghost use Rattle.tl_lanes.specs.Masks.{IsWordOf};
 ghost use Rattle.tl_store.specs.Kept.{table_of};
-ghost use Rattle.tl_store.specs.Log.{deed_of};
+ghost use Rattle.tl_store.specs.Log.{body_of, database_with, deed_of, kept_at, IsDeed};
 ghost use Rattle.tl_store.specs.Reading.{columns_of, has_periods, row_of, cell_of, cell_shown, IsShort, system_period, rows_changed, column_cells, rows_passing, IsIntColumn, some_int};
 
 use crate::log::{Deed, LogEntry};
 use crate::ready::ReadyTest;
 use crate::shown::{CellRef, IntsRef, SystemPeriod};
+use crate::stamps::Stamps;
 use crate::table::TableData;
 use std::alloc::Global;
 use std::marker::Model;
@@ -29,6 +31,7 @@ use tl_types::{Body, Cell, Change, Commit, Limits, NoMemory, Period, Schema, Seq
 pub struct Store {
     tables: Vec<Shared<TableData>>,
     log: FineList<LogEntry>,
+    stamps: Stamps,
 }
 
 impl Model for Store {
@@ -41,7 +44,7 @@ impl Model for Store {
 
     ghost view = { λ s. history_of s.tables.items s.log };
 
-    ghost invariant = { λ s. IsHistory s.tables.items s.log };
+    ghost invariant = { λ s. IsHistory s.tables.items s.log s.stamps };
 }
 
 impl Store {
@@ -52,13 +55,15 @@ impl Store {
         Store {
             tables: Vec::new(alloc),
             log: FineList::none(alloc),
+            stamps: Stamps::none(alloc),
         }
     }
 
-    /// The number of commits so far.
+    /// The number of commits so far: each stamp and each floor is of a version up to it.
     pub fn versions(&self) -> u32
         ensures number { result ≡ length self.now }
         ensures version { result ≡ (database_of self.now).version }
+        ensures times { HasTimes (database_of self.now) }
         ensures few { result ≤ 16777215 }
     {
         self.log.len() as u32
@@ -94,6 +99,31 @@ impl Store {
         self.tables[table as usize].get().schema()
     }
 
+    /// The floor of the table with a number: the least version that may be asked of it.
+    pub fn floor(&self, table: u16) -> u32
+        requires { table < length (database_of self.now).tables }
+        ensures { result ≡ floor_of (slice_get (database_of self.now).tables table) }
+    {
+        self.tables[table as usize].get().floor()
+    }
+
+    /// The last moment that was stated, in the user's unit. `None` exactly where none was.
+    pub fn last_moment(&self) -> Option<i64>
+        ensures { result ≡ last_moment (database_of self.now).stamps }
+    {
+        self.stamps.last_moment()
+    }
+
+    /// The version at a moment of the user's: one less than the least version that states a greater
+    /// one, or the last version where none does.
+    pub fn version_at(&self, moment: i64) -> u32
+        ensures value { result
+            ≡ version_at_moment (database_of self.now).version (database_of self.now).stamps moment }
+        ensures reached { result ≤ length self.now }
+    {
+        self.stamps.version_at(self.versions(), moment)
+    }
+
     /// The number of rows of the table with a number, ended ones included. Their ids are the
     /// numbers below it.
     pub fn rows(&self, table: u16) -> u32
@@ -106,12 +136,20 @@ impl Store {
 
     /// Whether a commit fits: fewer commits than the limits allow are there; a new table has a
     /// new name, and there is room for it; a change names a table, closes open rows only, opens
-    /// rows that match the schema, and leaves few enough rows.
+    /// rows that match the schema, and leaves few enough rows; a moment is greater than the last
+    /// one; a floor is of a table, greater than the one that stands, and at most the number of
+    /// commits.
     pub fn fits(&self, commit: &Commit, limits: &Limits) -> bool
         ensures { result ≡ fits limits.now (database_of self.now) commit.now }
     {
         (self.versions() as u64) < limits.versions
-            && fits_body(self.tables.as_slice(), &commit.body, limits)
+            && fits_body(
+                self.versions(),
+                self.tables.as_slice(),
+                &self.stamps,
+                &commit.body,
+                limits,
+            )
     }
 
     /// The store after a commit that fits. It shares with this one what the commit leaves as it
@@ -132,6 +170,8 @@ impl Store {
         match &commit.body {
             Body::Create(schema) => self.with_table(alloc, commit.author, schema),
             Body::Change(change) => self.with_change(alloc, commit.author, change),
+            Body::Moment { moment } => self.with_moment(alloc, commit.author, *moment),
+            Body::Forget { table, floor } => self.with_floor(alloc, commit.author, *table, *floor),
         }
     }
 
@@ -142,7 +182,11 @@ impl Store {
         ensures { IfOk result (λ store. store
             ≡ self ++ record { author = author; body = body.Create schema.now } ∷ []) }
     {
-        let Store { mut tables, log } = self;
+        let Store {
+            mut tables,
+            log,
+            stamps,
+        } = self;
         let entry = LogEntry {
             author,
             table: tables.len() as u16,
@@ -150,7 +194,11 @@ impl Store {
         };
         tables.push(Shared::new(alloc, TableData::new(alloc, schema)?)?)?;
         let log = log.append(alloc, [entry].as_slice())?;
-        Ok(Store { tables, log })
+        Ok(Store {
+            tables,
+            log,
+            stamps,
+        })
     }
 
     // The store after the commit of an author that changes a table.
@@ -162,7 +210,11 @@ impl Store {
     {
         let version = self.versions() + 1;
         let number = change.table() as usize;
-        let Store { mut tables, log } = self;
+        let Store {
+            mut tables,
+            log,
+            stamps,
+        } = self;
         let before = tables.remove(number).take(alloc)?;
         let entry = LogEntry {
             author,
@@ -172,7 +224,73 @@ impl Store {
         let after = before.change(alloc, version, change)?;
         tables.insert(number, Shared::new(alloc, after)?)?;
         let log = log.append(alloc, [entry].as_slice())?;
-        Ok(Store { tables, log })
+        Ok(Store {
+            tables,
+            log,
+            stamps,
+        })
+    }
+
+    // The store after the commit of an author that states a moment.
+    fn with_moment(self, alloc: Global, author: u32, moment: i64) -> Result<Store, NoMemory>
+        requires { IsTrue (fits standard_limits (database_of self)
+            (record { author = author; body = body.Moment moment })) }
+        ensures { IfOk result (λ store. store
+            ≡ self ++ record { author = author; body = body.Moment moment } ∷ []) }
+    {
+        let next = self.versions() + 1;
+        let Store {
+            tables,
+            log,
+            stamps,
+        } = self;
+        let entry = LogEntry {
+            author,
+            table: 0,
+            deed: Deed::Moment { moment },
+        };
+        let stamps = stamps.append(alloc, next, moment)?;
+        let log = log.append(alloc, [entry].as_slice())?;
+        Ok(Store {
+            tables,
+            log,
+            stamps,
+        })
+    }
+
+    // The store after the commit of an author that sets the floor of a table.
+    fn with_floor(
+        self,
+        alloc: Global,
+        author: u32,
+        table: u16,
+        floor: u32,
+    ) -> Result<Store, NoMemory>
+        requires { IsTrue (fits standard_limits (database_of self)
+            (record { author = author; body = body.Forget table floor })) }
+        ensures { IfOk result (λ store. store
+            ≡ self ++ record { author = author; body = body.Forget table floor } ∷ []) }
+    {
+        let number = table as usize;
+        let Store {
+            mut tables,
+            log,
+            stamps,
+        } = self;
+        let before = tables.remove(number).take(alloc)?;
+        let entry = LogEntry {
+            author,
+            table,
+            deed: Deed::Forget { floor },
+        };
+        let after = before.with_floor(floor);
+        tables.insert(number, Shared::new(alloc, after)?)?;
+        let log = log.append(alloc, [entry].as_slice())?;
+        Ok(Store {
+            tables,
+            log,
+            stamps,
+        })
     }
 
     /// The versions at which a row of a table stands. It ticks once.
@@ -312,10 +430,9 @@ impl Store {
     {
         steps.tick();
         let entry = *self.log.at((version - 1) as u64);
-        let table = self.tables[entry.table as usize].get();
         Ok(Commit {
             author: entry.author,
-            body: table.body(alloc, entry.table, entry.deed, steps)?,
+            body: body_at(alloc, self.tables.as_slice(), entry, steps)?,
         })
     }
 }
@@ -325,7 +442,51 @@ impl Shareable for Store {
         Ok(Store {
             tables: share_all(alloc, self.tables.as_slice())?,
             log: self.log.share(alloc)?,
+            stamps: self.stamps.share(alloc)?,
         })
+    }
+}
+
+// What the commit of an entry did. It ticks once for each row that the commit closes or opens.
+fn body_at<L: Ledger>(
+    alloc: Global,
+    tables: &[Shared<TableData>],
+    entry: LogEntry,
+    steps: &mut Steps<L>,
+) -> Result<Body, NoMemory>
+    requires { IsDeed tables.now entry.table entry.deed }
+    ensures value { IfOk result
+        (λ body. body ≡ body_of entry.table entry.deed (kept_at tables.now entry.table)) }
+    ensures ticks { IfOk result (λ body. steps.new ≡ steps.old + rows_changed body) }
+{
+    match entry.deed {
+        Deed::Create => {
+            let schema = tables[entry.table as usize].get().schema().clone()?;
+            Ok(Body::Create(schema))
+        }
+        Deed::Change {
+            first_close,
+            closes,
+            first_open,
+            opens,
+        } => {
+            let table = tables[entry.table as usize].get();
+            let change = table.change_of(
+                alloc,
+                entry.table,
+                first_close,
+                closes,
+                first_open,
+                opens,
+                steps,
+            )?;
+            Ok(Body::Change(change))
+        }
+        Deed::Moment { moment } => Ok(Body::Moment { moment }),
+        Deed::Forget { floor } => Ok(Body::Forget {
+            table: entry.table,
+            floor,
+        }),
     }
 }
 
@@ -358,7 +519,8 @@ fn is_named(tables: &[Shared<TableData>], name: &str) -> bool
 }
 
 fn fits_create(tables: &[Shared<TableData>], schema: &Schema, limits: &Limits) -> bool
-    ensures { result ≡ fits_body limits.now (map table_of tables.now) (body.Create schema.now) }
+    ensures { result
+        ≡ fits_body limits.now (database_with 0 tables.now []) (body.Create schema.now) }
 {
     let named = is_named(tables, schema.name().as_str());
     let room = (tables.len() as u64) < limits.tables;
@@ -366,7 +528,8 @@ fn fits_create(tables: &[Shared<TableData>], schema: &Schema, limits: &Limits) -
 }
 
 fn fits_change(tables: &[Shared<TableData>], change: &Change, limits: &Limits) -> bool
-    ensures { result ≡ fits_body limits.now (map table_of tables.now) (body.Change change.now) }
+    ensures { result
+        ≡ fits_body limits.now (database_with 0 tables.now []) (body.Change change.now) }
 {
     match tables.get(change.table() as usize) {
         Some(table) => table.get().fits(change, limits),
@@ -374,11 +537,28 @@ fn fits_change(tables: &[Shared<TableData>], change: &Change, limits: &Limits) -
     }
 }
 
-fn fits_body(tables: &[Shared<TableData>], body: &Body, limits: &Limits) -> bool
-    ensures { result ≡ fits_body limits.now (map table_of tables.now) body.now }
+fn fits_floor(now: u32, tables: &[Shared<TableData>], table: u16, floor: u32) -> bool
+    ensures { result ≡ fits_floor now floor (slice_get (map table_of tables.now) table) }
+{
+    match tables.get(table as usize) {
+        Some(table) => table.get().fits_floor(now, floor),
+        None => false,
+    }
+}
+
+fn fits_body(
+    now: u32,
+    tables: &[Shared<TableData>],
+    stamps: &Stamps,
+    body: &Body,
+    limits: &Limits,
+) -> bool
+    ensures { result ≡ fits_body limits.now (database_with now tables.now stamps.now) body.now }
 {
     match body {
         Body::Create(schema) => fits_create(tables, schema, limits),
         Body::Change(change) => fits_change(tables, change, limits),
+        Body::Moment { moment } => stamps.fits(*moment),
+        Body::Forget { table, floor } => fits_floor(now, tables, *table, *floor),
     }
 }

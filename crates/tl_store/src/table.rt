@@ -1,15 +1,14 @@
 //! One table, kept by columns.
 ghost use Rattle.std.specs.Prelude.{◌≡◌, ◌+◌, ◌-◌, ◌%◌, ◌<◌, ◌≤◌, IsTrue, IfOk, Some, length, map, take, drop, slice_get, All, option_map, replicate};
 ghost use Rattle.std.specs.List.{list_all};
-ghost use Rattle.tl_types.specs.History.{fits_table, has_name, is_open_at, cell_at};
+ghost use Rattle.tl_types.specs.History.{fits_table, fits_floor, has_name, is_open_at, cell_at};
 ghost use Rattle.tl_types.specs.Limits.{standard_limits};
 ghost use Rattle.tl_store.specs.Columns.{empty_column, column_length, cell_in};
-ghost use Rattle.tl_store.specs.Kept.{table_of, kept_new, kept_after};
-ghost use Rattle.tl_store.specs.Log.{IsDeed, body_of, part, opened_of};
-ghost use Rattle.tl_store.specs.Reading.{cell_shown, IsShort, cell_of_row, system_period, rows_changed, column_cells, rows_passing, IsIntColumn, some_int};
+ghost use Rattle.tl_store.specs.Kept.{table_of, kept_new, kept_after, kept_floored};
+ghost use Rattle.tl_store.specs.Log.{IsPart, part, opened_of};
+ghost use Rattle.tl_store.specs.Reading.{cell_shown, IsShort, cell_of_row, system_period, column_cells, rows_passing, IsIntColumn, some_int};
 
 use crate::columns::{self, ColumnData};
-use crate::log::Deed;
 use crate::periods::PeriodList;
 use crate::ready::ReadyTest;
 use crate::shown::{CellRef, SystemPeriod};
@@ -21,16 +20,17 @@ use tl_column::IntColumn;
 use tl_query::TypedTest;
 use tl_shared::{CHUNK, FineList, Shareable, SharedList, share_all};
 use tl_types::{
-    Body, Cell, Change, Column, Limits, NoMemory, OPEN, Opened, Period, Schema, Seq, SmallSeq,
-    Steps, Text, all_match,
+    Cell, Change, Column, Limits, NoMemory, OPEN, Opened, Period, Schema, Seq, SmallSeq, Steps,
+    Text, all_match,
 };
 
-/// A table: its schema, a column for each of the schema's, the valid periods of its rows where it
+/// A table: its schema and its floor, a column for each of the schema's, the valid periods of its rows where it
 /// has them, the versions from which and before which each row stands, and the ids of closed rows
 /// in the order in which commits closed them.
 #[derive(Drop)]
 pub(crate) struct TableData {
     schema: Arc<Schema>,
+    floor: u32,
     columns: Vec<ColumnData>,
     periods: PeriodList,
     from: SharedList<u32>,
@@ -48,6 +48,7 @@ impl Model for TableData {
 
     ghost view = { λ t. record {
       schema = arc_value t.schema;
+      floor = t.floor;
       rows = rows_in t.columns.items t.periods 0 t.from t.to;
       closed = t.closed;
     } };
@@ -63,6 +64,7 @@ impl TableData {
         Ok(TableData {
             columns: empty_columns(alloc, schema.columns())?,
             schema: Arc::new(alloc, schema.clone()?)?,
+            floor: 0,
             periods: PeriodList::none(alloc),
             from: SharedList::none(alloc),
             to: FineList::none(alloc),
@@ -75,6 +77,20 @@ impl TableData {
         ensures { result.now ≡ self.now.schema }
     {
         &self.schema
+    }
+
+    /// The least version that may be asked of it.
+    pub fn floor(&self) -> u32
+        ensures { result ≡ self.now.floor }
+    {
+        self.floor
+    }
+
+    /// The table with another floor, which takes this one over.
+    pub fn with_floor(self, floor: u32) -> TableData
+        ensures { result ≡ kept_floored floor self }
+    {
+        TableData { floor, ..self }
     }
 
     /// How many rows there are, ended ones included.
@@ -123,6 +139,14 @@ impl TableData {
             && self.rows() as u64 + change.opens().len() as u64 <= limits.rows
     }
 
+    /// Whether a floor fits the table: it is greater than the one that stands, and at most the
+    /// number of commits.
+    pub fn fits_floor(&self, now: u32, floor: u32) -> bool
+        ensures { result ≡ fits_floor now floor (Some (table_of self.now)) }
+    {
+        self.floor() < floor && floor <= now
+    }
+
     /// The table after the change of a version, which takes this one over: what of it has no other
     /// owner is not copied.
     pub fn change(self, alloc: Global, version: u32, change: &Change) -> Result<TableData, NoMemory>
@@ -135,6 +159,7 @@ impl TableData {
         let ends = filled(alloc, OPEN, opens.len())?;
         let TableData {
             schema,
+            floor,
             columns,
             periods,
             from,
@@ -144,6 +169,7 @@ impl TableData {
         let ended = to.set_each(alloc, closes, &version)?;
         Ok(TableData {
             schema,
+            floor,
             columns: columns::append_to_all(alloc, columns, opens)?,
             periods: periods.append(alloc, opens)?,
             from: from.append(alloc, begins.as_slice())?,
@@ -277,31 +303,32 @@ impl TableData {
         Ok(Seq::from_vec(opens))
     }
 
-    /// What a commit did to the table. It ticks once for each row that the commit closes or opens.
-    pub fn body<L: Ledger>(
+    /// The change of this table, by its number, that closed and opened these many rows. It ticks
+    /// once for each.
+    pub fn change_of<L: Ledger>(
         &self,
         alloc: Global,
         table: u16,
-        deed: Deed,
+        first_close: u64,
+        closes: u32,
+        first_open: u32,
+        opens: u32,
         steps: &mut Steps<L>,
-    ) -> Result<Body, NoMemory>
-        requires { IsDeed deed self.now }
-        ensures value { IfOk result (λ body. body ≡ body_of table deed self.now) }
-        ensures ticks { IfOk result (λ body. steps.new ≡ steps.old + rows_changed body) }
+    ) -> Result<Change, NoMemory>
+        requires { IsPart first_close closes first_open opens self.now }
+        ensures value { IfOk result
+            (λ change. change ≡ record {
+              table = table;
+              closes = part first_close closes self.now.closed;
+              opens = map opened_of (part first_open opens self.now.rows);
+            }) }
+        ensures ticks { IfOk result
+            (λ change. steps.new ≡ steps.old + (length change.closes + length change.opens)) }
     {
-        match deed {
-            Deed::Create => Ok(Body::Create(self.schema().clone()?)),
-            Deed::Change {
-                first_close,
-                closes,
-                first_open,
-                opens,
-            } => {
-                let closes = self.closes(alloc, first_close, closes, steps)?;
-                let opens = self.opens(alloc, first_open, opens, steps)?;
-                Ok(Body::Change(Change::new(table, closes, opens)))
-            }
-        }
+        let closes = self.closes(alloc, first_close, closes, steps)?;
+        let opens = self.opens(alloc, first_open, opens, steps)?;
+        let change = Change::new(table, closes, opens);
+        Ok(change)
     }
 }
 
@@ -309,6 +336,7 @@ impl Shareable for TableData {
     fn share(&self, alloc: Global) -> Result<TableData, NoMemory> {
         Ok(TableData {
             schema: Arc::try_clone(&self.schema)?,
+            floor: self.floor,
             columns: share_all(alloc, self.columns.as_slice())?,
             periods: self.periods.share(alloc)?,
             from: self.from.share(alloc)?,

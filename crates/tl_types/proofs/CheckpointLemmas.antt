@@ -2,7 +2,7 @@
 use Rattle.std.proofs.Common.{◌≡◌, ℕ, zero, suc, ◌+◌, ◌<◌, ◌≤◌, Bool, true, false, ◌&&◌, ◌||◌, cond, nat_eq, nat_le, nat_lt, List, [], ◌∷◌, ◌++◌, length, map, fold, Some, ◌⊎◌, inl, inr, refl, sym, ap, ◌∙◌, arith, slice_get, length-append}
 use Rattle.std.specs.List.{filter, list_all, enumerate_from}
 use Rattle.std.proofs.lemmas.Bool.{eqb-true, ne_eqb, lt-ltb, lt-leb, ltb-true}
-use Rattle.tl_types.proofs.Lists.{and_left, and_right}
+use Rattle.tl_types.proofs.Lists.{and_left, and_right, get-at_place-unseen}
 use Rattle.tl_types.specs.Plain as plain
 use Rattle.tl_types.specs.declared.commits.Commit.{Commit}
 use Rattle.tl_types.specs.declared.commits.Body.{Body}
@@ -10,7 +10,7 @@ use Rattle.tl_types.specs.declared.commits.Body.TheVariants as body
 use Rattle.tl_types.specs.declared.commits.Entry.{Entry}
 use Rattle.tl_types.specs.Entries.{commits_of}
 use Rattle.tl_types.specs.Legality.{FitFrom, database_behind, has_table, are_legal}
-use Rattle.tl_types.specs.History.{open_end, is_open, has_id, row_after, new_row, table_after, at_place, after_body, after_commit, is_open_at, matches, fits_table, fits_body, fits, is_visible}
+use Rattle.tl_types.specs.History.{new_table, open_end, is_open, has_id, row_after, new_row, table_after, at_place, after_body, after_commit, is_open_at, matches, fits_table, fits_body, fits, with_floor, is_visible}
 use Rattle.tl_types.specs.Events.{ids_where, invalidation, activation, events_at, events_of, place_of, checkpoint_rows}
 use Rattle.tl_types.specs.Limits.{standard_limits}
 use Rattle.tl_types.specs.declared.events.ValidEvent.{ValidEvent}
@@ -158,13 +158,15 @@ get_front [] ys t l = absurd (omega arith)
 get_front (x ∷ xs) ys zero l = refl
 get_front (x ∷ xs) ys (suc t) l = get_front xs ys t (omega arith)
 
-step_kept : (v t w : ℕ) (tables : List plain.Table) (b : Body) → v < w → v < open_end → t < length tables → fits_body standard_limits tables b ≡ true → checkpoint_of t v (slice_get (after_body w b tables) t) ≡ checkpoint_of t v (slice_get tables t)
-step_kept v t w tables (body.Create schema) l o s f = ap (checkpoint_of t v) (get_front tables (record { schema = schema; floor = 0; rows = [] } ∷ []) t s)
-step_kept v t w tables (body.Change change) l o s f = changed_at v w t change tables change.table t l o f
+step_kept : (v t w : ℕ) (db : plain.Database) (b : Body) → v < w → v < open_end → t < length db.tables → fits_body standard_limits db b ≡ true → checkpoint_of t v (slice_get (after_body w b db.tables) t) ≡ checkpoint_of t v (slice_get db.tables t)
+step_kept v t w db (body.Create schema) l o s f = ap (checkpoint_of t v) (get_front db.tables (new_table schema ∷ []) t s)
+step_kept v t w db (body.Change change) l o s f = changed_at v w t change db.tables change.table t l o f
+step_kept v t w db (body.Moment moment) l o s f = refl
+step_kept v t w db (body.Forget number floor) l o s f = get-at_place-unseen (checkpoint_of t v) (with_floor floor) (λ x. refl) db.tables number t
 
 pub commit_kept : (v t : ℕ) (db : plain.Database) (c : Commit) → v ≤ db.version → v < open_end → t < length db.tables → fits standard_limits db c ≡ true → checkpoint_at (after_commit db c) t v ≡ checkpoint_at db t v
 commit_kept v t db c l o s f =
-    step_kept v t (db.version + 1) db.tables c.body (omega arith) o s (and_right (nat_lt db.version 16777215) (fits_body standard_limits db.tables c.body) f)
+    step_kept v t (db.version + 1) db c.body (omega arith) o s (and_right (nat_lt db.version 16777215) (fits_body standard_limits db c.body) f)
 
 -- a checkpoint at a version that a database has is that of every later database
 pub checkpoint_kept : (v t : ℕ) (db : plain.Database) (cs : List Commit) → v ≤ db.version → v < open_end → t < length db.tables → FitFrom standard_limits db cs → checkpoint_at (fold after_commit db cs) t v ≡ checkpoint_at db t v

@@ -14,7 +14,7 @@ use Rattle.tl_types.specs.declared.commits.Entry.{Entry}
 use Rattle.tl_types.specs.declared.commits.Entry.TheVariants as entry
 use Rattle.tl_types.specs.declared.limits.Limits.{Limits}
 use Rattle.tl_types.specs.Entries.{commit_of, commits_of, has_break}
-use Rattle.tl_types.specs.History.{nothing, after_commit, after_body, database_of, fits, fits_body, table_after}
+use Rattle.tl_types.specs.History.{new_table, nothing, after_commit, after_body, database_of, fits, fits_body, table_after, with_floor}
 use Rattle.tl_types.specs.Limits.{standard_limits}
 use Rattle.tl_types.specs.Legality.{FitFrom, database_behind, version_at, has_table, may_follow, are_legal_behind, are_legal}
 
@@ -66,8 +66,10 @@ version_behind es = version_after nothing (commits_of es) ∙ omega arith
 pub tables_grow : (db : plain.Database) (c : Commit) → length db.tables ≤ length (after_commit db c).tables
 tables_grow db c = by_body c.body where
   by_body : (b : Body) → length db.tables ≤ length (after_body (db.version + 1) b db.tables)
-  by_body (body.Create schema) = omega (arith, length-append db.tables (record { schema = schema; floor = 0; rows = [] } ∷ []))
+  by_body (body.Create schema) = omega (arith, length-append db.tables (new_table schema ∷ []))
   by_body (body.Change change) = omega (arith, length-at_place change.table (table_after (db.version + 1) change) db.tables)
+  by_body (body.Moment moment) = omega arith
+  by_body (body.Forget number floor) = omega (arith, length-at_place number (with_floor floor) db.tables)
 
 pub tables_stay : (db : plain.Database) (cs : List Commit) → length db.tables ≤ length (fold after_commit db cs).tables
 tables_stay db [] = omega arith
@@ -131,7 +133,7 @@ fit_behind before (e ∷ es) h =
 pub fit_is_few : (db : plain.Database) (cs : List Commit) → db.version ≤ 16777215 → FitFrom standard_limits db cs → (fold after_commit db cs).version ≤ 16777215
 fit_is_few db [] l h = l
 fit_is_few db (c ∷ cs) l h =
-    let room : nat_lt db.version 16777215 ≡ true = and_left (nat_lt db.version 16777215) (fits_body standard_limits db.tables c.body) h.0 in
+    let room : nat_lt db.version 16777215 ≡ true = and_left (nat_lt db.version 16777215) (fits_body standard_limits db c.body) h.0 in
     let few : db.version + 1 ≤ 16777215 = grind (arith, nat_tests) in
     fit_is_few (after_commit db c) cs few h.1
 

@@ -1,5 +1,5 @@
 -- Lists: one more numbered item, the item at a place changed, ids of open rows; and tests joined by `&&`.
-use Rattle.std.proofs.Common.{◌≡◌, ℕ, zero, suc, ◌+◌, ◌<◌, Bool, true, false, ◌&&◌, List, [], ◌∷◌, ◌++◌, length, take, set, get_or, refl, ap, ◌∙◌, arith, All}
+use Rattle.std.proofs.Common.{◌≡◌, ℕ, zero, suc, ◌+◌, ◌<◌, Bool, true, false, ◌&&◌, List, [], ◌∷◌, ◌++◌, length, map, take, set, get_or, slice_get, Option, Some, refl, ap, ◌∙◌, arith, All}
 use Rattle.std.specs.List.{enumerate_from, list_all}
 use Rattle.std.proofs.lemmas.List.Sums.{AllPass-from_list_all}
 use Rattle.tl_types.specs.Plain as plain
@@ -49,6 +49,19 @@ pub length-at_place : {X : Type 0} → (i : ℕ) (f : X → X) (xs : List X) →
 length-at_place i f [] = refl
 length-at_place zero f (x ∷ xs) = refl
 length-at_place (suc i) f (x ∷ xs) = ap suc (length-at_place i f xs)
+
+-- what does not see a change does not see it at a place
+pub get-at_place-unseen : {X Y : Type 0} (g : Option X → Y) (f : X → X) → ((x : X) → g (Some (f x)) ≡ g (Some x)) → (xs : List X) (i t : ℕ) → g (slice_get (at_place i f xs) t) ≡ g (slice_get xs t)
+get-at_place-unseen g f h [] i t = refl
+get-at_place-unseen g f h (x ∷ xs) zero zero = h x
+get-at_place-unseen g f h (x ∷ xs) zero (suc t) = refl
+get-at_place-unseen g f h (x ∷ xs) (suc i) zero = refl
+get-at_place-unseen g f h (x ∷ xs) (suc i) (suc t) = get-at_place-unseen g f h xs i t
+
+pub map-at_place-unseen : {X Y : Type 0} (g : X → Y) (f : X → X) → ((x : X) → g (f x) ≡ g x) → (xs : List X) (i : ℕ) → map g (at_place i f xs) ≡ map g xs
+map-at_place-unseen g f h [] i = refl
+map-at_place-unseen g f h (x ∷ xs) zero = ap (λ y. y ∷ map g xs) (h x)
+map-at_place-unseen g f h (x ∷ xs) (suc i) = ap (λ ys. g x ∷ ys) (map-at_place-unseen g f h xs i)
 
 -- OPEN ROWS
 

@@ -1,5 +1,5 @@
 -- Commits, each followed by its mark where it is due, are legal entries of these commits.
-use Rattle.std.proofs.Common.{◌≡◌, ℕ, zero, suc, ◌+◌, ◌-◌, ◌<◌, ◌≤◌, ◌&&◌, ◌||◌, not, max, Bool, true, false, cond, nat_eq, nat_le, nat_lt, List, [], ◌∷◌, ◌++◌, length, fold, slice_get, refl, sym, ap, ◌∙◌, arith, length-append}
+use Rattle.std.proofs.Common.{◌≡◌, ℕ, zero, suc, ◌+◌, ◌-◌, ◌<◌, ◌≤◌, ◌&&◌, ◌||◌, not, max, Bool, true, false, cond, nat_eq, nat_le, nat_lt, List, [], ◌∷◌, ◌++◌, length, fold, slice_get, Option, Some, None, IfSome, refl, sym, ap, ◌∙◌, arith, length-append}
 use Rattle.std.proofs.lemmas.Bool.{eqb-true, lt-ltb}
 use Rattle.std.proofs.lemmas.Bool.Decides.{nat_tests}
 use Rattle.std.proofs.lemmas.List.{append-nil, append_assoc}
@@ -12,10 +12,10 @@ use Rattle.tl_types.specs.declared.commits.Entry.{Entry}
 use Rattle.tl_types.specs.declared.commits.Entry.TheVariants as entry
 use Rattle.tl_types.specs.Entries.{commits_of, is_break, has_break}
 use Rattle.tl_types.specs.Events.{place_of}
-use Rattle.tl_types.specs.History.{after_commit, after_body, fits, fits_body, fits_table, table_after, rows_of}
+use Rattle.tl_types.specs.History.{new_table, after_commit, after_body, database_of, fits, fits_body, fits_floor, fits_table, table_after, table_number, with_floor, rows_of}
 use Rattle.tl_types.specs.Legality.{FitFrom, FitInTurn, database_behind, has_table, has_mark, may_follow, are_legal}
 use Rattle.tl_types.specs.Limits.{standard_limits}
-use Rattle.tl_types.specs.Marks.{last_mark, due, table_in, paced_step, paced}
+use Rattle.tl_types.specs.Marks.{last_mark, due, table_in, with_due, paced_step, paced}
 use Rattle.tl_types.specs.Plain as plain
 use Rattle.tl_types.proofs.Lists.{and_right, length-at_place}
 use Rattle.tl_types.proofs.EntryLemmas.{commits_of-append, database_behind-append, legal_push}
@@ -38,23 +38,32 @@ break_with_commit es c = list_any-append is_break es (entry.Commit c ∷ []) ∙
   or_false true = refl
   or_false false = refl
 
-commits_due : (t : Bool) (table version : ℕ) (es : List Entry) → commits_of (cond t (es ++ entry.Mark table version ∷ []) es) ≡ commits_of es
-commits_due true table version es = commits_with_mark es table version
-commits_due false table version es = refl
+pub commits_due : (k : ℕ) (table : Option ℕ) (es : List Entry) → commits_of (with_due k table es) ≡ commits_of es
+commits_due k None es = refl
+commits_due k (Some table) es = by_due (due es table k) where
+  by_due : (b : Bool) → commits_of (cond b (es ++ entry.Mark table (length (commits_of es)) ∷ []) es) ≡ commits_of es
+  by_due true = commits_with_mark es table (length (commits_of es))
+  by_due false = refl
 
-break_due : (t : Bool) (table version : ℕ) (es : List Entry) → has_break (cond t (es ++ entry.Mark table version ∷ []) es) ≡ has_break es
-break_due true table version es = break_with_mark es table version
-break_due false table version es = refl
+pub break_due : (k : ℕ) (table : Option ℕ) (es : List Entry) → has_break (with_due k table es) ≡ has_break es
+break_due k None es = refl
+break_due k (Some table) es = by_due (due es table k) where
+  by_due : (b : Bool) → has_break (cond b (es ++ entry.Mark table (length (commits_of es)) ∷ []) es) ≡ has_break es
+  by_due true = break_with_mark es table (length (commits_of es))
+  by_due false = refl
+
+pub database_due : (k : ℕ) (table : Option ℕ) (es : List Entry) → database_behind (with_due k table es) ≡ database_behind es
+database_due k table es = ap database_of (commits_due k table es)
 
 pub commits_step : (k : ℕ) (es : List Entry) (c : Commit) → commits_of (paced_step k es c) ≡ commits_of es ++ c ∷ []
 commits_step k es c =
     let next = es ++ entry.Commit c ∷ [] in
-    commits_due (due next (table_in es c.body) k) (table_in es c.body) (length (commits_of next)) next ∙ commits_of-append es (entry.Commit c ∷ [])
+    commits_due k (table_in es c.body) next ∙ commits_of-append es (entry.Commit c ∷ [])
 
 pub break_step : (k : ℕ) (es : List Entry) (c : Commit) → has_break (paced_step k es c) ≡ has_break es
 break_step k es c =
     let next = es ++ entry.Commit c ∷ [] in
-    break_due (due next (table_in es c.body) k) (table_in es c.body) (length (commits_of next)) next ∙ break_with_commit es c
+    break_due k (table_in es c.body) next ∙ break_with_commit es c
 
 -- A MARK THAT IS DUE
 
@@ -82,20 +91,29 @@ due_fresh es t k is = by_test (has_mark es t (length (commits_of es))) refl wher
         none : (x y : ℕ) → x ≤ y → (nat_lt 0 k && nat_le k (x - y)) ≡ true → ⊥
         none x y le h = grind (arith, nat_tests, le)
 
+-- the table of a body that fits is there behind it
+pub body_there : (db : plain.Database) (b : Body) → fits_body standard_limits db b ≡ true → IfSome (table_number db.tables b) (λ table. table < length (after_body (db.version + 1) b db.tables))
+body_there db (body.Create schema) f = omega (arith, length-append db.tables (new_table schema ∷ []))
+body_there db (body.Change change) f =
+    omega (arith, found db.tables change.table f, length-at_place change.table (table_after (db.version + 1) change) db.tables) where
+      found : (ts : List plain.Table) (i : ℕ) → fits_table standard_limits change (slice_get ts i) ≡ true → i < length ts
+      found [] i f = absurd (cc)
+      found (t ∷ ts) zero f = omega arith
+      found (t ∷ ts) (suc i) f = let l = found ts i f in omega (arith, l)
+body_there db (body.Moment moment) f = tt
+body_there db (body.Forget number floor) f =
+    omega (arith, found db.tables number f, length-at_place number (with_floor floor) db.tables) where
+      found : (ts : List plain.Table) (i : ℕ) → fits_floor db.version floor (slice_get ts i) ≡ true → i < length ts
+      found [] i f = absurd (cc)
+      found (t ∷ ts) zero f = omega arith
+      found (t ∷ ts) (suc i) f = let l = found ts i f in omega (arith, l)
+
 -- the table of a commit that fits is there behind it
-pub table_there : (es : List Entry) (c : Commit) → fits standard_limits (database_behind es) c ≡ true → table_in es c.body < length (database_behind (es ++ entry.Commit c ∷ [])).tables
+pub table_there : (es : List Entry) (c : Commit) → fits standard_limits (database_behind es) c ≡ true → IfSome (table_in es c.body) (λ table. table < length (database_behind (es ++ entry.Commit c ∷ [])).tables)
 table_there es c fit =
     let db = database_behind es in
     let next : database_behind (es ++ entry.Commit c ∷ []) ≡ after_commit db c = database_behind-append es (entry.Commit c ∷ []) in
-    rw next (by_body c.body (and_right (nat_lt db.version 16777215) (fits_body standard_limits db.tables c.body) fit)) where
-      found : (change : plain.Change) (ts : List plain.Table) (i : ℕ) → fits_table standard_limits change (slice_get ts i) ≡ true → i < length ts
-      found change [] i f = absurd (cc)
-      found change (t ∷ ts) zero f = omega arith
-      found change (t ∷ ts) (suc i) f = let l = found change ts i f in omega (arith, l)
-
-      by_body : (b : Body) → fits_body standard_limits (database_behind es).tables b ≡ true → table_in es b < length (after_body ((database_behind es).version + 1) b (database_behind es).tables)
-      by_body (body.Create schema) f = omega (arith, length-append (database_behind es).tables (record { schema = schema; floor = 0; rows = [] } ∷ []))
-      by_body (body.Change change) f = omega (arith, found change (database_behind es).tables change.table f, length-at_place change.table (table_after ((database_behind es).version + 1) change) (database_behind es).tables)
+    rw next (body_there db c.body (and_right (nat_lt db.version 16777215) (fits_body standard_limits db c.body) fit))
 
 -- ALL COMMITS
 
@@ -124,21 +142,21 @@ mark_follows es t k whole there is =
       all_four : (a b c d : Bool) → a ≡ false → b ≡ true → c ≡ true → d ≡ false → (not a && b && c && not d) ≡ true
       all_four a b c d e f g h = rw (e, f, g, h) refl
 
-legal_due : (es : List Entry) (t k : ℕ) (b : Bool) → due es t k ≡ b → has_break es ≡ false → t < length (database_behind es).tables → are_legal es ≡ true → are_legal (cond b (es ++ entry.Mark t (length (commits_of es)) ∷ []) es) ≡ true
-legal_due es t k true is whole there h = legal_push es (entry.Mark t (length (commits_of es))) h (mark_follows es t k whole there is)
-legal_due es t k false is whole there h = h
+legal_due : (k : ℕ) (table : Option ℕ) (es : List Entry) → has_break es ≡ false → IfSome table (λ t. t < length (database_behind es).tables) → are_legal es ≡ true → are_legal (with_due k table es) ≡ true
+legal_due k None es whole there h = h
+legal_due k (Some t) es whole there h = by_due (due es t k) refl where
+  by_due : (b : Bool) → due es t k ≡ b → are_legal (cond b (es ++ entry.Mark t (length (commits_of es)) ∷ []) es) ≡ true
+  by_due true is = legal_push es (entry.Mark t (length (commits_of es))) h (mark_follows es t k whole there is)
+  by_due false is = h
 
 legal_step : (k : ℕ) (es : List Entry) (c : Commit) → has_break es ≡ false → fits standard_limits (database_behind es) c ≡ true → are_legal es ≡ true → are_legal (paced_step k es c) ≡ true
 legal_step k es c whole fit h =
     let next = es ++ entry.Commit c ∷ [] in
-    legal_due next (table_in es c.body) k (due next (table_in es c.body) k) refl (break_with_commit es c ∙ whole) (table_there es c fit)
+    legal_due k (table_in es c.body) next (break_with_commit es c ∙ whole) (table_there es c fit)
     (legal_push es (entry.Commit c) h (unbroken (has_break es) (fits standard_limits (database_behind es) c) whole fit))
 
 database_step : (k : ℕ) (es : List Entry) (c : Commit) → database_behind (paced_step k es c) ≡ after_commit (database_behind es) c
-database_step k es c = by_due (due (es ++ entry.Commit c ∷ []) (table_in es c.body) k) where
-  by_due : (b : Bool) → database_behind (cond b ((es ++ entry.Commit c ∷ []) ++ entry.Mark (table_in es c.body) (length (commits_of (es ++ entry.Commit c ∷ []))) ∷ []) (es ++ entry.Commit c ∷ [])) ≡ after_commit (database_behind es) c
-  by_due true = database_behind-append (es ++ entry.Commit c ∷ []) (entry.Mark (table_in es c.body) (length (commits_of (es ++ entry.Commit c ∷ []))) ∷ []) ∙ database_behind-append es (entry.Commit c ∷ [])
-  by_due false = database_behind-append es (entry.Commit c ∷ [])
+database_step k es c = database_due k (table_in es c.body) (es ++ entry.Commit c ∷ []) ∙ database_behind-append es (entry.Commit c ∷ [])
 
 legal_paced : (k : ℕ) (es : List Entry) (cs : List Commit) → has_break es ≡ false → are_legal es ≡ true → FitFrom standard_limits (database_behind es) cs → are_legal (fold (paced_step k) es cs) ≡ true
 legal_paced k es [] whole h f = h

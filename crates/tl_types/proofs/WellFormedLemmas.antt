@@ -1,15 +1,12 @@
 -- The rows of every table of a history are well formed, and begin in order of their ids.
-use Rattle.std.proofs.Common.{◌≡◌, ℕ, zero, suc, ◌+◌, ◌<◌, ◌≤◌, Bool, true, false, cond, nat_lt, List, [], ◌∷◌, ◌++◌, map, fold, Option, Some, None, inl, inr, refl, arith, slice_get}
-use Rattle.std.specs.List.{enumerate_from}
-use Rattle.std.proofs.lemmas.Bool.{ltb-true}
-use Rattle.tl_types.proofs.Lists.{and_left}
+use Rattle.std.proofs.Common.{◌≡◌, ℕ, zero, suc, ◌+◌, ◌<◌, ◌≤◌, Bool, true, false, cond, List, [], ◌∷◌, ◌++◌, map, Option, Some, None, inl, inr, refl, arith, slice_get}
+use Rattle.std.specs.List.{enumerate_from, AllByRecursion}
+use Rattle.tl_types.proofs.BodyLemmas.{IsKept, commits_kept}
 use Rattle.tl_types.specs.Plain as plain
 use Rattle.tl_types.specs.declared.commits.Commit.{Commit}
-use Rattle.tl_types.specs.declared.commits.Body.{Body}
-use Rattle.tl_types.specs.declared.commits.Body.TheVariants as body
-use Rattle.tl_types.specs.History.{open_end, has_id, row_after, new_row, table_after, at_place, after_body, after_commit, nothing, database_of, fits_body, rows_of}
+use Rattle.tl_types.specs.History.{open_end, has_id, row_after, new_row, nothing, database_of, rows_of}
 use Rattle.tl_types.specs.Limits.{standard_limits}
-use Rattle.tl_types.specs.Legality.{FitFrom, FitInTurn}
+use Rattle.tl_types.specs.Legality.{FitInTurn}
 use Rattle.tl_types.specs.WellFormed.{IsWellFormed, AreWellFormed, HaveWellFormedRows, BeginInOrder, HaveRowsInOrder}
 
 -- LATER VERSIONS
@@ -20,10 +17,6 @@ later v w row l h = record { begins = h.begins; begun = omega (arith, l, h.begun
 pub all_later : (v w : ℕ) (rows : List plain.Row) → v ≤ w → AreWellFormed v rows → AreWellFormed w rows
 all_later v w [] l h = tt
 all_later v w (r ∷ rows) l h = (later v w r l h.0, all_later v w rows l h.1)
-
-tables_later : (v w : ℕ) (tables : List plain.Table) → v ≤ w → HaveWellFormedRows v tables → HaveWellFormedRows w tables
-tables_later v w [] l h = tt
-tables_later v w (t ∷ tables) l h = (all_later v w t.rows l h.0, tables_later v w tables l h.1)
 
 -- ONE COMMIT MORE
 
@@ -39,19 +32,6 @@ changed : (v n : ℕ) (closes : List ℕ) (opens : List plain.Opened) (rows : Li
 changed v n closes opens [] l h = opened (v + 1) opens (omega arith) l
 changed v n closes opens (r ∷ rows) l h = (closed v r (has_id closes n) h.0, changed v (n + 1) closes opens rows l h.1)
 
-table_changed : (v i : ℕ) (change : plain.Change) (tables : List plain.Table) → v + 1 < open_end → HaveWellFormedRows v tables → HaveWellFormedRows (v + 1) (at_place i (table_after (v + 1) change) tables)
-table_changed v i change [] l h = tt
-table_changed v zero change (t ∷ tables) l h = (changed v 0 change.closes change.opens t.rows l h.0, tables_later v (v + 1) tables (omega arith) h.1)
-table_changed v (suc i) change (t ∷ tables) l h = (all_later v (v + 1) t.rows (omega arith) h.0, table_changed v i change tables l h.1)
-
-table_made : (v : ℕ) (schema : plain.Schema) (tables : List plain.Table) → HaveWellFormedRows v tables → HaveWellFormedRows (v + 1) (tables ++ record { schema = schema; floor = 0; rows = [] } ∷ [])
-table_made v schema [] h = (tt, tt)
-table_made v schema (t ∷ tables) h = (all_later v (v + 1) t.rows (omega arith) h.0, table_made v schema tables h.1)
-
-body_done : (v : ℕ) (b : Body) (tables : List plain.Table) → v + 1 < open_end → HaveWellFormedRows v tables → HaveWellFormedRows (v + 1) (after_body (v + 1) b tables)
-body_done v (body.Create schema) tables l h = table_made v schema tables h
-body_done v (body.Change change) tables l h = table_changed v change.table change tables l h
-
 -- rows that begin in order, each not after a version, and then those that begin at a later one
 order_opened : (low w : ℕ) (opens : List plain.Opened) → low ≤ w → BeginInOrder low (map (new_row w) opens)
 order_opened low w [] l = tt
@@ -65,39 +45,34 @@ order_changed low v w n closes opens (r ∷ rows) l m h o =
       by_test true later = (o.0, later)
       by_test false later = (o.0, later)
 
-order_at : (v w i : ℕ) (change : plain.Change) (tables : List plain.Table) → v ≤ w → HaveWellFormedRows v tables → HaveRowsInOrder tables → HaveRowsInOrder (at_place i (table_after w change) tables)
-order_at v w i change [] l h o = tt
-order_at v w zero change (t ∷ tables) l h o = (order_changed 0 v w 0 change.closes change.opens t.rows (omega arith) l h.0 o.0, o.1)
-order_at v w (suc i) change (t ∷ tables) l h o = (o.0, order_at v w i change tables l h.1 o.1)
-
-order_made : (schema : plain.Schema) (tables : List plain.Table) → HaveRowsInOrder tables → HaveRowsInOrder (tables ++ record { schema = schema; floor = 0; rows = [] } ∷ [])
-order_made schema [] o = (tt, tt)
-order_made schema (t ∷ tables) o = (o.0, order_made schema tables o.1)
-
-order_done : (v w : ℕ) (b : Body) (tables : List plain.Table) → v ≤ w → HaveWellFormedRows v tables → HaveRowsInOrder tables → HaveRowsInOrder (after_body w b tables)
-order_done v w (body.Create schema) tables l h o = order_made schema tables o
-order_done v w (body.Change change) tables l h o = order_at v w change.table change tables l h o
-
 -- COMMITS THAT FIT
+
+-- the rows of a table are well formed, and begin in order
+abbrev HasRowsAt : ℕ → plain.Table → Type 0
+HasRowsAt v table = AreWellFormed v table.rows × BeginInOrder 0 table.rows
+
+rows_kept : (v : ℕ) → v < 16777215 → IsKept v (HasRowsAt v) (HasRowsAt (v + 1))
+rows_kept v l = record {
+  made = λ schema. (tt, tt);
+  changed = λ change t f h. (changed v 0 change.closes change.opens t.rows (omega (arith, l)) h.0, order_changed 0 v (v + 1) 0 change.closes change.opens t.rows (omega arith) (omega arith) h.0 h.1);
+  floored = λ floor t f h. (all_later v (v + 1) t.rows (omega arith) h.0, h.1);
+  left = λ t h. (all_later v (v + 1) t.rows (omega arith) h.0, h.1);
+}
 
 -- what is so of the rows of a database
 pub record HasRows (db : plain.Database) : Type 0 where
   pub formed : HaveWellFormedRows db.version db.tables
   pub order : HaveRowsInOrder db.tables
 
--- the rows after commits that fit
-pub commits_done : (db : plain.Database) (cs : List Commit) → HasRows db → FitFrom standard_limits db cs → HasRows (fold after_commit db cs)
-commits_done db [] h f = h
-commits_done db (c ∷ cs) h f =
-    let room = ltb-true db.version 16777215 (and_left (nat_lt db.version 16777215) (fits_body standard_limits db.tables c.body) f.0) in
-    commits_done (after_commit db c) cs (record {
-      formed = body_done db.version c.body db.tables (omega (arith, room)) h.formed;
-      order = order_done db.version (db.version + 1) c.body db.tables (omega arith) h.formed h.order;
-    }) f.1
+parted : (v : ℕ) (tables : List plain.Table) → AllByRecursion (HasRowsAt v) tables → HaveWellFormedRows v tables × HaveRowsInOrder tables
+parted v [] h = (tt, tt)
+parted v (t ∷ tables) h = let more = parted v tables h.1 in ((h.0.0, more.0), (h.0.1, more.1))
 
 -- the rows of every table of a history
 pub history_rows : (cs : List Commit) → FitInTurn standard_limits cs → HasRows (database_of cs)
-history_rows cs f = commits_done nothing cs (record { formed = tt; order = tt }) f
+history_rows cs f =
+    let both = parted (database_of cs).version (database_of cs).tables (commits_kept HasRowsAt rows_kept nothing cs tt f) in
+    record { formed = both.0; order = both.1 }
 
 -- and those of one table
 pub table_formed : (v : ℕ) (tables : List plain.Table) (i : ℕ) (t : plain.Table) → HaveWellFormedRows v tables → slice_get tables i ≡ Some t → AreWellFormed v t.rows

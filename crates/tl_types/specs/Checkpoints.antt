@@ -1,5 +1,5 @@
 -- The checkpoint of a table at a version: what a scan that begins there has to know of it.
-use Rattle.std.specs.Prelude.{ℕ, Bool, true, false, ◌&&◌, ◌||◌, not, nat_le, nat_lt, int_lt, List, [], ◌∷◌, length, Option, Some, None, slice_get, if◌then◌else◌}
+use Rattle.std.specs.Prelude.{◌≡◌, ℕ, Bool, true, false, ◌&&◌, ◌||◌, not, nat_le, nat_lt, int_lt, List, [], ◌∷◌, length, Option, Some, None, slice_get, if◌then◌else◌}
 use Rattle.std.specs.List.{filter, flat_map, fold}
 use Rattle.std.specs.Bool.{beq}
 use Rattle.std.specs.Ordering.{int_eq}
@@ -59,6 +59,11 @@ valid_events_in rows version =
 abbrev pub valid_events_of : plain.Table → ℕ → List ValidEvent
 valid_events_of table version =
     if table.schema.valid then valid_events_in table.rows version else []
+
+-- the events are those of the rows at some version
+pub record AreEventsOf (rows : List plain.Row) (events : List ValidEvent) : Type 0 where
+  pub version : ℕ
+  pub are : events ≡ valid_events_in rows version
 
 -- CHECKPOINTS
 

@@ -1,6 +1,6 @@
 -- What a history of commits means: its tables, and the rows visible at a version.
-use Rattle.std.specs.Prelude.{ℕ, zero, suc, ◌+◌, ℤ, Bool, true, false, ◌&&◌, not, nat_le, nat_lt, ◌==◌, int_le, int_lt, List, [], ◌∷◌, ◌++◌, length, map, take, Option, Some, None, is_some, if◌then◌else◌, slice_get}
-use Rattle.std.specs.List.{list_all, list_any, enumerate_from, filter, fold}
+use Rattle.std.specs.Prelude.{ℕ, zero, suc, ◌+◌, ◌-◌, ℤ, Bool, true, false, ◌&&◌, not, nat_le, nat_lt, ◌==◌, int_le, int_lt, List, [], ◌∷◌, ◌++◌, length, map, take, Option, Some, None, is_some, option_map, if◌then◌else◌, slice_get}
+use Rattle.std.specs.List.{list_all, list_any, enumerate_from, filter, fold, last_or}
 use Rattle.std.specs.Bool.{beq}
 use Rattle.std.specs.Ordering.{int_eq}
 use Rattle.tl_types.specs.declared.cells.Cell.{Cell}
@@ -62,25 +62,59 @@ at_place i f [] = []
 at_place zero f (x ∷ xs) = f x ∷ xs
 at_place (suc i) f (x ∷ xs) = x ∷ at_place i f xs
 
+-- the table with another floor
+abbrev pub with_floor : ℕ → plain.Table → plain.Table
+with_floor floor table = record table { floor = floor }
+
 -- the tables after the version's commit
 abbrev pub after_body : ℕ → Body → List plain.Table → List plain.Table
 after_body version (body.Create schema) tables = tables ++ new_table schema ∷ []
 after_body version (body.Change change) tables =
     at_place change.table (table_after version change) tables
+after_body version (body.Moment moment) tables = tables
+after_body version (body.Forget number floor) tables = at_place number (with_floor floor) tables
 
--- the number of the table that a commit's body makes or changes
-abbrev pub table_number : List plain.Table → Body → ℕ
-table_number tables (body.Create schema) = length tables
-table_number tables (body.Change change) = change.table
+-- the stamps that the version's commit adds: one, where it states a moment
+abbrev pub stamps_of : ℕ → Body → List plain.Stamp
+stamps_of version (body.Create schema) = []
+stamps_of version (body.Change change) = []
+stamps_of version (body.Moment moment) = record { version = version; moment = moment } ∷ []
+stamps_of version (body.Forget number floor) = []
+
+-- the number of the table that a commit's body makes, changes or sets the floor of: a moment has
+-- none
+abbrev pub table_number : List plain.Table → Body → Option ℕ
+table_number tables (body.Create schema) = Some (length tables)
+table_number tables (body.Change change) = Some change.table
+table_number tables (body.Moment moment) = None
+table_number tables (body.Forget number floor) = Some number
+
+-- the ids of the rows that a commit's body closes
+abbrev pub closed_by : Body → List ℕ
+closed_by (body.Create schema) = []
+closed_by (body.Change change) = change.closes
+closed_by (body.Moment moment) = []
+closed_by (body.Forget number floor) = []
+
+-- the rows that it opens
+abbrev pub opened_by : Body → List plain.Opened
+opened_by (body.Create schema) = []
+opened_by (body.Change change) = change.opens
+opened_by (body.Moment moment) = []
+opened_by (body.Forget number floor) = []
 
 -- the database after one commit more, whose version is the next
 abbrev pub after_commit : plain.Database → Commit → plain.Database
 after_commit db commit =
-    record { version = db.version + 1; tables = after_body (db.version + 1) commit.body db.tables }
+    record {
+      version = db.version + 1;
+      tables = after_body (db.version + 1) commit.body db.tables;
+      stamps = db.stamps ++ stamps_of (db.version + 1) commit.body;
+    }
 
 -- the database without commits
 abbrev pub nothing : plain.Database
-nothing = record { version = 0; tables = [] }
+nothing = record { version = 0; tables = []; stamps = [] }
 
 -- the database after these commits
 abbrev pub database_of : List Commit → plain.Database
@@ -130,22 +164,57 @@ fits_table limits change (Some table) =
     && list_all (matches table.schema) change.opens
     && nat_le (length table.rows + length change.opens) limits.rows
 
--- a new table has a new name, and there is room for it; a change fits its table
-abbrev pub fits_body : Limits → List plain.Table → Body → Bool
-fits_body limits tables (body.Create schema) =
-    not (list_any (has_name schema.name) tables) && nat_lt (length tables) limits.tables
-fits_body limits tables (body.Change change) =
-    fits_table limits change (slice_get tables change.table)
+-- the moment of the last stamp, where there is one
+abbrev pub last_moment : List plain.Stamp → Option ℤ
+last_moment stamps = option_map (λ stamp. stamp.moment) (last_or None stamps)
 
--- the commit fits the database: there is room for a version, and what it does fits the tables
+-- the moment is greater than the last one, where there is one
+abbrev pub is_later : ℤ → Option ℤ → Bool
+is_later moment None = true
+is_later moment (Some last) = int_lt last moment
+
+-- the floor is greater than that of this table, and no version that is still to come
+abbrev pub fits_floor : ℕ → ℕ → Option plain.Table → Bool
+fits_floor now floor None = false
+fits_floor now floor (Some table) = nat_lt table.floor floor && nat_le floor now
+
+-- a new table has a new name, and there is room for it; a change fits its table; a moment is
+-- greater than that of the last stamp; a floor is greater than that of its table, and at most the
+-- number of commits
+abbrev pub fits_body : Limits → plain.Database → Body → Bool
+fits_body limits db (body.Create schema) =
+    not (list_any (has_name schema.name) db.tables) && nat_lt (length db.tables) limits.tables
+fits_body limits db (body.Change change) =
+    fits_table limits change (slice_get db.tables change.table)
+fits_body limits db (body.Moment moment) = is_later moment (last_moment db.stamps)
+fits_body limits db (body.Forget number floor) =
+    fits_floor db.version floor (slice_get db.tables number)
+
+-- the commit fits the database: there is room for a version, and what it does fits the database
 abbrev pub fits : Limits → plain.Database → Commit → Bool
-fits limits db commit = nat_lt db.version limits.versions && fits_body limits db.tables commit.body
+fits limits db commit = nat_lt db.version limits.versions && fits_body limits db commit.body
 
 -- READING
 
 -- the row stands at the version
 abbrev pub is_visible : ℕ → plain.Row → Bool
 is_visible version row = nat_le row.from version && nat_lt version row.to
+
+-- the version at a moment, with so many commits: one before the first stamp of a greater moment, or
+-- the last one where there is none
+abbrev pub version_at_moment : ℕ → List plain.Stamp → ℤ → ℕ
+version_at_moment now [] moment = now
+version_at_moment now (stamp ∷ stamps) moment =
+    if int_lt moment stamp.moment then stamp.version - 1 else version_at_moment now stamps moment
+
+-- the floor of a table, 0 where there is none
+abbrev pub floor_of : Option plain.Table → ℕ
+floor_of None = 0
+floor_of (Some table) = table.floor
+
+-- the database with each floor 0: what it is but for its floors
+abbrev pub without_floors : plain.Database → plain.Database
+without_floors db = record db { tables = map (with_floor 0) db.tables }
 
 -- the rows of the table with this number, none where there is no such table
 abbrev pub rows_of : plain.Database → ℕ → List plain.Row

@@ -13,3 +13,4 @@ pub mod Runs
 pub mod WellFormed
 pub mod Walks
 pub mod Marks
+pub mod Results

@@ -1,5 +1,5 @@
 -- When a mark of a table is due, and the entries of commits with each mark that is due.
-use Rattle.std.specs.Prelude.{ℕ, Bool, ◌&&◌, ◌==◌, ◌-◌, nat_le, nat_lt, max, List, [], ◌∷◌, ◌++◌, length, if◌then◌else◌}
+use Rattle.std.specs.Prelude.{ℕ, Bool, ◌&&◌, ◌==◌, ◌-◌, nat_le, nat_lt, max, List, [], ◌∷◌, ◌++◌, length, Option, Some, None, if◌then◌else◌}
 use Rattle.std.specs.List.{fold}
 use Rattle.tl_types.specs.declared.commits.Body.{Body}
 use Rattle.tl_types.specs.declared.commits.Commit.{Commit}
@@ -28,18 +28,21 @@ events_since_mark entries table =
 unfoldable pub due : List Entry → ℕ → ℕ → Bool
 due entries table k = nat_lt 0 k && nat_le k (events_since_mark entries table)
 
--- the number of the table that a commit behind these entries makes or changes
-abbrev pub table_in : List Entry → Body → ℕ
+-- the number of the table of a commit behind these entries, where it has one
+abbrev pub table_in : List Entry → Body → Option ℕ
 table_in entries body = table_number (database_behind entries).tables body
 
--- the entries, and behind them a mark of the table at their version where it is due
-abbrev pub with_due : ℕ → ℕ → List Entry → List Entry
-with_due k table entries =
+-- the entries, and behind them a mark of the table at their version where it is due; a commit
+-- without a table has no mark
+abbrev pub with_due : ℕ → Option ℕ → List Entry → List Entry
+with_due k None entries = entries
+with_due k (Some table) entries =
     if due entries table k
     then entries ++ entry.Mark table (length (commits_of entries)) ∷ []
     else entries
 
--- the entries, a commit, and the mark of its table at its version where it is due then
+-- the entries, a commit, and the mark of its table, if it has one, at its version where it is due
+-- then
 abbrev pub paced_step : ℕ → List Entry → Commit → List Entry
 paced_step k entries commit =
     with_due k (table_in entries commit.body) (entries ++ entry.Commit commit ∷ [])

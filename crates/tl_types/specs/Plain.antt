@@ -39,14 +39,20 @@ pub record Row : Type 0 where
   pub from : ℕ
   pub to : ℕ
 
--- a table: its schema, the version before which its past is forgotten, and its rows; the i-th row,
+-- a table: its schema, the least version that may be asked of it, and its rows; the i-th row,
 -- counted from 0, has id i
 pub record Table : Type 0 where
   pub schema : Schema
   pub floor : ℕ
   pub rows : List Row
 
--- the number of commits so far, and the tables after them
+-- a moment that was stated, and the version at which it was
+pub record Stamp : Type 0 where
+  pub version : ℕ
+  pub moment : ℤ
+
+-- the number of commits so far, the tables after them, and the moments that were stated
 pub record Database : Type 0 where
   pub version : ℕ
   pub tables : List Table
+  pub stamps : List Stamp

@@ -1,5 +1,5 @@
 -- The commit that a batch becomes, or the first reason why it becomes none.
-use Rattle.std.specs.Prelude.{ℕ, ◌+◌, ℤ, Bool, false, ◌&&◌, ◌||◌, not, nat_le, nat_lt, int_lt, List, [], ◌∷◌, ◌++◌, length, map, Option, Some, None, is_some, Result, Ok, Err, if◌then◌else◌, slice_get}
+use Rattle.std.specs.Prelude.{ℕ, ◌+◌, ℤ, pos, nat_abs, Bool, false, ◌&&◌, ◌||◌, not, nat_le, nat_lt, int_lt, List, [], ◌∷◌, ◌++◌, length, map, Option, Some, None, is_some, Result, Ok, Err, if◌then◌else◌, slice_get}
 use Rattle.std.specs.List.{list_any, filter, fold, flat_map, filter_map}
 use Rattle.tl_types.specs.declared.cells.Cell.{Cell}
 use Rattle.tl_types.specs.declared.commits.Commit.{Commit}
@@ -11,7 +11,7 @@ use Rattle.tl_types.specs.declared.batches.BatchFault.{BatchFault}
 use Rattle.tl_types.specs.declared.batches.BatchFault.TheVariants as fault
 use Rattle.tl_types.specs.declared.limits.Limits.{Limits}
 use Rattle.tl_types.specs.Plain as plain
-use Rattle.tl_types.specs.History.{is_open, with_ids, has_id, has_name, same_cell}
+use Rattle.tl_types.specs.History.{is_open, with_ids, has_id, has_name, same_cell, last_moment}
 
 -- a row of the working list: the id that it has in the table, or none where the batch opens it
 pub record WorkingRow : Type 0 where
@@ -152,6 +152,29 @@ resolved_change limits db author (Some (number, table)) lines =
             body = body.Change (change_of number table (lines table.schema));
           })
 
+-- the commit that states a moment, or its fault: no version is left, then a last moment that is not
+-- less
+abbrev pub resolved_moment : Limits → plain.Database → ℕ → ℤ → Option ℤ → Result Commit BatchFault
+resolved_moment limits db author moment last =
+    if nat_le limits.versions db.version then Err fault.VersionsFull else after_last last where
+      after_last : Option ℤ → Result Commit BatchFault
+      after_last None = Ok (record { author = author; body = body.Moment moment })
+      after_last (Some now) =
+          if int_lt now moment then Ok (record { author = author; body = body.Moment moment })
+          else Err (fault.MomentFalls now)
+
+-- the commit that sets a floor, or its fault: no version is left, then a floor past the last
+-- version, then one that is not greater than that of its table
+abbrev pub resolved_floor : Limits → plain.Database → ℕ → ℤ → Option (ℕ × plain.Table)
+    → Result Commit BatchFault
+resolved_floor limits db author floor None = Err fault.UnknownTable
+resolved_floor limits db author floor (Some (number, table)) =
+    if nat_le limits.versions db.version then Err fault.VersionsFull
+    else (if int_lt (pos db.version) floor then Err (fault.FloorAhead db.version)
+    else (if int_lt (pos table.floor) floor
+    then Ok (record { author = author; body = body.Forget number (nat_abs floor) })
+    else Err (fault.FloorFalls table.floor)))
+
 -- the commit that a batch of this author becomes, or its first fault
 abbrev pub resolved : Limits → plain.Database → ℕ → Batch → Result Commit BatchFault
 resolved limits db author (batch.Create schema) =
@@ -163,3 +186,7 @@ resolved limits db author (batch.Put name lines) =
     resolved_change limits db author (find_table name db.tables) (λ schema. put_lines schema lines)
 resolved limits db author (batch.Remove name lines) =
     resolved_change limits db author (find_table name db.tables) (λ schema. removal_lines lines)
+resolved limits db author (batch.Moment moment) =
+    resolved_moment limits db author moment (last_moment db.stamps)
+resolved limits db author (batch.Forget name floor) =
+    resolved_floor limits db author floor (find_table name db.tables)

@@ -36,6 +36,18 @@ pub enum Batch {
         /// The keys, in order.
         lines: Seq<KeyLine>,
     },
+    /// Which moment it is.
+    Moment {
+        /// The moment, in the user's unit.
+        moment: i64,
+    },
+    /// The least version that may be asked of a table from then on.
+    Forget {
+        /// The table's name.
+        table: Text,
+        /// The version.
+        floor: i64,
+    },
 }
 
 /// Why a batch becomes no commit. `rec` is the record number of a line: its place in the batch plus
@@ -65,4 +77,19 @@ pub enum BatchFault {
     VersionsFull,
     /// Out of memory.
     NoMemory,
+    /// The moment is not greater than that of the last statement of one.
+    MomentFalls {
+        /// The moment of the last statement.
+        now: i64,
+    },
+    /// The version is greater than the number of commits.
+    FloorAhead {
+        /// The number of commits.
+        now: u32,
+    },
+    /// The version is not greater than the one that stands for the table.
+    FloorFalls {
+        /// The least version that may be asked of the table.
+        floor: u32,
+    },
 }

@@ -92,6 +92,18 @@ pub enum Body {
     Create(Schema),
     /// It changes a table.
     Change(Change),
+    /// It states which moment it is. No table changes.
+    Moment {
+        /// The moment, in the user's unit, greater than that of each earlier statement.
+        moment: i64,
+    },
+    /// It sets the least version that may be asked of a table. No row changes.
+    Forget {
+        /// The number of the table, from 0.
+        table: u16,
+        /// The least version that may be asked of it from then on.
+        floor: u32,
+    },
 }
 
 impl Clone for Body {
@@ -101,6 +113,11 @@ impl Clone for Body {
         match self {
             Body::Create(schema) => Ok(Body::Create(schema.clone()?)),
             Body::Change(change) => Ok(Body::Change(change.clone()?)),
+            Body::Moment { moment } => Ok(Body::Moment { moment: *moment }),
+            Body::Forget { table, floor } => Ok(Body::Forget {
+                table: *table,
+                floor: *floor,
+            }),
         }
     }
 }

@@ -1,18 +1,18 @@
 //! What holds of every history, said in contracts of functions that do nothing.
-ghost use Rattle.std.specs.Prelude.{◌≡◌, ℕ, ℤ, ◌≤◌, ◌≤ℤ◌, IsTrue, List, ◌++◌, length};
+ghost use Rattle.std.specs.Prelude.{◌≡◌, ℕ, ℤ, ◌≤◌, ◌≤ℤ◌, IsTrue, List, ◌++◌, length, None};
 ghost use Rattle.tl_types.specs.declared.answers.Field.{Field};
 ghost use Rattle.tl_types.specs.declared.commits.Commit.{Commit};
 ghost use Rattle.tl_types.specs.declared.commits.Entry.{Entry};
 ghost use Rattle.tl_types.specs.Checkpoints.{checkpoint_at};
 ghost use Rattle.tl_types.specs.Entries.{commits_of};
-ghost use Rattle.tl_types.specs.History.{database_of, rows_of};
+ghost use Rattle.tl_types.specs.History.{database_of, rows_of, version_at_moment, without_floors};
 ghost use Rattle.tl_types.specs.Legality.{FitInTurn, are_legal, database_behind, has_table};
 ghost use Rattle.tl_types.specs.Limits.{standard_limits};
 ghost use Rattle.tl_types.specs.Marks.{paced};
 ghost use Rattle.tl_types.specs.Plain as plain;
 ghost use Rattle.tl_types.specs.Walks.{standing, after_events, ChangesEach, events_between};
 ghost use Rattle.tl_types.specs.Runs.{runs_of, seam};
-ghost use Rattle.tl_types.specs.WellFormed.{AreWellFormed, BeginInOrder};
+ghost use Rattle.tl_types.specs.WellFormed.{AreWellFormed, BeginInOrder, HaveReachedFloors, HaveReachedStamps, Rise};
 
 /// Carries a law in its contract, and does nothing: the checkpoint of a table, at a version, both of
 /// which some entries have, is the same over every longer legal list of entries.
@@ -31,6 +31,28 @@ pub fn rows_are_well_formed()
         → AreWellFormed (database_of commits).version (rows_of (database_of commits) table) }
     ensures order { (commits : List Commit) (table : ℕ) → FitInTurn standard_limits commits
         → BeginInOrder 0 (rows_of (database_of commits) table) }
+{}
+
+/// Carries a law in its contract, and does nothing: of commits that fit one after the other, the
+/// versions and the moments of the stamps rise; each stamp, each floor and the version at each
+/// moment is no later than the last version.
+pub fn times_are_reached()
+    ensures stamps { (commits : List Commit) → FitInTurn standard_limits commits
+        → Rise None (database_of commits).stamps }
+    ensures reached { (commits : List Commit) → FitInTurn standard_limits commits
+        → HaveReachedStamps (database_of commits).version (database_of commits).stamps }
+    ensures floors { (commits : List Commit) → FitInTurn standard_limits commits
+        → HaveReachedFloors (database_of commits).version (database_of commits).tables }
+    ensures moments { (commits : List Commit) (moment : ℤ) → FitInTurn standard_limits commits
+        → version_at_moment (database_of commits).version (database_of commits).stamps moment
+        ≤ (database_of commits).version }
+{}
+
+/// Carries a law in its contract, and does nothing: the rows of a table do not depend on the floors
+/// of the database.
+pub fn rows_have_no_floor()
+    ensures { (db : plain.Database) (table : ℕ) →
+        rows_of (without_floors db) table ≡ rows_of db table }
 {}
 
 /// Carries a law in its contract, and does nothing: the events behind the place of a version and up

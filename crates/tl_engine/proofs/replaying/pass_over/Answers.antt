@@ -23,6 +23,12 @@ commits-smaller-in-Some g c =
     fewer_left c.commits.found_commits c.next.new.self (c.requires.0 ++ l.0) c.in_ok-found.field-0 c.in-Some.found c.in-Some.is
     c.next.ensures.image c.in_ok-found.ensures.on (c.in_ok-found.ensures.found (c.requires.0 ++ l.0) l.1)
 
+pub commits-smaller-in-Some-2 : goal.commits-smaller-in-Some-2
+commits-smaller-in-Some-2 g c =
+    let l = c.commits.invariant.read c.requires.0 c.requires.1 in
+    fewer_left c.commits.found_commits c.next.new.self (c.requires.0 ++ l.0) c.in_ok-found.field-0 c.in-Some.found c.in-Some.is
+    c.next.ensures.image c.in_ok-found.ensures.on (c.in_ok-found.ensures.found (c.requires.0 ++ l.0) l.1)
+
 pub commits-smaller : goal.commits-smaller
 commits-smaller g c =
     let l = c.commits.invariant.read c.requires.0 c.requires.1 in
@@ -31,6 +37,16 @@ commits-smaller g c =
 
 pub commits-preserved-in-Some : goal.commits-preserved-in-Some
 commits-preserved-in-Some g c =
+    record {
+      disk = c.next.ensures.disk ∙ c.commits.invariant.disk;
+      image = c.next.ensures.image ∙ c.commits.invariant.image;
+      read = λ found r.
+          let l = c.commits.invariant.read found r in
+          read_next c.next.new.self found l.0 c.in_ok-found.field-0 c.in-Some.found c.in-Some.is (c.in_ok-found.ensures.found (found ++ l.0) l.1);
+    }
+
+pub commits-preserved-in-Some-2 : goal.commits-preserved-in-Some-2
+commits-preserved-in-Some-2 g c =
     record {
       disk = c.next.ensures.disk ∙ c.commits.invariant.disk;
       image = c.next.ensures.image ∙ c.commits.invariant.image;

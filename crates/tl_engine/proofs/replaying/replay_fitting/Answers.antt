@@ -20,6 +20,11 @@ commits-smaller-else-not-fits g c =
     fewer_left c.commits.found_commits c.next.new.self (commits_of c.commits.replay) c.in_ok-found.field-0 c.in-Some.found c.in-Some.is
     c.next.ensures.image c.in_ok-found.ensures.on (c.in_ok-found.ensures.found (commits_of c.commits.replay) c.commits.invariant.read)
 
+pub commits-smaller-else-not-fits-2 : goal.commits-smaller-else-not-fits-2
+commits-smaller-else-not-fits-2 g c =
+    fewer_left c.commits.found_commits c.next.new.self (commits_of c.commits.replay) c.in_ok-found.field-0 c.in-Some.found c.in-Some.is
+    c.next.ensures.image c.in_ok-found.ensures.on (c.in_ok-found.ensures.found (commits_of c.commits.replay) c.commits.invariant.read)
+
 pub commits-smaller : goal.commits-smaller
 commits-smaller g c =
     fewer_left c.commits.found_commits c.next.new.self (commits_of c.commits.replay) c.in_ok-found.field-0 c.in-Some.found c.in-Some.is
@@ -27,6 +32,18 @@ commits-smaller g c =
 
 pub commits-preserved-else-not-fits : goal.commits-preserved-else-not-fits
 commits-preserved-else-not-fits g c =
+    let fits = subst (λ b. IsApplied c.args.limits.now c.args.k c.commits.replay c.in-Ok.next c.in-Some.found.commit b) c.if-not-fits.false c.in-Ok.ensures in
+    record {
+      disk = c.next.ensures.disk ∙ c.commits.invariant.disk;
+      image = c.next.ensures.image ∙ c.commits.invariant.image;
+      read = applied_next c.args.limits.now c.args.k c.next.new.self c.commits.replay c.in-Ok.next c.in_ok-found.field-0 c.in-Some.found c.in-Some.is
+          (c.in_ok-found.ensures.found (commits_of c.commits.replay) c.commits.invariant.read) fits;
+      pace = pace_on c.args.k c.commits.replay c.in-Ok.next c.in-Some.found.commit c.commits.invariant.pace fits.1;
+      fitting = applied_fit c.args.limits.now c.args.k c.commits.replay c.in-Ok.next c.in-Some.found.commit c.commits.invariant.fitting fits;
+    }
+
+pub commits-preserved-else-not-fits-2 : goal.commits-preserved-else-not-fits-2
+commits-preserved-else-not-fits-2 g c =
     let fits = subst (λ b. IsApplied c.args.limits.now c.args.k c.commits.replay c.in-Ok.next c.in-Some.found.commit b) c.if-not-fits.false c.in-Ok.ensures in
     record {
       disk = c.next.ensures.disk ∙ c.commits.invariant.disk;

@@ -5,7 +5,7 @@ use Rattle.std.proofs.lemmas.Result.{IfOk-weaker}
 use Rattle.tl_store.proofs.LogLemmas.{put_back}
 use Rattle.tl_index.specs.declared.timelines.Timeline.{Timeline}
 use Rattle.tl_index.specs.Timelines.{timelines_of}
-use Rattle.tl_index.proofs.ApplyLemmas.{asked, create_after, timeline_there}
+use Rattle.tl_index.proofs.ApplyLemmas.{asked, create_after, floored_after, stated_after, timeline_there}
 use Rattle.tl_index.proofs.timelines.timelines_after.Goals as goal
 
 pub remove-requires : goal.remove-requires
@@ -38,3 +38,9 @@ pub returns-in-Create : goal.returns-in-Create
 returns-in-Create c =
     IfOk-weaker c.with_none.result (λ after. after ≡ c.args.timelines ++ (record { events = []; ends = [] }) ∷ []) (λ after. after ≡ timelines_of (c.args.store.now ++ c.args.commit.now ∷ []))
     (λ x e. e ∙ create_after c.args.store.now c.args.commit.now c.in-Create.field-0 c.args.timelines c.requires.fitting c.requires.fit c.requires.timelines c.in-Create.is) c.with_none.ensures
+
+pub returns-in-Moment : goal.returns-in-Moment
+returns-in-Moment c = stated_after c.args.store.now c.args.commit.now _ c.args.timelines c.requires.fitting c.requires.fit c.requires.timelines c.in-Moment.is
+
+pub returns-in-Forget : goal.returns-in-Forget
+returns-in-Forget c = floored_after c.args.store.now c.args.commit.now _ _ c.args.timelines c.requires.fitting c.requires.fit c.requires.timelines c.in-Forget.is

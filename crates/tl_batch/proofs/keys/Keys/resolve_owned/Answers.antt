@@ -11,3 +11,9 @@ returns-in-Put-clause-standard c = ok_within c.args.limits.now standard_limits (
 
 pub returns-in-Remove-clause-standard : goal.returns-in-Remove-clause-standard
 returns-in-Remove-clause-standard c = ok_within c.args.limits.now standard_limits (database_of c.args.store.now) c.resolve_remove.result (rw c.new-tables-in-Remove.ensures at c.resolve_remove.ensures.fit)
+
+pub returns-in-Moment-clause-standard : goal.returns-in-Moment-clause-standard
+returns-in-Moment-clause-standard c = ok_within c.args.limits.now standard_limits (database_of c.args.store.now) c.resolve_moment.result c.resolve_moment.ensures.fit
+
+pub returns-in-Forget-clause-standard : goal.returns-in-Forget-clause-standard
+returns-in-Forget-clause-standard c = ok_within c.args.limits.now standard_limits (database_of c.args.store.now) c.resolve_floor.result c.resolve_floor.ensures.fit

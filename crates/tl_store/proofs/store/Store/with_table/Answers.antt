@@ -14,6 +14,7 @@ pub invariant_of-result : goal.invariant_of-result
 invariant_of-result c =
     let tables = c.self.inside.tables.items in
     let log = c.self.inside.log in
+    let stamps = c.self.inside.stamps in
     let schema = c.args.schema.now in
     let entry : LogEntry = record { author = c.args.author; table = c.len.result; deed = deed.Create } in
     let number : c.len.result ≡ length tables = omega (arith, c.len.ensures, c.self.inside.tables.ok.0) in
@@ -22,13 +23,14 @@ invariant_of-result c =
     c.in_ok-push.ensures.items ∙ ap (λ (k : Kept). tables ++ k ∷ []) (c.in_ok-new-2.ensures ∙ c.in_ok-new.ensures) in
     let logged : c.in_ok-log.log ≡ log ++ entry ∷ [] = c.in_ok-log.ensures ∙ ap (λ t. log ++ t) c.as_slice.ensures in
     let same = ap (λ n. record { author = c.args.author; table = n; deed = deed.Create }) number in
-    subst (λ l. IsHistory c.push.new.self.items l) (sym logged)
-    (created_history tables log c.self.invariant c.args.author schema fit c.push.new.self.items entry more same)
+    subst (λ l. IsHistory c.push.new.self.items l stamps) (sym logged)
+    (created_history tables log stamps c.self.invariant c.args.author schema fit c.push.new.self.items entry more same)
 
 pub returns : goal.returns
 returns c =
     let tables = c.self.inside.tables.items in
     let log = c.self.inside.log in
+    let stamps = c.self.inside.stamps in
     let schema = c.args.schema.now in
     let entry : LogEntry = record { author = c.args.author; table = c.len.result; deed = deed.Create } in
     let number : c.len.result ≡ length tables = omega (arith, c.len.ensures, c.self.inside.tables.ok.0) in
@@ -38,5 +40,5 @@ returns c =
     let logged : c.in_ok-log.log ≡ log ++ entry ∷ [] = c.in_ok-log.ensures ∙ ap (λ t. log ++ t) c.as_slice.ensures in
     let same = ap (λ n. record { author = c.args.author; table = n; deed = deed.Create }) number in
     ap (λ l. history_of c.push.new.self.items l) logged
-    ∙ created_list tables log c.self.invariant c.args.author schema fit c.push.new.self.items entry more same
+    ∙ created_list tables log stamps c.self.invariant c.args.author schema fit c.push.new.self.items entry more same
     ∙ ap (λ (cs : List Commit). cs ++ record { author = c.args.author; body = body.Create schema } ∷ []) c.self.view_is

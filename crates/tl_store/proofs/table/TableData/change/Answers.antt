@@ -11,13 +11,13 @@ set_each-requires c =
     let t = c.self.inside in (
       omega arith,
       subst (λ ids. All (λ id. id < length t.to) ids) (sym c.closes-closes.ensures.value)
-          (closes_there t.schema.value t.columns.items t.periods t.from t.to t.closed c.args.self c.args.change.now c.self.invariant c.self.view_is c.requires),
+          (closes_there t.schema.value t.columns.items t.periods t.from t.to t.closed t.floor c.args.self c.args.change.now c.self.invariant c.self.view_is c.requires),
     )
 
 pub append_to_all-requires : goal.append_to_all-requires
 append_to_all-requires c =
     let t = c.self.inside in
-    let few = few_rows t.schema.value t.columns.items t.periods t.from t.to t.closed c.args.self c.args.change.now c.self.invariant c.self.view_is c.requires in
+    let few = few_rows t.schema.value t.columns.items t.periods t.from t.to t.closed t.floor c.args.self c.args.change.now c.self.invariant c.self.view_is c.requires in
     let opens = ap length c.opens-opens.ensures.value in
     λ k d h. let long = column_lengths (length t.from) t.schema.value.columns t.columns.items c.self.invariant.cells k d h in omega (arith, few, opens, long)
 
@@ -27,7 +27,7 @@ invariant_of-result c =
     let change = c.args.change.now in
     let v = c.args.version in
     let opens = c.opens-opens.ensures.value in
-    table_made t.schema.value t.columns.items t.periods t.from t.to t.closed c.args.self change c.self.invariant c.self.view_is c.requires
+    table_made t.schema.value t.columns.items t.periods t.from t.to t.closed t.floor c.args.self change c.self.invariant c.self.view_is c.requires
     v t.schema.value c.in_ok-append_to_all.field-0.items c.in_ok-append.field-0 c.in_ok-append-2.field-0 c.in_ok-append-3.field-0 c.in_ok-append-4.field-0
     refl
     (c.in_ok-append_to_all.ensures ∙ ap (λ o. longer_from o 0 t.columns.items) opens)
@@ -42,7 +42,7 @@ returns c =
     let change = c.args.change.now in
     let v = c.args.version in
     let opens = c.opens-opens.ensures.value in
-    kept_made t.schema.value t.columns.items t.periods t.from t.to t.closed c.args.self change c.self.invariant c.self.view_is c.requires
+    kept_made t.schema.value t.columns.items t.periods t.from t.to t.closed t.floor c.args.self change c.self.invariant c.self.view_is c.requires
     v t.schema.value c.in_ok-append_to_all.field-0.items c.in_ok-append.field-0 c.in_ok-append-2.field-0 c.in_ok-append-3.field-0 c.in_ok-append-4.field-0
     refl
     (c.in_ok-append_to_all.ensures ∙ ap (λ o. longer_from o 0 t.columns.items) opens)

@@ -16,7 +16,8 @@ use Rattle.tl_app.specs.Groups.{key_of, is_value, has_cell, group_of, event_coun
 use Rattle.tl_app.specs.Opening.{open_rows, up_to}
 use Rattle.tl_app.specs.Scans.{value_at}
 use Rattle.tl_app.specs.Telling.{has_rows, Tells}
-use Rattle.tl_app.proofs.ValueLemmas.{Rises, total, one_if, none_owed, count_once, owed}
+use Rattle.tl_query.specs.Ordered.{Rises}
+use Rattle.tl_app.proofs.ValueLemmas.{total, one_if, none_owed, count_once, owed}
 use Rattle.tl_app.proofs.KeyLemmas.{AreTheirs}
 
 -- ONE GROUP

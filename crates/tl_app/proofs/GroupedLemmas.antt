@@ -13,14 +13,14 @@ use Rattle.tl_types.specs.Checkpoints.{valid_events_in}
 use Rattle.tl_types.specs.History.{rows_of, same_cell, cell_at}
 use Rattle.tl_types.specs.Runs.{runs_of}
 use Rattle.tl_query.specs.Aggregates.{in_group, has_value, group_at, group_runs, aggregate_runs}
-use Rattle.tl_query.specs.Ordered.{values_of}
+use Rattle.tl_query.specs.Ordered.{values_of, has}
 use Rattle.tl_query.specs.Passing.{passes, compare_cells}
 use Rattle.tl_query.specs.declared.typed_queries.AggPlan.{AggPlan}
 use Rattle.tl_query.specs.declared.typed_queries.Span.TheVariants as span
 use Rattle.tl_query.specs.declared.typed_queries.TypedPred.{TypedPred}
 use Rattle.tl_store.specs.Reading.{cell_of_row}
 use Rattle.tl_bits.specs.Sets.{is_member}
-use Rattle.tl_plain.proofs.CellLemmas.{cell_symm}
+use Rattle.tl_query.proofs.CellOrder.{cell_symm}
 use Rattle.tl_app.specs.declared.keyed.Group.{Group}
 use Rattle.tl_app.specs.Groups.{is_value, has_cell, group_of, has_key, event_count, AreGroupsOf, grouped_runs, runs_of_groups}
 use Rattle.tl_app.specs.Opening.{open_rows, up_to, Alternate}
@@ -28,7 +28,7 @@ use Rattle.tl_app.specs.Parts.{kept_events, part_of, IsPart, planned_runs}
 use Rattle.tl_app.specs.Scans.{value_at}
 use Rattle.tl_app.proofs.HoldLemmas.{none_open}
 use Rattle.tl_app.proofs.PartLemmas.{alternate_part, open_is, member_is}
-use Rattle.tl_app.proofs.ValueLemmas.{has, given_by_both}
+use Rattle.tl_query.proofs.ValueOrder.{given_by_both}
 use Rattle.tl_app.proofs.KeyLemmas.{filter_twice, AreTheirs, are_theirs, values_rise, values_once}
 use Rattle.tl_app.proofs.GroupLemmas.{count_few}
 

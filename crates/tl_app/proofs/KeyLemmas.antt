@@ -14,11 +14,11 @@ use Rattle.tl_types.specs.declared.events.ValidEvent.{ValidEvent}
 use Rattle.tl_types.specs.contracts.cells.CellOrd.TheImpl as cells
 use Rattle.tl_types.specs.History.{same_cell}
 use Rattle.tl_types.specs.Plain as plain
-use Rattle.tl_query.specs.Ordered.{cell_before, with_value}
-use Rattle.tl_plain.proofs.CellLemmas.{cell_total, cell_ranks, same_order, cell_level, cell_equal, cell_symm, cell_itself}
+use Rattle.tl_query.specs.Ordered.{cell_before, with_value, has, Rises}
+use Rattle.tl_query.proofs.CellOrder.{cell_total, cell_ranks, same_order, cell_level, cell_equal, cell_symm, cell_itself}
 use Rattle.tl_plain.proofs.Searching.{filter_found}
 use Rattle.tl_app.proofs.DealLemmas.{some_is, same_number}
-use Rattle.tl_app.proofs.ValueLemmas.{has, Rises, values_same, rises_fold, has_fold, before_other}
+use Rattle.tl_query.proofs.ValueOrder.{values_same, rises_fold, has_fold, before_other}
 use Rattle.tl_keys.specs.Keys.{KeyNumbers, number_in, number_at, AreApart}
 use Rattle.tl_keys.proofs.KeyLemmas.{same_numbers}
 use Rattle.tl_app.specs.declared.keyed.Group.{Group}

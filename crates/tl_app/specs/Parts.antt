@@ -20,11 +20,6 @@ abbrev pub part_of : (ℕ → Bool) → List plain.Row → ℕ → List ValidEve
 part_of chooses rows version =
     filter (λ event. chooses event.row) (valid_events_in rows version)
 
--- the events are those of the rows at some version
-pub record AreEventsOf (rows : List plain.Row) (events : List ValidEvent) : Type 0 where
-  pub version : ℕ
-  pub are : events ≡ valid_events_in rows version
-
 -- the events are those of some of the rows at some version
 pub record IsPart (rows : List plain.Row) (events : List ValidEvent) : Type 0 where
   pub version : ℕ

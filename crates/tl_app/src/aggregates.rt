@@ -1,7 +1,7 @@
 //! Aggregates over valid time.
 ghost use Rattle.std.specs.Prelude.{◌≡◌, ℕ, ◌+◌, ◌-◌, ◌*◌, ◌≤◌, ◌<ℤ◌, Bool, List, Some, None, length, map, IfOk};
 ghost use Rattle.tl_types.specs.Entries.{commits_of};
-ghost use Rattle.tl_types.specs.Checkpoints.{valid_events_in};
+ghost use Rattle.tl_types.specs.Checkpoints.{valid_events_in, AreEventsOf};
 ghost use Rattle.tl_types.specs.History.{database_of, rows_of};
 ghost use Rattle.tl_types.specs.Events.{place_of};
 ghost use Rattle.tl_events.specs.Timeline.{ends_of, binary_digits};
@@ -10,7 +10,7 @@ ghost use Rattle.tl_index.specs.Snapshots.{mark_before};
 ghost use Rattle.tl_query.specs.Passing.{passes};
 ghost use Rattle.tl_query.specs.declared.typed_queries.Span.TheVariants as span;
 ghost use Rattle.tl_query.specs.declared.typed_queries.TypedPred.{TypedPred};
-ghost use Rattle.tl_app.specs.Parts.{AreEventsOf, IsPart, kept_events, planned_runs};
+ghost use Rattle.tl_app.specs.Parts.{IsPart, kept_events, planned_runs};
 ghost use Rattle.tl_app.specs.Scans.{IsPlanFor, rows_in};
 
 use crate::groups::{Groups, runs_of_groups};

@@ -16,14 +16,15 @@ use Rattle.tl_sweep.specs.declared.entries.Entry.{Entry}
 use Rattle.tl_sweep.specs.Sweep.{Rises, AreOne, grid}
 use Rattle.tl_join.specs.declared.sides.Side.{Side}
 use Rattle.tl_keys.specs.Keys.{KeyNumbers, AreApart}
-use Rattle.tl_join.specs.Pieces.{is_in_piece, entries_in, passing, starting, pairs_in}
+use Rattle.tl_join.specs.Pieces.{is_in_piece, entries_in, starting, pairs_in}
+use Rattle.tl_query.specs.Passing.{passing}
 use Rattle.tl_join.specs.Sides.{IsSide, IsEntryOf, ids_in, rows_in, last_in}
 use Rattle.tl_join.specs.There.{ids_there}
 use Rattle.tl_join.proofs.IdLemmas.{ids_are}
 use Rattle.tl_join.proofs.EntryLemmas.{AreEntries, IsKnown, code_by, entries_are, entries_rise, entries_one}
 use Rattle.tl_keys.proofs.KeyLemmas.{numbers_agree}
 use Rattle.tl_join.proofs.LawLemmas.{Agree, law_of_piece}
-use Rattle.tl_join.proofs.PieceLemmas.{part_in_order}
+use Rattle.tl_query.proofs.PairOrder.{part_in_order}
 
 -- the entries are those of the rows of one side, for a walk
 pub record Ready (plan : JoinPlan) (a b p q : ℕ) (from : plan.from ≡ pos a) (to : plan.to ≡ pos b) (pred : TypedPred) (side : Side) (keys : KeyNumbers) (es : List Entry) : Type 0 where

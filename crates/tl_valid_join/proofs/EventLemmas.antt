@@ -5,10 +5,9 @@ use Rattle.std.proofs.lemmas.List.Elements.{All-cons, All-nil}
 use Rattle.std.proofs.lemmas.List.Sums.{sum_by-cons}
 use Rattle.std.proofs.lemmas.Option.{slice_get_within}
 use Rattle.tl_types.specs.declared.events.ValidEvent.{ValidEvent}
-use Rattle.tl_types.specs.Checkpoints.{comes_before, inserted, ends_of, ends_of_rows, valid_events_in}
+use Rattle.tl_types.specs.Checkpoints.{comes_before, inserted, ends_of, ends_of_rows, valid_events_in, AreEventsOf}
 use Rattle.tl_types.specs.History.{is_visible}
 use Rattle.tl_types.specs.Plain as plain
-use Rattle.tl_valid_join.specs.Entries.{AreEventsOf}
 
 -- EVENTS IN ORDER
 

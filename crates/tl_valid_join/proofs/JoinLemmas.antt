@@ -4,7 +4,7 @@ use Rattle.std.specs.List.{filter_map, AllByRecursion}
 use Rattle.std.proofs.lemmas.Option.{slice_get_within}
 use Rattle.tl_types.specs.declared.events.ValidEvent.{ValidEvent}
 use Rattle.tl_types.specs.declared.runs.Pair.{Pair}
-use Rattle.tl_types.specs.Checkpoints.{valid_events_in}
+use Rattle.tl_types.specs.Checkpoints.{valid_events_in, AreEventsOf}
 use Rattle.tl_types.specs.History.{database_of, with_ids, rows_of, cell_at}
 use Rattle.tl_types.specs.Plain as plain
 use Rattle.tl_query.specs.declared.typed_queries.JoinPlan.{JoinPlan}
@@ -19,7 +19,8 @@ use Rattle.tl_sweep.specs.Sweep.{AreSame, IsEntry, Rises, AreOne, grid}
 use Rattle.tl_keys.specs.Keys.{KeyNumbers, KeepsNumbers, AreApart}
 use Rattle.tl_keys.proofs.KeyLemmas.{numbers_agree}
 use Rattle.tl_valid_join.specs.declared.sides.Side.{Side}
-use Rattle.tl_valid_join.specs.Entries.{code_by, HasNumber, entry_in, entries_in, passing, AreEventsOf, IsKnown}
+use Rattle.tl_valid_join.specs.Entries.{code_by, HasNumber, entry_in, entries_in, IsKnown}
+use Rattle.tl_query.specs.Passing.{passing}
 use Rattle.tl_valid_join.specs.Sides.{rows_in, AreEntries}
 use Rattle.tl_valid_join.proofs.EventLemmas.{begins_valid}
 use Rattle.tl_valid_join.proofs.EntryLemmas.{entries_fit, entries_one, entries_rise, entries_same, rows_one, rows_known}

@@ -2,11 +2,12 @@
 ghost use Rattle.std.specs.Prelude.{◌≡◌, ◌+◌, ◌*◌, ◌<◌, ◌≤◌, ◌^◌, ◌++◌, All, IsTrue, Some, length, IfOk, OnOk};
 ghost use Rattle.std.specs.Option.{option_to_list};
 ghost use Rattle.tl_types.specs.declared.events.ValidEvent.{ValidEvent};
+ghost use Rattle.tl_types.specs.Checkpoints.{AreEventsOf};
 ghost use Rattle.tl_types.specs.Entries.{commits_of};
 ghost use Rattle.tl_types.specs.History.{database_of, rows_of};
 ghost use Rattle.tl_store.specs.Reading.{cell_of, columns_of, has_periods};
 ghost use Rattle.tl_keys.specs.Keys.{AreApart, KeepsNumbers, number_at};
-ghost use Rattle.tl_valid_join.specs.Entries.{AreEventsOf, begins_kept};
+ghost use Rattle.tl_valid_join.specs.Entries.{begins_kept};
 ghost use Rattle.tl_valid_join.specs.Sides.{IsSide, IsRowEntry, IsEventEntry, AreEntries, rows_in};
 
 use std::alloc::Global;

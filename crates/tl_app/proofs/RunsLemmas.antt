@@ -18,7 +18,7 @@ use Rattle.tl_bits.specs.Sets.{is_member}
 use Rattle.tl_ckpt.specs.Choices.{Choice, is_chosen, chosen}
 use Rattle.tl_app.specs.Opening.{open_rows, up_to, Alternate}
 use Rattle.tl_app.specs.Parts.{kept_events, part_of, IsPart, planned_runs}
-use Rattle.tl_app.specs.Scans.{value_at}
+use Rattle.tl_app.specs.Scans.{open_value}
 use Rattle.tl_app.proofs.PartLemmas.{alternate_part, open_is, member_is}
 
 -- THE EVENTS OF KEPT ROWS
@@ -78,10 +78,10 @@ part_few rows events part =
 -- ALL KEPT ROWS TOGETHER
 
 pub planned : (db : plain.Database) (plan : AggPlan) (pred : TypedPred) (version : ℕ) (from to : ℤ) (keep : List Bool) (events : List ValidEvent) → plan.by ≡ None → keep ≡ map (passes pred) (rows_of db plan.table)
-    → events ≡ kept_events keep (valid_events_in (rows_of db plan.table) version) → runs_of (value_at (rows_of db plan.table) plan events) from to ≡ planned_runs db plan pred (span.Valid version from to)
+    → events ≡ kept_events keep (valid_events_in (rows_of db plan.table) version) → runs_of (open_value (rows_of db plan.table) plan events) from to ≡ planned_runs db plan pred (span.Valid version from to)
 unfolding aggregate_runs
 planned db plan pred version from to keep events together keep_is events_are =
-    ap (λ es. runs_of (value_at (rows_of db plan.table) plan es) from to) events_are
+    ap (λ es. runs_of (open_value (rows_of db plan.table) plan es) from to) events_are
     ∙ ap (λ f. runs_of f from to) (fun_ext (λ m. ap (aggregate_of plan.kind plan.column) (rows_are m)))
     ∙ ap (λ by. aggregate_runs db plan.table plan.kind plan.column by pred (span.Valid version from to)) (sym together) where
       rows_are : (m : ℤ) → open_rows (rows_of db plan.table) (up_to (kept_events keep (valid_events_in (rows_of db plan.table) version)) m) ≡ passing_at db plan.table pred (span.Valid version from to) m

@@ -15,15 +15,15 @@ use Rattle.tl_app.specs.Opening.{open_rows, up_to}
 
 -- the plan is one for its table, whose rows have valid periods: its column holds numbers, a count
 -- has none, and what separates the rows into groups is a column
-pub record IsPlanFor (db : plain.Database) (plan : AggPlan) : Type 0 where
+pub record IsValidTimePlanFor (db : plain.Database) (plan : AggPlan) : Type 0 where
   pub valid : IsTrue (has_periods db plan.table)
   pub column : (c : ℕ) → plan.column ≡ Some c → IsIntColumn (columns_of db plan.table) c
   pub kind : plan.column ≡ None → plan.kind ≡ kind.Count
   pub by : (c : ℕ) → plan.by ≡ Some c → c < length (columns_of db plan.table)
 
 -- the rows of the plan's table
-abbrev pub rows_in : List Commit → AggPlan → List plain.Row
-rows_in commits plan = rows_of (database_of commits) plan.table
+abbrev pub plan_rows : List Commit → AggPlan → List plain.Row
+plan_rows commits plan = rows_of (database_of commits) plan.table
 
 -- the number is that of the row with this id, which has one where the kind asks for it
 abbrev pub TellsNumber : AggKind → Option ℕ → List plain.Row → ℕ → ℤ → Type 0
@@ -39,8 +39,8 @@ pub record Holds (rows : List plain.Row) (plan : AggPlan) (done : List ValidEven
   pub suits : Suits plan.kind plan.column (open_rows rows done)
 
 -- the aggregate of the rows that are open at a moment
-abbrev pub value_at : List plain.Row → AggPlan → List ValidEvent → ℤ → Field
-value_at rows plan events moment =
+abbrev pub open_value : List plain.Row → AggPlan → List ValidEvent → ℤ → Field
+open_value rows plan events moment =
     aggregate_of plan.kind plan.column (open_rows rows (up_to events moment))
 
 -- the event that is there has come

@@ -11,12 +11,12 @@ ghost use Rattle.tl_query.specs.Passing.{passes};
 ghost use Rattle.tl_query.specs.declared.typed_queries.Span.TheVariants as span;
 ghost use Rattle.tl_query.specs.declared.typed_queries.TypedPred.{TypedPred};
 ghost use Rattle.tl_app.specs.Parts.{IsPart, kept_events, planned_runs};
-ghost use Rattle.tl_app.specs.Scans.{IsPlanFor, rows_in};
+ghost use Rattle.tl_app.specs.Scans.{IsValidTimePlanFor, plan_rows};
 
-use crate::groups::{Groups, runs_of_groups};
+use crate::groups::{KeyGroups, runs_of_groups};
 use crate::kept::{events_kept_at, kept_events};
 use crate::keyed::{KeyColumn, groups_of};
-use crate::scans::{Scan, scanned_runs};
+use crate::scans::{ValidScan, scanned_runs};
 use std::alloc::Global;
 use std::sync::ledger::Ledger;
 use tl_bits::RowSet;
@@ -35,8 +35,8 @@ fn list_kept<L: Ledger>(
     keep: &RowSet,
     steps: &mut Steps<L>,
 ) -> Result<Vec<ValidEvent>, NoMemory>
-    requires events { AreEventsOf (rows_in store.now plan.now) events.now }
-    requires keep { length keep.now ≡ length (rows_in store.now plan.now) }
+    requires events { AreEventsOf (plan_rows store.now plan.now) events.now }
+    requires keep { length keep.now ≡ length (plan_rows store.now plan.now) }
     ensures list { IfOk result (λ list. list.items ≡ kept_events keep.now events.now) }
     ensures steps { steps.new ≤ steps.old + length events.now }
 {
@@ -47,19 +47,19 @@ fn list_kept<L: Ledger>(
 // The runs of all kept rows together.
 fn runs_of_all<L: Ledger>(
     alloc: Global,
-    scan: &Scan<'_>,
+    scan: &ValidScan<'_>,
     from: i64,
     to: i64,
     steps: &mut Steps<L>,
 ) -> Result<Vec<Run>, NoMemory>
-    requires plan { IsPlanFor (database_of scan.now.store.now) scan.now.plan.now }
-    requires events { IsPart (rows_in scan.now.store.now scan.now.plan.now)
+    requires plan { IsValidTimePlanFor (database_of scan.now.store.now) scan.now.plan.now }
+    requires events { IsPart (plan_rows scan.now.store.now scan.now.plan.now)
         scan.now.events.now }
     requires together { scan.now.plan.now.by ≡ None }
     ensures runs { (pred : TypedPred) (version : ℕ) (keep : List Bool)
-        → keep ≡ map (passes pred) (rows_in scan.now.store.now scan.now.plan.now)
+        → keep ≡ map (passes pred) (plan_rows scan.now.store.now scan.now.plan.now)
         → scan.now.events.now ≡ kept_events keep
-        (valid_events_in (rows_in scan.now.store.now scan.now.plan.now) version)
+        (valid_events_in (plan_rows scan.now.store.now scan.now.plan.now) version)
         → IfOk result (λ runs. runs.items ≡ planned_runs (database_of scan.now.store.now)
         scan.now.plan.now pred (span.Valid version from to)) }
     ensures steps { steps.new ≤ steps.old + 2 * length scan.now.events.now }
@@ -71,20 +71,20 @@ fn runs_of_all<L: Ledger>(
 // The runs of each group of kept rows, which a column separates.
 fn runs_by<L: Ledger>(
     alloc: Global,
-    scan: &Scan<'_>,
+    scan: &ValidScan<'_>,
     by: u8,
     from: i64,
     to: i64,
     steps: &mut Steps<L>,
 ) -> Result<Vec<Run>, NoMemory>
-    requires plan { IsPlanFor (database_of scan.now.store.now) scan.now.plan.now }
-    requires events { IsPart (rows_in scan.now.store.now scan.now.plan.now)
+    requires plan { IsValidTimePlanFor (database_of scan.now.store.now) scan.now.plan.now }
+    requires events { IsPart (plan_rows scan.now.store.now scan.now.plan.now)
         scan.now.events.now }
     requires by { scan.now.plan.now.by ≡ Some by }
     ensures runs { (pred : TypedPred) (version : ℕ) (keep : List Bool)
-        → keep ≡ map (passes pred) (rows_in scan.now.store.now scan.now.plan.now)
+        → keep ≡ map (passes pred) (plan_rows scan.now.store.now scan.now.plan.now)
         → scan.now.events.now ≡ kept_events keep
-        (valid_events_in (rows_in scan.now.store.now scan.now.plan.now) version)
+        (valid_events_in (plan_rows scan.now.store.now scan.now.plan.now) version)
         → IfOk result (λ runs. runs.items ≡ planned_runs (database_of scan.now.store.now)
         scan.now.plan.now pred (span.Valid version from to)) }
     ensures steps { steps.new ≤ steps.old + 3 * length scan.now.events.now }
@@ -96,7 +96,7 @@ fn runs_by<L: Ledger>(
     };
     let _ = scan.store.rows(scan.plan.table); // says that rows are few
     let groups_of_events = groups_of(alloc, &column, scan.events, steps)?;
-    let groups = Groups {
+    let groups = KeyGroups {
         store: scan.store,
         plan: scan.plan,
         groups: groups_of_events.as_slice(),
@@ -109,18 +109,18 @@ fn runs_by<L: Ledger>(
 // The runs that the plan asks for.
 fn runs_of_plan<L: Ledger>(
     alloc: Global,
-    scan: &Scan<'_>,
+    scan: &ValidScan<'_>,
     from: i64,
     to: i64,
     steps: &mut Steps<L>,
 ) -> Result<Vec<Run>, NoMemory>
-    requires plan { IsPlanFor (database_of scan.now.store.now) scan.now.plan.now }
-    requires events { IsPart (rows_in scan.now.store.now scan.now.plan.now)
+    requires plan { IsValidTimePlanFor (database_of scan.now.store.now) scan.now.plan.now }
+    requires events { IsPart (plan_rows scan.now.store.now scan.now.plan.now)
         scan.now.events.now }
     ensures runs { (pred : TypedPred) (version : ℕ) (keep : List Bool)
-        → keep ≡ map (passes pred) (rows_in scan.now.store.now scan.now.plan.now)
+        → keep ≡ map (passes pred) (plan_rows scan.now.store.now scan.now.plan.now)
         → scan.now.events.now ≡ kept_events keep
-        (valid_events_in (rows_in scan.now.store.now scan.now.plan.now) version)
+        (valid_events_in (plan_rows scan.now.store.now scan.now.plan.now) version)
         → IfOk result (λ runs. runs.items ≡ planned_runs (database_of scan.now.store.now)
         scan.now.plan.now pred (span.Valid version from to)) }
     ensures steps { steps.new ≤ steps.old + 3 * length scan.now.events.now }
@@ -148,20 +148,20 @@ pub fn valid_runs<L: Ledger>(
     keep: &RowSet,
     steps: &mut Steps<L>,
 ) -> Result<Seq<Run>, NoMemory>
-    requires plan { IsPlanFor (database_of (commits_of snapshot.now)) plan.now }
+    requires plan { IsValidTimePlanFor (database_of (commits_of snapshot.now)) plan.now }
     requires some { from <ℤ to }
-    requires events { AreEventsOf (rows_in (commits_of snapshot.now) plan.now) events.now }
-    requires keep { length keep.now ≡ length (rows_in (commits_of snapshot.now) plan.now) }
+    requires events { AreEventsOf (plan_rows (commits_of snapshot.now) plan.now) events.now }
+    requires keep { length keep.now ≡ length (plan_rows (commits_of snapshot.now) plan.now) }
     ensures runs { (pred : TypedPred) (version : ℕ)
-        → keep.now ≡ map (passes pred) (rows_in (commits_of snapshot.now) plan.now)
-        → events.now ≡ valid_events_in (rows_in (commits_of snapshot.now) plan.now) version
+        → keep.now ≡ map (passes pred) (plan_rows (commits_of snapshot.now) plan.now)
+        → events.now ≡ valid_events_in (plan_rows (commits_of snapshot.now) plan.now) version
         → IfOk result (λ runs. runs ≡ planned_runs (database_of (commits_of snapshot.now))
         plan.now pred (span.Valid version from to)) }
     ensures steps { steps.new ≤ steps.old + (4 * length events.now + 2) }
 {
     let store = snapshot.store();
     let kept = list_kept(alloc, store, plan, events, keep, steps)?;
-    let scan = Scan {
+    let scan = ValidScan {
         store,
         plan,
         events: kept.as_slice(),
@@ -191,12 +191,12 @@ pub fn valid_runs_at<L: Ledger>(
     keep: &RowSet,
     steps: &mut Steps<L>,
 ) -> Result<Seq<Run>, NoMemory>
-    requires plan { IsPlanFor (database_of (commits_of snapshot.now)) plan.now }
+    requires plan { IsValidTimePlanFor (database_of (commits_of snapshot.now)) plan.now }
     requires version { version ≤ (database_of (commits_of snapshot.now)).version }
     requires some { from <ℤ to }
-    requires keep { length keep.now ≡ length (rows_in (commits_of snapshot.now) plan.now) }
+    requires keep { length keep.now ≡ length (plan_rows (commits_of snapshot.now) plan.now) }
     ensures runs { (pred : TypedPred)
-        → keep.now ≡ map (passes pred) (rows_in (commits_of snapshot.now) plan.now)
+        → keep.now ≡ map (passes pred) (plan_rows (commits_of snapshot.now) plan.now)
         → IfOk result (λ runs. runs ≡ planned_runs (database_of (commits_of snapshot.now))
         plan.now pred (span.Valid version from to)) }
     ensures steps { let db = database_of (commits_of snapshot.now) in
@@ -210,7 +210,7 @@ pub fn valid_runs_at<L: Ledger>(
 {
     let store = snapshot.store();
     let kept = events_kept_at(alloc, snapshot, plan.table, version, keep, steps)?;
-    let scan = Scan {
+    let scan = ValidScan {
         store,
         plan,
         events: kept.as_slice(),

@@ -5,11 +5,11 @@ ghost use Rattle.tl_types.specs.History.{database_of};
 ghost use Rattle.tl_query.specs.Aggregates.{in_group};
 ghost use Rattle.tl_app.specs.Groups.{runs_with, grouped_runs, event_count, runs_of_groups};
 ghost use Rattle.tl_app.specs.Opening.{Alternate};
-ghost use Rattle.tl_app.specs.Scans.{IsPlanFor, rows_in};
+ghost use Rattle.tl_app.specs.Scans.{IsValidTimePlanFor, plan_rows};
 ghost use Rattle.tl_app.specs.Telling.{counts_some, is_there, has_rows};
 
-use crate::keyed::Group;
-use crate::scans::{AT_ONCE, Scan, scanned_runs};
+use crate::keyed::KeyGroup;
+use crate::scans::{AT_ONCE, ValidScan, scanned_runs};
 use std::alloc::Global;
 use std::sync::ledger::Ledger;
 use tl_query::{AggKind, AggPlan};
@@ -19,13 +19,13 @@ use tl_types::{Cell, Field, NoMemory, Run, Steps};
 /// What is scanned group by group: the groups of events of valid time, in order of their values,
 /// and what a plan asks of these rows.
 #[derive(Clone, Copy)]
-pub(crate) struct Groups<'a> {
+pub(crate) struct KeyGroups<'a> {
     /// The store that has the rows.
     pub store: &'a Store,
     /// The plan.
     pub plan: &'a AggPlan,
     /// The groups.
-    pub groups: &'a [Group],
+    pub groups: &'a [KeyGroup],
     /// How many events they have.
     pub events: usize,
 }
@@ -96,21 +96,21 @@ fn add_runs(
 // The runs of the rows of a group. It takes at most two steps for each of its events.
 fn runs_of_group<L: Ledger>(
     alloc: Global,
-    groups: &Groups<'_>,
-    group: &Group,
+    groups: &KeyGroups<'_>,
+    group: &KeyGroup,
     from: i64,
     to: i64,
     steps: &mut Steps<L>,
 ) -> Result<Vec<Run>, NoMemory>
-    requires plan { IsPlanFor (database_of groups.now.store.now) groups.now.plan.now }
-    requires events { Alternate (rows_in groups.now.store.now groups.now.plan.now)
+    requires plan { IsValidTimePlanFor (database_of groups.now.store.now) groups.now.plan.now }
+    requires events { Alternate (plan_rows groups.now.store.now groups.now.plan.now)
         group.now.events.items }
     ensures runs { IfOk result (λ runs. runs_with groups.now.plan.now.kind group.now.key runs.items
-        ≡ grouped_runs (rows_in groups.now.store.now groups.now.plan.now) groups.now.plan.now
+        ≡ grouped_runs (plan_rows groups.now.store.now groups.now.plan.now) groups.now.plan.now
         from to group.now.key group.now.events.items) }
     ensures steps { steps.new ≤ steps.old + 2 * length group.now.events.items }
 {
-    let scan = Scan {
+    let scan = ValidScan {
         store: groups.store,
         plan: groups.plan,
         events: group.events.as_slice(),
@@ -123,16 +123,16 @@ fn runs_of_group<L: Ledger>(
 /// steps for each event. The error is `NoMemory`.
 pub(crate) fn runs_of_groups<L: Ledger>(
     alloc: Global,
-    groups: &Groups<'_>,
+    groups: &KeyGroups<'_>,
     from: i64,
     to: i64,
     steps: &mut Steps<L>,
 ) -> Result<Vec<Run>, NoMemory>
-    requires plan { IsPlanFor (database_of groups.now.store.now) groups.now.plan.now }
-    requires events { All (λ group. Alternate (rows_in groups.now.store.now groups.now.plan.now)
+    requires plan { IsValidTimePlanFor (database_of groups.now.store.now) groups.now.plan.now }
+    requires events { All (λ group. Alternate (plan_rows groups.now.store.now groups.now.plan.now)
         group.events.items) groups.now.groups.now }
     ensures runs { IfOk result (λ runs. runs.items ≡ runs_of_groups
-        (rows_in groups.now.store.now groups.now.plan.now) groups.now.plan.now from to
+        (plan_rows groups.now.store.now groups.now.plan.now) groups.now.plan.now from to
         groups.now.groups.now) }
     ensures steps { steps.new ≤ steps.old + 2 * event_count groups.now.groups.now }
 {

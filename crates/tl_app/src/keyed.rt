@@ -16,7 +16,7 @@ use tl_types::{Cell, NoMemory, Steps, ValidEvent};
 
 /// The events of the rows that have one value in a column.
 #[derive(Drop)]
-pub(crate) struct Group {
+pub(crate) struct KeyGroup {
     /// The value.
     pub key: Cell,
     /// The events, in order.
@@ -35,17 +35,17 @@ pub(crate) struct KeyColumn<'a> {
 }
 
 // A group without events, whose value is not known yet.
-fn no_events(alloc: Global) -> Group
+fn no_events(alloc: Global) -> KeyGroup
     ensures { result.events.items ≡ [] }
 {
-    Group {
+    KeyGroup {
         key: Cell::Int(0),
         events: Vec::new(alloc),
     }
 }
 
 // Whether the group has an event.
-fn has_events(group: &Group) -> bool
+fn has_events(group: &KeyGroup) -> bool
     ensures { result ≡ has_events group.now }
 {
     match group.events.as_slice() {
@@ -55,7 +55,7 @@ fn has_events(group: &Group) -> bool
 }
 
 // One group more, where there are fewer than so many.
-fn reach_number(alloc: Global, groups: &mut Vec<Group>, count: u32) -> Result<(), NoMemory>
+fn reach_number(alloc: Global, groups: &mut Vec<KeyGroup>, count: u32) -> Result<(), NoMemory>
     ensures more { OnOk result (length groups.old.items < count
         → HasOneMore groups.old.items groups.new.items) }
     ensures same { OnOk result (count ≤ length groups.old.items
@@ -70,7 +70,7 @@ fn reach_number(alloc: Global, groups: &mut Vec<Group>, count: u32) -> Result<()
 }
 
 // Gives a group without events its value.
-fn name_group(alloc: Global, group: &mut Group, key: CellRef<'_>) -> Result<(), NoMemory>
+fn name_group(alloc: Global, group: &mut KeyGroup, key: CellRef<'_>) -> Result<(), NoMemory>
     requires { IsShort key }
     ensures key { OnOk result (group.new.key ≡ value_with group.old (cell_shown key.entry)) }
     ensures events { OnOk result (group.new.events ≡ group.old.events) }
@@ -85,7 +85,7 @@ fn name_group(alloc: Global, group: &mut Group, key: CellRef<'_>) -> Result<(), 
 // Puts an event behind those of its value's group.
 fn put_event(
     alloc: Global,
-    group: &mut Group,
+    group: &mut KeyGroup,
     key: CellRef<'_>,
     event: ValidEvent,
 ) -> Result<(), NoMemory>
@@ -104,7 +104,7 @@ fn deal<'a, L: Ledger>(
     alloc: Global,
     by: &KeyColumn<'a>,
     keys: &mut Keys<'a>,
-    groups: &mut Vec<Group>,
+    groups: &mut Vec<KeyGroup>,
     event: ValidEvent,
     steps: &mut Steps<L>,
 ) -> Result<(), NoMemory>
@@ -135,7 +135,7 @@ fn dealt<L: Ledger>(
     by: &KeyColumn<'_>,
     events: &[ValidEvent],
     steps: &mut Steps<L>,
-) -> Result<Vec<Group>, NoMemory>
+) -> Result<Vec<KeyGroup>, NoMemory>
     requires column { by.now.column
         < length (columns_of (database_of by.now.store.now) by.now.table) }
     requires rows { All (λ event. event.row
@@ -155,7 +155,7 @@ fn dealt<L: Ledger>(
 }
 
 // The groups that have an event.
-fn with_events(alloc: Global, groups: Vec<Group>) -> Result<Vec<Group>, NoMemory>
+fn with_events(alloc: Global, groups: Vec<KeyGroup>) -> Result<Vec<KeyGroup>, NoMemory>
     ensures { IfOk result (λ kept. kept.items ≡ filter has_events groups.items) }
 {
     let mut kept = Vec::with_capacity(alloc, groups.len())?;
@@ -174,7 +174,7 @@ pub(crate) fn groups_of<L: Ledger>(
     by: &KeyColumn<'_>,
     events: &[ValidEvent],
     steps: &mut Steps<L>,
-) -> Result<Vec<Group>, NoMemory>
+) -> Result<Vec<KeyGroup>, NoMemory>
     requires column { by.now.column
         < length (columns_of (database_of by.now.store.now) by.now.table) }
     requires rows { All (λ event. event.row

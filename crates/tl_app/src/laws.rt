@@ -6,7 +6,7 @@ ghost use Rattle.tl_query.specs.declared.ast.AggKind.{AggKind};
 ghost use Rattle.tl_query.specs.declared.typed_queries.Typed.TheVariants as typed;
 ghost use Rattle.tl_query.specs.declared.typed_queries.TypedPred.{TypedPred};
 ghost use Rattle.tl_query.specs.declared.typed_queries.Span.TheVariants as span;
-ghost use Rattle.tl_app.specs.Scans.{plan_of, IsPlanFor};
+ghost use Rattle.tl_app.specs.Scans.{plan_of, IsValidTimePlanFor};
 
 /// Carries a law in its contract, and does nothing: the plan of a checked query for an aggregate
 /// over valid time suits its table.
@@ -14,5 +14,5 @@ pub fn a_checked_plan_suits()
     ensures { (db : plain.Database) (table : ℕ) (kind : AggKind) (column by : Option ℕ)
         (pred : TypedPred) (version : ℕ) (from to : ℤ)
         → IsTypedFor db (typed.Agg table kind column by pred (span.Valid version from to))
-        → IsPlanFor db (plan_of table kind column by) }
+        → IsValidTimePlanFor db (plan_of table kind column by) }
 {}

@@ -8,7 +8,7 @@ ghost use Rattle.tl_types.specs.History.{database_of, rows_of};
 ghost use Rattle.tl_store.specs.Reading.{cell_of, columns_of, has_periods};
 ghost use Rattle.tl_keys.specs.Keys.{AreApart, KeepsNumbers, number_at};
 ghost use Rattle.tl_valid_join.specs.Entries.{begins_kept};
-ghost use Rattle.tl_valid_join.specs.Sides.{IsSide, IsRowEntry, IsEventEntry, AreEntries, rows_in};
+ghost use Rattle.tl_valid_join.specs.Sides.{IsSide, IsRowEntry, IsEventEntry, AreEntries, side_rows};
 
 use std::alloc::Global;
 use std::sync::ledger::Ledger;
@@ -81,7 +81,7 @@ fn key_number<'a, L: Ledger>(
     steps: &mut Steps<L>,
 ) -> Result<u32, NoMemory>
     requires side { IsSide side.now }
-    requires row { id < length (rows_in side.now) }
+    requires row { id < length (side_rows side.now) }
     requires apart { AreApart keys.old }
     requires room { keys.old.count + 1 < 2 ^ 32 }
     ensures number { IfOk result (λ n. number_at keys.new
@@ -106,7 +106,7 @@ fn row_entry<'a, L: Ledger>(
     steps: &mut Steps<L>,
 ) -> Result<Option<Entry>, NoMemory>
     requires side { IsSide side.now }
-    requires row { id < length (rows_in side.now) }
+    requires row { id < length (side_rows side.now) }
     requires apart { AreApart keys.old }
     requires room { keys.old.count + 1 < 2 ^ 32 }
     ensures entry { IfOk result (IsRowEntry side.now plan.now keys.new id) }
@@ -141,7 +141,7 @@ fn event_entry<'a, L: Ledger>(
     steps: &mut Steps<L>,
 ) -> Result<Option<Entry>, NoMemory>
     requires side { IsSide side.now }
-    requires row { event.row < length (rows_in side.now) }
+    requires row { event.row < length (side_rows side.now) }
     requires apart { AreApart keys.old }
     requires room { keys.old.count + 1 < 2 ^ 32 }
     ensures entry { IfOk result (IsEventEntry side.now plan.now keys.new event) }
@@ -182,7 +182,7 @@ fn entries_of<'a, L: Ledger>(
     steps: &mut Steps<L>,
 ) -> Result<Vec<Entry>, NoMemory>
     requires side { IsSide side.now }
-    requires rows { All (λ (e : ValidEvent). e.row < length (rows_in side.now)) events.now }
+    requires rows { All (λ (e : ValidEvent). e.row < length (side_rows side.now)) events.now }
     requires apart { AreApart keys.old }
     requires room { keys.old.count + length events.now + 1 < 2 ^ 32 }
     ensures entries { IfOk result
@@ -212,7 +212,7 @@ pub(crate) fn side_entries<'a, L: Ledger>(
     steps: &mut Steps<L>,
 ) -> Result<Vec<Entry>, NoMemory>
     requires side { IsSide side.now }
-    requires events { AreEventsOf (rows_in side.now) events.now }
+    requires events { AreEventsOf (side_rows side.now) events.now }
     requires apart { AreApart keys.old }
     requires room { keys.old.count ≤ 33554432 }
     ensures entries { IfOk result

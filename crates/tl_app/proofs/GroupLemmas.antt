@@ -14,8 +14,8 @@ use Rattle.tl_query.specs.declared.typed_queries.AggPlan.{AggPlan}
 use Rattle.tl_app.specs.declared.keyed.KeyGroup.{KeyGroup}
 use Rattle.tl_app.specs.Groups.{key_of, is_value, has_cell, group_of, event_count, runs_with, grouped_runs, runs_of_groups}
 use Rattle.tl_app.specs.Opening.{open_rows, up_to}
-use Rattle.tl_app.specs.Scans.{open_value}
-use Rattle.tl_app.specs.Telling.{has_rows, Tells}
+use Rattle.tl_app.specs.Scans.{open_value, Tells}
+use Rattle.tl_running.specs.Telling.{has_rows}
 use Rattle.tl_query.specs.Ordered.{Rises}
 use Rattle.tl_app.proofs.ValueLemmas.{total, one_if, none_owed, count_once, owed}
 use Rattle.tl_app.proofs.KeyLemmas.{AreTheirs}

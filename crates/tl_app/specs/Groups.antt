@@ -1,23 +1,24 @@
 -- Groups of events: those of the rows that have one value in a column.
-use Rattle.std.specs.Prelude.{◌≡◌, ℕ, ℤ, ◌+◌, ◌≤◌, ◌==◌, Bool, true, false, not, List, [], ◌∷◌, ◌++◌, length, map, Option, Some, None, is_some, slice_get, if◌then◌else◌}
+use Rattle.std.specs.Prelude.{◌≡◌, ℕ, ℤ, ◌+◌, ◌<◌, ◌≤◌, ◌==◌, Bool, true, false, not, List, [], ◌∷◌, ◌++◌, length, map, Option, Some, None, is_some, slice_get, if◌then◌else◌}
 use Rattle.std.specs.List.{filter, flat_map, AllByRecursion}
 use Rattle.std.specs.List.Sorted.{IsSortedBy}
 use Rattle.tl_types.specs.declared.cells.Cell.{Cell}
 use Rattle.tl_types.specs.declared.events.ValidEvent.{ValidEvent}
 use Rattle.tl_types.specs.declared.runs.Run.{Run}
-use Rattle.tl_types.specs.History.{same_cell}
+use Rattle.tl_types.specs.History.{database_of, rows_of, same_cell}
 use Rattle.tl_types.specs.Plain as plain
 use Rattle.tl_types.specs.Runs.{runs_of}
 use Rattle.tl_query.specs.Aggregates.{in_group}
 use Rattle.tl_query.specs.Ordered.{cell_before}
 use Rattle.tl_query.specs.declared.ast.AggKind.{AggKind}
 use Rattle.tl_query.specs.declared.typed_queries.AggPlan.{AggPlan}
-use Rattle.tl_store.specs.Reading.{cell_of_row}
+use Rattle.tl_store.specs.Reading.{cell_of_row, columns_of}
 use Rattle.tl_keys.specs.Keys.{KeyNumbers, number_in, number_at, AreApart}
+use Rattle.tl_app.specs.declared.keyed.KeyColumn.{KeyColumn}
 use Rattle.tl_app.specs.declared.keyed.KeyGroup.{KeyGroup}
 use Rattle.tl_app.specs.Opening.{open_rows, up_to}
 use Rattle.tl_app.specs.Scans.{open_value}
-use Rattle.tl_app.specs.Telling.{has_rows}
+use Rattle.tl_running.specs.Telling.{has_rows}
 
 -- THE EVENTS OF A VALUE
 
@@ -37,6 +38,14 @@ has_cell rows column value id = is_value value (cell_of_row column (slice_get ro
 -- the events of the rows that have the value in a column
 abbrev pub group_of : List plain.Row → ℕ → Cell → List ValidEvent → List ValidEvent
 group_of rows column value events = filter (λ event. has_cell rows column value event.row) events
+
+-- the rows of the table that has the column
+abbrev pub column_rows : KeyColumn → List plain.Row
+column_rows by = rows_of (database_of by.store.now) by.table
+
+-- the column is one of its table's
+abbrev pub HasColumn : KeyColumn → Type 0
+HasColumn by = by.column < length (columns_of (database_of by.store.now) by.table)
 
 -- GROUPS
 
@@ -85,8 +94,8 @@ has_number keys rows column n event = is_number n (number_at keys (key_of rows c
 
 -- each group has the events of the rows whose cell has the group's place as its number, in their
 -- order, and that cell as its value
-pub record AreDealt (rows : List plain.Row) (column : ℕ) (keys : KeyNumbers) (groups : List KeyGroup)
-    (done : List ValidEvent) : Type 0 where
+pub record AreDealt (rows : List plain.Row) (column : ℕ) (keys : KeyNumbers)
+    (groups : List KeyGroup) (done : List ValidEvent) : Type 0 where
   pub apart : AreApart keys
   pub count : keys.count ≤ length groups
   pub few : length groups ≤ length done

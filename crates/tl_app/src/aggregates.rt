@@ -1,5 +1,6 @@
-//! Aggregates over valid time.
-ghost use Rattle.std.specs.Prelude.{◌≡◌, ℕ, ◌+◌, ◌-◌, ◌*◌, ◌≤◌, ◌<ℤ◌, Bool, List, Some, None, length, map, IfOk};
+//! Aggregates over valid time: the events of the rows that are kept, in order, and the maximal runs
+//! that one scan of them gives, of all rows together or of each group.
+ghost use Rattle.std.specs.Prelude.{◌≡◌, ℕ, ◌+◌, ◌-◌, ◌*◌, ◌≤◌, ◌<ℤ◌, Some, None, length, map, IfOk};
 ghost use Rattle.tl_types.specs.Entries.{commits_of};
 ghost use Rattle.tl_types.specs.Checkpoints.{valid_events_in, AreEventsOf};
 ghost use Rattle.tl_types.specs.History.{database_of, rows_of};
@@ -10,7 +11,7 @@ ghost use Rattle.tl_index.specs.Snapshots.{mark_before};
 ghost use Rattle.tl_query.specs.Passing.{passes};
 ghost use Rattle.tl_query.specs.declared.typed_queries.Span.TheVariants as span;
 ghost use Rattle.tl_query.specs.declared.typed_queries.TypedPred.{TypedPred};
-ghost use Rattle.tl_app.specs.Parts.{IsPart, kept_events, planned_runs};
+ghost use Rattle.tl_app.specs.Parts.{ArePlanned, IsPart, kept_events, planned_runs};
 ghost use Rattle.tl_app.specs.Scans.{IsValidTimePlanFor, plan_rows};
 
 use crate::groups::{KeyGroups, runs_of_groups};
@@ -56,12 +57,8 @@ fn runs_of_all<L: Ledger>(
     requires events { IsPart (plan_rows scan.now.store.now scan.now.plan.now)
         scan.now.events.now }
     requires together { scan.now.plan.now.by ≡ None }
-    ensures runs { (pred : TypedPred) (version : ℕ) (keep : List Bool)
-        → keep ≡ map (passes pred) (plan_rows scan.now.store.now scan.now.plan.now)
-        → scan.now.events.now ≡ kept_events keep
-        (valid_events_in (plan_rows scan.now.store.now scan.now.plan.now) version)
-        → IfOk result (λ runs. runs.items ≡ planned_runs (database_of scan.now.store.now)
-        scan.now.plan.now pred (span.Valid version from to)) }
+    ensures runs { IfOk result (λ runs. ArePlanned (database_of scan.now.store.now)
+        scan.now.plan.now scan.now.events.now from to runs.items) }
     ensures steps { steps.new ≤ steps.old + 2 * length scan.now.events.now }
 {
     let runs = scanned_runs(alloc, scan, from, to, steps)?;
@@ -81,12 +78,8 @@ fn runs_by<L: Ledger>(
     requires events { IsPart (plan_rows scan.now.store.now scan.now.plan.now)
         scan.now.events.now }
     requires by { scan.now.plan.now.by ≡ Some by }
-    ensures runs { (pred : TypedPred) (version : ℕ) (keep : List Bool)
-        → keep ≡ map (passes pred) (plan_rows scan.now.store.now scan.now.plan.now)
-        → scan.now.events.now ≡ kept_events keep
-        (valid_events_in (plan_rows scan.now.store.now scan.now.plan.now) version)
-        → IfOk result (λ runs. runs.items ≡ planned_runs (database_of scan.now.store.now)
-        scan.now.plan.now pred (span.Valid version from to)) }
+    ensures runs { IfOk result (λ runs. ArePlanned (database_of scan.now.store.now)
+        scan.now.plan.now scan.now.events.now from to runs.items) }
     ensures steps { steps.new ≤ steps.old + 3 * length scan.now.events.now }
 {
     let column = KeyColumn {
@@ -117,12 +110,8 @@ fn runs_of_plan<L: Ledger>(
     requires plan { IsValidTimePlanFor (database_of scan.now.store.now) scan.now.plan.now }
     requires events { IsPart (plan_rows scan.now.store.now scan.now.plan.now)
         scan.now.events.now }
-    ensures runs { (pred : TypedPred) (version : ℕ) (keep : List Bool)
-        → keep ≡ map (passes pred) (plan_rows scan.now.store.now scan.now.plan.now)
-        → scan.now.events.now ≡ kept_events keep
-        (valid_events_in (plan_rows scan.now.store.now scan.now.plan.now) version)
-        → IfOk result (λ runs. runs.items ≡ planned_runs (database_of scan.now.store.now)
-        scan.now.plan.now pred (span.Valid version from to)) }
+    ensures runs { IfOk result (λ runs. ArePlanned (database_of scan.now.store.now)
+        scan.now.plan.now scan.now.events.now from to runs.items) }
     ensures steps { steps.new ≤ steps.old + 3 * length scan.now.events.now }
 {
     match scan.plan.by {
@@ -174,8 +163,8 @@ pub fn valid_runs<L: Ledger>(
 /// valid time, at a version, of the rows that are in `keep`, which has a bit for each row of the
 /// plan's table; separated by a column, those of each value that the column has, in order, where
 /// they have a row. The version is not after the snapshot's, and `from` is before `to`. The events
-/// of rows that are not in `keep` are left out before the others are put in order, so no list of all
-/// is made.
+/// of rows that are not in `keep` are left out before the others are put in order, so no list of
+/// all is made.
 ///
 /// With e events from the version of the nearest mark that is not after it up to this one, w begun
 /// 64s of rows, as many versions with events, and one more, as a number of s binary digits tells,

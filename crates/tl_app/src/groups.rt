@@ -1,12 +1,14 @@
-//! The runs of groups of rows, each with one value in a column.
+//! The runs of groups of rows, each with one value in a column, one group behind the other. A run
+//! that has no row is left out.
 ghost use Rattle.std.specs.Prelude.{◌≡◌, ◌+◌, ◌*◌, ◌≤◌, ◌++◌, ◌∷◌, [], length, IfOk, OnOk};
 ghost use Rattle.std.specs.List.{All};
 ghost use Rattle.tl_types.specs.History.{database_of};
 ghost use Rattle.tl_query.specs.Aggregates.{in_group};
+ghost use Rattle.tl_query.specs.declared.ast.AggKind.TheVariants as kind;
+ghost use Rattle.tl_running.specs.Telling.{has_rows};
 ghost use Rattle.tl_app.specs.Groups.{runs_with, grouped_runs, event_count, runs_of_groups};
 ghost use Rattle.tl_app.specs.Opening.{Alternate};
 ghost use Rattle.tl_app.specs.Scans.{IsValidTimePlanFor, plan_rows};
-ghost use Rattle.tl_app.specs.Telling.{counts_some, is_there, has_rows};
 
 use crate::keyed::KeyGroup;
 use crate::scans::{AT_ONCE, ValidScan, scanned_runs};
@@ -22,17 +24,17 @@ use tl_types::{Cell, Field, NoMemory, Run, Steps};
 pub(crate) struct KeyGroups<'a> {
     /// The store that has the rows.
     pub store: &'a Store,
-    /// The plan.
+    /// What is asked: the kind of aggregate, and its column.
     pub plan: &'a AggPlan,
-    /// The groups.
+    /// The groups, in order of their values, no two of one value.
     pub groups: &'a [KeyGroup],
-    /// How many events they have.
+    /// How many events they have together.
     pub events: usize,
 }
 
-// Whether a count is not 0.
+// Whether a count is not 0: is that of some rows.
 fn counts_some(value: &Field) -> bool
-    ensures { result ≡ counts_some value.now }
+    ensures { result ≡ has_rows kind.Count value.now }
 {
     match value {
         Field::Number(number) => *number != 0,
@@ -41,9 +43,9 @@ fn counts_some(value: &Field) -> bool
     }
 }
 
-// Whether a field is not empty.
+// Whether a field is not empty: as a value that is no count, is that of some rows.
 fn is_there(value: &Field) -> bool
-    ensures { result ≡ is_there value.now }
+    ensures { result ≡ has_rows kind.Sum value.now }
 {
     match value {
         Field::Empty => false,

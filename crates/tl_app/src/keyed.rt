@@ -1,12 +1,11 @@
-//! Events by the value that their rows have in a column: each distinct value gets a number once, and
-//! an event is dealt to the group of its value's number.
+//! Events by the value that their rows have in a column: each distinct value gets a number once,
+//! and an event is dealt to the group of its value's number. Groups come in order of their values.
 ghost use Rattle.std.specs.Prelude.{◌≡◌, ◌+◌, ◌-◌, ◌^◌, ◌≤◌, ◌<◌, ◌++◌, ◌∷◌, [], List, length, IfOk, OnOk};
 ghost use Rattle.std.specs.List.{All, filter};
 ghost use Rattle.tl_types.specs.declared.events.ValidEvent.{ValidEvent};
-ghost use Rattle.tl_types.specs.History.{database_of, rows_of};
-ghost use Rattle.tl_store.specs.Reading.{columns_of, cell_shown, IsShort};
+ghost use Rattle.tl_store.specs.Reading.{cell_shown, IsShort};
 ghost use Rattle.tl_keys.specs.Keys.{AreApart};
-ghost use Rattle.tl_app.specs.Groups.{has_events, value_with, HasOneMore, AreDealt, IsDealt, AreGroupsOf};
+ghost use Rattle.tl_app.specs.Groups.{column_rows, has_events, value_with, HasColumn, HasOneMore, AreDealt, IsDealt, AreGroupsOf};
 
 use std::alloc::Global;
 use std::sync::ledger::Ledger;
@@ -17,9 +16,9 @@ use tl_types::{Cell, NoMemory, Steps, ValidEvent};
 /// The events of the rows that have one value in a column.
 #[derive(Drop)]
 pub(crate) struct KeyGroup {
-    /// The value.
+    /// The value that the rows have in the column.
     pub key: Cell,
-    /// The events, in order.
+    /// The events of these rows, in order of time.
     pub events: Vec<ValidEvent>,
 }
 
@@ -108,17 +107,15 @@ fn deal<'a, L: Ledger>(
     event: ValidEvent,
     steps: &mut Steps<L>,
 ) -> Result<(), NoMemory>
-    requires column { by.now.column
-        < length (columns_of (database_of by.now.store.now) by.now.table) }
-    requires row { event.row < length (rows_of (database_of by.now.store.now) by.now.table) }
+    requires column { HasColumn by.now }
+    requires row { event.row < length (column_rows by.now) }
     requires apart { AreApart keys.old }
     requires count { keys.old.count ≤ length groups.old.items }
     requires room { length groups.old.items + 1 < 2 ^ 32 }
     ensures dealt { OnOk result ((done : List ValidEvent)
-        → AreDealt (rows_of (database_of by.now.store.now) by.now.table) by.now.column
-        keys.old groups.old.items done
-        → AreDealt (rows_of (database_of by.now.store.now) by.now.table) by.now.column
-        keys.new groups.new.items (done ++ event ∷ [])) }
+        → AreDealt (column_rows by.now) by.now.column keys.old groups.old.items done
+        → AreDealt (column_rows by.now) by.now.column keys.new groups.new.items
+        (done ++ event ∷ [])) }
     ensures steps { steps.new ≡ steps.old + 1 }
 {
     let key = by.store.cell(by.table, event.row, by.column, steps);
@@ -136,14 +133,11 @@ fn dealt<L: Ledger>(
     events: &[ValidEvent],
     steps: &mut Steps<L>,
 ) -> Result<Vec<KeyGroup>, NoMemory>
-    requires column { by.now.column
-        < length (columns_of (database_of by.now.store.now) by.now.table) }
-    requires rows { All (λ event. event.row
-        < length (rows_of (database_of by.now.store.now) by.now.table)) events.now }
+    requires column { HasColumn by.now }
+    requires rows { All (λ event. event.row < length (column_rows by.now)) events.now }
     requires few { length events.now + 1 < 2 ^ 32 }
-    ensures dealt { IfOk result (λ groups. IsDealt
-        (rows_of (database_of by.now.store.now) by.now.table) by.now.column groups.items
-        events.now) }
+    ensures dealt { IfOk result (λ groups. IsDealt (column_rows by.now) by.now.column
+        groups.items events.now) }
     ensures steps { steps.new ≤ steps.old + length events.now }
 {
     let mut keys = Keys::none(alloc);
@@ -175,14 +169,11 @@ pub(crate) fn groups_of<L: Ledger>(
     events: &[ValidEvent],
     steps: &mut Steps<L>,
 ) -> Result<Vec<KeyGroup>, NoMemory>
-    requires column { by.now.column
-        < length (columns_of (database_of by.now.store.now) by.now.table) }
-    requires rows { All (λ event. event.row
-        < length (rows_of (database_of by.now.store.now) by.now.table)) events.now }
+    requires column { HasColumn by.now }
+    requires rows { All (λ event. event.row < length (column_rows by.now)) events.now }
     requires few { length events.now + 1 < 2 ^ 32 }
-    ensures groups { IfOk result (λ groups. AreGroupsOf
-        (rows_of (database_of by.now.store.now) by.now.table) by.now.column events.now
-        groups.items) }
+    ensures groups { IfOk result (λ groups. AreGroupsOf (column_rows by.now) by.now.column
+        events.now groups.items) }
     ensures steps { steps.new ≤ steps.old + length events.now }
 {
     let all = dealt(alloc, by, events, steps)?;

@@ -1,4 +1,5 @@
-//! What holds of the plans that are scanned, said in the contract of a function that does nothing.
+//! What holds of the plans that are scanned, said in the contract of a function that does nothing:
+//! the plan of a checked query suits its table.
 ghost use Rattle.std.specs.Prelude.{ℕ, ℤ, Option};
 ghost use Rattle.tl_types.specs.Plain as plain;
 ghost use Rattle.tl_query.specs.TypedFor.{IsTypedFor};

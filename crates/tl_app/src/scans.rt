@@ -1,4 +1,5 @@
-//! A scan of events of valid time, in order.
+//! A scan of events of valid time, in order: rows come and go, and between two events the value of
+//! the aggregate stays the same. It keeps the value up to date, and looks at no row twice.
 ghost use Rattle.std.specs.Prelude.{◌≡◌, ℕ, ◌+◌, ◌*◌, ◌≤◌, ◌<◌, ◌<ℤ◌, ◌≤ℤ◌, length, take, Some, IsTrue, IfOk, OnOk, slice_get, slice_index_or};
 ghost use Rattle.std.specs.List.{AllByRecursion};
 ghost use Rattle.tl_types.specs.History.{database_of, rows_of};
@@ -6,9 +7,9 @@ ghost use Rattle.tl_types.specs.Runs.{runs_of};
 ghost use Rattle.tl_store.specs.Reading.{columns_of, IsIntColumn};
 ghost use Rattle.tl_query.specs.declared.ast.AggKind.{AggKind};
 ghost use Rattle.tl_running.specs.Standing.{IsShort};
+ghost use Rattle.tl_running.specs.Telling.{TellsNumber};
 ghost use Rattle.tl_app.specs.Opening.{Alternate};
-ghost use Rattle.tl_app.specs.Scans.{IsValidTimePlanFor, plan_rows, TellsNumber, Holds, open_value, due_at, next_of, IsCut};
-ghost use Rattle.tl_app.specs.Telling.{Tells};
+ghost use Rattle.tl_app.specs.Scans.{IsValidTimePlanFor, plan_rows, Holds, open_value, Tells, due_at, next_of, IsCut};
 
 use std::alloc::Global;
 use std::sync::ledger::Ledger;
@@ -26,9 +27,9 @@ pub(crate) const AT_ONCE: usize = 65_536;
 pub(crate) struct ValidScan<'a> {
     /// The store that has the rows.
     pub store: &'a Store,
-    /// The plan.
+    /// What is asked: the table, the kind of aggregate, its column and that of its groups.
     pub plan: &'a AggPlan,
-    /// The events.
+    /// The events, in order of time, two for each row at most.
     pub events: &'a [ValidEvent],
 }
 

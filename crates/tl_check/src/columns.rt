@@ -27,8 +27,8 @@ pub(crate) fn table_named<'a>(store: &'a Store, name: &Name) -> Option<(u16, &'a
     }
 }
 
-/// The floor of the table of a store that a name means, the least version that may be asked of it: 0
-/// where the name means none.
+/// The floor of the table of a store that a name means, the least version that may be asked of it:
+/// 0 where the name means none.
 pub(crate) fn floor_named(store: &Store, name: &Name) -> u32
     ensures { result ≡ floor_named (database_of store.now) name.now }
 {

@@ -1,5 +1,5 @@
-//! The check of a query for a join over time: both tables with their predicates, the columns after ON
-//! and the range. It refuses what it finds wrong furthest to the left.
+//! The check of a query for a join over time: both tables with their predicates, the columns after
+//! ON and the range. It refuses what it finds wrong furthest to the left.
 ghost use Rattle.std.specs.Prelude.{◌≡◌, ◌∷◌, ◌||◌, [], Some};
 ghost use Rattle.tl_query.specs.Checking.{first_of, IsUnlessMemory};
 ghost use Rattle.tl_query.specs.CheckingQueries.{

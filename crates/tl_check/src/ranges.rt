@@ -1,6 +1,6 @@
-//! The versions and the ranges of time that a query names: their faults, and where there are none the
-//! versions that they stand for. A version after the last commit, one that is forgotten and a range
-//! with nothing in it are refused.
+//! The versions and the ranges of time that a query names: their faults, and where there are none
+//! the versions that they stand for. A version after the last commit, one that is forgotten and a
+//! range with nothing in it are refused.
 ghost use Rattle.std.specs.Prelude.{◌≡◌, ◌≤◌, ◌+◌, None, nat_abs};
 ghost use Rattle.std.specs.Option.{ForSome};
 ghost use Rattle.tl_query.specs.Checking.{
@@ -83,7 +83,8 @@ fn stamp_of(as_of: AsOf) -> Stamp
     }
 }
 
-/// `Forgotten` at the version that is asked for, where it is before the least one that may be asked.
+/// `Forgotten` at the version that is asked for, where it is before the least one that may be
+/// asked.
 pub(crate) fn forgotten_fault(times: &StoreTimes<'_>, asked: Option<AsOf>) -> Option<CheckFault>
     requires { ForSome asked IsGiven }
     ensures { result ≡ forgotten_fault times.now asked }
@@ -207,9 +208,9 @@ fn moments_fault(from: Stamp, to: Stamp) -> Option<CheckFault>
     }
 }
 
-/// The first fault of a range of time: `EmptyRange` at the first bound where it is not less than the
-/// second, `VersionAhead` at a version that is too great, `Forgotten` at one that is too small, and
-/// `NotValidTable` at `VALID`, where the rows of a known table of the query are timeless.
+/// The first fault of a range of time: `EmptyRange` at the first bound where it is not less than
+/// the second, `VersionAhead` at a version that is too great, `Forgotten` at one that is too small,
+/// and `NotValidTable` at `VALID`, where the rows of a known table of the query are timeless.
 pub(crate) fn over_fault(times: &StoreTimes<'_>, timeless: bool, over: Over) -> Option<CheckFault>
     requires { HasVersions over }
     ensures { result ≡ first_of (over_faults times.now timeless over) }

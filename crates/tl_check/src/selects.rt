@@ -148,9 +148,9 @@ fn moment_of(form: &SelectForm) -> Option<i64>
     }
 }
 
-/// The query by numbers over the table that its name means, if it means one, or its first fault. `*`
-/// stands for all columns in order, and then the ends of the valid period where the table's rows
-/// have one. `NoMemory` says that memory ran out.
+/// The query by numbers over the table that its name means, if it means one, or its first fault.
+/// `*` stands for all columns in order, and then the ends of the valid period where the table's
+/// rows have one. `NoMemory` says that memory ran out.
 pub(crate) fn check_select(
     alloc: Global,
     times: &StoreTimes<'_>,

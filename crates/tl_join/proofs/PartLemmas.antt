@@ -122,3 +122,5 @@ unfolding pairs_in joined_pairs
 whole_range db plan left_pred right_pred a b piece e f =
     let pairs = in_order pair_before (pairs_of left_pred right_pred plan.left_on plan.right_on (span.System a b) (rows_of db plan.left) (rows_of db plan.right)) in
     ap (λ n. filter (is_in_piece n piece.to) pairs) e ∙ ap (λ n. filter (is_in_piece a n) pairs) f ∙ pairs_all_in left_pred right_pred plan.left_on plan.right_on a b (rows_of db plan.left) (rows_of db plan.right)
+
+pub ruleset laws_of_pieces = (pieces_join, whole_range)

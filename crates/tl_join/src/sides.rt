@@ -1,4 +1,5 @@
-//! One side of a join over a piece of versions.
+//! One side of a join over a piece of versions: the rows that are there, each as an entry with what
+//! its versions and the plan's range have in common, and the number of its key.
 ghost use Rattle.std.specs.Prelude.{◌≡◌, ◌+◌, ◌-◌, ◌*◌, ◌<◌, ◌≤◌, ◌^◌, All, length, IfOk, OnOk};
 ghost use Rattle.std.specs.List.{AllByRecursion};
 ghost use Rattle.tl_types.specs.Entries.{commits_of};
@@ -24,7 +25,7 @@ use tl_types::{NoMemory, Piece, Steps};
 /// that stand at the piece's first version, and the rows that may stand in a pair.
 #[derive(Clone, Copy)]
 pub(crate) struct Side<'a> {
-    /// The store.
+    /// The store that has the rows.
     pub store: &'a Store,
     /// The table's number.
     pub table: u16,

@@ -19,7 +19,7 @@ pub(crate) struct KeyedRow<'a> {
     pub key: &'a Cell,
     /// The row's id.
     pub id: u32,
-    /// The row.
+    /// The row itself, open or ended.
     pub row: &'a Row,
 }
 

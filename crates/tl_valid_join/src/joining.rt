@@ -1,4 +1,5 @@
-//! Joins over a range of valid time.
+//! Joins over a range of valid time: the entries of both sides, and the pairs that a walk over them
+//! finds, in order. Keys have one number for both sides.
 ghost use Rattle.std.specs.Prelude.{◌≡◌, ℕ, ◌+◌, ◌*◌, ◌<◌, ◌≤◌, IsTrue, length, map, IfOk};
 ghost use Rattle.tl_types.specs.Checkpoints.{valid_events_in, AreEventsOf};
 ghost use Rattle.tl_types.specs.Entries.{commits_of};

@@ -1,4 +1,5 @@
-//! One side of a join over valid time.
+//! One side of a join over valid time: an entry for each event that begins the period of a row that
+//! passes, unless the plan's range has no moment of it.
 ghost use Rattle.std.specs.Prelude.{◌≡◌, ◌+◌, ◌*◌, ◌<◌, ◌≤◌, ◌^◌, ◌++◌, All, IsTrue, Some, length, IfOk, OnOk};
 ghost use Rattle.std.specs.Option.{option_to_list};
 ghost use Rattle.tl_types.specs.declared.events.ValidEvent.{ValidEvent};
@@ -25,7 +26,7 @@ use tl_types::{NoMemory, Steps, ValidEvent};
 /// in a pair.
 #[derive(Clone, Copy)]
 pub(crate) struct Side<'a> {
-    /// The store.
+    /// The store that has the rows.
     pub store: &'a Store,
     /// The table's number.
     pub table: u16,

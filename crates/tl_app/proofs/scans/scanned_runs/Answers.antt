@@ -5,14 +5,14 @@ use Rattle.tl_types.proofs.RunLemmas.{none_made, more_made}
 use Rattle.tl_query.specs.Aggregates.{aggregate_of}
 use Rattle.tl_running.specs.Standing.{Suits}
 use Rattle.tl_app.specs.Opening.{open_rows}
-use Rattle.tl_app.specs.Scans.{plan_rows, next_of, IsCut, open_value}
-use Rattle.tl_app.proofs.CutLemmas.{cut_is, next_after, cut_until, count_less, less_true, less_false, made_all}
+use Rattle.tl_app.specs.Scans.{plan_rows, next_of, IsCut, open_value, Tells}
+use Rattle.tl_app.proofs.CutLemmas.{cut_is, next_after, cut_until, count_less, less_true, less_false, made_all, add_all}
 use Rattle.tl_app.proofs.HoldLemmas.{holds_none}
-use Rattle.tl_app.proofs.TellLemmas.{has_told, add_all}
+use Rattle.tl_running.proofs.TellLemmas.{has_told}
 use Rattle.std.specs.List.{AllByRecursion}
 use Rattle.std.specs.Prelude.{◌==◌, not}
 use Rattle.tl_types.specs.Runs.{stretch_of}
-use Rattle.tl_app.specs.Telling.{has_rows, Tells}
+use Rattle.tl_running.specs.Telling.{has_rows}
 use Rattle.tl_app.proofs.scans.scanned_runs.Goals as goal
 
 pub moments-init : goal.moments-init

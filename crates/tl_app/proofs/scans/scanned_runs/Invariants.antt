@@ -3,8 +3,7 @@ use Rattle.tl_types.specs.Runs.{count_of}
 use Rattle.tl_types.specs.declared.events.ValidEvent.{ValidEvent}
 use Rattle.tl_types.proofs.RunLemmas.{IsMade}
 use Rattle.std.specs.List.{AllByRecursion}
-use Rattle.tl_app.specs.Telling.{Tells}
-use Rattle.tl_app.specs.Scans.{plan_rows, Holds, open_value}
+use Rattle.tl_app.specs.Scans.{plan_rows, Holds, open_value, Tells}
 use Rattle.tl_app.proofs.scans.scanned_runs.Given as goal
 
 abbrev pub invariant-moments : goal.invariant-moments

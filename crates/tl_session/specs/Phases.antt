@@ -129,7 +129,8 @@ pub record TakesTurns (turns : List Turn) (old new : plain.SharedAccess) : Type 
   pub amount : new.amount ≡ old.amount + tally weight turns
 
 -- all jobs were answered, and these are the replies in the order of the jobs
-pub record RunsPhase (jobs : List Job) (replies : List Reply) (old new : plain.SharedAccess) : Type 0 where
+pub record RunsPhase (jobs : List Job) (replies : List Reply) (old new : plain.SharedAccess)
+    : Type 0 where
   pub turns : List Turn
   pub these : jobs_of turns ≡ jobs
   pub told : replies_of turns ≡ replies

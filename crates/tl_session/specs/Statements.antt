@@ -33,7 +33,8 @@ pub record SeesMore (old new : plain.Access) : Type 0 where
   pub amount : new.amount ≡ old.amount
 
 -- the reading is the job's over the commits that have been seen, and the version is their number
-pub record IsLook (job : Job) (version : ℕ) (reading : JobReading) (now : plain.Access) : Type 0 where
+pub record IsLook (job : Job) (version : ℕ) (reading : JobReading) (now : plain.Access)
+    : Type 0 where
   pub version_is : version ≡ length (commits_of now.seen)
   pub reads : Reads (commits_of now.seen) job reading
 

@@ -1,5 +1,5 @@
 //! The group of rows of one aggregate, while a scan goes on.
-ghost use Rattle.std.specs.Prelude.{◌≡◌, ◌<◌, pos, true, false, OnOk};
+ghost use Rattle.std.specs.Prelude.{◌≡◌, ◌<◌, pos, true, OnOk};
 ghost use Rattle.tl_types.specs.Runs.{stretch_of};
 ghost use Rattle.tl_running.specs.Standing.{CanChange};
 ghost use Rattle.tl_agg.specs.Groups.{State, put_stretch, IsNone, Advances, Shifts, Moves, recounted, summed};

@@ -113,47 +113,38 @@ pub(crate) fn answer_join<R: AllocGlobal + Threads + Sync, L: Ledger, G: Gate>(
         ≡ answer_of (database_of (commits_of snapshot.now)) (query_of asked.entry)) }
     ensures steps { IsWithinBound snapshot.now (query_of asked.entry) workers steps.old steps.new }
 {
-    let AskedPairs {
-        left,
-        left_pred,
-        right,
-        right_pred,
-        left_on,
-        right_on,
-        span,
-    } = asked;
-    match span {
+    match asked.span {
         Span::System { from, to } => {
             let plan = JoinPlan {
-                left,
-                right,
-                left_on,
-                right_on,
+                left: asked.left,
+                right: asked.right,
+                left_on: asked.left_on,
+                right_on: asked.right_on,
                 from: i64::from(from),
                 to: i64::from(to),
             };
             let joined = Joined {
                 plan,
                 range: Piece { from, to },
-                left_pred,
-                right_pred,
+                left_pred: asked.left_pred,
+                right_pred: asked.right_pred,
             };
             join_rows(rt, snapshot, joined, workers, gate, steps)
         }
         Span::Valid { version, from, to } => {
             let plan = JoinPlan {
-                left,
-                right,
-                left_on,
-                right_on,
+                left: asked.left,
+                right: asked.right,
+                left_on: asked.left_on,
+                right_on: asked.right_on,
                 from,
                 to,
             };
             let joined = JoinedAt {
                 plan,
                 version,
-                left_pred,
-                right_pred,
+                left_pred: asked.left_pred,
+                right_pred: asked.right_pred,
             };
             moment_rows(rt.alloc(), snapshot, joined, steps)
         }

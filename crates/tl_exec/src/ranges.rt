@@ -6,10 +6,11 @@ ghost use Rattle.tl_exec.specs.Pieces.{IsAskedOf, asked_runs};
 ghost use Rattle.tl_exec.specs.Bounds.{aggregate_steps};
 
 use crate::aggregates::{passing_rows, piece_runs};
-use crate::pieces::Scan;
+use crate::pieces::DividedScan;
 use std::alloc::AllocGlobal;
 use std::sync::ledger::Ledger;
 use std::thread::Threads;
+use tl_agg::KeptRows;
 use tl_agg::laws::{kept_rows_pass, plans_suit};
 use tl_device::Gate;
 use tl_index::Snapshot;
@@ -54,9 +55,10 @@ pub(crate) fn range_runs<R: AllocGlobal + Threads + Sync, L: Ledger, G: Gate>(
     let _legal = snapshot.has_break();
     let alloc = rt.alloc();
     let keep = passing_rows(alloc, snapshot, asked.plan.table, asked.pred, steps)?;
+    let kept = KeptRows::new(&keep, steps);
     if workers != 1 {
-        let scan = Scan::new(alloc, snapshot, asked.plan, &keep, asked.range.to);
+        let scan = DividedScan::new(alloc, snapshot, asked.plan, &kept, asked.range.to);
         return scan.runs_in_pieces(rt, asked.range.from, workers, gate);
     }
-    piece_runs(alloc, snapshot, &asked.plan, asked.range, &keep, steps)
+    piece_runs(alloc, snapshot, &asked.plan, asked.range, &kept, steps)
 }

@@ -1,4 +1,5 @@
-//! The rows of one side of a join.
+//! The rows of one side of a join that are visible where a piece begins, of those that are kept. A
+//! version that is not there is refused.
 ghost use Rattle.std.specs.Prelude.{◌≡◌, ◌+◌, ◌*◌, ◌<◌, ◌≤◌, IfOk, length};
 ghost use Rattle.tl_types.specs.Entries.{commits_of};
 ghost use Rattle.tl_types.specs.History.{database_of, rows_of};

@@ -1,4 +1,5 @@
-//! The rows that are visible at a version.
+//! The rows that are visible at a version: the set of the nearest mark before it, and the events
+//! behind that. A version that is not there is refused.
 ghost use Rattle.std.specs.Prelude.{◌≡◌, ◌+◌, ◌*◌, ◌<◌, ◌≤◌, IfOk, length, map};
 ghost use Rattle.tl_types.specs.Entries.{commits_of};
 ghost use Rattle.tl_types.specs.History.{database_of, rows_of, visible_rows};

@@ -1,5 +1,5 @@
-//! The answer to a query for the pairs of rows of two tables that hold at one time: over versions in
-//! pieces, over valid time by the events of both sides at one version.
+//! The answer to a query for the pairs of rows of two tables that hold at one time: over versions
+//! in pieces, over valid time by the events of both sides at one version.
 ghost use Rattle.std.specs.Prelude.{◌≡◌, ◌+◌, ◌<◌, ◌≤◌, pos, IfOk, map};
 ghost use Rattle.tl_types.specs.Entries.{commits_of};
 ghost use Rattle.tl_types.specs.History.{database_of, rows_of};

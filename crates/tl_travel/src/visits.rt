@@ -18,7 +18,7 @@ use tl_types::{NoMemory, Steps};
 /// the table. It is worked out from the mark that is nearest before the version: it takes at most a
 /// step for each event behind the mark and up to the version, one for each begun 64 of rows, and
 /// those of two searches for a version. The error is `NoMemory`.
-#[tactic(auto, using(crate::proofs::VisibleLemmas::visible_members, crate::proofs::VisibleLemmas::within_bound))]
+#[tactic(auto, using(crate::proofs::VisibleLemmas::visible_at))]
 pub fn visible<L: Ledger>(
     alloc: Global,
     snapshot: &Snapshot,

@@ -34,7 +34,7 @@ table_in entries number = record { db = database_of (commits_of entries); number
 
 -- the plan is one for the table: its column holds numbers, a count has none, and what separates the
 -- rows into groups is a column
-pub record IsSystemPlan (table : TableOf) (plan : AggPlan) : Type 0 where
+pub record IsSystemTimePlanFor (table : TableOf) (plan : AggPlan) : Type 0 where
   pub column : (c : ℕ) → plan.column ≡ Some c → IsIntColumn (columns_of table.db table.number) c
   pub kind : plan.column ≡ None → plan.kind ≡ kind.Count
   pub by : (c : ℕ) → plan.by ≡ Some c → c < length (columns_of table.db table.number)
@@ -70,7 +70,7 @@ keep_with scan by value = both scan.keep (map (has_value by value) (rows_in scan
 
 -- the plan suits the table, the set is of its rows, and the versions are there
 pub record IsScan (scan : ScanOf) : Type 0 where
-  pub plan : IsSystemPlan scan.table scan.plan
+  pub plan : IsSystemTimePlanFor scan.table scan.plan
   pub keep : length scan.keep ≡ length (rows_in scan.table)
   pub within : scan.to ≤ scan.table.db.version + 1
   pub later : scan.from < scan.to

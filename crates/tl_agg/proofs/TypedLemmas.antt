@@ -23,7 +23,7 @@ use Rattle.tl_query.specs.declared.typed_queries.AggPlan.{AggPlan}
 use Rattle.tl_query.specs.Aggregates.{number_of}
 use Rattle.tl_store.specs.Reading.{columns_of, IsIntColumn}
 use Rattle.tl_running.specs.Standing.{HaveNumbers, Suits}
-use Rattle.tl_agg.specs.Scans.{IsSystemPlan}
+use Rattle.tl_agg.specs.Scans.{IsSystemTimePlanFor}
 
 -- THE ROWS OF A HISTORY
 
@@ -102,6 +102,6 @@ column_suits : (db : plain.Database) (k : AggKind) (column : Option ℕ) (table 
 column_suits db k None table typed is count = subst (λ j. Suits j None (rows_of db table)) (sym (count refl)) tt
 column_suits db k (Some c) table typed is count = some_suit k c (rows_of db table) (rows_have db table c typed (is c refl))
 
-pub plans_suit : (entries : List Entry) (plan : AggPlan) → IsTrue (are_legal entries) → IsSystemPlan (record { db = database_of (commits_of entries); number = plan.table }) plan → Suits plan.kind plan.column (rows_of (database_of (commits_of entries)) plan.table)
+pub plans_suit : (entries : List Entry) (plan : AggPlan) → IsTrue (are_legal entries) → IsSystemTimePlanFor (record { db = database_of (commits_of entries); number = plan.table }) plan → Suits plan.kind plan.column (rows_of (database_of (commits_of entries)) plan.table)
 plans_suit entries plan legal is =
     column_suits (database_of (commits_of entries)) plan.kind plan.column plan.table (commits_kept (λ v. HasTypedRows) (λ v l. typed_kept v) nothing (commits_of entries) tt (fit_behind [] entries legal)) is.column is.kind

@@ -15,7 +15,7 @@ use Rattle.tl_running.specs.Touching.{add_touching}
 use Rattle.tl_running.specs.Telling.{TellsNumber}
 use Rattle.tl_agg.specs.Kept.{both, picked, kept_at}
 
--- WHAT IS ASKED FOR
+-- WHAT IS WANTED
 
 -- an aggregate of the kept rows of a table, from a version on; where its runs have gaps, those
 -- without a row are left out
@@ -33,7 +33,8 @@ kept_in wanted set = picked (both set wanted.keep) wanted.rows
 
 -- the value at a moment
 abbrev pub kept_value : Wanted → ℤ → Field
-kept_value wanted moment = aggregate_of wanted.kind wanted.column (kept_at wanted.rows wanted.keep moment)
+kept_value wanted moment =
+    aggregate_of wanted.kind wanted.column (kept_at wanted.rows wanted.keep moment)
 
 -- the runs up to a version
 abbrev pub runs_to : Wanted → ℕ → List Run
@@ -151,8 +152,8 @@ abbrev pub IsOne : Option State → AggKind → ℕ → State → Type 0
 IsOne None kind since group = IsNone group kind true since
 IsOne (Some found) kind since group = group ≡ found
 
--- at a version, when the rows of a set stand, the group that is found is that of the kept ones among
--- them, and where none is found one of no rows is
+-- at a version, when the rows of a set stand, the group that is found is that of the kept ones
+-- among them, and where none is found one of no rows is
 abbrev pub HoldsIn : Wanted → List Bool → ℕ → Option State → Type 0
 HoldsIn wanted set at None =
     (group : State) → IsNone group wanted.kind wanted.gaps wanted.from → Tracks wanted set at group

@@ -1,4 +1,4 @@
--- A scan of a table: what is asked for, and how far the walk along its events has come.
+-- A scan of a table: what is wanted, and how far the walk along its events has come.
 use Rattle.std.specs.Prelude.{◌≡◌, ℕ, ℤ, ◌+◌, ◌<◌, ◌≤◌, Bool, not, List, length, take, drop, Some, None, is_some, slice_get, slice_set, [], map, Option, if◌then◌else◌}
 use Rattle.tl_types.specs.declared.events.Event.{Event}
 use Rattle.tl_types.specs.Plain as plain
@@ -34,7 +34,7 @@ table_in entries number = record { db = database_of (commits_of entries); number
 
 -- the plan is one for the table: its column holds numbers, a count has none, and what separates the
 -- rows into groups is a column
-pub record IsSystemPlan (table : TableOf) (plan : AggPlan) : Type 0 where
+pub record IsSystemTimePlanFor (table : TableOf) (plan : AggPlan) : Type 0 where
   pub column : (c : ℕ) → plan.column ≡ Some c → IsIntColumn (columns_of table.db table.number) c
   pub kind : plan.column ≡ None → plan.kind ≡ kind.Count
   pub by : (c : ℕ) → plan.by ≡ Some c → c < length (columns_of table.db table.number)
@@ -52,7 +52,7 @@ abbrev pub scan_of : TableOf → AggPlan → List Bool → ℕ → ℕ → ScanO
 scan_of table plan keep from to =
     record { table = table; plan = plan; keep = keep; from = from; to = to }
 
--- what it asks for of the rows of a set
+-- what is wanted of the rows of a set
 abbrev pub wanted_of : ScanOf → List Bool → Wanted
 wanted_of scan keep =
     record {
@@ -70,7 +70,7 @@ keep_with scan by value = both scan.keep (map (has_value by value) (rows_in scan
 
 -- the plan suits the table, the set is of its rows, and the versions are there
 pub record IsScan (scan : ScanOf) : Type 0 where
-  pub plan : IsSystemPlan scan.table scan.plan
+  pub plan : IsSystemTimePlanFor scan.table scan.plan
   pub keep : length scan.keep ≡ length (rows_in scan.table)
   pub within : scan.to ≤ scan.table.db.version + 1
   pub later : scan.from < scan.to
@@ -185,8 +185,8 @@ TrackBy (Some by) scan set at groups =
 abbrev pub AllTrack : ScanOf → List Bool → ℕ → Groups → Type 0
 AllTrack scan set at groups = TrackBy scan.plan.by scan set at groups
 
--- the events stand at a place among those of the table, and at a version the groups are those of the
--- rows that stand before them
+-- the events stand at a place among those of the table, and at a version the groups are those of
+-- the rows that stand before them
 pub record IsRun (scan : ScanOf) (at place : ℕ) (events : List Event) (groups : Groups)
     : Type 0 where
   pub are : events ≡ take (length events)
@@ -202,7 +202,8 @@ pub record IsRunOfAll (scan : ScanOf) (at place : ℕ) (events : List Event) (gr
   pub tracks : AllTrack scan (set_after scan.table place) at groups
   pub since : groups.all.since ≡ at
 
--- at a version the groups are those of the rows that stand behind the events, which stand at a place
+-- at a version the groups are those of the rows that stand behind the events, which begin at a
+-- place
 abbrev pub TakesRun : ScanOf → ℕ → ℕ → List Event → Groups → Type 0
 TakesRun scan at place events groups =
     AllTrack scan (set_after scan.table (place + length events)) at groups

@@ -29,7 +29,8 @@ ends_with_group (run ∷ next ∷ runs) group = ends_with_group (next ∷ runs) 
 -- the runs, and a run behind them: one of the same group as the last of them is put together with
 -- that, where it goes on
 abbrev pub add_grouped : List Run → Run → List Run
-add_grouped runs run = if ends_with_group runs run.group then add_touching runs run else runs ++ run ∷ []
+add_grouped runs run =
+    if ends_with_group runs run.group then add_touching runs run else runs ++ run ∷ []
 
 -- of runs in order of their groups, those at the front whose groups are not behind a run's
 abbrev pub front_upto : Run → List Run → List Run

@@ -7,7 +7,7 @@ ghost use Rattle.tl_types.specs.History.{database_of, rows_of};
 ghost use Rattle.tl_lanes.specs.Masks.{words_for};
 ghost use Rattle.tl_agg.specs.Kept.{size};
 ghost use Rattle.tl_agg.specs.Runs.{system_runs, start_set};
-ghost use Rattle.tl_agg.specs.Scans.{IsSystemPlan, IsScan, scan_of, table_in};
+ghost use Rattle.tl_agg.specs.Scans.{IsSystemTimePlanFor, IsScan, scan_of, table_in};
 ghost use Rattle.tl_index.specs.Tables.{rows_in, search_steps};
 
 use crate::kept::KeptRows;
@@ -74,7 +74,7 @@ pub fn aggregate<L: Ledger>(
     steps: &mut Steps<L>,
 ) -> Result<Seq<Run>, NoMemory>
     requires table { plan.now.table < length (database_of (commits_of snapshot.now)).tables }
-    requires plan { IsSystemPlan (record {
+    requires plan { IsSystemTimePlanFor (record {
       db = database_of (commits_of snapshot.now);
       number = plan.now.table;
     }) plan.now }

@@ -1,4 +1,6 @@
-//! All groups of a scan.
+//! All groups of a scan: that of all rows, and that of each value of a column by the number of the
+//! value. It keeps that each group stands at the number of its value; a group that never had a row
+//! is not there.
 ghost use Rattle.std.specs.Prelude.{◌≡◌, ◌++◌, ◌<◌, map, OnOk, IfOk};
 ghost use Rattle.std.specs.Map.{lookup};
 ghost use Rattle.tl_types.specs.declared.cells.Cell.{Cell};

@@ -1,4 +1,5 @@
-//! The group of rows of one aggregate, while a scan goes on.
+//! The group of rows of one aggregate, while a scan goes on. It keeps the runs up to the last
+//! version that changed it; a version before that one cannot be taken any more.
 ghost use Rattle.std.specs.Prelude.{◌≡◌, ◌<◌, pos, true, OnOk};
 ghost use Rattle.tl_types.specs.Runs.{stretch_of};
 ghost use Rattle.tl_running.specs.Standing.{CanChange};

@@ -38,7 +38,7 @@ impl<'a> KeptRows<'a> {
         KeptRows { rows, all }
     }
 
-    /// The set of them.
+    /// The set of the kept rows, by id.
     pub fn rows(&self) -> &'a RowSet
         ensures { result.now ≡ self.now }
     {

@@ -1,4 +1,5 @@
-//! Runs of pieces that follow on each other, put together.
+//! Runs of pieces that follow on each other, put together group by group, in the order of their
+//! values. Runs of two groups are never joined, nor runs with a gap between them.
 ghost use Rattle.std.specs.Prelude.{◌≡◌, ℕ, ◌≤◌, ◌++◌, ◌||◌, [], None, Bool, List, reverse, OnOk, IfOk};
 ghost use Rattle.tl_types.specs.Plain as plain;
 ghost use Rattle.tl_types.specs.Runs.{seam};

@@ -13,7 +13,7 @@ use Rattle.tl_query.specs.Aggregates.{aggregate_runs}
 use Rattle.tl_filter.specs.Selecting.{IsTypedPredFor}
 use Rattle.tl_running.specs.Standing.{Suits}
 use Rattle.tl_agg.specs.Runs.{system_runs}
-use Rattle.tl_agg.specs.Scans.{IsSystemPlan}
+use Rattle.tl_agg.specs.Scans.{IsSystemTimePlanFor}
 use Rattle.tl_range.specs.Dividing.{Follow}
 
 -- the plan is one for a table of the snapshot, the kept rows are some of that table's, and the
@@ -21,7 +21,7 @@ use Rattle.tl_range.specs.Dividing.{Follow}
 pub record CanScan (entries : List Entry) (plan : AggPlan) (keep : List Bool) (to : ℕ)
     : Type 0 where
   pub table : plan.table < length (database_of (commits_of entries)).tables
-  pub suits : IsSystemPlan (record { db = database_of (commits_of entries); number = plan.table })
+  pub suits : IsSystemTimePlanFor (record { db = database_of (commits_of entries); number = plan.table })
       plan
   pub kept : length keep ≡ length (rows_of (database_of (commits_of entries)) plan.table)
   pub few : length keep ≤ 16777216
@@ -39,7 +39,7 @@ pub record CanDivide (entries : List Entry) (plan : AggPlan) (keep : List Bool) 
 pub record IsAskedOf (db : plain.Database) (plan : AggPlan) (pred : TypedPred) (to : ℕ)
     : Type 0 where
   pub table : plan.table < length db.tables
-  pub suits : IsSystemPlan (record { db = db; number = plan.table }) plan
+  pub suits : IsSystemTimePlanFor (record { db = db; number = plan.table }) plan
   pub typed : IsTypedPredFor db plan.table pred
   pub within : to ≤ db.version + 1
 

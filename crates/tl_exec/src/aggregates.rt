@@ -1,4 +1,5 @@
-//! Aggregates over the versions of a table, of the rows that pass a predicate.
+//! Aggregates over the versions of a table, of the rows that pass a predicate: which rows are kept,
+//! which of these stand where a piece begins, and the runs over the piece.
 ghost use Rattle.std.specs.Prelude.{◌≡◌, None, ◌+◌, ◌-◌, ◌*◌, ◌<◌, ◌≤◌, IfOk, length, map};
 ghost use Rattle.tl_types.specs.Entries.{commits_of};
 ghost use Rattle.tl_types.specs.History.{database_of, rows_of};

@@ -1,4 +1,5 @@
-//! The answer to a query over a snapshot.
+//! The answer to a query over a snapshot, by its kind. It is the answer of the definition for every
+//! number of workers; a query that was not checked for the store of the snapshot is refused.
 ghost use Rattle.std.specs.Prelude.{◌≡◌, ◌<◌, ◌≤◌, ℕ, IfOk};
 ghost use Rattle.tl_types.specs.Entries.{commits_of};
 ghost use Rattle.tl_types.specs.History.{database_of};

@@ -1,4 +1,5 @@
-//! Aggregates over versions in pieces, each in a thread of its own.
+//! Aggregates over versions in pieces, each in a thread of its own, whose runs are put together in
+//! order. The kept rows are counted once, before the pieces; the runs are those of one piece.
 ghost use Rattle.std.specs.Prelude.{◌≡◌, ◌<◌, ◌≤◌, IfOk};
 ghost use Rattle.tl_types.specs.Entries.{commits_of};
 ghost use Rattle.tl_types.specs.History.{database_of, rows_of};

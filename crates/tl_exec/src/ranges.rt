@@ -1,4 +1,5 @@
-//! Aggregates over a range of versions.
+//! Aggregates over a range of versions, by one worker or by several. Which rows pass is found once,
+//! and so is whether these are all rows.
 ghost use Rattle.std.specs.Prelude.{◌≡◌, ◌+◌, ◌<◌, ◌≤◌, IfOk};
 ghost use Rattle.tl_types.specs.Entries.{commits_of};
 ghost use Rattle.tl_types.specs.History.{database_of};
@@ -21,11 +22,11 @@ use tl_types::{NoMemory, Piece, Run, Seq, Steps};
 /// predicate.
 #[derive(Clone, Copy)]
 pub(crate) struct AskedRuns<'a> {
-    /// The plan.
+    /// What is aggregated, and by which column the rows are grouped.
     pub(crate) plan: AggPlan,
-    /// The predicate.
+    /// What the rows pass that are aggregated.
     pub(crate) pred: &'a TypedPred,
-    /// The range.
+    /// The versions, from the first on and before the end.
     pub(crate) range: Piece,
 }
 

@@ -1,4 +1,5 @@
-//! Rows of one table that are asked for.
+//! Rows of one table that are asked for: those of a set that are valid at a moment, each with the
+//! items in order. An item that the table has not got is refused.
 ghost use Rattle.std.specs.Prelude.{◌≡◌, ℕ, ◌+◌, ◌*◌, ◌<◌, ◌≤◌, ◌++◌, ◌&&◌, [], IfOk, OnOk, Some, length, map};
 ghost use Rattle.tl_types.specs.Entries.{commits_of};
 ghost use Rattle.tl_types.specs.History.{database_of, rows_of};
@@ -26,13 +27,13 @@ use tl_types::{NoMemory, Steps};
 /// is given.
 #[derive(Clone, Copy)]
 pub(crate) struct AskedFields<'a> {
-    /// The store.
+    /// The store that keeps the rows.
     pub(crate) store: &'a Store,
-    /// The table's number.
+    /// The table's number, from 0.
     pub(crate) table: u16,
-    /// The items in order.
+    /// What is shown of each row, in order.
     pub(crate) items: &'a [TypedItem],
-    /// The moment of valid time.
+    /// The moment of valid time at which the rows hold, where one is given.
     pub(crate) valid_at: Option<i64>,
 }
 

@@ -2,11 +2,11 @@
 use Rattle.std.specs.Prelude.{◌≡◌, ℕ, ℤ, ◌+◌, ◌<◌, ◌≤◌, Bool, not, List, length, take, drop, Some, None, is_some, slice_get, slice_set, [], map, Option, if◌then◌else◌}
 use Rattle.tl_types.specs.declared.events.Event.{Event}
 use Rattle.tl_types.specs.Plain as plain
-use Rattle.tl_types.specs.Events.{events_of}
-use Rattle.tl_types.specs.Walks.{standing, after_event, after_events}
+use Rattle.tl_types.specs.Events.{events_at, events_of, place_of}
+use Rattle.tl_types.specs.Walks.{standing, after_event, after_events, IsQuiet}
 use Rattle.std.specs.Map.{lookup}
 use Rattle.tl_types.specs.declared.cells.Cell.{Cell}
-use Rattle.tl_types.specs.History.{same_cell}
+use Rattle.tl_types.specs.History.{database_of, same_cell}
 use Rattle.tl_query.specs.Aggregates.{has_value}
 use Rattle.tl_query.specs.declared.ast.AggKind.{AggKind}
 use Rattle.tl_query.specs.declared.ast.AggKind.TheVariants as kind
@@ -15,9 +15,6 @@ use Rattle.tl_store.specs.Reading.{columns_of, IsIntColumn}
 use Rattle.tl_agg.specs.Columns.{AreNumbers, AreKeys}
 use Rattle.tl_types.specs.declared.commits.Entry.{Entry}
 use Rattle.tl_types.specs.Entries.{commits_of}
-use Rattle.tl_types.specs.History.{database_of}
-use Rattle.tl_types.specs.Walks.{IsQuiet}
-use Rattle.tl_types.specs.Events.{events_at, place_of}
 use Rattle.tl_events.specs.declared.version_maps.VersionEnd.{VersionEnd}
 use Rattle.tl_events.specs.Timeline.{Follow}
 use Rattle.tl_index.specs.Tables.{TableOf, rows_in}

@@ -13,7 +13,7 @@ use Rattle.tl_query.specs.Aggregates.{aggregate_runs}
 use Rattle.tl_filter.specs.Selecting.{IsTypedPredFor}
 use Rattle.tl_running.specs.Standing.{Suits}
 use Rattle.tl_agg.specs.Runs.{system_runs}
-use Rattle.tl_agg.specs.Scans.{IsSystemTimePlanFor}
+use Rattle.tl_agg.specs.Scans.{IsSystemTimePlanFor, table_in}
 use Rattle.tl_range.specs.Dividing.{Follow}
 
 -- the plan is one for a table of the snapshot, the kept rows are some of that table's, and the
@@ -21,8 +21,7 @@ use Rattle.tl_range.specs.Dividing.{Follow}
 pub record CanScan (entries : List Entry) (plan : AggPlan) (keep : List Bool) (to : ℕ)
     : Type 0 where
   pub table : plan.table < length (database_of (commits_of entries)).tables
-  pub suits : IsSystemTimePlanFor (record { db = database_of (commits_of entries); number = plan.table })
-      plan
+  pub suits : IsSystemTimePlanFor (table_in entries plan.table) plan
   pub kept : length keep ≡ length (rows_of (database_of (commits_of entries)) plan.table)
   pub few : length keep ≤ 16777216
   pub within : to ≤ (database_of (commits_of entries)).version + 1

@@ -93,6 +93,7 @@ pub(crate) fn piece_runs<L: Ledger>(
         let s = map_digits db plan.now.table in
         steps.new ≤ steps.old + (e0 + 5 * e + 3 * r + 4 * w + 4 * s + 2) }
 {
-    let start = start_set(alloc, snapshot, plan.table, piece.from, keep.rows(), steps)?;
+    let rows = keep.rows();
+    let start = start_set(alloc, snapshot, plan.table, piece.from, rows, steps)?;
     keep.aggregate(alloc, snapshot, plan, piece, &start, steps)
 }

@@ -17,7 +17,7 @@ use Rattle.tl_csv.specs.declared.faults.CsvFault.TheVariants as csv_fault
 use Rattle.tl_csv.specs.declared.needs.BatchKind.{BatchKind}
 use Rattle.tl_csv.specs.declared.needs.BatchKind.TheVariants.{PutKind, RemoveKind}
 use Rattle.tl_csv.specs.Answers.{answer_text}
-use Rattle.tl_csv.specs.BlockRecords.{block_at}
+use Rattle.tl_csv.specs.LentBlocks.{block_at}
 use Rattle.tl_csv.specs.Block.{batch_of}
 use Rattle.tl_query.specs.declared.faults.TextFault.{TextFault}
 use Rattle.tl_query.specs.declared.faults.TextFault.TheVariants as text_fault

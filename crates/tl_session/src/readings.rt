@@ -13,7 +13,7 @@ ghost use Rattle.tl_query.specs.Parsed.{IsNewTable, IsParsed, IsQuery};
 ghost use Rattle.tl_query.specs.TypedFor.{IsTypedFor};
 ghost use Rattle.tl_query.specs.declared.check_faults.CheckFault.TheVariants as check_fault;
 ghost use Rattle.tl_query.specs.declared.faults.TextFault.TheVariants as text_fault;
-ghost use Rattle.tl_csv.specs.BlockRecords.{block_at};
+ghost use Rattle.tl_csv.specs.LentBlocks.{block_at};
 ghost use Rattle.tl_csv.specs.declared.faults.CsvFault.TheVariants as csv_fault;
 ghost use Rattle.tl_session.specs.declared.readings.JobReading.TheVariants as reading;
 ghost use Rattle.tl_session.specs.Reading.{IsReading, IsFaultTold, DoesMatch, IsKnown, create_reading, load_reading, query_reading, statement_reading, text_of_answer};
@@ -90,8 +90,8 @@ fn load(
     place: usize,
 ) -> Result<JobReading, NoMemory>
     ensures reads { IfOk result (λ read.
-        read ≡ load_reading store.now name.now.text kind (block_at reader.old place)) }
-    ensures same { reader.new ≡ reader.old }
+        read ≡ load_reading store.now name.now.text kind (block_at reader.old.blocks place)) }
+    ensures same { reader.new.blocks ≡ reader.old.blocks }
     ensures told { IfOk result IsFaultTold }
     ensures matching { IfOk result (DoesMatch (database_of store.now)) }
     ensures known { IfOk result (IsKnown (database_of store.now)) }
@@ -157,7 +157,7 @@ fn ask<R: AllocGlobal + Threads + Sync, G: Gate>(
         (checked (length (commits_of snapshot.now)) (database_of (commits_of snapshot.now))
         query.now)) }
     ensures told { IfOk result IsFaultTold }
-    ensures same { crew.new.reader ≡ crew.old.reader }
+    ensures same { crew.new.reader.blocks ≡ crew.old.reader.blocks }
 {
     let typed = match check(rt.alloc(), query, snapshot.store()) {
         Ok(typed) => typed,
@@ -199,11 +199,11 @@ fn read_statement<R: AllocGlobal + Threads + Sync, G: Gate>(
 ) -> Result<JobReading, NoMemory>
     requires parsed { IsParsed statement.now }
     ensures reads { IfOk result (λ read. read ≡ statement_reading (commits_of snapshot.now)
-        statement.now (block_at crew.old.reader crew.old.place)) }
+        statement.now (block_at crew.old.reader.blocks crew.old.place)) }
     ensures told { IfOk result IsFaultTold }
     ensures matching { IfOk result (DoesMatch (database_of (commits_of snapshot.now))) }
     ensures known { IfOk result (IsKnown (database_of (commits_of snapshot.now))) }
-    ensures same { crew.new.reader ≡ crew.old.reader }
+    ensures same { crew.new.reader.blocks ≡ crew.old.reader.blocks }
 {
     let alloc = rt.alloc();
     let store = snapshot.store();
@@ -241,11 +241,11 @@ pub(crate) fn read_job<R: AllocGlobal + Threads + Sync, G: Gate>(
     crew: &mut Crew<'_, '_, G>,
 ) -> Result<JobReading, NoMemory>
     ensures reads { IfOk result (λ read. IsReading (commits_of snapshot.now) text.now
-        (block_at crew.old.reader crew.old.place) read) }
+        (block_at crew.old.reader.blocks crew.old.place) read) }
     ensures told { IfOk result IsFaultTold }
     ensures matching { IfOk result (DoesMatch (database_of (commits_of snapshot.now))) }
     ensures known { IfOk result (IsKnown (database_of (commits_of snapshot.now))) }
-    ensures same { crew.new.reader ≡ crew.old.reader }
+    ensures same { crew.new.reader.blocks ≡ crew.old.reader.blocks }
 {
     match parse(rt.alloc(), text) {
         Ok(statement) => read_statement(rt, snapshot, &statement, crew),

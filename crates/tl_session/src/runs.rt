@@ -45,10 +45,10 @@ fn reader_for<'a>(
     jobs: &[LentJob<'a>],
 ) -> Result<BlockReader<'a>, NoMemory>
     ensures { IfOk result
-        (λ reader. reader ≡ blocks_of (own_jobs author (map job_of jobs.now))) }
+        (λ reader. reader.blocks ≡ blocks_of (own_jobs author (map job_of jobs.now))) }
 {
     let blocks = own_blocks(alloc, author, jobs)?;
-    BlockReader::over(alloc, blocks)
+    BlockReader::over(alloc, blocks.as_slice())
 }
 
 // A session answers its own ones of these jobs, in order, until memory runs out, by one crew.
@@ -61,7 +61,7 @@ fn run_jobs<D: Disk, J: Named, G: Gate, R: AllocGlobal + Threads + Wait + Sync>(
     crew: &mut Crew<'_, '_, G>,
 )
     requires standard { J.limits ≡ standard_limits }
-    requires blocks { crew.old.reader
+    requires blocks { crew.old.reader.blocks
         ≡ blocks_of (own_jobs session.old.access.author (map job_of jobs.now)) }
     ensures ran { Ran (own_jobs session.old.access.author (map job_of jobs.now))
         session.old session.new }

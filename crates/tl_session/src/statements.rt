@@ -100,7 +100,7 @@ fn look_at<D: Disk, J: Named, G: Gate, R: AllocGlobal + Threads + Wait + Sync>(
     crew: &mut Crew<'_, '_, G>,
 ) -> Result<Look, NoMemory>
     requires admitted { admission.author ≡ access.old.author }
-    requires block { HasBlockAt job.now crew.old.reader crew.old.place }
+    requires block { HasBlockAt job.now crew.old.reader.blocks crew.old.place }
     ensures sees { SeesMore access.old access.new }
     ensures look { IfOk result (λ l. IsLook (job_of job.now) l.version l.reading access.new) }
     ensures known { IfOk result
@@ -109,7 +109,7 @@ fn look_at<D: Disk, J: Named, G: Gate, R: AllocGlobal + Threads + Wait + Sync>(
         (λ l. DoesMatch (database_of (commits_of access.new.seen)) l.reading) }
     ensures table { IfOk result
         (λ l. l.table ≡ reading_table (database_of (commits_of access.new.seen)) l.reading) }
-    ensures same { crew.new.reader ≡ crew.old.reader }
+    ensures same { crew.new.reader.blocks ≡ crew.old.reader.blocks }
 {
     let snapshot = access.look(rt, engine, admission)?;
     let version = snapshot.store().versions();
@@ -171,13 +171,13 @@ fn answer<D: Disk, J: Named, G: Gate, R: AllocGlobal + Threads + Wait + Sync>(
     requires standard { J.limits ≡ standard_limits }
     requires own { job.now.session ≡ access.old.author }
     requires admitted { admission.author ≡ access.old.author }
-    requires block { HasBlockAt job.now crew.old.reader crew.old.place }
+    requires block { HasBlockAt job.now crew.old.reader.blocks crew.old.place }
     ensures ok { IfOk result
         (λ s. Tells (job_of job.now) s.version s.body access.old access.new) }
     ensures names { IfOk result (λ s. NamesTable s.table s.version s.body access.new.seen) }
     ensures known { IfOk result (λ s. IsThere s.table access.new.seen) }
     ensures err { OnErr result (SeesMore access.old access.new) }
-    ensures same { crew.new.reader ≡ crew.old.reader }
+    ensures same { crew.new.reader.blocks ≡ crew.old.reader.blocks }
 {
     let Look {
         version,
@@ -209,11 +209,9 @@ fn answer<D: Disk, J: Named, G: Gate, R: AllocGlobal + Threads + Wait + Sync>(
 
 // A reader for the block of one job. The error is `NoMemory`.
 fn reader_of<'a>(alloc: Global, job: &LentJob<'a>) -> Result<BlockReader<'a>, NoMemory>
-    ensures { IfOk result (λ reader. HasBlockAt job.now reader 0) }
+    ensures { IfOk result (λ reader. HasBlockAt job.now reader.blocks 0) }
 {
-    let mut blocks = Vec::new(alloc);
-    blocks.push(job.block_bytes())?;
-    BlockReader::over(alloc, blocks)
+    BlockReader::over(alloc, &[job.block_bytes()])
 }
 
 // Whether memory did not run out while a table was tended.
@@ -258,10 +256,10 @@ pub(crate) fn run_job<D: Disk, J: Named, G: Gate, R: AllocGlobal + Threads + Wai
 ) -> Result<(), NoMemory>
     requires standard { J.limits ≡ standard_limits }
     requires own { job.now.session ≡ session.old.access.author }
-    requires block { HasBlockAt job.now crew.old.reader crew.old.place }
+    requires block { HasBlockAt job.now crew.old.reader.blocks crew.old.place }
     ensures ok { OnOk result (AnswersJob k (job_of job.now) session.old session.new) }
     ensures err { OnErr result (Stops (job_of job.now) session.old session.new) }
-    ensures same { crew.new.reader ≡ crew.old.reader }
+    ensures same { crew.new.reader.blocks ≡ crew.old.reader.blocks }
 {
     let admission = Admission::at(crew.gate, session.access.author());
     session.replies.reserve(1)?;

@@ -10,5 +10,5 @@ abbrev pub invariant-loop-job : goal.invariant-loop-job
 invariant-loop-job g l =
     RanAll (own_jobs l.initial.session.access.author (map job_of (take l.job-index l.jobs))) l.initial.session l.session
     × (l.place ≡ length (own_jobs l.initial.session.access.author (map job_of (take l.job-index l.jobs))))
-    × (l.crew.reader ≡ l.initial.crew.reader)
+    × (l.crew.reader.blocks ≡ l.initial.crew.reader.blocks)
     × (WereTended l.k l.initial.session.access.seen l.initial.session.replies → WereTended l.k l.session.access.seen l.session.replies)

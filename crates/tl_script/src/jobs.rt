@@ -1,4 +1,5 @@
-//! Why the jobs of a script are not handed out.
+//! Why the jobs of a script are not handed out: its seven faults, each with the number of a line,
+//! or that memory ran out.
 ghost use Rattle.std.specs.Prelude.{◌≡◌};
 
 use std::alloc::AllocFailed;

@@ -195,9 +195,9 @@ asked_again : (ahead : List ℕ → ScriptReading) (names : List (List ℕ)) (ta
     → IsNeeded ahead names (taken ++ more)
 asked_again ahead names taken more needed undecided few =
     inr (record { in_hand = at_first needed; front = taken; last = more; parts = refl; bound = few; undecided = undecided }) where
-  at_first : IsNeeded ahead names taken → ahead [] ≡ no_phase names
-  at_first (inl none) = ap ahead (sym none) ∙ undecided
-  at_first (inr asked) = asked.in_hand
+      at_first : IsNeeded ahead names taken → ahead [] ≡ no_phase names
+      at_first (inl none) = ap ahead (sym none) ∙ undecided
+      at_first (inr asked) = asked.in_hand
 
 -- what was read before a read, and the bytes that it took
 pub read_more : (limits limits-2 : Limits) (old spot new : Spot) (pending rest rest-2 taken : List ℕ) (before middle after : Option (List ℕ))
@@ -209,12 +209,12 @@ read_more limits limits-2 old spot new pending rest rest-2 taken before middle a
     let both : length (so_far.taken ++ taken) ≡ length so_far.taken + length taken = length-append so_far.taken taken in
     let both_rest : length (rest-2 ++ taken) ≡ length rest-2 + length taken = length-append rest-2 taken in
     let undecided : part_ahead limits old pending so_far.taken ≡ no_phase old.before =
-        sym (nothing_more (pending ++ so_far.taken) old limits false)
-        ∙ (so_far.read false []
-        ∙ (says.2 false []
-        ∙ (nothing_more rest-2 new limits false
-        ∙ (part_silent limits new rest-2 says.0
-        ∙ ap no_phase same)))) in
+    sym (nothing_more (pending ++ so_far.taken) old limits false)
+    ∙ (so_far.read false []
+    ∙ (says.2 false []
+    ∙ (nothing_more rest-2 new limits false
+    ∙ (part_silent limits new rest-2 says.0
+    ∙ ap no_phase same)))) in
     record {
       taken = so_far.taken ++ taken;
       order = so_far.order ∙ (ap (prepend_known so_far.taken) order ∙ sym (prepend_both so_far.taken taken after));

@@ -45,7 +45,7 @@ pub enum NextError {
     NoMemory,
     /// The source failed. `faults` is its count of faults, which rose.
     Source {
-        /// The count.
+        /// Its count of faults.
         faults: u64,
     },
     /// The next phase has this fault.

@@ -21,13 +21,13 @@ pub enum ListStatus {
     /// The source failed, and nothing is written. `faults` is its count of faults, which rose in
     /// this call.
     SourceFault {
-        /// The count.
+        /// Its count of faults.
         faults: u64,
     },
     /// The sink failed behind some first part of what was to be written. `faults` is its count of
     /// faults, which rose in this call.
     SinkFault {
-        /// The count.
+        /// Its count of faults.
         faults: u64,
     },
     /// The source's bytes are not listed, for this fault, and the line that says so is written.

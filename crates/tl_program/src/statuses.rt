@@ -19,19 +19,19 @@ pub enum Status {
     Usage,
     /// The source failed. `faults` is its count of faults, which rose in this call.
     SourceFault {
-        /// The count.
+        /// Its count of faults.
         faults: u64,
     },
     /// The sink failed. `faults` is its count of faults, which rose in this call.
     SinkFault {
-        /// The count.
+        /// Its count of faults.
         faults: u64,
     },
     /// The disk failed: while the journal was made or opened, and nothing was run; or when a commit
     /// was appended, behind which queries are still answered and batches refused. `faults` is its
     /// count of faults, which rose in this call.
     DiskFault {
-        /// The count.
+        /// Its count of faults.
         faults: u64,
     },
     /// The script has this fault, and no statement of its phase is run.

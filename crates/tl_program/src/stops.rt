@@ -14,12 +14,12 @@ pub(crate) enum Stop {
     Fault(ScriptFault),
     /// The source failed. `faults` is its count of faults.
     Source {
-        /// The count.
+        /// Its count of faults.
         faults: u64,
     },
     /// The sink failed. `faults` is its count of faults.
     Sink {
-        /// The count.
+        /// Its count of faults.
         faults: u64,
     },
     /// Memory ran out.

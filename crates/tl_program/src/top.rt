@@ -13,7 +13,7 @@ ghost use Rattle.tl_program.specs.Sample.{sample_reading};
 
 use crate::alone::empty_disk;
 use crate::closing::{close, close_run, end_refused};
-use crate::commands::{Settings, Command, settings_of};
+use crate::commands::{Command, Settings, settings_of};
 use crate::no_source::NoSource;
 use crate::opened::{Attached, Finished, run_opened};
 use crate::phases::{BlockPhase, Phases};
@@ -34,9 +34,9 @@ use tl_types::{Limits, NoMemory};
 /// How a run ended, and the disk that it was given.
 #[derive(Drop)]
 pub struct Ending<D> {
-    /// How it ended.
+    /// How it ended, which is the exit status of the program.
     pub status: Status,
-    /// The disk.
+    /// The disk that was handed in, as the run left it.
     pub disk: D,
 }
 

@@ -1,8 +1,8 @@
 //! The listing of commits: a line of CSV each, with what the commit does. It reads them one after
 //! the other, and refuses nothing but where memory runs out.
-ghost use Rattle.std.specs.Prelude.{◌≡◌, ◌++◌, ◌<◌, ◌+◌, IfOk, OnOk, Some, slice_get};
+ghost use Rattle.std.specs.Prelude.{◌≡◌, ◌++◌, ◌<◌, ◌+◌, IfOk, OnOk, Some, length, slice_get};
 ghost use Rattle.std.specs.String.{string_bytes};
-ghost use Rattle.tl_types.specs.History.{database_of};
+ghost use Rattle.tl_types.specs.History.{closed_by, database_of, opened_by};
 ghost use Rattle.tl_log.specs.Listing.{name_at, table_name, deed_words, commit_line, lines_from, log_text};
 
 use crate::lines::{begun_with, put_text};
@@ -37,20 +37,36 @@ fn table_name<'a>(store: &'a Store, body: &'a Body) -> &'a str
     }
 }
 
+fn closed_count(body: &Body) -> usize
+    ensures { result ≡ length (closed_by body.now) }
+{
+    match body {
+        Body::Change(change) => change.closes().len(),
+        _ => 0,
+    }
+}
+
+fn opened_count(body: &Body) -> usize
+    ensures { result ≡ length (opened_by body.now) }
+{
+    match body {
+        Body::Change(change) => change.opens().len(),
+        _ => 0,
+    }
+}
+
 // What a commit does, how many rows it closes and opens, and the moment and the floor that it
 // states: the end of its line.
 fn deed_words(alloc: Global, body: &Body) -> Result<String, NoMemory>
     ensures { IfOk result (λ text. string_bytes text ≡ deed_words body.now) }
 {
+    let closed = closed_count(body);
+    let opened = opened_count(body);
     match body {
-        Body::Create(_) => String::from_str(alloc, "create,0,0,,\n"),
-        Body::Change(change) => {
-            let closed = change.closes().len();
-            let opened = change.opens().len();
-            format!(in alloc; "change,{closed},{opened},,\n")
-        }
-        Body::Moment { moment } => format!(in alloc; "moment,0,0,{moment},\n"),
-        Body::Forget { floor, .. } => format!(in alloc; "forget,0,0,,{floor}\n"),
+        Body::Create(_) => format!(in alloc; "create,{closed},{opened},,\n"),
+        Body::Change(_) => format!(in alloc; "change,{closed},{opened},,\n"),
+        Body::Moment { moment } => format!(in alloc; "moment,{closed},{opened},{moment},\n"),
+        Body::Forget { floor, .. } => format!(in alloc; "forget,{closed},{opened},,{floor}\n"),
     }
 }
 

@@ -200,7 +200,7 @@ in-append db (entry.Commit d ∷ es) fs = in-append db es fs
 in-append db (entry.Mark t v ∷ es) fs = ap (λ xs. checkpoint_at db t v ∷ xs) (in-append db es fs)
 in-append db (entry.Break d ∷ es) fs = in-append db es fs
 
-abbrev put_mark : List (List Checkpoint) → Checkpoint → List (List Checkpoint)
+abbrev pub put_mark : List (List Checkpoint) → Checkpoint → List (List Checkpoint)
 put_mark marks mark = with_mark mark marks
 
 pub marks_with : (db : plain.Database) (es fs : List Entry) → fold put_mark (marks_in db es) (checkpoints_in db fs) ≡ marks_in db (es ++ fs)

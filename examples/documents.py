@@ -59,9 +59,10 @@ def the_table_has_each_fault():
     judge("faults without a sentence", not wanted - found, sorted(wanted - found))
     judge("sentences without a fault", not found - wanted, sorted(found - wanted))
     judge("a fault with two sentences", len(told) == len([it for it in rows if not it[0].startswith("-")]))
-    command = text_of("timeline")
+    command = text_of("script/explain.awk")
     for fault, case in sorted(told):
-        judge(f"the case '{case}' of {fault}", case == "" or f'"{case}"' in command, "the command does not tell it apart")
+        is_told = case == "" or f'"{case}"' in command or re.search(rf"\b{case}\b", command)
+        judge(f"the case '{case}' of {fault}", is_told, "the command does not tell it apart")
     formats = text_of("docs/FORMATS.md").split("\n## Fault words\n")[1].split("\n## ")[0]
     for fault in sorted(wanted - LINES):
         if " " not in fault:

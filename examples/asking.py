@@ -119,6 +119,8 @@ def questions_in_one_line():
         judge("ask, refused", found[:2] == (20, "id\n1\n") and found[2].startswith(told), found)
         for text in ("PUT staff", "MOMENT 5", "SELECT id FROM staff; CREATE TABLE t (k INT) KEY k", "", " ; "):
             judge(f"ask {text}", run(["ask", text], room=room)[:2] == (2, "! usage\n"), text)
+        found = run(["run", "SELECT id FROM staff"], room=room)
+        judge("a query in place of a file", found[:2] == (2, "! usage\n") and './timeline ask "SELECT id FROM staff"' in found[2], found)
         # While another program has the journal, and where it may only be read.
         os.chmod(f"{room}/timeline.tlj", 0o400)
         with open(f"{room}/timeline.tlj", "rb") as other:

@@ -1,6 +1,6 @@
 # `ask` answers queries over a look at the journal: the names of the columns, then the rows as CSV, on a terminal laid
 # under each other; refusals are explained, and then it ends with 20.
-# shellcheck shell=bash disable=SC2154
+# shellcheck shell=bash disable=SC2034,SC2154
 
 # Keeps the statements of a text in the array `asked`, parted by `;` outside of quotes, with days as moments.
 part_statements() {

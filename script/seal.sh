@@ -1,6 +1,6 @@
 # `seal` says of the journal, up to its last record, how long it is and its checksum; `seal --check` tries such lines. A
 # journal only grows behind its last record, so a line stays true for ever.
-# shellcheck shell=bash disable=SC2154
+# shellcheck shell=bash disable=SC2034,SC2154
 
 # Tries each line of a file: check_seals FILE
 check_seals() {

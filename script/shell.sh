@@ -1,6 +1,6 @@
 # `shell` is a prompt: statements end with `;`, need no session name and no GO, and one program runs all the while. Rows
 # stand behind the names of their columns, and refusals are explained.
-# shellcheck shell=bash disable=SC2154,SC1003
+# shellcheck shell=bash disable=SC2034,SC2154,SC1003
 
 # Reads replies, and prints how each statement was answered; rows go into a file, behind the names of their columns.
 format_replies() {

@@ -1,6 +1,6 @@
 //! The call that lists: it reads a source to its end, opens the journal in memory, and writes the
 //! listing, or the line that says why there is none. It writes to no disk.
-ghost use Rattle.std.specs.Prelude.{◌≡◌, ◌×◌, ℕ, Some};
+ghost use Rattle.std.specs.Prelude.{◌≡◌, ℕ, Some};
 ghost use Rattle.tl_device.specs.Known.{Rose};
 ghost use Rattle.tl_log.specs.Ending.{fault_status, EndsListing, WritesAll};
 ghost use Rattle.tl_log.specs.declared.top.ListStatus.TheVariants as status;

@@ -1,11 +1,12 @@
 -- Blocks that are lent, and those of them that stand in one text.
-use Rattle.std.proofs.Common.{◌≡◌, ℕ, zero, suc, ◌+◌, ◌<◌, length, Bool, true, false, List, [], ◌∷◌, ◌++◌, Some, None, refl, sym, ap, ◌∙◌, arith, drop, take, get_or, map, append_assoc, slice_get, map-append, cond}
+use Rattle.std.proofs.Common.{◌≡◌, ℕ, zero, suc, ◌+◌, ◌<◌, length, Bool, true, false, List, [], ◌∷◌, ◌++◌, Some, None, refl, sym, ap, ◌∙◌, subst, arith, drop, take, get_or, map, append_assoc, slice_get, map-append, cond}
 use Rattle.std.proofs.lemmas.List.{take_more}
 use Rattle.tl_csv.specs.declared.lent_blocks.LentBlock.{LentBlock}
 use Rattle.tl_csv.specs.declared.reading.BlockRecords.{BlockRecords}
-use Rattle.tl_csv.specs.BlockRecords.{IsBefore}
+use Rattle.tl_csv.specs.BlockRecords.{IsBefore, IsBlock, behind_block}
 use Rattle.tl_csv.specs.LentBlocks.{block_at, bytes_of, plain_of}
-use Rattle.tl_csv.specs.Separators.{separated_text, separator, ArePlain, IsPlain}
+use Rattle.tl_csv.specs.Separators.{separated_text, separator, AreOfBlocks, ArePlain, IsPlain}
+use Rattle.tl_csv.proofs.SeparatorLemmas.{first_block}
 
 -- one more block
 plain_more : (xs : List LentBlock) (x : LentBlock) → plain_of (xs ++ x ∷ []) ≡ plain_of xs ++ plain_of (x ∷ [])
@@ -47,6 +48,34 @@ pub passed_at : (xs : List LentBlock) (p : ℕ) (x : LentBlock) → slice_get xs
 passed_at xs p x h not =
     let (at, block) = drop_at xs p x h in
     rw (at, not) refl
+
+-- behind the last block there is none
+none_at : (xs : List LentBlock) (p : ℕ) → slice_get xs p ≡ None → (drop p xs ≡ []) × (drop (p + 1) xs ≡ [])
+none_at [] zero h = (refl, refl)
+none_at [] (suc p) h = let more : suc p + 1 ≡ suc (p + 1) = omega arith in rw more (refl, refl)
+none_at (x ∷ xs) zero h = absurd (cc)
+none_at (x ∷ xs) (suc p) h = let more : suc p + 1 ≡ suc (p + 1) = omega arith in rw more (none_at xs p h)
+
+pub past_at : (xs : List LentBlock) (p : ℕ) → slice_get xs p ≡ None → plain_of (drop p xs) ≡ plain_of (drop (p + 1) xs)
+past_at xs p h =
+    let (at, behind) = none_at xs p h in
+    rw (at, behind) refl
+
+-- what is known of a place by whether its block stands in the text
+pub ruleset places = (plain_at, passed_at, past_at)
+
+-- THE FIRST BLOCK
+
+pub first_is : (b : BlockRecords) (all : List (List ℕ)) (block : List ℕ) (rest : List (List ℕ)) → all ≡ block ∷ rest → IsBefore b all → IsBlock b
+first_is b all block rest e h = (first_block b block rest (rw e at h)).is
+
+pub first_behind : (b : BlockRecords) (all : List (List ℕ)) (block : List ℕ) (rest : List (List ℕ)) → all ≡ block ∷ rest → IsBefore b all → AreOfBlocks (behind_block b) rest
+first_behind b all block rest e h = (first_block b block rest (rw e at h)).behind
+
+pub before_same : (b : BlockRecords) (all others : List (List ℕ)) → all ≡ others → IsBefore b all → IsBefore b others
+before_same b all others e h = subst (IsBefore b) e h
+
+pub ruleset first_block_rules = (first_is, first_behind, before_same)
 
 -- the text of one block more
 separated_more : (xs ys : List (List ℕ)) → separated_text (xs ++ ys) ≡ separated_text xs ++ separated_text ys

@@ -1,6 +1,8 @@
 -- Blocks that are lent, and those of them that stand in one text.
-use Rattle.std.proofs.Common.{◌≡◌, ℕ, zero, suc, ◌+◌, ◌<◌, length, Bool, true, false, List, [], ◌∷◌, ◌++◌, Some, None, refl, sym, ap, ◌∙◌, subst, arith, drop, take, get_or, map, append_assoc, slice_get, map-append, cond}
-use Rattle.std.proofs.lemmas.List.{take_more}
+use Rattle.std.proofs.Common.{◌≡◌, ℕ, zero, suc, ◌+◌, ◌<◌, length, Bool, true, false, List, [], ◌∷◌, ◌++◌, Some, None, refl, sym, ap, ◌∙◌, subst, arith, drop, take, get_or, append_assoc, slice_get, cond}
+use Rattle.std.specs.Borrow.{Bor}
+use Rattle.std.specs.List.{flat_map}
+use Rattle.std.proofs.lemmas.List.{map-append, take_more}
 use Rattle.tl_csv.specs.declared.lent_blocks.LentBlock.{LentBlock}
 use Rattle.tl_csv.specs.declared.reading.BlockRecords.{BlockRecords}
 use Rattle.tl_csv.specs.BlockRecords.{IsBefore, IsBlock, behind_block}
@@ -9,12 +11,13 @@ use Rattle.tl_csv.specs.Separators.{separated_text, separator, AreOfBlocks, AreP
 use Rattle.tl_csv.proofs.SeparatorLemmas.{first_block}
 
 -- one more block
+put_more : (block : List ℕ) (t : Bool) (all more alone : List (List ℕ)) → more ≡ all ++ alone → cond t (block ∷ more) more ≡ cond t (block ∷ all) all ++ alone
+put_more block true all more alone h = ap (λ z. block ∷ z) h
+put_more block false all more alone h = h
+
 plain_more : (xs : List LentBlock) (x : LentBlock) → plain_of (xs ++ x ∷ []) ≡ plain_of xs ++ plain_of (x ∷ [])
 plain_more [] x = refl
-plain_more (y ∷ xs) x = kept y.is_plain where
-  kept : (t : Bool) → cond t (y.bytes.now ∷ plain_of (xs ++ x ∷ [])) (plain_of (xs ++ x ∷ [])) ≡ cond t (y.bytes.now ∷ plain_of xs) (plain_of xs) ++ plain_of (x ∷ [])
-  kept true = ap (λ all. y.bytes.now ∷ all) (plain_more xs x)
-  kept false = plain_more xs x
+plain_more (y ∷ xs) x = put_more y.bytes.now y.is_plain (plain_of xs) (plain_of (xs ++ x ∷ [])) (plain_of (x ∷ [])) (plain_more xs x)
 
 are_plain_more : (xs ys : List (List ℕ)) → ArePlain xs → ArePlain ys → ArePlain (xs ++ ys)
 are_plain_more [] ys h g = g
@@ -84,6 +87,10 @@ separated_more (x ∷ xs) ys =
     ap (λ text. x ++ (separator ++ text)) (separated_more xs ys)
     ∙ sym (append_assoc x (separator ++ separated_text xs) (separated_text ys))
 
-pub pieces_next : (blocks : List LentBlock) (i : ℕ) (d : LentBlock) → i < length blocks → separated_text (plain_of (take (i + 1) blocks)) ≡ separated_text (plain_of (take i blocks)) ++ separated_text (plain_of (get_or blocks i d ∷ []))
+pieces_next : (blocks : List LentBlock) (i : ℕ) (d : LentBlock) → i < length blocks → separated_text (plain_of (take (i + 1) blocks)) ≡ separated_text (plain_of (take i blocks)) ++ separated_text (plain_of (get_or blocks i d ∷ []))
 pieces_next blocks i d within =
     rw (take_more blocks i d within, plain_more (take i blocks) (get_or blocks i d)) (separated_more (plain_of (take i blocks)) (plain_of (get_or blocks i d ∷ [])))
+
+pub pieces_more : (pieces new : List (Bor (List ℕ))) (blocks : List LentBlock) (i : ℕ) (d : LentBlock) → i < length blocks → flat_map (λ p. p.now) new ≡ flat_map (λ p. p.now) pieces ++ separated_text (plain_of (get_or blocks i d ∷ []))
+    → flat_map (λ p. p.now) pieces ≡ separated_text (plain_of (take i blocks)) → flat_map (λ p. p.now) new ≡ separated_text (plain_of (take (i + 1) blocks))
+pieces_more pieces new blocks i d within h before = h ∙ (rw before (sym (pieces_next blocks i d within)))

@@ -1,5 +1,5 @@
-//! One reader for several blocks: each is asked for by its place among them. Those that may stand in
-//! one text are read by one reader of CSV, the others each by one of its own.
+//! One reader for several blocks: each is asked for by its place among them. Those that may stand
+//! in one text are read by one reader of CSV, the others each by one of its own.
 ghost use Rattle.std.specs.Prelude.{◌≡◌, ◌≢◌, ◌≤◌, ◌+◌, ◌∷◌, List, ℕ, IfOk, IfErr, IfSome, OnOk, Ok, Err, true, drop, length, map};
 ghost use Rattle.tl_csv.specs.declared.faults.CsvFault.TheVariants as fault;
 ghost use Rattle.tl_csv.specs.Block.{batch_of, records_of, rows_of, IsBatchFor};

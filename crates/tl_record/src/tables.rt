@@ -1,5 +1,5 @@
-//! New tables of a record: their columns, and their schema. A name twice, a key that is no column, or
-//! more columns than sixteen is `Bad`.
+//! New tables of a record: their columns, and their schema. A name twice, a key that is no column,
+//! or more columns than sixteen is `Bad`.
 ghost use Rattle.std.specs.Prelude.{◌≡◌, []};
 ghost use Rattle.tl_record.specs.Reading.{
   Gives,

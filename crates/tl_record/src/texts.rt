@@ -1,5 +1,5 @@
-//! Names and texts of a record: a length, and bytes in UTF-8. A text that is cut is `Short` where it
-//! can still become one, and what is no text or no new name is `Bad`.
+//! Names and texts of a record: a length, and bytes in UTF-8. A text that is cut is `Short` where
+//! it can still become one, and what is no text or no new name is `Bad`.
 ghost use Rattle.std.specs.Prelude.{◌≡◌, ◌≤◌, ◌++◌, length, replicate, IfOk};
 ghost use Rattle.std.specs.List.{list_all, list_any};
 ghost use Rattle.std.specs.Str.{is_utf8};

@@ -1,6 +1,5 @@
 -- Several blocks as one text.
-use Rattle.std.proofs.Common.{◌≡◌, ℕ, zero, suc, ◌+◌, ◌-◌, ◌<◌, ◌==◌, Bool, true, false, cond, ◌||◌, List, [], ◌∷◌, ◌++◌, length, Option, Some, None, refl, sym, ap, ◌∙◌, arith, drop, take, get_or, map, append_assoc, slice_get, nat_eq}
-use Rattle.std.specs.List.{flat_map}
+use Rattle.std.proofs.Common.{◌≡◌, ℕ, zero, suc, ◌+◌, ◌-◌, ◌<◌, ◌==◌, Bool, true, false, cond, ◌||◌, List, [], ◌∷◌, ◌++◌, length, Option, Some, None, refl, ap, ◌∙◌, arith, slice_get, nat_eq}
 use Rattle.csv.specs.Machine.{Read, next_record, step, in_field, start_field, start_record, ends_with, after_end, ends_at_end, is_end, fields_after, field_after}
 use Rattle.csv.specs.Reading.{default_config, strip_bom}
 use Rattle.csv.specs.declared.parser.Action.{Action}
@@ -10,10 +9,9 @@ use Rattle.csv.specs.declared.parser.State.TheVariants as st
 use Rattle.csv.specs.declared.parser.Terminator.TheVariants as term
 use Rattle.tl_csv.specs.Block.{records_of}
 use Rattle.tl_csv.specs.ByteOrderMarks.{past_byte_order_marks}
-use Rattle.tl_csv.specs.Separators.{separator, separated_text, is_quote, is_separator, has_separator, before_separator, behind_separator, AreOfBlocks, has_quote, ends_line, begins_plain, IsPlain, ArePlain}
+use Rattle.tl_csv.specs.Separators.{separator, separated_text, is_quote, is_separator, has_separator, before_separator, behind_separator, AreOfBlocks, has_quote, ends_line, begins_plain, ArePlain}
 use Rattle.csv.specs.Records.{field_at}
 use Rattle.tl_csv.specs.declared.reading.BlockRecords.{BlockRecords}
-use Rattle.std.specs.Borrow.{Bor}
 use Rattle.csv.specs.declared.reader.Reader.{Reader}
 use Rattle.tl_csv.specs.BlockRecords.{KeepsBlock, IsBlock, IsBefore, StandsBefore, block_left, behind_block}
 use Rattle.tl_csv.specs.Reading.{records_on, records_left, IsReading}

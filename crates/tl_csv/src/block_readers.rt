@@ -1,6 +1,6 @@
-//! One reader for several blocks: each is asked for by its place among them. Those that may stand in
-//! one text are read by one reader of CSV, the others each by one of its own.
-ghost use Rattle.std.specs.Prelude.{◌≡◌, ◌≢◌, ◌≤◌, ◌<◌, ◌∷◌, List, ℕ, IfOk, IfErr, IfSome, OnOk, Ok, Err, true, drop, length, map};
+//! One reader for several blocks: each is asked for by its place among them. Those that may stand
+//! in one text are read by one reader of CSV, the others each by one of its own.
+ghost use Rattle.std.specs.Prelude.{◌≡◌, ◌≢◌, ◌≤◌, ◌+◌, ◌∷◌, List, ℕ, IfOk, IfErr, IfSome, OnOk, Ok, Err, true, drop, length, map};
 ghost use Rattle.tl_csv.specs.declared.faults.CsvFault.TheVariants as fault;
 ghost use Rattle.tl_csv.specs.Block.{batch_of, records_of, rows_of, IsBatchFor};
 ghost use Rattle.tl_csv.specs.BlockRecords.{behind_block, IsBefore, IsBlock, StandsBefore};
@@ -34,19 +34,20 @@ fn pass_block(alloc: Global, records: &mut BlockRecords<'_>) -> Result<(), NoMem
 }
 
 // Goes on to what is behind the block at a place, which may stand in the text or not.
+#[tactic(auto, using(crate::proofs::Lent::first_block_rules))]
 fn pass_place(
     alloc: Global,
     records: &mut BlockRecords<'_>,
     blocks: &[LentBlock<'_>],
     place: usize,
 ) -> Result<(), NoMemory>
-    requires within { place < length blocks.now }
-    requires before { IsBefore records.old (plain_of (drop place blocks.now)) }
+    requires { IsBefore records.old (plain_of (drop place blocks.now)) }
     ensures { OnOk result (IsBefore records.new (plain_of (drop (place + 1) blocks.now))) }
 {
-    if blocks[place].is_plain {
-        pass_block(alloc, records)?;
+    if !is_plain_at(blocks, place) {
+        return Ok(());
     }
+    pass_block(alloc, records)?;
     Ok(())
 }
 
@@ -60,7 +61,6 @@ fn records_at<'a>(
 ) -> Result<BlockRecords<'a>, NoMemory>
     requires stands { StandsBefore reader.value (plain_of (drop from blocks.now)) }
     requires from { from ≤ place }
-    requires within { place < length blocks.now }
     ensures { IfOk result (λ records. IsBefore records (plain_of (drop place blocks.now))) }
 {
     let mut records = BlockRecords {
@@ -75,6 +75,7 @@ fn records_at<'a>(
 }
 
 // A reader of those of the blocks that stand in one text, where they are two or more.
+#[tactic(auto, using(crate::proofs::SeparatorLemmas::before_all))]
 fn text_reader<'a>(
     alloc: Global,
     blocks: &[LentBlock<'a>],
@@ -87,7 +88,8 @@ fn text_reader<'a>(
         return Ok(None);
     }
     let bytes = BlockBytes::of_plain(alloc, blocks)?;
-    Ok(Some(reader_of(alloc, bytes)?))
+    let reader = reader_of(alloc, bytes)?;
+    Ok(Some(reader))
 }
 
 /// Reads blocks as batches, each asked for by its place, with one reader for those that can stand
@@ -140,12 +142,16 @@ impl<'a> BlockReader<'a> {
     }
 
     // The records of the block at a place, where it is one of those to come in the text.
+    #[tactic(auto, using(crate::proofs::Lent::first_block_rules))]
     fn take(&mut self, alloc: Global, place: usize) -> Result<Option<BlockRecords<'a>>, NoMemory>
         ensures same { self.new.blocks ≡ self.old.blocks }
         ensures before { IfOk result (λ taken. IfSome taken (λ records.
             IsBefore records (block_at self.old.blocks place ∷ self.new.to_come))) }
     {
-        if place < self.next || !is_plain_at(self.blocks.as_slice(), place) {
+        if place < self.next {
+            return Ok(None);
+        }
+        if !is_plain_at(self.blocks.as_slice(), place) {
             return Ok(None);
         }
         let Some(reader) = self.reader.take() else {
@@ -170,6 +176,7 @@ impl<'a> BlockReader<'a> {
     }
 
     // The rows of the block at a place.
+    #[tactic(auto, using(crate::proofs::Lent::first_block_rules))]
     fn rows_at(
         &mut self,
         alloc: Global,

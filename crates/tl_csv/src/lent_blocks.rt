@@ -1,6 +1,6 @@
 //! Blocks that are lent, and which of them may stand in one text: those of at most 64 KB without a
 //! quote, of which the first byte begins no byte order mark and the last is LF.
-ghost use Rattle.std.specs.Prelude.{◌≡◌, ◌++◌, ◌∷◌, ◌<◌, ◌+◌, [], IfOk, OnOk, true, drop, length, map};
+ghost use Rattle.std.specs.Prelude.{◌≡◌, ◌++◌, ◌∷◌, ◌<◌, ◌+◌, [], IfOk, OnOk, true, false, drop, length, map};
 ghost use Rattle.tl_csv.specs.LentBlocks.{block_at, bytes_of, plain_of};
 ghost use Rattle.tl_csv.specs.Separators.{begins_plain, ends_line, has_quote, ArePlain, IsPlain};
 
@@ -59,7 +59,7 @@ pub struct LentBlock<'a> {
 }
 
 // Puts a block behind others.
-#[tactic(auto, using(crate::proofs::LentBlockLemmas::plain_behind, crate::proofs::LentBlockLemmas::bytes_behind))]
+#[tactic(auto, using(crate::proofs::Lent::plain_behind, crate::proofs::Lent::bytes_behind))]
 fn push_block<'a>(blocks: &mut Vec<LentBlock<'a>>, block: &'a [u8]) -> Result<(), NoMemory>
     requires { ArePlain (plain_of blocks.old.items) }
     ensures plain { OnOk result (ArePlain (plain_of blocks.new.items)) }
@@ -108,11 +108,13 @@ pub fn block_at<'a>(blocks: &[LentBlock<'a>], place: usize) -> &'a [u8]
 }
 
 /// Whether there is a block at a place that stands in the text.
-#[tactic(auto, using(crate::proofs::LentBlockLemmas::plain_at))]
+#[tactic(auto, using(crate::proofs::Lent::places))]
 pub fn is_plain_at(blocks: &[LentBlock<'_>], place: usize) -> bool
     ensures within { result ≡ true → place < length blocks.now }
     ensures first { result ≡ true → plain_of (drop place blocks.now)
         ≡ block_at (bytes_of blocks.now) place ∷ plain_of (drop (place + 1) blocks.now) }
+    ensures other { result ≡ false → plain_of (drop place blocks.now)
+        ≡ plain_of (drop (place + 1) blocks.now) }
 {
     match blocks.get(place) {
         Some(block) => block.is_plain,

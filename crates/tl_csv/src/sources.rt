@@ -1,4 +1,5 @@
-//! The bytes that the records of a block, or of several, are read from.
+//! The bytes that the records of a block, or of several with a separator behind each, are read
+//! from. They are lent and not copied together.
 ghost use Rattle.std.specs.Prelude.{◌≡◌, ◌++◌, ◌∷◌, [], drop, Some, IfOk, OnOk};
 ghost use Rattle.std.specs.Io.{ReadsAtMost};
 ghost use Rattle.std.specs.Io.KnownBytes.{ReadConsumes};

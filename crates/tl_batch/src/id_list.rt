@@ -1,5 +1,4 @@
-//! Ids that are collected, in any order and maybe more than once, and handed out ascending and once
-//! each. It refuses nothing but memory.
+//! Ids that are collected.
 ghost use Rattle.std.specs.Prelude.{◌≡◌, ◌||◌, ◌==◌, ℕ, [], OnOk};
 ghost use Rattle.tl_types.specs.Facts.{AscendFrom};
 ghost use Rattle.tl_types.specs.History.{has_id};

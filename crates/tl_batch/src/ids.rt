@@ -1,5 +1,4 @@
-//! Sets of ids: a few that ascend in a list, and the others in a tree. An id stands once, however
-//! often it is added.
+//! Sets of ids.
 ghost use Rattle.std.specs.Prelude.{◌≡◌, ◌<◌, ◌||◌, ◌&&◌, not, true, false, ◌==◌, IsTrue, ℕ, ◌++◌, ◌∷◌, [], Some, OnOk, OnErr, IfSome, IfNone, length, slice_get};
 ghost use Rattle.tl_types.specs.Facts.{AscendFrom};
 ghost use Rattle.tl_types.specs.History.{has_id};

@@ -1,5 +1,4 @@
-//! A table of a store, with the ids of its open rows by their keys: rows and periods are read from
-//! the one, and found by the other. It is lent, and changes nothing.
+//! A table of a store, with the ids of its open rows by their keys.
 ghost use Rattle.std.specs.Prelude.{◌≡◌, ◌<◌, ◌≤◌, ◌++◌, ℕ, true, Some, IfOk, OnOk, length, slice_get, option_map};
 ghost use Rattle.tl_types.specs.declared.cells.Cell.{Cell};
 ghost use Rattle.tl_types.specs.Plain as plain;

@@ -1,5 +1,4 @@
-//! What lines leave of a period: parts in order, of which none is empty. It refuses nothing but
-//! memory.
+//! What lines leave of a period.
 ghost use Rattle.std.specs.Prelude.{◌≡◌, ◌++◌, ◌<ℤ◌, IfOk, OnOk};
 ghost use Rattle.tl_batch.specs.Pieces.{part};
 

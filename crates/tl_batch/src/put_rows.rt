@@ -1,5 +1,4 @@
-//! The rows that a batch puts, lent or handed over: a commit takes over what was handed over, and
-//! copies what is lent.
+//! The rows that a batch puts.
 ghost use Rattle.std.specs.Prelude.{◌≡◌, IfOk};
 ghost use Rattle.tl_batch.specs.PutRows.{rows_put};
 

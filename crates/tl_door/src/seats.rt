@@ -1,5 +1,4 @@
-//! Seats of a door: what each has seen, which only grows. A seat learns from another what that one
-//! has seen.
+//! Seats of a door.
 ghost use Rattle.std.specs.Prelude.{◌≡◌, ◌⊎◌, false, true};
 ghost use mathlib.Core.List.{IsPrefix};
 ghost use Rattle.tl_door.specs.declared.views.Stage.TheVariants.{Idle};

@@ -1,5 +1,4 @@
-//! The steps of a door, over seats of its table, each one step of the table that they share. A turn
-//! that has not come is waited for.
+//! The steps of a door, over seats of its table.
 ghost use Rattle.std.specs.Prelude.{◌≡◌, ◌++◌, ◌∷◌, [], length, true};
 ghost use mathlib.Core.List.{IsPrefix};
 ghost use Rattle.tl_types.specs.declared.commits.Entry.{Entry};

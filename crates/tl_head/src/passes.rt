@@ -1,5 +1,4 @@
-//! What a reader has seen, and what the writer has written. A pass learns from another what that
-//! one has seen, and never sees less.
+//! What a reader has seen, and what the writer has written.
 ghost use Rattle.std.specs.Prelude.{◌≡◌, ◌⊎◌};
 ghost use mathlib.Core.List.{IsPrefix};
 

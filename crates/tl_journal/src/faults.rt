@@ -1,5 +1,4 @@
-//! Why a journal cannot be made, opened or appended to: each with what the disk said, or where the
-//! bytes are no journal.
+//! Why a journal cannot be made, opened or appended to.
 use thiserror::Error;
 
 /// Why a journal cannot be made or opened.

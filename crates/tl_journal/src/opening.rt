@@ -1,5 +1,4 @@
-//! How the opening of a journal begins: the bytes are read and synced before they are judged. Bytes
-//! that begin no journal are refused.
+//! The begin of the opening of a journal.
 ghost use Rattle.std.specs.Prelude.{◌≡◌, ◌<◌, ℕ, List, Some, Err, IfSome, IfOk, IfErr, OnOk};
 ghost use Rattle.tl_device.specs.Disk.{IsStored};
 ghost use Rattle.tl_journal.specs.Image.{BeginsAsJournal, HasAnotherName};

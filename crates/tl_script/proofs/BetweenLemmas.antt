@@ -7,8 +7,8 @@ use Rattle.tl_script.specs.declared.open_phase.OpenPhase.{OpenPhase}
 use Rattle.tl_script.specs.declared.phases.Phase.{Phase}
 use Rattle.tl_script.specs.Script.{Job}
 use Rattle.tl_script.specs.Phases.{Spot, phase_start, reading_from, with_phase, no_phase}
-use Rattle.tl_script.specs.Reader.{Grows, AnswersNext, ComesNext, ComesLast}
-use Rattle.tl_script.specs.InHand.{spot_in, place_of, IsBetween, IsNamed, IsNamedPlace, JobsNamed, TakesPhase, PhaseSays, state_in}
+use Rattle.tl_script.specs.Reader.{Grows, AnswersNext, ComesNext, ComesLast, IsNeeded}
+use Rattle.tl_script.specs.InHand.{part_ahead, spot_in, place_of, IsBetween, IsNamed, IsNamedPlace, JobsNamed, TakesPhase, PhaseSays, state_in}
 
 -- the names before a phase of which nothing is read are all
 names_before : (phase : OpenPhase) → IsBetween phase → take phase.known phase.names ≡ phase.names
@@ -38,6 +38,12 @@ between_spot phase between =
     let b = names_before phase between in
     let p : place_of phase.block ≡ place_of None = ap place_of between.block in
     cc (b, p, between.size, between.jobs)
+
+-- what was needed of the source
+pub needed_between : (phase : OpenPhase) (pending taken : List ℕ) → IsBetween phase → IsNeeded (part_ahead phase.limits (spot_in phase) pending) (spot_in phase).before taken
+    → IsNeeded (part_ahead phase.limits (phase_start phase.names phase.line phase.ended) pending) phase.names taken
+needed_between phase pending taken between needed =
+    subst (λ s. IsNeeded (part_ahead phase.limits s pending) s.before taken) (between_spot phase between) needed
 
 -- A PHASE IS GIVEN
 
@@ -92,6 +98,7 @@ gives old found last pending rest old_end live at_end before after phase between
       taken = takes.taken;
       order = takes.order;
       bound = takes.bound;
+      needed = needed_between old pending takes.taken between takes.needed;
       idle = λ e. absurd (let f = sym on ∙ e in cc);
       says = record {
         limits = l-2 ∙ l-1;

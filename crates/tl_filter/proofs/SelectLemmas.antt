@@ -25,7 +25,7 @@ use Rattle.std.specs.Option.{option_map}
 use Rattle.std.proofs.lemmas.Option.{slice_get_within}
 use Rattle.std.proofs.lemmas.List.{ext_get_or}
 use Rattle.tl_lanes.specs.Masks.{is_bit, words_for}
-use Rattle.tl_filter.specs.Words.{AreWordsFrom, AreNarrowed, AreOfAll, AreLeft, AreJoined, AreWithin, AreZero, HaveColumns, HaveNonePast}
+use Rattle.tl_filter.specs.Words.{is_asked, AreAsked, AreNarrowed, AreLeft, AreJoined, AreWithin, AreZero, HaveColumns, HaveNonePast}
 use Rattle.tl_filter.proofs.WordLemmas.{bit_of_zero}
 use Rattle.std.specs.Prelude.{sum_by}
 
@@ -252,33 +252,25 @@ rows_told bits base words first new made put row from to =
     put row from (omega arith) ∙ made.each (row / 64 - first) (omega arith) (row % 64) (omega arith)
     ∙ ap (λ j. is_bit (get_or base (row / 64 - first) 0) (row % 64) && get_or bits j false) (place_of first row from)
 
--- words of all rows have no bit past them
-pub all_inside : (n first : ℕ) (words : List ℕ) → AreOfAll n first words → HaveNonePast n first words
-all_inside n first words are i below k small past = are i below k small ∙ grind (arith, nat_tests)
+-- no row past those of the set is asked
+asked_past : (whole : Bool) (set : List Bool) (row : ℕ) → length set ≤ row → is_asked whole set row ≡ false
+asked_past true set row past = grind (arith, nat_tests)
+asked_past false set row past = get_or_past set row false past
 
--- they ask all rows
-pub all_asked : (f : plain.Row → Bool) (rows : List plain.Row) (n first row : ℕ) (words : List ℕ) (member : Bool) → n ≡ length rows → AreOfAll n first words
-    → first ≤ row / 64 → row / 64 < first + length words
-    → member ≡ (is_bit (get_or words (row / 64 - first) 0) (row % 64) && get_or (map f rows) row false) → member ≡ get_or (map f rows) row false
-all_asked f rows n first row words member same are from to told =
-    told ∙ ap (λ b. b && get_or (map f rows) row false) (are (row / 64 - first) (omega arith) (row % 64) (omega arith) ∙ ap (λ j. nat_lt j n) (place_of first row from))
-    ∙ by_place (cases_lt row n) where
-      by_place : (row < n) ⊎ (n ≤ row) → (nat_lt row n && get_or (map f rows) row false) ≡ get_or (map f rows) row false
-      by_place (inl inside) = let e : nat_lt row n ≡ true = grind (arith, nat_tests) in ap (λ b. b && get_or (map f rows) row false) e
-      by_place (inr past) =
-          let e : nat_lt row n ≡ false = grind (arith, nat_tests) in
-          let g = get_or_past (map f rows) row false (let h = length-map rows f in omega arith) in
-          ap (λ b. b && get_or (map f rows) row false) e ∙ sym g
+-- so the words of those that are asked have no bit past them
+pub asked_inside : (whole : Bool) (set : List Bool) (n first : ℕ) (words : List ℕ) → length set ≡ n → AreAsked whole set first words → HaveNonePast n first words
+asked_inside whole set n first words same are i below k small past = are i below k small ∙ asked_past whole set (64 * (first + i) + k) (omega arith)
 
--- words of a set have no bit past its rows
-pub set_inside : (set : List Bool) (n first : ℕ) (words : List ℕ) → length set ≡ n → AreWordsFrom set first words → HaveNonePast n first words
-set_inside set n first words same are i below k small past = are i below k small ∙ get_or_past set (64 * (first + i) + k) false (omega arith)
+-- the words ask these rows
+pub asked_told : (whole : Bool) (set bits : List Bool) (first row : ℕ) (words : List ℕ) (member : Bool) → AreAsked whole set first words → first ≤ row / 64 → row / 64 < first + length words
+    → member ≡ (is_bit (get_or words (row / 64 - first) 0) (row % 64) && get_or bits row false) → member ≡ (is_asked whole set row && get_or bits row false)
+asked_told whole set bits first row words member are from to told =
+    told ∙ ap (λ b. b && get_or bits row false) (are (row / 64 - first) (omega arith) (row % 64) (omega arith) ∙ ap (is_asked whole set) (place_of first row from))
 
--- they ask its rows
-pub set_asked : (set bits : List Bool) (first row : ℕ) (words : List ℕ) (member : Bool) → AreWordsFrom set first words → first ≤ row / 64 → row / 64 < first + length words
-    → member ≡ (is_bit (get_or words (row / 64 - first) 0) (row % 64) && get_or bits row false) → member ≡ (get_or set row false && get_or bits row false)
-set_asked set bits first row words member are from to told =
-    told ∙ ap (λ b. b && get_or bits row false) (are (row / 64 - first) (omega arith) (row % 64) (omega arith) ∙ ap (λ j. get_or set j false) (place_of first row from))
+-- rows that stay as they were are asked as before
+pub asked_same : (whole : Bool) (old new : List Bool) (row : ℕ) → length new ≡ length old → is_member new row ≡ is_member old row → is_asked whole new row ≡ is_asked whole old row
+asked_same true old new row long same = ap (nat_lt row) long
+asked_same false old new row long same = same
 
 -- the front of words of zeros has no bit
 pub zeros_front : (n m : ℕ) → AreZero (take n (replicate m 0))
@@ -329,23 +321,25 @@ typed_columns db table pred typed = by_table (slice_get db.tables table) typed w
       (AllPass-from_list_all (λ tests. list_all (is_typed_test t.schema) tests) pred.any h k d below) j e within)
 
 -- all rows told
-pub all_told : (f : plain.Row → Bool) (rows : List plain.Row) (set : List Bool) (words : ℕ) → length set ≡ length rows → words_for (length rows) ≤ words
-    → ((row : ℕ) → row / 64 < words → is_member set row ≡ is_member (map f rows) row) → set ≡ map f rows
-all_told f rows set words long all told =
-    let e = length-map rows f in
-    ext_get_or false set (map f rows) (long ∙ sym e) (λ row inside. told row (omega arith))
-
--- all rows of a set told
-pub all_left : (bits old new : List Bool) (words : ℕ) → length new ≡ length old → words_for (length old) ≤ words
-    → ((row : ℕ) → row / 64 < words → is_member new row ≡ (is_member old row && is_member bits row))
-    → (row : ℕ) → is_member new row ≡ (is_member old row && is_member bits row)
-all_left bits old new words long all told row = by_place (cases_lt (row / 64) words) where
-  by_place : (row / 64 < words) ⊎ (words ≤ row / 64) → is_member new row ≡ (is_member old row && is_member bits row)
+pub all_left : (whole : Bool) (bits old new : List Bool) (words : ℕ) → length new ≡ length old → words_for (length old) ≤ words
+    → ((row : ℕ) → row / 64 < words → is_member new row ≡ (is_asked whole old row && is_member bits row))
+    → (row : ℕ) → is_member new row ≡ (is_asked whole old row && is_member bits row)
+all_left whole bits old new words long all told row = by_place (cases_lt (row / 64) words) where
+  by_place : (row / 64 < words) ⊎ (words ≤ row / 64) → is_member new row ≡ (is_asked whole old row && is_member bits row)
   by_place (inl inside) = told row inside
   by_place (inr past) =
       let e = get_or_past new row false (omega arith) in
-      let f = get_or_past old row false (omega arith) in
+      let f = asked_past whole old row (omega arith) in
       e ∙ ap (λ b. b && is_member bits row) (sym f)
+
+-- where all rows are asked, those that pass are in the set, and no others
+pub all_told : (f : plain.Row → Bool) (rows : List plain.Row) (old new : List Bool) → length new ≡ length old → length old ≡ length rows
+    → ((row : ℕ) → is_member new row ≡ (is_asked true old row && is_member (map f rows) row)) → new ≡ map f rows
+all_told f rows old new long same told =
+    let e = length-map rows f in
+    ext_get_or false new (map f rows) (long ∙ same ∙ sym e) (λ row inside.
+    let there : nat_lt row (length old) ≡ true = grind (arith, nat_tests) in
+    told row ∙ ap (λ b. b && is_member (map f rows) row) there)
 
 -- where there is no list, the set stays as it is
 pub all_stay : (pred : TypedPred) (rows : List plain.Row) (set : List Bool) → length pred.any ≡ 0 → length set ≡ length rows

@@ -1,15 +1,27 @@
 -- Some words of a mask.
-use Rattle.std.specs.Prelude.{◌≡◌, ℕ, ◌+◌, ◌-◌, ◌*◌, ◌^◌, ◌<◌, ◌≤◌, Bool, ◌&&◌, ◌||◌, not, nat_lt, List, length, slice_index, slice_index_or, false}
+use Rattle.std.specs.Prelude.{◌≡◌, ℕ, ◌+◌, ◌-◌, ◌*◌, ◌^◌, ◌<◌, ◌≤◌, Bool, true, false, ◌&&◌, ◌||◌, not, nat_lt, List, length, slice_index, slice_index_or}
 use Rattle.std.specs.List.{All}
 use Rattle.tl_types.specs.Plain as plain
 use Rattle.tl_query.specs.declared.typed_queries.TypedTest.{TypedTest}
 use Rattle.tl_store.specs.Reading.{columns_of}
-use Rattle.tl_lanes.specs.Masks.{is_bit, IsWordOf}
+use Rattle.tl_bits.specs.Sets.{is_member}
+use Rattle.tl_lanes.specs.Masks.{is_bit}
 
--- the words are those of the mask with these bits, from a word on
-abbrev pub AreWordsFrom : List Bool → ℕ → List ℕ → Type 0
-AreWordsFrom bits first words =
-    (i : ℕ) → i < length words → IsWordOf bits (first + i) (slice_index words i)
+-- the row is one that is asked: any of the rows, or one in the set
+abbrev pub is_asked : Bool → List Bool → ℕ → Bool
+is_asked true set row = nat_lt row (length set)
+is_asked false set row = is_member set row
+
+-- the words have the bits of the rows that are asked, from a word on
+abbrev pub AreAsked : Bool → List Bool → ℕ → List ℕ → Type 0
+AreAsked whole set first words =
+    (i : ℕ) → i < length words → (k : ℕ) → k < 64
+    → is_bit (slice_index words i) k ≡ is_asked whole set (64 * (first + i) + k)
+
+-- what a word takes: a step where it is read off the set, since not all rows are asked
+abbrev pub word_cost : Bool → ℕ
+word_cost true = 0
+word_cost false = 1
 
 -- the bits of a word that it has in common with some of these, from word `at` on
 abbrev pub IsNarrowed : List Bool → ℕ → ℕ → ℕ → Type 0
@@ -21,12 +33,6 @@ pub record AreNarrowed (bits : List Bool) (first : ℕ) (old new : List ℕ) : T
   pub long : length new ≡ length old
   pub each : (i : ℕ) → i < length old
       → IsNarrowed bits (first + i) (slice_index old i) (slice_index new i)
-
--- the words have the bits of all of so many rows, from a word on
-abbrev pub AreOfAll : ℕ → ℕ → List ℕ → Type 0
-AreOfAll rows first words =
-    (i : ℕ) → i < length words → (k : ℕ) → k < 64
-    → is_bit (slice_index words i) k ≡ nat_lt (64 * (first + i) + k) rows
 
 -- the words have the bits of some words but for those that are done
 pub record AreLeft (base done left : List ℕ) : Type 0 where

@@ -1,6 +1,6 @@
 //! Blocks of words of one table, worked out together: a test is prepared once for a block. A list
 //! of tests is asked only of the rows that no list before it let pass.
-ghost use Rattle.std.specs.Prelude.{◌≡◌, ℕ, ◌+◌, ◌*◌, ◌-◌, ◌^◌, ◌/◌, ◌%◌, ◌<◌, ◌≤◌, Bool, ◌&&◌, ◌||◌, false, IsTrue, List, length, map, slice_index, slice_index_or, sum_by};
+ghost use Rattle.std.specs.Prelude.{◌≡◌, ℕ, ◌+◌, ◌*◌, ◌-◌, ◌^◌, ◌/◌, ◌%◌, ◌<◌, ◌≤◌, Bool, ◌&&◌, ◌||◌, length, map, slice_index, sum_by};
 ghost use Rattle.std.specs.List.{All, list_any};
 ghost use Rattle.tl_types.specs.Plain as plain;
 ghost use Rattle.tl_types.specs.History.{database_of, rows_of};
@@ -8,9 +8,9 @@ ghost use Rattle.tl_query.specs.Passing.{passes_all};
 ghost use Rattle.tl_lanes.specs.Masks.{is_bit, words_for};
 ghost use Rattle.tl_bits.specs.Sets.{is_member};
 ghost use Rattle.tl_filter.specs.Selecting.{rows_that_pass, tests_in};
-ghost use Rattle.tl_filter.specs.Words.{AreNarrowed, AreZero, HaveColumns, HaveNonePast};
+ghost use Rattle.tl_filter.specs.Words.{is_asked, word_cost, AreNarrowed, AreZero, HaveColumns, HaveNonePast};
 
-use crate::words::{all_words, join, leave, narrow, put_words, read_words};
+use crate::words::{asked_words, join, leave, narrow, put_words};
 use std::sync::ledger::Ledger;
 use tl_bits::RowSet;
 use tl_query::{TypedPred, TypedTest};
@@ -20,7 +20,7 @@ use tl_types::{Seq, Steps};
 /// How many words are worked out together.
 pub(crate) const WORDS: usize = 128;
 
-/// Where a block stands: in the masks of a table, from a word on.
+/// Where a block stands: in the masks of a table, from a word on, and which of its rows are asked.
 #[derive(Clone, Copy)]
 pub(crate) struct Block {
     /// The table's number.
@@ -29,6 +29,8 @@ pub(crate) struct Block {
     pub(crate) rows: u32,
     /// The block's first word.
     pub(crate) first: u32,
+    /// Whether all of its rows are asked, and not only those in a set.
+    pub(crate) whole: bool,
 }
 
 // Leaves the bits whose rows pass all of the tests. It takes at most a step for each word and test.
@@ -177,38 +179,9 @@ fn pass_block<L: Ledger>(
     put_words(into, done, block.first);
 }
 
-/// Puts into the set which rows of a block pass: of `count` words, which are as many as there are,
-/// up to 128. It takes at most a step for each word and test.
-pub(crate) fn select_block<L: Ledger>(
-    store: &Store,
-    block: Block,
-    count: usize,
-    pred: &TypedPred,
-    into: &mut RowSet,
-    steps: &mut Steps<L>,
-)
-    requires columns { All (HaveColumns (database_of store.now) block.table) pred.now.any }
-    requires rows { block.rows ≡ length (rows_of (database_of store.now) block.table) }
-    requires set { length into.old ≡ block.rows }
-    requires within { block.first + count ≤ words_for block.rows }
-    requires few { block.rows ≤ 16777216 }
-    requires room { count ≤ WORDS }
-    ensures rows { length into.new ≡ length into.old }
-    ensures kept { (row : ℕ) → row / 64 < block.first
-        → is_member into.new row ≡ is_member into.old row }
-    ensures put { (row : ℕ) → block.first ≤ row / 64 → row / 64 < block.first + count
-        → is_member into.new row
-        ≡ is_member (rows_that_pass (database_of store.now) block.table pred.now) row }
-    ensures steps { steps.new ≤ steps.old + tests_in pred.now * count }
-{
-    let mut base = [0; WORDS];
-    let base = &mut base[..count];
-    all_words(base, block.rows, block.first);
-    pass_block(store, block, base, pred, into, steps);
-}
-
-/// Leaves in the set the rows of a block that pass: of `count` words, up to 128. It takes at most a
-/// step for each word and test, and one more for each word.
+/// Leaves in the set, of the rows of a block that are asked, those that pass, and no others: of
+/// `count` words, up to 128. It takes at most a step for each word and test, and one more for each
+/// word that is read off the set.
 pub(crate) fn narrow_block<L: Ledger>(
     store: &Store,
     block: Block,
@@ -227,14 +200,15 @@ pub(crate) fn narrow_block<L: Ledger>(
     ensures kept { (row : ℕ) → row / 64 < block.first
         → is_member set.new row ≡ is_member set.old row }
     ensures behind { (row : ℕ) → block.first + count ≤ row / 64
-        → is_member set.new row ≡ is_member set.old row }
+        → is_asked block.whole set.new row ≡ is_asked block.whole set.old row }
     ensures left { (row : ℕ) → block.first ≤ row / 64 → row / 64 < block.first + count
-        → is_member set.new row ≡ (is_member set.old row
+        → is_member set.new row ≡ (is_asked block.whole set.old row
         && is_member (rows_that_pass (database_of store.now) block.table pred.now) row) }
-    ensures steps { steps.new ≤ steps.old + tests_in pred.now * count + count }
+    ensures steps { steps.new
+        ≤ steps.old + tests_in pred.now * count + word_cost block.whole * count }
 {
     let mut base = [0; WORDS];
     let base = &mut base[..count];
-    read_words(set, base, block.first, steps);
+    asked_words(set, block.whole, base, block.first, steps);
     pass_block(store, block, base, pred, set, steps);
 }

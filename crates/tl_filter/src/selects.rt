@@ -6,8 +6,9 @@ ghost use Rattle.tl_types.specs.History.{database_of, rows_of};
 ghost use Rattle.tl_bits.specs.Sets.{is_member};
 ghost use Rattle.tl_travel.specs.Bounds.{begun_words};
 ghost use Rattle.tl_filter.specs.Selecting.{rows_that_pass, tests_in, IsTypedPredFor};
+ghost use Rattle.tl_filter.specs.Words.{is_asked, word_cost};
 
-use crate::blocks::{Block, WORDS, narrow_block, select_block};
+use crate::blocks::{Block, WORDS, narrow_block};
 use std::sync::ledger::Ledger;
 use tl_bits::RowSet;
 use tl_index::Snapshot;
@@ -15,33 +16,38 @@ use tl_query::TypedPred;
 use tl_store::Store;
 use tl_types::Steps;
 
-/// Puts into the set which rows of a table pass the predicate. It takes at most a step for each
-/// begun 64 of rows and test.
-pub(crate) fn select_rows<L: Ledger>(
+// Leaves in the set, of the rows of a table that are asked, those that pass the predicate, and no
+// others: of all rows where `whole`, and else of those in the set. It takes at most a step for each
+// begun 64 of rows and test, and one more for each begun 64 of rows that is read off the set.
+fn narrow_rows<L: Ledger>(
     store: &Store,
     table: u16,
     pred: &TypedPred,
-    into: &mut RowSet,
+    whole: bool,
+    set: &mut RowSet,
     steps: &mut Steps<L>,
 )
     requires table { table < length (database_of store.now).tables }
     requires typed { IsTypedPredFor (database_of store.now) table pred.now }
-    requires rows { length into.old ≡ length (rows_of (database_of store.now) table) }
-    ensures rows { into.new ≡ rows_that_pass (database_of store.now) table pred.now }
-    ensures steps { steps.new ≤ steps.old
-        + tests_in pred.now * begun_words (database_of store.now) table }
+    requires rows { length set.old ≡ length (rows_of (database_of store.now) table) }
+    ensures rows { length set.new ≡ length set.old }
+    ensures members { (row : ℕ) → is_member set.new row ≡ (is_asked whole set.old row
+        && is_member (rows_that_pass (database_of store.now) table pred.now) row) }
+    ensures steps { let w = begun_words (database_of store.now) table in
+        steps.new ≤ steps.old + tests_in pred.now * w + word_cost whole * w }
 {
     let rows = store.rows(table);
-    let words = (rows as usize + 63) / 64;
+    let word_count = (rows as usize + 63) / 64;
     let mut first = 0;
-    while first < words {
-        let count = (words - first).min(WORDS);
+    while first < word_count {
+        let count = (word_count - first).min(WORDS);
         let block = Block {
             table,
             rows,
             first: first as u32,
+            whole,
         };
-        select_block(store, block, count, pred, into, steps);
+        narrow_block(store, block, count, pred, set, steps);
         first += count;
     }
 }
@@ -67,40 +73,7 @@ pub fn select<L: Ledger>(
         let w = begun_words (database_of (commits_of snapshot.now)) table in
         steps.new ≤ steps.old + p * w }
 {
-    select_rows(snapshot.store(), table, pred, into, steps);
-}
-
-/// Leaves in the set the rows of a table that pass the predicate. It takes at most a step for each
-/// begun 64 of rows and test, and one more for each begun 64 of rows.
-pub(crate) fn narrow_rows<L: Ledger>(
-    store: &Store,
-    table: u16,
-    pred: &TypedPred,
-    set: &mut RowSet,
-    steps: &mut Steps<L>,
-)
-    requires table { table < length (database_of store.now).tables }
-    requires typed { IsTypedPredFor (database_of store.now) table pred.now }
-    requires rows { length set.old ≡ length (rows_of (database_of store.now) table) }
-    ensures rows { length set.new ≡ length set.old }
-    ensures members { (row : ℕ) → is_member set.new row ≡ (is_member set.old row
-        && is_member (rows_that_pass (database_of store.now) table pred.now) row) }
-    ensures steps { let w = begun_words (database_of store.now) table in
-        steps.new ≤ steps.old + tests_in pred.now * w + w }
-{
-    let rows = store.rows(table);
-    let word_count = (rows as usize + 63) / 64;
-    let mut first = 0;
-    while first < word_count {
-        let count = (word_count - first).min(WORDS);
-        let block = Block {
-            table,
-            rows,
-            first: first as u32,
-        };
-        narrow_block(store, block, count, pred, set, steps);
-        first += count;
-    }
+    narrow_rows(snapshot.store(), table, pred, true, into, steps);
 }
 
 /// Leaves in a set the rows of a table that pass a predicate, visible or not, and takes the others
@@ -130,5 +103,5 @@ pub fn select_within<L: Ledger>(
     if pred.any.is_empty() {
         return;
     }
-    narrow_rows(snapshot.store(), table, pred, set, steps);
+    narrow_rows(snapshot.store(), table, pred, false, set, steps);
 }

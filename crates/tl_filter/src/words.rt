@@ -3,7 +3,7 @@
 ghost use Rattle.std.specs.Prelude.{◌≡◌, ℕ, ◌+◌, ◌*◌, ◌-◌, ◌^◌, ◌/◌, ◌%◌, ◌<◌, ◌≤◌, nat_lt, length, slice_index};
 ghost use Rattle.tl_lanes.specs.Masks.{is_bit, words_for};
 ghost use Rattle.tl_bits.specs.Sets.{is_member};
-ghost use Rattle.tl_filter.specs.Words.{IsNarrowed, AreNarrowed, AreOfAll, AreLeft, AreJoined, AreWithin, AreWordsFrom};
+ghost use Rattle.tl_filter.specs.Words.{is_asked, word_cost, IsNarrowed, AreAsked, AreJoined, AreLeft, AreNarrowed, AreWithin};
 
 use std::sync::ledger::Ledger;
 use tl_bits::RowSet;
@@ -21,20 +21,25 @@ fn all_word(rows: u32, i: u32) -> u64
     if left < 64 { (1 << left) - 1 } else { u64::MAX }
 }
 
-/// Makes the words those of the mask of all of so many rows, from word `first` on.
-pub(crate) fn all_words(words: &mut [u64], rows: u32, first: u32)
-    requires { 64 * (first + length words.old) < rows + 64 }
-    ensures long { length words.new ≡ length words.old }
-    ensures bits { AreOfAll rows first words.new }
+// Word `i` of the rows that are asked: all rows of the set where `whole`, and else those in it. It
+// takes a step where it is read off the set.
+fn asked_word<L: Ledger>(set: &RowSet, whole: bool, i: u32, steps: &mut Steps<L>) -> u64
+    requires { i < words_for (length set.now) }
+    ensures bits { (k : ℕ) → k < 64 → is_bit result k ≡ is_asked whole set.now (64 * i + k) }
+    ensures steps { steps.new ≡ steps.old + word_cost whole }
 {
-    for i in 0..words.len() {
-        words[i] = all_word(rows, first + i as u32);
+    if whole {
+        all_word(set.rows(), i)
+    } else {
+        set.word(i, steps)
     }
 }
 
-/// Makes the words those of a set, from word `first` on. It takes a step for each word.
-pub(crate) fn read_words<L: Ledger>(
+/// Makes the words those of the rows that are asked, from word `first` on: of all rows of the set
+/// where `whole`, and else of those in it. It takes a step for each word that is read off the set.
+pub(crate) fn asked_words<L: Ledger>(
     set: &RowSet,
+    whole: bool,
     words: &mut [u64],
     first: u32,
     steps: &mut Steps<L>,
@@ -42,11 +47,11 @@ pub(crate) fn read_words<L: Ledger>(
     requires place { first + length words.old ≤ words_for (length set.now) }
     requires few { length set.now ≤ 16777216 }
     ensures long { length words.new ≡ length words.old }
-    ensures bits { AreWordsFrom set.now first words.new }
-    ensures steps { steps.new ≤ steps.old + length words.old }
+    ensures bits { AreAsked whole set.now first words.new }
+    ensures steps { steps.new ≤ steps.old + word_cost whole * length words.old }
 {
     for i in 0..words.len() {
-        words[i] = set.word(first + i as u32, steps);
+        words[i] = asked_word(set, whole, first + i as u32, steps);
     }
 }
 

@@ -83,9 +83,9 @@ of_version side plan version pred now keys events es got keeps all same keep_is 
     }
 
 -- the entries of a side of the plan
-pub side_rows : (db : plain.Database) (side : Side) (plan : JoinPlan) (version : ℕ) (pred : TypedPred) (now keys : KeyNumbers) (events : List ValidEvent) (keep : List Bool) (es got : List Entry) (table column : ℕ) → database_of side.store.now ≡ db → side.table ≡ table → side.column ≡ column → side.keep.now ≡ keep → KeepsNumbers now keys
+pub entries_of_side : (db : plain.Database) (side : Side) (plan : JoinPlan) (version : ℕ) (pred : TypedPred) (now keys : KeyNumbers) (events : List ValidEvent) (keep : List Bool) (es got : List Entry) (table column : ℕ) → database_of side.store.now ≡ db → side.table ≡ table → side.column ≡ column → side.keep.now ≡ keep → KeepsNumbers now keys
     → AreEntries side plan now events es → got ≡ es → keep ≡ passing pred (rows_of db table) → events ≡ valid_events_in (rows_of db table) version → AreOfRows plan version pred column keys (rows_of db table) got
-side_rows db side plan version pred now keys events keep es got table column store number place set keeps all same keep_is events_are =
+entries_of_side db side plan version pred now keys events keep es got table column store number place set keeps all same keep_is events_are =
     let rows = rows_are db side table store number in
     subst (λ n. AreOfRows plan version pred n keys (rows_of db table) got) place (subst (λ rs. AreOfRows plan version pred side.column keys rs got) rows
     (of_version side plan version pred now keys events es got keeps all same (set ∙ keep_is ∙ ap (passing pred) (sym rows)) (events_are ∙ ap (λ rs. valid_events_in rs version) (sym rows))))

@@ -7,5 +7,5 @@ use Rattle.tl_app.proofs.aggregates.list_kept.Goals as goal
 
 pub kept_events-requires : goal.kept_events-requires
 kept_events-requires g c =
-    subst (All (λ (e : ValidEvent). e.row < length c.args.keep.now)) (sym c.in_ok-list.ensures)
+    subst (All (λ (e : ValidEvent). e.row < length c.args.keep.now)) (sym c.in_ok-list.ensures.events)
     (rows_within (plan_rows c.args.store.now c.args.plan.now) c.args.events.now (length c.args.keep.now) c.requires.events c.requires.keep)

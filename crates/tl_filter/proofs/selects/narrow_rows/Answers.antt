@@ -11,5 +11,5 @@ pub returns-clause-members : goal.returns-clause-members
 returns-clause-members g c =
     let e = c.rows-rows.ensures.number in
     let f = c.requires.rows in
-    all_left (rows_that_pass (database_of c.args.store.now) c.args.table c.args.pred.now) c.args.set.now c.loop-first.set c.loop-first.first
+    all_left c.args.whole (rows_that_pass (database_of c.args.store.now) c.args.table c.args.pred.now) c.args.set.now c.loop-first.set c.loop-first.first
     c.loop-first.invariant.long (omega arith) c.loop-first.invariant.told

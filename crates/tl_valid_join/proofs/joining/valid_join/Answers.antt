@@ -6,7 +6,7 @@ use Rattle.tl_types.specs.History.{database_of}
 use Rattle.tl_query.specs.Ordered.{in_order, pair_before}
 use Rattle.tl_sweep.specs.declared.entries.Entry.{Entry}
 use Rattle.tl_sweep.specs.Sweep.{AreSame, AreOne, IsEntry, grid}
-use Rattle.tl_valid_join.proofs.JoinLemmas.{side_ready, side_rows, pairs_found}
+use Rattle.tl_valid_join.proofs.JoinLemmas.{entries_of_side, side_ready, pairs_found}
 use Rattle.tl_valid_join.proofs.joining.valid_join.Goals as goal
 
 pub swept_pairs-requires-clause-lefts : goal.swept_pairs-requires-clause-lefts
@@ -55,8 +55,8 @@ pub returns-clause-pairs : goal.returns-clause-pairs
 returns-clause-pairs g c left_pred right_pred version left_keeps right_keeps left_events right_events =
     let db = database_of (commits_of c.args.snapshot.now) in
     let keys = c.side_entries-2.new.keys in
-    let left = side_rows db c.side_of-left_side.result c.args.plan.now version left_pred c.side_entries.new.keys keys c.args.left.now c.args.left_keep.now c.in_ok-lefts.lefts.items c.deref.result.now c.args.plan.now.left c.args.plan.now.left_on (ap database_of c.side_of-left_side.ensures.store) c.side_of-left_side.ensures.table c.side_of-left_side.ensures.column c.side_of-left_side.ensures.keep c.in_ok-rights.ensures.kept c.in_ok-lefts.ensures.entries c.deref.ensures.value left_keeps left_events in
-    let right = side_rows db c.side_of-right_side.result c.args.plan.now version right_pred c.side_entries-2.new.keys keys c.args.right.now c.args.right_keep.now c.in_ok-rights.rights.items c.deref-2.result.now c.args.plan.now.right c.args.plan.now.right_on (ap database_of c.side_of-right_side.ensures.store) c.side_of-right_side.ensures.table c.side_of-right_side.ensures.column c.side_of-right_side.ensures.keep (λ key n h. h) c.in_ok-rights.ensures.entries c.deref-2.ensures.value right_keeps right_events in
+    let left = entries_of_side db c.side_of-left_side.result c.args.plan.now version left_pred c.side_entries.new.keys keys c.args.left.now c.args.left_keep.now c.in_ok-lefts.lefts.items c.deref.result.now c.args.plan.now.left c.args.plan.now.left_on (ap database_of c.side_of-left_side.ensures.store) c.side_of-left_side.ensures.table c.side_of-left_side.ensures.column c.side_of-left_side.ensures.keep c.in_ok-rights.ensures.kept c.in_ok-lefts.ensures.entries c.deref.ensures.value left_keeps left_events in
+    let right = entries_of_side db c.side_of-right_side.result c.args.plan.now version right_pred c.side_entries-2.new.keys keys c.args.right.now c.args.right_keep.now c.in_ok-rights.rights.items c.deref-2.result.now c.args.plan.now.right c.args.plan.now.right_on (ap database_of c.side_of-right_side.ensures.store) c.side_of-right_side.ensures.table c.side_of-right_side.ensures.column c.side_of-right_side.ensures.keep (λ key n h. h) c.in_ok-rights.ensures.entries c.deref-2.ensures.value right_keeps right_events in
     let lefts = c.deref.result.now in
     let rights = c.deref-2.result.now in
     let fits : SFits w64 c.args.plan.now.from = search rules in

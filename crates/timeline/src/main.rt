@@ -12,8 +12,8 @@ use tl_types::NoMemory;
 // The file of the journal, in the folder where the program is run.
 const JOURNAL: &str = "timeline.tlj";
 
-// What stands in the place of a standard input or output that is not open: the root folder, which can
-// be neither read nor written, so that these fail.
+// What stands in the place of a standard input or output that is not open: the root folder, which
+// can be neither read nor written, so that these fail.
 const NOTHING: &str = "/";
 
 // The words that the program goes by.

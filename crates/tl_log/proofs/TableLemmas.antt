@@ -8,7 +8,7 @@ use Rattle.std.proofs.lemmas.List.Filters.{length-filter_more}
 use Rattle.std.proofs.lemmas.Option.{slice_get-get_or}
 use Rattle.tl_types.specs.declared.commits.Commit.{Commit}
 use Rattle.tl_types.specs.declared.schemas.Column.{Column}
-use Rattle.tl_types.specs.History.{is_open, rows_of, open_end}
+use Rattle.tl_types.specs.History.{floor_of, is_open, rows_of, open_end}
 use Rattle.tl_types.specs.Plain as plain
 use Rattle.tl_store.specs.Reading.{row_of, system_period, has_periods}
 use Rattle.tl_store.specs.declared.shown.SystemPeriod.{SystemPeriod}
@@ -97,13 +97,14 @@ open_all rows n h = ap open_rows (take_all n rows h)
 -- LINES
 
 -- the words of a table that is there, from what is known of its number
-pub words_there : (db : plain.Database) (table last current rows : ℕ) (valid : Bool) (t : plain.Table)
+pub words_there : (db : plain.Database) (table last current rows : ℕ) (valid : Bool) (floor : ℕ) (t : plain.Table)
     → slice_get db.tables table ≡ Some t
     → current ≡ open_rows (rows_of db table) → rows ≡ length (rows_of db table) → valid ≡ has_periods db table
-    → decimal current ++ (codes "," ++ (decimal rows ++ (codes "," ++ (decimal last ++ (codes "," ++ yes_word valid)))))
+    → floor ≡ floor_of (slice_get db.tables table)
+    → decimal current ++ (codes "," ++ (decimal rows ++ (codes "," ++ (decimal last ++ (codes "," ++ (yes_word valid ++ (codes "," ++ (decimal floor ++ codes "\n"))))))))
     ≡ table_words last t
-words_there db table last current rows valid t is current_is rows_is valid_is =
-    rw (current_is, rows_is, valid_is, is) refl
+words_there db table last current rows valid floor t is current_is rows_is valid_is floor_is =
+    rw (current_is, rows_is, valid_is, floor_is, is) refl
 
 -- one column more
 pub columns_step : (schema : plain.Schema) (words : List ℕ) (columns : List Column) (i : ℕ) (d : Column)

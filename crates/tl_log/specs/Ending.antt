@@ -8,7 +8,7 @@ use Rattle.tl_log.specs.declared.reports.ListFault.{ListFault}
 use Rattle.tl_log.specs.declared.reports.ListFault.TheVariants as fault
 use Rattle.tl_log.specs.declared.top.ListStatus.{ListStatus}
 use Rattle.tl_log.specs.declared.top.ListStatus.TheVariants as status
-use Rattle.tl_log.specs.Reading.{IsListing, IsRefusedFor, refusal_line}
+use Rattle.tl_log.specs.Reading.{IsListing, IsRefusal, IsRefusedFor, refusal_line}
 
 -- the bytes of each word
 abbrev pub texts_of : {A : Type 0} → List (String A) → List (List ℕ)
@@ -57,18 +57,25 @@ exit_status (status.SinkFault faults) = 4
 exit_status (status.Refused f) = fault_status f
 
 -- a text is written whole, or the sink failed behind a part of it, or memory ran out before it
-abbrev pub WritesAll : List ℕ → ListStatus → Option (List ℕ) → Option (List ℕ) → ℕ → ℕ → ListStatus → Type 0
+abbrev pub WritesAll : List ℕ → ListStatus → Option (List ℕ) → Option (List ℕ)
+    → ℕ → ℕ → ListStatus → Type 0
 WritesAll text wanted old new before after ended =
     ((ended ≡ wanted) × (new ≡ append_known old text))
     ⊎ ((ended ≡ status.NoMemory) × (new ≡ old))
     ⊎ ((ended ≡ status.SinkFault after) × Rose before after × WritesPart text old new)
 
+-- some first part of the listing was written, or of the line that says why there is none
+abbrev pub WritesSome : Listing → Option (List ℕ) → Option (List ℕ) → Option (List ℕ) → Type 0
+WritesSome listing told old new = (image : List ℕ) → told ≡ Some image → (text : List ℕ)
+    × (IsListing listing image text ⊎ IsRefusal image text) × WritesPart text old new
+
 -- how a listing ends of a source that had these bytes left, where it tells them, by what is written
 -- and the sink's count of faults, before and after
-abbrev pub EndsListing : Listing → Option (List ℕ) → Option (List ℕ) → Option (List ℕ) → ℕ → ℕ → ListStatus → Type 0
+abbrev pub EndsListing : Listing → Option (List ℕ) → Option (List ℕ) → Option (List ℕ)
+    → ℕ → ℕ → ListStatus → Type 0
 EndsListing listing told old new before after status.Done = Lists listing told old new
 EndsListing listing told old new before after status.NoMemory = new ≡ old
 EndsListing listing told old new before after (status.SourceFault faults) = new ≡ old
 EndsListing listing told old new before after (status.SinkFault faults) =
-    (faults ≡ after) × Rose before after
+    (faults ≡ after) × Rose before after × WritesSome listing told old new
 EndsListing listing told old new before after (status.Refused f) = Refuses f told old new

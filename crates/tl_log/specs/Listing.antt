@@ -2,15 +2,21 @@
 -- fields are numbers, names and words, so that none wants quotes.
 use Rattle.std.specs.Prelude.{ℕ, ◌+◌, Bool, true, false, List, [], ◌∷◌, ◌++◌, length, codes, Option, Some, None, get_or, slice_get, set, ◌==◌}
 use Rattle.std.specs.List.{filter}
-use Rattle.std.specs.Fmt.{decimal}
+use Rattle.std.specs.Fmt.{decimal, signed_decimal}
 use Rattle.tl_types.specs.declared.cells.ColumnKind.{ColumnKind}
 use Rattle.tl_types.specs.declared.cells.ColumnKind.TheVariants.{IntKind, TextKind}
 use Rattle.tl_types.specs.declared.schemas.Column.{Column}
 use Rattle.tl_types.specs.declared.commits.Commit.{Commit}
 use Rattle.tl_types.specs.declared.commits.Body.{Body}
 use Rattle.tl_types.specs.declared.commits.Body.TheVariants as body
-use Rattle.tl_types.specs.History.{database_of, is_open}
+use Rattle.tl_types.specs.History.{closed_by, database_of, is_open, opened_by}
 use Rattle.tl_types.specs.Plain as plain
+
+-- fields, parted by commas, and the end of their line
+abbrev pub line_of : List (List ℕ) → List ℕ
+line_of [] = codes "\n"
+line_of (x ∷ []) = x ++ codes "\n"
+line_of (x ∷ y ∷ xs) = x ++ (codes "," ++ line_of (y ∷ xs))
 
 -- COMMITS
 
@@ -23,22 +29,46 @@ name_of (Some t) = t.schema.name
 abbrev pub name_at : plain.Database → ℕ → List ℕ
 name_at db table = name_of (slice_get db.tables table)
 
--- the name of the table that a commit creates or changes
+-- the name of the table that a commit creates, changes or sets the floor of: a moment has none
 abbrev pub table_name : plain.Database → Body → List ℕ
 table_name db (body.Create schema) = schema.name
 table_name db (body.Change change) = name_at db change.table
+table_name db (body.Moment moment) = []
+table_name db (body.Forget number floor) = name_at db number
 
--- what a commit does to its table, and how many rows it closes and opens
+-- the word for what a commit does
+abbrev pub deed_word : Body → List ℕ
+deed_word (body.Create schema) = codes "create"
+deed_word (body.Change change) = codes "change"
+deed_word (body.Moment moment) = codes "moment"
+deed_word (body.Forget number floor) = codes "forget"
+
+-- the moment that a commit states, the empty text where it states none
+abbrev pub moment_words : Body → List ℕ
+moment_words (body.Create schema) = []
+moment_words (body.Change change) = []
+moment_words (body.Moment moment) = signed_decimal moment
+moment_words (body.Forget number floor) = []
+
+-- the floor that a commit sets, the empty text where it sets none
+abbrev pub floor_words : Body → List ℕ
+floor_words (body.Create schema) = []
+floor_words (body.Change change) = []
+floor_words (body.Moment moment) = []
+floor_words (body.Forget number floor) = decimal floor
+
+-- what a commit does, how many rows it closes and opens, and the moment and the floor that it
+-- states: the end of its line
 abbrev pub deed_words : Body → List ℕ
-deed_words (body.Create schema) = codes "create,0,0"
-deed_words (body.Change change) =
-    codes "change," ++ (decimal (length change.closes) ++ (codes "," ++ decimal (length change.opens)))
+deed_words body =
+    line_of (deed_word body ∷ decimal (length (closed_by body)) ∷ decimal (length (opened_by body))
+    ∷ moment_words body ∷ floor_words body ∷ [])
 
 -- the line of a commit: its version, the number of its session, its table, and what it does
 abbrev pub commit_line : plain.Database → ℕ → Commit → List ℕ
 commit_line db version commit =
     decimal version ++ (codes "," ++ (decimal commit.author ++ (codes ","
-    ++ (table_name db commit.body ++ (codes "," ++ (deed_words commit.body ++ codes "\n"))))))
+    ++ (table_name db commit.body ++ (codes "," ++ deed_words commit.body)))))
 
 -- the lines of commits, the first of which makes this version
 abbrev pub lines_from : plain.Database → ℕ → List Commit → List ℕ
@@ -48,15 +78,18 @@ lines_from db version (c ∷ cs) = commit_line db version c ++ lines_from db (ve
 -- the listing of commits
 abbrev pub log_text : List Commit → List ℕ
 log_text commits =
-    codes "version,session,table,what,closed,opened\n" ++ lines_from (database_of commits) 1 commits
+    codes "version,session,table,what,closed,opened,moment,floor\n"
+    ++ lines_from (database_of commits) 1 commits
 
 -- TABLES
 
 -- the last version of each table, once one more is made by this: a new table stands behind the
--- others, and a changed one has the version
+-- others, and a changed one has the version; a moment and a floor change no row
 abbrev pub lasts_after : ℕ → Body → List ℕ → List ℕ
 lasts_after version (body.Create schema) lasts = lasts ++ version ∷ []
 lasts_after version (body.Change change) lasts = set lasts change.table version
+lasts_after version (body.Moment moment) lasts = lasts
+lasts_after version (body.Forget number floor) lasts = lasts
 
 -- the same behind these commits, the first of which makes this version
 abbrev pub lasts_from : ℕ → List Commit → List ℕ → List ℕ
@@ -82,18 +115,18 @@ abbrev pub open_rows : List plain.Row → ℕ
 open_rows rows = length (filter is_open rows)
 
 -- how many rows of a table are current, how many it has with those that have ended, its last
--- version, and whether its rows have a valid period
+-- version, whether its rows have a valid period, its floor, and the end of the line
 abbrev pub table_words : ℕ → plain.Table → List ℕ
 table_words last table =
-    decimal (open_rows table.rows) ++ (codes "," ++ (decimal (length table.rows) ++ (codes ","
-    ++ (decimal last ++ (codes "," ++ yes_word table.schema.valid)))))
+    line_of (decimal (open_rows table.rows) ∷ decimal (length table.rows) ∷ decimal last
+    ∷ yes_word table.schema.valid ∷ decimal table.floor ∷ [])
 
 -- the line of the column at a place: its table, its name, what it holds, whether it is the key, and
--- the words of its table
+-- the words of its table, which end the line
 abbrev pub column_line : plain.Schema → List ℕ → ℕ → Column → List ℕ
 column_line schema words place column =
     schema.name ++ (codes "," ++ (column.name ++ (codes "," ++ (kind_word column.kind
-    ++ (codes "," ++ (yes_word (place == schema.key) ++ (codes "," ++ (words ++ codes "\n"))))))))
+    ++ (codes "," ++ (yes_word (place == schema.key) ++ (codes "," ++ words)))))))
 
 -- the lines of columns, the first of which stands at this place
 abbrev pub column_lines : plain.Schema → List ℕ → ℕ → List Column → List ℕ
@@ -115,5 +148,5 @@ lines_of_tables lasts number (t ∷ ts) =
 -- the listing of tables
 abbrev pub tables_text : List Commit → List ℕ
 tables_text commits =
-    codes "table,column,type,key,open,rows,version,valid\n"
+    codes "table,column,type,key,open,rows,version,valid,floor\n"
     ++ lines_of_tables (last_versions commits) 0 (database_of commits).tables

@@ -32,6 +32,11 @@ IsRefusedFor image fault.NoMemory = Unit {0}
 
 -- the line that says so
 abbrev pub refusal_line : ListFault → List ℕ
-refusal_line (fault.NotInitialised len) = codes "! journal NotInitialised " ++ (decimal len ++ codes "\n")
+refusal_line (fault.NotInitialised len) =
+    codes "! journal NotInitialised " ++ (decimal len ++ codes "\n")
 refusal_line (fault.Damaged at) = codes "! journal Damaged " ++ (decimal at ++ codes "\n")
 refusal_line fault.NoMemory = []
+
+-- the text is the line that says why the bytes are not listed
+abbrev pub IsRefusal : List ℕ → List ℕ → Type 0
+IsRefusal image text = (f : ListFault) × IsRefusedFor image f × (text ≡ refusal_line f)

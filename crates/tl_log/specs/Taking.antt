@@ -9,7 +9,8 @@ abbrev pub IsAtEnd : Option (List ℕ) → Type 0
 IsAtEnd left = (b : List ℕ) → left ≡ Some b → b ≡ []
 
 -- some further bytes of a source stand behind those taken before, or it has no more
-abbrev pub Takes : Option (List ℕ) → List ℕ → Result Bool ReadFault → Option (List ℕ) → List ℕ → Type 0
+abbrev pub Takes : Option (List ℕ) → List ℕ → Result Bool ReadFault → Option (List ℕ) → List ℕ
+    → Type 0
 Takes before old (Ok true) after new =
     (some : List ℕ) × (0 < length some) × (before ≡ prepend_known some after) × (new ≡ old ++ some)
 Takes before old (Ok false) after new = (new ≡ old) × IsAtEnd before

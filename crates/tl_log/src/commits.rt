@@ -1,7 +1,8 @@
-//! The listing of commits.
-ghost use Rattle.std.specs.Prelude.{◌≡◌, ◌++◌, ◌<◌, ◌+◌, IfOk, OnOk, Some, slice_get};
+//! The listing of commits: a line of CSV each, with what the commit does. It reads them one after
+//! the other, and refuses nothing but where memory runs out.
+ghost use Rattle.std.specs.Prelude.{◌≡◌, ◌++◌, ◌<◌, ◌+◌, IfOk, OnOk, Some, length, slice_get};
 ghost use Rattle.std.specs.String.{string_bytes};
-ghost use Rattle.tl_types.specs.History.{database_of};
+ghost use Rattle.tl_types.specs.History.{closed_by, database_of, opened_by};
 ghost use Rattle.tl_log.specs.Listing.{name_at, table_name, deed_words, commit_line, lines_from, log_text};
 
 use crate::lines::{begun_with, put_text};
@@ -23,27 +24,49 @@ fn name_at(store: &Store, table: u16) -> &str
     }
 }
 
-// The name of the table that a commit creates or changes.
+// The name of the table that a commit creates, changes or sets the floor of, the empty text for a
+// moment, which has none.
 fn table_name<'a>(store: &'a Store, body: &'a Body) -> &'a str
     ensures { result.now ≡ table_name (database_of store.now) body.now }
 {
     match body {
         Body::Create(schema) => schema.name().as_str(),
         Body::Change(change) => name_at(store, change.table()),
+        Body::Moment { .. } => "",
+        Body::Forget { table, .. } => name_at(store, *table),
     }
 }
 
-// What a commit does to its table, and how many rows it closes and opens.
+fn closed_count(body: &Body) -> usize
+    ensures { result ≡ length (closed_by body.now) }
+{
+    match body {
+        Body::Change(change) => change.closes().len(),
+        _ => 0,
+    }
+}
+
+fn opened_count(body: &Body) -> usize
+    ensures { result ≡ length (opened_by body.now) }
+{
+    match body {
+        Body::Change(change) => change.opens().len(),
+        _ => 0,
+    }
+}
+
+// What a commit does, how many rows it closes and opens, and the moment and the floor that it
+// states: the end of its line.
 fn deed_words(alloc: Global, body: &Body) -> Result<String, NoMemory>
     ensures { IfOk result (λ text. string_bytes text ≡ deed_words body.now) }
 {
+    let closed = closed_count(body);
+    let opened = opened_count(body);
     match body {
-        Body::Create(_) => String::from_str(alloc, "create,0,0"),
-        Body::Change(change) => {
-            let closed = change.closes().len();
-            let opened = change.opens().len();
-            format!(in alloc; "change,{closed},{opened}")
-        }
+        Body::Create(_) => format!(in alloc; "create,{closed},{opened},,\n"),
+        Body::Change(_) => format!(in alloc; "change,{closed},{opened},,\n"),
+        Body::Moment { moment } => format!(in alloc; "moment,{closed},{opened},{moment},\n"),
+        Body::Forget { floor, .. } => format!(in alloc; "forget,{closed},{opened},,{floor}\n"),
     }
 }
 
@@ -61,7 +84,7 @@ fn put_commit(
     let author = commit.author;
     let name = table_name(store, &commit.body);
     let deed = deed_words(alloc, &commit.body)?;
-    let line = format!(in alloc; "{version},{author},{name},{deed}\n")?;
+    let line = format!(in alloc; "{version},{author},{name},{deed}")?;
     put_text(out, line.as_str())
 }
 
@@ -89,12 +112,17 @@ fn put_commits<L: Ledger>(
 }
 
 /// The listing of the commits of a store, in order: a line of names, and then a line a commit with
-/// its version, the number of the session that made it, its table, `create` or `change`, and how
-/// many rows it closes and opens. The error is `NoMemory`.
+/// its version, the number of the session that made it, its table, one of the words `create`,
+/// `change`, `moment` and `forget`, how many rows it closes and opens, its moment in the user's unit
+/// and its floor, a version. A moment has no table, and all but it no moment; all but a forget have
+/// no floor: these fields are empty. The error is `NoMemory`.
 pub fn log_bytes(alloc: Global, store: &Store) -> Result<Bytes, NoMemory>
     ensures { IfOk result (λ bytes. bytes ≡ log_text store.now) }
 {
-    let mut out = begun_with(alloc, "version,session,table,what,closed,opened\n")?;
+    let mut out = begun_with(
+        alloc,
+        "version,session,table,what,closed,opened,moment,floor\n",
+    )?;
     put_commits::<Brand>(alloc, &mut out, store, Blank::new(1))?;
     Ok(Bytes::from_vec(out))
 }

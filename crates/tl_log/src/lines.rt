@@ -1,4 +1,5 @@
-// Lines, put behind each other.
+//! Lines, put behind each other in a list of bytes. What stands there is kept, and only memory that
+//! runs out refuses a further one.
 ghost use Rattle.std.specs.Prelude.{◌≡◌, ◌++◌, IfOk, OnOk};
 
 use std::alloc::Global;

@@ -1,13 +1,14 @@
-//! What can be listed.
+//! What can be listed of a journal, by the one word that names it. Other words, several and none
+//! name nothing.
 ghost use Rattle.std.specs.Prelude.{◌≡◌};
 ghost use Rattle.tl_log.specs.Ending.{listing_by, listing_of, texts_of};
 
 /// What is listed of a journal.
 #[derive(Clone, Copy)]
 pub enum Listing {
-    /// The commits.
+    /// Its commits, a line each.
     Commits,
-    /// The tables that they make.
+    /// The tables that its commits make, a line for each column.
     Tables,
 }
 

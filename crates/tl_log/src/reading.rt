@@ -1,4 +1,5 @@
-//! The whole of a source.
+//! The whole of a source, read to its end in pieces of 64 KB. Its bytes are kept as they came, and a
+//! source that fails is told with its count of faults.
 ghost use Rattle.std.specs.Prelude.{◌≡◌, ◌<◌, ℕ, List, length, Some, IfOk, IfErr, OnOk, vec_len};
 ghost use Rattle.tl_log.specs.Taking.{CountsRead, Takes};
 
@@ -13,7 +14,7 @@ const PIECE: usize = 65536;
 pub(crate) enum ReadFault {
     /// It failed, with this count of faults.
     Source {
-        /// The count.
+        /// Its count of faults.
         faults: u64,
     },
     /// Memory ran out.

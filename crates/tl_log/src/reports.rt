@@ -1,4 +1,5 @@
-//! What is said of the bytes of a journal.
+//! What is said of the bytes of a journal: a listing, or the line that says why there is none. They
+//! are refused where they are too few or damaged, or where a commit does not fit those before it.
 ghost use Rattle.std.specs.Prelude.{◌≡◌, ℕ, IfOk, IfErr};
 ghost use Rattle.std.specs.String.{string_bytes};
 ghost use Rattle.tl_journal.specs.Image.{ImageStandsOnlyFor};

@@ -1,4 +1,6 @@
-//! The listing of tables.
+//! The listing of tables: a line of CSV a column, with what is so of its table. It counts the rows
+//! that are current and looks for last versions by reading all commits again, and refuses nothing
+//! but where memory runs out.
 ghost use Rattle.std.specs.Prelude.{◌≡◌, ℕ, ◌++◌, ◌<◌, ◌==◌, IfOk, OnOk, Some, List, set, get_or, slice_get, length, cond};
 ghost use Rattle.std.specs.String.{string_bytes};
 ghost use Rattle.tl_types.specs.History.{database_of, is_open, rows_of};
@@ -31,11 +33,13 @@ fn note_last(lasts: &mut Vec<u32>, version: u32, body: &Body) -> Result<(), NoMe
     match body {
         Body::Create(_) => lasts.push(version)?,
         Body::Change(change) => set_last(lasts, change.table(), version),
+        Body::Moment { .. } => {}
+        Body::Forget { .. } => {}
     }
     Ok(())
 }
 
-// Of each table the version of the last commit that created or changed it.
+// Of each table the version of the last commit that created it or changed its rows.
 #[tactic(auto, using(crate::proofs::TableLemmas::lasts_step, crate::proofs::TableLemmas::lasts_end))]
 fn last_versions<L: Ledger>(
     alloc: Global,
@@ -94,8 +98,8 @@ fn yes_word(is_so: bool) -> &'static str
     if is_so { "yes" } else { "no" }
 }
 
-// How many rows of a table are current, how many it has, its last version, and whether its rows
-// have a valid period.
+// How many rows of a table are current, how many it has, its last version, whether its rows have a
+// valid period, its floor, and the end of the line.
 #[tactic(auto, using(crate::proofs::TableLemmas::words_there))]
 fn table_words<L: Ledger>(
     alloc: Global,
@@ -111,10 +115,11 @@ fn table_words<L: Ledger>(
     let current = open_rows(store, table, steps);
     let rows = store.rows(table);
     let valid = yes_word(store.schema(table).valid());
-    format!(in alloc; "{current},{rows},{last},{valid}")
+    let floor = store.floor(table);
+    format!(in alloc; "{current},{rows},{last},{valid},{floor}\n")
 }
 
-// Puts the line of the column at a place.
+// Puts the line of the column at a place, which ends with these words.
 fn put_column(
     alloc: Global,
     out: &mut Vec<u8>,
@@ -130,7 +135,7 @@ fn put_column(
     let name = column.name.as_str();
     let kind = kind_word(column.kind);
     let key = yes_word(place == schema.key() as usize);
-    let line = format!(in alloc; "{table},{name},{kind},{key},{words}\n")?;
+    let line = format!(in alloc; "{table},{name},{kind},{key},{words}")?;
     put_text(out, line.as_str())
 }
 
@@ -209,7 +214,10 @@ fn tables_text<L: Ledger>(alloc: Global, store: &Store, blank: Blank) -> Result<
 {
     let mut steps = Steps::<L>::new(blank);
     let lasts = last_versions(alloc, store, &mut steps)?;
-    let mut out = begun_with(alloc, "table,column,type,key,open,rows,version,valid\n")?;
+    let mut out = begun_with(
+        alloc,
+        "table,column,type,key,open,rows,version,valid,floor\n",
+    )?;
     put_tables(alloc, &mut out, store, &lasts, &mut steps)?;
     Ok(Bytes::from_vec(out))
 }
@@ -217,8 +225,9 @@ fn tables_text<L: Ledger>(alloc: Global, store: &Store, blank: Blank) -> Result<
 /// The listing of the tables that the commits of a store make, in order of their numbers: a line of
 /// names, and then a line a column with its table, its name, what it holds, whether it is the key,
 /// and of its table how many rows are current, how many it has with those that have ended, the
-/// version of the last commit that created or changed it, and whether its rows have a valid period.
-/// The error is `NoMemory`.
+/// version of the last commit that created it or changed its rows, whether its rows have a valid
+/// period, and its floor, which is the least version that may be asked of it. The error is
+/// `NoMemory`.
 pub fn tables_bytes(alloc: Global, store: &Store) -> Result<Bytes, NoMemory>
     ensures { IfOk result (λ bytes. bytes ≡ tables_text store.now) }
 {

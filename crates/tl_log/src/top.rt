@@ -1,4 +1,5 @@
-//! The call that lists.
+//! The call that lists: it reads a source to its end, opens the journal in memory, and writes the
+//! listing, or the line that says why there is none. It writes to no disk.
 ghost use Rattle.std.specs.Prelude.{◌≡◌, ℕ, Some};
 ghost use Rattle.tl_device.specs.Known.{Rose};
 ghost use Rattle.tl_log.specs.Ending.{fault_status, EndsListing, WritesAll};
@@ -20,12 +21,13 @@ pub enum ListStatus {
     /// The source failed, and nothing is written. `faults` is its count of faults, which rose in
     /// this call.
     SourceFault {
-        /// The count.
+        /// Its count of faults.
         faults: u64,
     },
-    /// The sink failed. `faults` is its count of faults, which rose in this call.
+    /// The sink failed behind some first part of what was to be written. `faults` is its count of
+    /// faults, which rose in this call.
     SinkFault {
-        /// The count.
+        /// Its count of faults.
         faults: u64,
     },
     /// The source's bytes are not listed, for this fault, and the line that says so is written.
@@ -97,14 +99,17 @@ fn list_bytes<K: Sink>(alloc: Global, listing: Listing, image: Vec<u8>, sink: &m
 /// is opened in memory, and the listing is written to the sink; nothing else is written anywhere.
 ///
 /// The listing is CSV. Of commits: a line of names, and a line a commit with its version, the number
-/// of its session, its table, `create` or `change`, and how many rows it closes and opens. Of
-/// tables: a line of names, and a line a column with its table, its name, what it holds, whether it
-/// is the key, and of its table how many rows are current, how many it has, its last version, and
-/// whether its rows have a valid period.
+/// of its session, its table, what it does (`create`, `change`, `moment` or `forget`), how many rows
+/// it closes and opens, its moment and its floor. Of tables: a line of names, and a line a column
+/// with its table, its name, what it holds, whether it is the key, and of its table how many rows
+/// are current, how many it has, its last version, whether its rows have a valid period, and its
+/// floor.
 ///
 /// `Refused`: the bytes are too few for a journal, or damaged; the line that says so is written.
-/// `SourceFault`, `SinkFault`: only where the count of faults rose in this call. `NoMemory`: memory
-/// ran out, and nothing is written.
+/// `SourceFault`: only where the source's count of faults rose in this call; it is that count, and
+/// nothing is written. `SinkFault`: only where the sink's count rose; it is that count, and some
+/// first part of the listing or of the line is written. `NoMemory`: memory ran out, and nothing is
+/// written.
 pub fn list<S: Source, K: Sink>(
     alloc: Global,
     listing: Listing,
@@ -114,7 +119,7 @@ pub fn list<S: Source, K: Sink>(
     ensures ends { EndsListing listing (S.left source.old) (K.written sink.old)
         (K.written sink.new) (K.faults sink.old) (K.faults sink.new) result }
     ensures source { (faults : ℕ) → result ≡ status.SourceFault faults
-        → Rose (S.faults source.old) (S.faults source.new) }
+        → (faults ≡ S.faults source.new) × Rose (S.faults source.old) (S.faults source.new) }
 {
     match read_all(alloc, source) {
         Ok(image) => list_bytes(alloc, listing, image, sink),

@@ -32,7 +32,8 @@ Comes old taken jobs new left =
     × (old.reads true taken ≡ with_phase jobs (no_phase new.names)))
 
 -- a phase came
-pub record BringsPhase (old : Coming) (taken : List ℕ) (jobs : List Job) (new : Coming) (left : Option (List ℕ)) : Type 0 where
+pub record BringsPhase (old : Coming) (taken : List ℕ) (jobs : List Job) (new : Coming)
+    (left : Option (List ℕ)) : Type 0 where
   pub live : new.live ≡ true
   pub names : Grows old.names new.names
   pub most : new.most ≡ old.most
@@ -61,13 +62,16 @@ BringsNone old taken (next.Source faults) left = old.reads false taken ≡ no_ph
 BringsNone old taken (next.Fault f) left = BringsFault old taken f left
 
 -- what the answer says of the bytes that were taken
-abbrev pub SaysComing : Coming → List ℕ → Result (Option Phase) NextError → Coming → Option (List ℕ) → Type 0
+abbrev pub SaysComing : Coming → List ℕ → Result (Option Phase) NextError → Coming → Option (List ℕ)
+    → Type 0
 SaysComing old taken (Ok (Some phase)) new left = BringsPhase old taken phase.jobs.items new left
 SaysComing old taken (Ok None) new left = BringsNoMore old taken left
 SaysComing old taken (Err e) new left = BringsNone old taken e left
 
 -- bytes were taken of the source, none where it is at its end, and the answer says this of them
-pub record AnswersComing (old : Coming) (before : Option (List ℕ)) (answer : Result (Option Phase) NextError) (new : Coming) (after : Option (List ℕ)) : Type 0 where
+pub record AnswersComing (old : Coming) (before : Option (List ℕ))
+    (answer : Result (Option Phase) NextError) (new : Coming) (after : Option (List ℕ))
+    : Type 0 where
   pub taken : List ℕ
   pub order : before ≡ prepend_known taken after
   pub idle : old.at_end ≡ true → (taken ≡ []) × (answer ≡ Ok None)
@@ -84,7 +88,8 @@ ReadsOn first bytes phases now left =
     × (first.reads true bytes ≡ with_phases phases (no_phase now.names)))
 
 -- these phases came so far, of these bytes of a source that had `before` left
-pub record HaveCome (first : Coming) (before : Option (List ℕ)) (bytes : List ℕ) (phases : List (List Job)) (now : Coming) (left : Option (List ℕ)) : Type 0 where
+pub record HaveCome (first : Coming) (before : Option (List ℕ)) (bytes : List ℕ)
+    (phases : List (List Job)) (now : Coming) (left : Option (List ℕ)) : Type 0 where
   pub order : before ≡ prepend_known bytes left
   pub most : now.most ≡ first.most
   pub few : length now.names ≤ first.most

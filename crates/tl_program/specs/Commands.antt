@@ -6,7 +6,7 @@ use Rattle.std.specs.Str.{is_utf8}
 use Rattle.std.specs.Str.Parse.{digits_value}
 use Rattle.tl_types.specs.Names.{same_bytes, is_name}
 use Rattle.tl_session.specs.Plain.{Pace}
-use Rattle.tl_program.specs.declared.commands.Asked.{Asked}
+use Rattle.tl_program.specs.declared.commands.Settings.{Settings}
 use Rattle.tl_program.specs.declared.commands.Command.{Command}
 use Rattle.tl_program.specs.declared.commands.Command.TheVariants as command
 
@@ -69,11 +69,11 @@ options_of (word ∷ number ∷ other ∷ second ∷ []) =
 options_of (word ∷ number ∷ other ∷ second ∷ more ∷ words) = None
 
 -- no command
-abbrev pub nothing : Asked
+abbrev pub nothing : Settings
 nothing = record { command = None; pace = record { workers = 4; every = 4096 } }
 
 -- a command with a pace, where both are given
-abbrev pub with_pace : Option Command → Option Pace → Asked
+abbrev pub with_pace : Option Command → Option Pace → Settings
 with_pace command None = nothing
 with_pace command (Some pace) = record { command = command; pace = pace }
 
@@ -88,36 +88,36 @@ abbrev pub load_of : List ℕ → Option Command
 load_of table = if is_name table then Some (command.Load table) else None
 
 -- behind `init`: no more words
-abbrev pub init_asked : List (List ℕ) → Asked
-init_asked [] = with_pace (Some command.Init) (options_of [])
-init_asked (word ∷ words) = nothing
+abbrev pub init_settings : List (List ℕ) → Settings
+init_settings [] = with_pace (Some command.Init) (options_of [])
+init_settings (word ∷ words) = nothing
 
 -- behind `load`: a name, and options
-abbrev pub load_asked : List (List ℕ) → Asked
-load_asked [] = nothing
-load_asked (table ∷ options) = with_pace (load_of table) (options_of options)
+abbrev pub load_settings : List (List ℕ) → Settings
+load_settings [] = nothing
+load_settings (table ∷ options) = with_pace (load_of table) (options_of options)
 
 -- behind `sample`: 1 to 1,000,000, a number below 2 ^ 64, and options
-abbrev pub sample_asked : List (List ℕ) → Asked
-sample_asked [] = nothing
-sample_asked (lines ∷ []) = nothing
-sample_asked (lines ∷ start ∷ options) =
+abbrev pub sample_settings : List (List ℕ) → Settings
+sample_settings [] = nothing
+sample_settings (lines ∷ []) = nothing
+sample_settings (lines ∷ start ∷ options) =
     with_pace (sample_of (within 1 1000000 (spelled_number lines)) (spelled_number start))
     (options_of options)
 
--- what the words ask for: `init`; or `run`, `load` and a name, or `sample` and its two numbers, each
--- with options behind it
-abbrev pub asked_of : List (List ℕ) → Asked
-asked_of [] = nothing
-asked_of (word ∷ words) =
-    if same_bytes word (codes "init") then init_asked words
+-- what the words ask for: `init`; or `run`, `load` and a name, or `sample` and its two numbers,
+-- each with options behind it
+abbrev pub settings_of : List (List ℕ) → Settings
+settings_of [] = nothing
+settings_of (word ∷ words) =
+    if same_bytes word (codes "init") then init_settings words
     else (if same_bytes word (codes "run") then with_pace (Some command.Run) (options_of words)
-    else (if same_bytes word (codes "load") then load_asked words
-    else (if same_bytes word (codes "sample") then sample_asked words else nothing)))
+    else (if same_bytes word (codes "load") then load_settings words
+    else (if same_bytes word (codes "sample") then sample_settings words else nothing)))
 
 -- the command that the words are
 abbrev pub command_of : List (List ℕ) → Option Command
-command_of words = (asked_of words).command
+command_of words = (settings_of words).command
 
 -- the source is read by `run` and `load` alone
 abbrev pub reads_source : Option Command → Bool

@@ -177,10 +177,11 @@ InitEnds before after ended = MakesJournal before after ended ⊎ MakingFails be
 
 -- THE PHASES
 
--- The replies of the turns of all phases are a transcript from the opening's commits to all commits,
--- with a break or none. Where nothing broke, and the turns of each phase are of one session, they
--- are those of the jobs done one after the other.
-pub record Told (opening all : List Commit) (broke : Option Commit) (turns : List (List Turn)) : Type 0 where
+-- The replies of the turns of all phases are a transcript from the opening's commits to all
+-- commits, with a break or none. Where nothing broke, and the turns of each phase are of one
+-- session, they are those of the jobs done one after the other.
+pub record Told (opening all : List Commit) (broke : Option Commit) (turns : List (List Turn))
+    : Type 0 where
   pub begins : IsPrefix opening all
   pub transcript : Transcript meant opening all broke turns
   pub play : broke ≡ None → AreLone turns → IsPlay meant opening (all_turns turns) all
@@ -191,9 +192,10 @@ wanted_by false faults = status.Done
 wanted_by true faults = status.DiskFault faults
 
 -- What closes a run behind its replies, by why its phases stopped, whether a break came, and the
--- disk's count of faults: a closing line, but for the faults of the sink and being out of memory. What
--- is written and the sink's count are given before and after.
-abbrev pub ClosesAfter : Stop → Bool → ℕ → Option (List ℕ) → Option (List ℕ) → ℕ → ℕ → Status → Type 0
+-- disk's count of faults: a closing line, but for the faults of the sink and being out of memory.
+-- What is written and the sink's count are given before and after.
+abbrev pub ClosesAfter : Stop → Bool → ℕ → Option (List ℕ) → Option (List ℕ) → ℕ → ℕ → Status
+    → Type 0
 ClosesAfter stop.Ended broke faults old new before after ended =
     Closes [] (wanted_by broke faults) old new before after ended
 ClosesAfter (stop.Fault f) broke faults old new before after ended =
@@ -207,7 +209,8 @@ ClosesAfter stop.NoMemory broke faults old new before after ended =
 
 -- the phases stopped for this, with the source and the sink as they then were, and the run was
 -- closed
-pub record PhasesEnd (Ran : List (List Turn) → Type 0) (reads : Bool → List ℕ → ScriptReading) (broke : Bool) (faults : ℕ) (before after : Streams) (ended : Status) : Type 0 where
+pub record PhasesEnd (Ran : List (List Turn) → Type 0) (reads : Bool → List ℕ → ScriptReading)
+    (broke : Bool) (faults : ℕ) (before after : Streams) (ended : Status) : Type 0 where
   pub why : Stop
   pub at : Streams
   pub stops : RunStops Ran reads why before at
@@ -218,7 +221,8 @@ pub record PhasesEnd (Ran : List (List Turn) → Type 0) (reads : Bool → List 
 
 -- how a run over a journal ends that was opened with these commits: the disk holds all commits of
 -- which the replies tell, or, where a break came, these or these and the break's
-pub record OpenedEnds (reads : Bool → List ℕ → ScriptReading) (opening : List Commit) (before after : Outside) (ended : Status) : Type 0 where
+pub record OpenedEnds (reads : Bool → List ℕ → ScriptReading) (opening : List Commit)
+    (before after : Outside) (ended : Status) : Type 0 where
   pub opens : OpensWith opening before
   pub all : List Commit
   pub broke : Option Commit

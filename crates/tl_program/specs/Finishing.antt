@@ -15,7 +15,9 @@ use Rattle.tl_program.specs.Stopping.{RunStops}
 
 -- The phases stopped for this, and their replies tell of the last entries, which the closed engine
 -- has: whether there is a break, and what the disk stands for, where it told its bytes before.
-pub record Finishes {D : Type 0} (disks : DiskGhosts D) (begun : D) (opening : List Entry) (first_count : ℕ) (script : Bool → List ℕ → ScriptReading) (before after : Streams) (why : Stop) (broke : Bool) (disk : D) : Type 0 where
+pub record Finishes {D : Type 0} (disks : DiskGhosts D) (begun : D) (opening : List Entry)
+    (first_count : ℕ) (script : Bool → List ℕ → ScriptReading) (before after : Streams) (why : Stop)
+    (broke : Bool) (disk : D) : Type 0 where
   pub last : List Entry
   pub legal : IsTrue (are_legal last)
   pub stops : RunStops (Told (commits_of opening) (commits_of last) (break_of last)) script why

@@ -1,17 +1,17 @@
 -- What is proved of a run as a whole: when it is done, and what it prints and keeps then. By status
 -- of a run over a journal, the field of `RunTells`, what it says, and where Ending.antt has why:
 --
---   status        field         says                                     in `OpenedEnds`
---   Done          done          `PrintsAll`                                `ends.why` Ended, no break
---   NoMemory      no_memory     `CutsByMemory`: `StopsAtOnce`,             not opened, NoMemory, or no
---                               `StopsInPhase`, `CutsClosing`,             memory for the closing line
+--   status        field         says                              in `OpenedEnds`
+--   Done          done          `PrintsAll`                         `ends.why` Ended, no break
+--   NoMemory      no_memory     `CutsByMemory`: `StopsAtOnce`,      not opened, NoMemory, or no
+--                               `StopsInPhase`, `CutsClosing`,      memory for the closing line
 --                               `CutsClosed`
---   SourceFault   source_fault  `PrintsClosed`                             Source
---   SinkFault     sink_fault    `CutsBySink`: `CutsOpening`,               not opened, Sink, or the sink
---                               `CutsReplies`, `CutsClosing`,              failed at the closing line
+--   SourceFault   source_fault  `PrintsClosed`                      Source
+--   SinkFault     sink_fault    `CutsBySink`: `CutsOpening`,        not opened, Sink, or the sink
+--                               `CutsReplies`, `CutsClosing`,       failed at the closing line
 --                               `CutsClosed`
---   DiskFault     disk_fault    `FailsToOpen` or `PrintsBreak`             not opened, or Ended, a break
---   ScriptFault   script_fault  `PrintsToFault`                            Fault
+--   DiskFault     disk_fault    `FailsToOpen` or `PrintsBreak`      not opened, or Ended, a break
+--   ScriptFault   script_fault  `PrintsToFault`                     Fault
 --
 -- Of Usage, NotInitialised, AlreadyInitialised and Damaged `Ends` says all.
 use Rattle.std.specs.Prelude.{◌≡◌, ◌⊎◌, ℕ, ◌≤◌, Bool, true, false, List, [], ◌∷◌, ◌++◌, length, take, map, Some, None, is_some}
@@ -97,10 +97,11 @@ Completes words before after ended = CompletesBy (command_of words) before after
 -- THE HEADLINE
 
 -- A transcript of what is read was printed, from the opening's commits to all commits, with a break
--- or none, and this closing line behind it; the disk holds these commits, or also the break's. Where
--- nothing broke and each phase has jobs of one session, it is the play: the jobs done one after the
--- other.
-pub record PrintsTranscript (reading : ScriptReading) (opening all : List Commit) (broke : Option Commit) (closing : Status) (before after : Outside) : Type 0 where
+-- or none, and this closing line behind it; the disk holds these commits, or also the break's.
+-- Where nothing broke and each phase has jobs of one session, it is the play: the jobs done one
+-- after the other.
+pub record PrintsTranscript (reading : ScriptReading) (opening all : List Commit)
+    (broke : Option Commit) (closing : Status) (before after : Outside) : Type 0 where
   pub bytes : List ℕ
   pub begins : IsPrefix opening all
   pub transcript : IsTranscript reading.names (phases_asked reading.phases) opening all broke bytes
@@ -118,14 +119,16 @@ pub record FailsToOpen (closing : Status) (before after : Outside) : Type 0 wher
   pub keeps : KeepsJournal before after
 
 -- the script was read to its end, and a transcript without a break was printed
-pub record PrintsAll (reading : ScriptReading) (opening : List Commit) (before after : Outside) : Type 0 where
+pub record PrintsAll (reading : ScriptReading) (opening : List Commit) (before after : Outside)
+    : Type 0 where
   pub faultless : reading.fault ≡ None
   pub read : after.left ≡ Some []
   pub all : List Commit
   pub prints : PrintsTranscript reading opening all None status.Done before after
 
 -- the script was read to its end, a break came, and a transcript with it was printed
-pub record PrintsBreak (reading : ScriptReading) (opening : List Commit) (closing : Status) (before after : Outside) : Type 0 where
+pub record PrintsBreak (reading : ScriptReading) (opening : List Commit) (closing : Status)
+    (before after : Outside) : Type 0 where
   pub faultless : reading.fault ≡ None
   pub read : after.left ≡ Some []
   pub all : List Commit
@@ -133,7 +136,8 @@ pub record PrintsBreak (reading : ScriptReading) (opening : List Commit) (closin
   pub prints : PrintsTranscript reading opening all (Some broke) closing before after
 
 -- a transcript of the phases before a fault of the script was printed
-pub record PrintsToFault (reading : ScriptReading) (f : ScriptFault) (opening : List Commit) (before after : Outside) : Type 0 where
+pub record PrintsToFault (reading : ScriptReading) (f : ScriptFault) (opening : List Commit)
+    (before after : Outside) : Type 0 where
   pub fault_is : reading.fault ≡ Some f
   pub all : List Commit
   pub broke : Option Commit
@@ -141,7 +145,8 @@ pub record PrintsToFault (reading : ScriptReading) (f : ScriptFault) (opening : 
 
 -- the source failed, and a transcript was printed of the phases that are closed in what was taken,
 -- in which no fault is read
-pub record PrintsClosed (closed : List ℕ → ScriptReading) (opening : List Commit) (closing : Status) (before after : Outside) : Type 0 where
+pub record PrintsClosed (closed : List ℕ → ScriptReading) (opening : List Commit) (closing : Status)
+    (before after : Outside) : Type 0 where
   pub rose : Rose before.source_faults after.source_faults
   pub taken : List ℕ
   pub order : before.left ≡ prepend_known taken after.left
@@ -167,7 +172,8 @@ pub record CutsOpening (before after : Outside) : Type 0 where
 -- the sink failed at the replies of a phase: those of the phases before it were written, and some
 -- first bytes of its own. With all of its own they are a transcript, from the opening's commits to
 -- all commits, with a break or none; the disk holds these commits, or also the break's.
-pub record CutsReplies (reading : ScriptReading) (opening : List Commit) (before after : Outside) : Type 0 where
+pub record CutsReplies (reading : ScriptReading) (opening : List Commit) (before after : Outside)
+    : Type 0 where
   pub turns : List (List Turn)
   pub last : List Turn
   pub later : List (List Job)
@@ -183,7 +189,8 @@ pub record CutsReplies (reading : ScriptReading) (opening : List Commit) (before
 
 -- a transcript of what is read was printed, and some first bytes of the closing line, which is that
 -- of the status for the break, or for none
-pub record CutsClosing (reading : ScriptReading) (closing : Option Commit → Status) (opening : List Commit) (before after : Outside) : Type 0 where
+pub record CutsClosing (reading : ScriptReading) (closing : Option Commit → Status)
+    (opening : List Commit) (before after : Outside) : Type 0 where
   pub bytes : List ℕ
   pub all : List Commit
   pub broke : Option Commit
@@ -195,7 +202,8 @@ pub record CutsClosing (reading : ScriptReading) (closing : Option Commit → St
   pub holds : HoldsJournal all broke before after
 
 -- the same once the source had failed, of the phases that are closed in what was taken
-pub record CutsClosed (closed : List ℕ → ScriptReading) (closing : Option Commit → Status) (opening : List Commit) (before after : Outside) : Type 0 where
+pub record CutsClosed (closed : List ℕ → ScriptReading) (closing : Option Commit → Status)
+    (opening : List Commit) (before after : Outside) : Type 0 where
   pub rose : Rose before.source_faults after.source_faults
   pub taken : List ℕ
   pub order : before.left ≡ prepend_known taken after.left
@@ -208,7 +216,8 @@ wanted_for None faults broke = wanted_by (is_some broke) faults
 wanted_for (Some f) faults broke = status.ScriptFault f
 
 -- the sink failed: in opening, at the replies of a phase, or at the closing line
-abbrev pub CutsBySink : (Bool → List ℕ → ScriptReading) → List ℕ → List Commit → Outside → Outside → Type 0
+abbrev pub CutsBySink : (Bool → List ℕ → ScriptReading) → List ℕ → List Commit → Outside → Outside
+    → Type 0
 CutsBySink reads script opening before after =
     CutsOpening before after
     ⊎ (CutsReplies (reads true script) opening before after
@@ -227,7 +236,8 @@ pub record StopsAtOnce (before after : Outside) : Type 0 where
 -- first jobs of each of its sessions, so many as were done, they are a transcript, from the
 -- opening's commits to all commits, with a break or none; the disk holds these commits, or also the
 -- break's.
-pub record StopsInPhase (reading : ScriptReading) (opening : List Commit) (before after : Outside) : Type 0 where
+pub record StopsInPhase (reading : ScriptReading) (opening : List Commit) (before after : Outside)
+    : Type 0 where
   pub turns : List (List Turn)
   pub last : List Turn
   pub later : List (List Job)
@@ -242,7 +252,8 @@ pub record StopsInPhase (reading : ScriptReading) (opening : List Commit) (befor
   pub holds : HoldsJournal all broke before after
 
 -- memory ran out: at once, in a phase, or for the closing line, of which nothing is then written
-abbrev pub CutsByMemory : (Bool → List ℕ → ScriptReading) → List ℕ → List Commit → Outside → Outside → Type 0
+abbrev pub CutsByMemory : (Bool → List ℕ → ScriptReading) → List ℕ → List Commit → Outside → Outside
+    → Type 0
 CutsByMemory reads script opening before after =
     StopsAtOnce before after
     ⊎ (StopsInPhase (reads true script) opening before after
@@ -259,7 +270,8 @@ pub record PrintsPlay (reading : ScriptReading) (old new : Option (List ℕ)) : 
   pub written : new ≡ append_known old bytes
 
 -- what is proved of the run of a script over a journal of these commits
-pub record RunTells (reads : Bool → List ℕ → ScriptReading) (script : List ℕ) (opening : List Commit) (before after : Outside) (ended : Status) : Type 0 where
+pub record RunTells (reads : Bool → List ℕ → ScriptReading) (script : List ℕ)
+    (opening : List Commit) (before after : Outside) (ended : Status) : Type 0 where
   pub done : ended ≡ status.Done → PrintsAll (reads true script) opening before after
   pub no_memory : ended ≡ status.NoMemory → CutsByMemory reads script opening before after
   pub source_fault : (faults : ℕ) → ended ≡ status.SourceFault faults
@@ -285,7 +297,8 @@ RunHeadline reads before after ended =
     → before.left ≡ Some script → before.reads ≡ Some image → ImageStandsFor opening image
     → RunTells reads script opening before after ended
 
--- the same by what the words ask for; a sample that is done printed its jobs done one after the other
+-- the same by what the words ask for; a sample that is done printed its jobs done one after the
+-- other
 abbrev pub HeadlineBy : Option Command → Outside → Outside → Status → Type 0
 HeadlineBy None before after ended = Unit {0}
 HeadlineBy (Some command.Init) before after ended = Unit {0}

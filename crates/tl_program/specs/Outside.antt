@@ -134,10 +134,11 @@ abbrev pub CountsBreak : Option Commit → ℕ → ℕ → Type 0
 CountsBreak None before now = now ≡ before
 CountsBreak (Some c) before now = Rose before now
 
--- The disk holds the journal of the commits: where it told its bytes it tells them still, and what a
--- read gives and what a crash now leaves stand for them, or, with a break, for these or these and
+-- The disk holds the journal of the commits: where it told its bytes it tells them still, and what
+-- a read gives and what a crash now leaves stand for them, or, with a break, for these or these and
 -- the break's; without a break a crash leaves what a read gives.
-pub record HoldsJournal (commits : List Commit) (broke : Option Commit) (before after : Outside) : Type 0 where
+pub record HoldsJournal (commits : List Commit) (broke : Option Commit) (before after : Outside)
+    : Type 0 where
   pub counts : CountsBreak broke before.disk_faults after.disk_faults
   pub leaves : (b : List ℕ) → before.reads ≡ Some b
       → (image : List ℕ) → after.may_leave image → StandsWithBreak commits broke image

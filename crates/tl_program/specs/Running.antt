@@ -30,7 +30,8 @@ pub record Advances (turns : List Turn) (old new : plain.SharedAccess) : Type 0 
   pub amount : new.amount ≡ old.amount + tally weight turns
 
 -- all jobs of a phase were answered, and the replies are written
-pub record RunsWhole (names : List (List ℕ)) (jobs : List Job) (old new : plain.SharedAccess) (before after : Option (List ℕ)) (first last : ℕ) : Type 0 where
+pub record RunsWhole (names : List (List ℕ)) (jobs : List Job) (old new : plain.SharedAccess)
+    (before after : Option (List ℕ)) (first last : ℕ) : Type 0 where
   pub turns : List Turn
   pub these : jobs_of turns ≡ jobs
   pub advances : Advances turns old new
@@ -38,7 +39,8 @@ pub record RunsWhole (names : List (List ℕ)) (jobs : List Job) (old new : plai
   pub sure : last ≡ first
 
 -- all jobs of a phase were answered, and the sink failed behind some prefix of the replies
-pub record RunsUnwritten (names : List (List ℕ)) (jobs : List Job) (old new : plain.SharedAccess) (before after : Option (List ℕ)) (first last : ℕ) : Type 0 where
+pub record RunsUnwritten (names : List (List ℕ)) (jobs : List Job) (old new : plain.SharedAccess)
+    (before after : Option (List ℕ)) (first last : ℕ) : Type 0 where
   pub turns : List Turn
   pub these : jobs_of turns ≡ jobs
   pub advances : Advances turns old new
@@ -47,7 +49,8 @@ pub record RunsUnwritten (names : List (List ℕ)) (jobs : List Job) (old new : 
   pub rose : Rose first last
 
 -- memory ran out: of each session some of the first jobs were answered, and nothing is written
-pub record RunsShort (jobs : List Job) (old new : plain.SharedAccess) (before after : Option (List ℕ)) (first last : ℕ) : Type 0 where
+pub record RunsShort (jobs : List Job) (old new : plain.SharedAccess)
+    (before after : Option (List ℕ)) (first last : ℕ) : Type 0 where
   pub turns : List Turn
   pub fronts : (s : ℕ) → (rest : List Job)
       × (own_jobs s jobs ≡ jobs_of (of_session s turns) ++ rest)
@@ -56,7 +59,8 @@ pub record RunsShort (jobs : List Job) (old new : plain.SharedAccess) (before af
   pub sure : last ≡ first
 
 -- what became of a phase of these jobs, by why the phases stop with it, if they do
-abbrev pub RunsAndWrites : List (List ℕ) → List Job → plain.SharedAccess → plain.SharedAccess → Option (List ℕ)
+abbrev pub RunsAndWrites : List (List ℕ) → List Job → plain.SharedAccess → plain.SharedAccess
+    → Option (List ℕ)
     → Option (List ℕ) → ℕ → ℕ → Option Stop → Type 0
 RunsAndWrites names jobs old new before after first last None =
     RunsWhole names jobs old new before after first last
@@ -77,7 +81,8 @@ pub record HasNotBegun (first : Coming) : Type 0 where
   pub known : (more : List ℕ) → Grows first.names (first.reads true more).names
 
 -- the phases that have come were run, each behind the one before it, and their replies are written
-pub record Progress (first : Coming) (opening : List Entry) (begun : Streams) (now : Coming) (shared : plain.SharedAccess) (at : Streams) : Type 0 where
+pub record Progress (first : Coming) (opening : List Entry) (begun : Streams) (now : Coming)
+    (shared : plain.SharedAccess) (at : Streams) : Type 0 where
   pub bytes : List ℕ
   pub phases : List (List ScriptJob)
   pub come : HaveCome first begun.left bytes phases now at.left
@@ -92,15 +97,17 @@ pub record Progress (first : Coming) (opening : List Entry) (begun : Streams) (n
   pub sink_sure : at.sink_faults ≡ begun.sink_faults
 
 -- the phases go on behind this one, or they stopped, and this was done by then
-abbrev pub GoesOn : Coming → List Entry → Streams → Coming → plain.SharedAccess → Streams → Option Stop → Type 0
+abbrev pub GoesOn : Coming → List Entry → Streams → Coming → plain.SharedAccess → Streams
+    → Option Stop → Type 0
 GoesOn first opening begun now shared at None = Progress first opening begun now shared at
 GoesOn first opening begun now shared at (Some why) =
     RunStops (λ turns. HaveRun opening turns shared.seen shared.amount) first.reads why begun at
     × (shared.parts ≡ 65536)
 
--- a step after which the phases go on took one phase, of bytes of a source that was not yet known to
--- be at its end
-abbrev pub TakesOnePhase : Coming → Coming → Option (List ℕ) → Option (List ℕ) → Option Stop → Type 0
+-- a step after which the phases go on took one phase, of bytes of a source that was not yet known
+-- to be at its end
+abbrev pub TakesOnePhase : Coming → Coming → Option (List ℕ) → Option (List ℕ) → Option Stop
+    → Type 0
 TakesOnePhase old new before after None =
     (old.at_end ≡ false) × ((taken : List ℕ) × (jobs : List ScriptJob)
     × (before ≡ prepend_known taken after) × BringsPhase old taken jobs new after)

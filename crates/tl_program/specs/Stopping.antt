@@ -21,7 +21,8 @@ use Rattle.tl_program.specs.Outside.{Streams}
 
 -- all phases before this fault were run, or, without one, all phases, and the source was read to
 -- its end; their replies are written
-pub record RunsAll (Ran : List (List Turn) → Type 0) (reads : List ℕ → ScriptReading) (fault : Option ScriptFault) (before after : Streams) : Type 0 where
+pub record RunsAll (Ran : List (List Turn) → Type 0) (reads : List ℕ → ScriptReading)
+    (fault : Option ScriptFault) (before after : Streams) : Type 0 where
   pub script : List ℕ
   pub told : IfSome before.left (λ left. left ≡ script)
   pub fault_is : (reads script).fault ≡ fault
@@ -34,9 +35,10 @@ pub record RunsAll (Ran : List (List Turn) → Type 0) (reads : List ℕ → Scr
   pub source_sure : after.source_faults ≡ before.source_faults
   pub sink_sure : after.sink_faults ≡ before.sink_faults
 
--- the source failed: the phases were run that are closed in the bytes taken of it, in which no fault
--- is read, and their replies are written
-pub record StopsAtSource (Ran : List (List Turn) → Type 0) (closed : List ℕ → ScriptReading) (before after : Streams) : Type 0 where
+-- the source failed: the phases were run that are closed in the bytes taken of it, in which no
+-- fault is read, and their replies are written
+pub record StopsAtSource (Ran : List (List Turn) → Type 0) (closed : List ℕ → ScriptReading)
+    (before after : Streams) : Type 0 where
   pub taken : List ℕ
   pub order : before.left ≡ prepend_known taken after.left
   pub rose : Rose before.source_faults after.source_faults
@@ -50,7 +52,8 @@ pub record StopsAtSource (Ran : List (List Turn) → Type 0) (closed : List ℕ 
 
 -- the sink failed while it was given the replies of a phase: those of the phases before it are
 -- written, and some prefix of its own
-pub record StopsAtSink (Ran : List (List Turn) → Type 0) (reads : List ℕ → ScriptReading) (before after : Streams) : Type 0 where
+pub record StopsAtSink (Ran : List (List Turn) → Type 0) (reads : List ℕ → ScriptReading)
+    (before after : Streams) : Type 0 where
   pub script : List ℕ
   pub told : IfSome before.left (λ left. left ≡ script)
   pub turns : List (List Turn)
@@ -74,7 +77,8 @@ AreFronts last (jobs ∷ later) =
 
 -- memory ran out: the replies of some of the first phases are written, and none of the phase in
 -- which it ran out, of which some jobs may be done
-pub record StopsShort (Ran : List (List Turn) → Type 0) (reads : List ℕ → ScriptReading) (before after : Streams) : Type 0 where
+pub record StopsShort (Ran : List (List Turn) → Type 0) (reads : List ℕ → ScriptReading)
+    (before after : Streams) : Type 0 where
   pub script : List ℕ
   pub told : IfSome before.left (λ left. left ≡ script)
   pub turns : List (List Turn)
@@ -89,7 +93,8 @@ pub record StopsShort (Ran : List (List Turn) → Type 0) (reads : List ℕ → 
   pub sink_sure : after.sink_faults ≡ before.sink_faults
 
 -- what was done, by why the phases stopped
-abbrev pub RunStops : (List (List Turn) → Type 0) → (Bool → List ℕ → ScriptReading) → Stop → Streams → Streams → Type 0
+abbrev pub RunStops : (List (List Turn) → Type 0) → (Bool → List ℕ → ScriptReading) → Stop → Streams
+    → Streams → Type 0
 RunStops Ran reads stop.Ended before after = RunsAll Ran (reads true) None before after
 RunStops Ran reads (stop.Fault f) before after = RunsAll Ran (reads true) (Some f) before after
 RunStops Ran reads (stop.Source faults) before after =

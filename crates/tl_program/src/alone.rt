@@ -1,4 +1,5 @@
-//! A journal of its own in memory.
+//! A journal of its own in memory, for what needs no file. It keeps the empty journal, and is
+//! refused only where memory runs out.
 ghost use Rattle.std.specs.Prelude.{◌≡◌, IfOk};
 ghost use Rattle.tl_journal.specs.Stands.{empty_journal};
 

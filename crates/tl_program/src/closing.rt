@@ -1,4 +1,5 @@
-//! How a run is closed: by its closing line.
+//! How a run is closed: by its closing line, behind all replies. Where the sink failed or memory
+//! ran out nothing more is written.
 ghost use Rattle.std.specs.Prelude.{◌≡◌, [], Ok, Err};
 ghost use Rattle.tl_program.specs.Ending.{ended_by, status_for, wanted_by, Closes, ClosesAfter, EndsFor};
 

@@ -1,8 +1,9 @@
-//! What the words after the program's name ask for.
+//! What the words after the program's name ask for: a command, and the pace that its options set.
+//! Words that are none are refused as a whole, and so is a number out of its bounds.
 ghost use Rattle.std.specs.Prelude.{◌≡◌, ◌<◌, ◌≤◌, ◌^◌, ◌∷◌, IfOk, IfSome, Some, true};
 ghost use Rattle.std.specs.Char.{is_ascii_digit};
 ghost use Rattle.std.specs.List.{list_all};
-ghost use Rattle.tl_program.specs.Commands.{spelled_number, within, set_by, workers_by, every_by, pace_of, either, options_of, nothing, with_pace, load_of, sample_of, init_asked, load_asked, sample_asked, asked_of, texts_of};
+ghost use Rattle.tl_program.specs.Commands.{spelled_number, within, set_by, workers_by, every_by, pace_of, either, options_of, nothing, with_pace, load_of, sample_of, init_settings, load_settings, sample_settings, settings_of, texts_of};
 
 use std::alloc::Global;
 use tl_session::Pace;
@@ -29,12 +30,12 @@ pub enum Command {
     },
 }
 
-/// What the words ask for, with what their options set.
+/// What the words set: a command, and the pace of its run.
 #[derive(Drop)]
-pub struct Asked {
+pub struct Settings {
     /// The command, `None` where the words are none.
     pub command: Option<Command>,
-    /// The pace of its run.
+    /// With how many workers it runs, and after how many events a table gets a mark.
     pub pace: Pace,
 }
 
@@ -181,21 +182,21 @@ fn options_of(words: &[String]) -> Option<Pace>
     }
 }
 
-fn nothing() -> Asked
+fn nothing() -> Settings
     ensures { result ≡ nothing }
 {
-    Asked {
+    Settings {
         command: None,
         pace: Pace::new(4, 4096),
     }
 }
 
 // A command with a pace, where both are given.
-fn with_pace(command: Option<Command>, pace: Option<Pace>) -> Asked
+fn with_pace(command: Option<Command>, pace: Option<Pace>) -> Settings
     ensures { result ≡ with_pace command pace }
 {
     match pace {
-        Some(pace) => Asked { command, pace },
+        Some(pace) => Settings { command, pace },
         None => nothing(),
     }
 }
@@ -235,9 +236,9 @@ fn load_of(alloc: Global, table: &str) -> Result<Option<Command>, NoMemory>
     Ok(Some(Command::Load { table }))
 }
 
-// What is asked for behind `init`.
-fn init_asked(words: &[String]) -> Asked
-    ensures { result ≡ init_asked (texts_of words.now) }
+// What the words behind `init` set.
+fn init_settings(words: &[String]) -> Settings
+    ensures { result ≡ init_settings (texts_of words.now) }
 {
     match words {
         [] => with_pace(Some(Command::Init), options_of(words)),
@@ -245,9 +246,9 @@ fn init_asked(words: &[String]) -> Asked
     }
 }
 
-// What is asked for behind `load`.
-fn load_asked(alloc: Global, words: &[String]) -> Result<Asked, NoMemory>
-    ensures { IfOk result (λ asked. asked ≡ load_asked (texts_of words.now)) }
+// What the words behind `load` set.
+fn load_settings(alloc: Global, words: &[String]) -> Result<Settings, NoMemory>
+    ensures { IfOk result (λ settings. settings ≡ load_settings (texts_of words.now)) }
 {
     let [table, options @ ..] = words else {
         return Ok(nothing());
@@ -255,9 +256,9 @@ fn load_asked(alloc: Global, words: &[String]) -> Result<Asked, NoMemory>
     Ok(with_pace(load_of(alloc, table.as_str())?, options_of(options)))
 }
 
-// What is asked for behind `sample`.
-fn sample_asked(words: &[String]) -> Asked
-    ensures { result ≡ sample_asked (texts_of words.now) }
+// What the words behind `sample` set.
+fn sample_settings(words: &[String]) -> Settings
+    ensures { result ≡ sample_settings (texts_of words.now) }
 {
     match words {
         [lines, start, options @ ..] => with_pace(
@@ -268,29 +269,29 @@ fn sample_asked(words: &[String]) -> Asked
     }
 }
 
-// What is asked for by a word and the words behind it.
-fn asked_by(alloc: Global, word: &str, words: &[String]) -> Result<Asked, NoMemory>
-    ensures { IfOk result (λ asked. asked ≡ asked_of (word.now ∷ texts_of words.now)) }
+// What a word and the words behind it set.
+fn settings_by(alloc: Global, word: &str, words: &[String]) -> Result<Settings, NoMemory>
+    ensures { IfOk result (λ settings. settings ≡ settings_of (word.now ∷ texts_of words.now)) }
 {
     match word {
-        "init" => Ok(init_asked(words)),
+        "init" => Ok(init_settings(words)),
         "run" => Ok(with_pace(Some(Command::Run), options_of(words))),
-        "load" => load_asked(alloc, words),
-        "sample" => Ok(sample_asked(words)),
+        "load" => load_settings(alloc, words),
+        "sample" => Ok(sample_settings(words)),
         _ => Ok(nothing()),
     }
 }
 
-/// What the words ask for. A command is `init`; `run`; `load TABLE` with a name of the language; or
+/// What the words set. A command is `init`; `run`; `load TABLE` with a name of the language; or
 /// `sample N START` with N from 1 to 1,000,000 and START from 0 to 2^64 - 1. Behind each but `init`
 /// may stand `--workers W` with W from 1 to 64, and `--every K` with K from 0 to 16,777,216, each
 /// at most once and in either order; else W is 4 and K is 4096. The numbers are spelled by ASCII
 /// digits alone. Any other words are no command. The error is `NoMemory`.
-pub(crate) fn asked_of(alloc: Global, words: &[String]) -> Result<Asked, NoMemory>
-    ensures { IfOk result (λ asked. asked ≡ asked_of (texts_of words.now)) }
+pub(crate) fn settings_of(alloc: Global, words: &[String]) -> Result<Settings, NoMemory>
+    ensures { IfOk result (λ settings. settings ≡ settings_of (texts_of words.now)) }
 {
     match words {
-        [word, behind @ ..] => asked_by(alloc, word.as_str(), behind),
+        [word, behind @ ..] => settings_by(alloc, word.as_str(), behind),
         [] => Ok(nothing()),
     }
 }

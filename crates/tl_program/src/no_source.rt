@@ -1,7 +1,7 @@
-//! No source.
+//! No source: it stands where none is read, gives nothing and never fails.
 use tl_device::{Failed, Source};
 
-/// Stands where no source is read: it gives nothing.
+/// A source that is at its end from the start, for runs that read none.
 #[derive(Drop)]
 pub(crate) struct NoSource;
 

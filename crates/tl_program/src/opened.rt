@@ -1,5 +1,5 @@
 //! A run over a journal that is opened: its engine is started, the phases are run, and the engine
-//! is closed.
+//! is closed. The disk is handed back with all commits of the run on it.
 ghost use Rattle.std.specs.Prelude.{◌≡◌, ℕ, List, Some, is_some, false};
 ghost use Rattle.tl_types.specs.Entries.{has_break};
 ghost use Rattle.tl_types.specs.Limits.{standard_limits};
@@ -22,22 +22,22 @@ use tl_session::{AccessParts, Pace, SharedAccess};
 
 /// A journal that is opened, its disk as it was before that, and the pace of what is run over it.
 pub(crate) struct Attached<D: Disk> {
-    /// The opening.
+    /// The history that the journal has, before its engine starts.
     pub opening: Opening<D>,
-    /// The disk before.
+    /// The disk before it was opened, which clauses alone see.
     pub begun: Snapshot<D>,
-    /// The pace.
+    /// With how many workers queries run, and after how many events a table gets a mark.
     pub pace: Pace,
 }
 
 /// Why the phases of a run stopped, whether the history has a break then, and the disk.
 #[derive(Drop)]
 pub(crate) struct Finished<D> {
-    /// Why the phases stopped.
+    /// Why no further phase was run.
     pub stop: Stop,
-    /// Whether there is a break.
+    /// Whether the disk failed at a commit, of which it did not say whether it keeps it.
     pub broke: bool,
-    /// The disk.
+    /// The disk, of which nothing holds on to anything.
     pub disk: D,
 }
 

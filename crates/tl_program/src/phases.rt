@@ -1,4 +1,6 @@
-//! The phases that a run goes through: those of a script, or one that puts a whole source.
+//! The phases that a run goes through: those of a script, or one that puts a whole source. Each is
+//! asked for when those before it were run, and the names of its sessions are kept by number; a
+//! phase with a fault, a source that fails and memory that runs out are told apart.
 ghost use Rattle.std.specs.Prelude.{◌≡◌, ◌<◌, length, get_or, [], true, OnOk, IfErr};
 ghost use Rattle.tl_script.specs.Reader.{NextFaults};
 ghost use Rattle.tl_program.specs.Coming.{AnswersComing, block_coming, script_coming};
@@ -20,8 +22,8 @@ pub(crate) trait Phases<S: Source>: Drop {
     /// handed on. `NoMemory`: memory ran out.
     fn next(&mut self, alloc: Global, source: &mut S) -> Result<Option<Phase>, NextError>
         requires { (coming self.old).live ≡ true }
-        ensures answers { AnswersComing (coming self.old) (S.left source.old) result (coming self.new)
-            (S.left source.new) }
+        ensures answers { AnswersComing (coming self.old) (S.left source.old) result
+            (coming self.new) (S.left source.new) }
         ensures sure { OnOk result (S.faults source.new ≡ S.faults source.old) }
         ensures faults { IfErr result (λ e. NextFaults e (S.faults source.old)
             (S.faults source.new)) };

@@ -1,5 +1,6 @@
 //! The phases of a run, one after the other: the sessions of each answer its jobs at once, and the
-//! replies are written before the next phase is asked for.
+//! replies are written before the next phase is asked for. They stop at the end, at a fault of the
+//! script, the source or the sink, and where memory runs out.
 ghost use Rattle.std.specs.Prelude.{◌≡◌, ◌<◌, ◌≤◌, List, All, IfOk, length, map, option_map, true, Some, OnOk, ◌++◌};
 ghost use Rattle.tl_types.specs.declared.commits.Entry.{Entry};
 ghost use Rattle.tl_types.specs.Limits.{standard_limits};
@@ -27,13 +28,13 @@ use tl_types::{Bytes, NoMemory};
 /// A run: the engine over its journal, what the sessions of its phases share, the phases that are
 /// still to come, and the pace of their statements.
 pub(crate) struct Running<D: Disk, J: Named, P> {
-    /// The engine.
+    /// The engine, which reads and commits for all sessions.
     pub engine: Engine<D, J>,
-    /// What the sessions share.
+    /// The pass and the share of which each session of a phase gets a part.
     pub shared: SharedAccess<J>,
-    /// The phases.
+    /// What is still to come.
     pub phases: P,
-    /// The pace.
+    /// With how many workers queries run, and after how many events a table gets a mark.
     pub pace: Pace,
 }
 

@@ -1,4 +1,5 @@
-//! The sample: its phases, one after the other.
+//! The sample: its phases, one after the other. A table is made, filled block by block and asked,
+//! all from two numbers; no source is read.
 ghost use Rattle.std.specs.Prelude.{◌≡◌, ◌<◌, ◌+◌, ◌^◌, IfOk, false, true};
 ghost use Rattle.std.specs.String.{string_bytes};
 ghost use Rattle.tl_program.specs.Sample.{job_with, phase_with, queries_from, sum_text, sample_coming, GivesNext};

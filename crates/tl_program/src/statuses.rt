@@ -1,4 +1,5 @@
-//! How a run ends.
+//! How a run ends: ten statuses, each with its number and its closing line. Both are
+//! the same for every run that ends so.
 ghost use Rattle.std.specs.Prelude.{◌≡◌, IfOk};
 ghost use Rattle.std.specs.String.{string_bytes};
 ghost use Rattle.tl_program.specs.Status.{script_fault_words, script_line, closing_line};
@@ -18,19 +19,19 @@ pub enum Status {
     Usage,
     /// The source failed. `faults` is its count of faults, which rose in this call.
     SourceFault {
-        /// The count.
+        /// Its count of faults.
         faults: u64,
     },
     /// The sink failed. `faults` is its count of faults, which rose in this call.
     SinkFault {
-        /// The count.
+        /// Its count of faults.
         faults: u64,
     },
     /// The disk failed: while the journal was made or opened, and nothing was run; or when a commit
     /// was appended, behind which queries are still answered and batches refused. `faults` is its
     /// count of faults, which rose in this call.
     DiskFault {
-        /// The count.
+        /// Its count of faults.
         faults: u64,
     },
     /// The script has this fault, and no statement of its phase is run.
@@ -45,8 +46,8 @@ pub enum Status {
         /// The number of bytes.
         len: u64,
     },
-    /// The disk's bytes are no journal, or one with a commit that does not fit those before it. `at`
-    /// is the offset where they are damaged, or of the gate before that commit.
+    /// The disk's bytes are no journal, or one with a commit that does not fit those before it.
+    /// `at` is the offset where they are damaged, or of the gate before that commit.
     Damaged {
         /// The byte offset.
         at: u64,

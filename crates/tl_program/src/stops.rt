@@ -1,4 +1,5 @@
-//! Why the phases of a run stopped.
+//! Why the phases of a run stopped: at their end, or for one of four causes. It keeps the counts of
+//! faults with which a source or a sink failed.
 ghost use Rattle.std.specs.Prelude.{◌≡◌};
 ghost use Rattle.tl_program.specs.Stopping.{stop_for};
 
@@ -13,12 +14,12 @@ pub(crate) enum Stop {
     Fault(ScriptFault),
     /// The source failed. `faults` is its count of faults.
     Source {
-        /// The count.
+        /// Its count of faults.
         faults: u64,
     },
     /// The sink failed. `faults` is its count of faults.
     Sink {
-        /// The count.
+        /// Its count of faults.
         faults: u64,
     },
     /// Memory ran out.

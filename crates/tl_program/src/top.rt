@@ -1,4 +1,5 @@
-//! The top call: the whole of what the program does.
+//! The top call: the whole of what the program does, by what its words ask for. It hands the disk
+//! back, and refuses words that are no command before anything is read.
 ghost use Rattle.std.specs.Prelude.{◌≡◌, ℕ, List, IfOk, false};
 ghost use Rattle.std.specs.declared.option.Option.{Option};
 ghost use Rattle.std.specs.String.{string_bytes};
@@ -12,7 +13,7 @@ ghost use Rattle.tl_program.specs.Sample.{sample_reading};
 
 use crate::alone::empty_disk;
 use crate::closing::{close, close_run, end_refused};
-use crate::commands::{Asked, Command, asked_of};
+use crate::commands::{Command, Settings, settings_of};
 use crate::no_source::NoSource;
 use crate::opened::{Attached, Finished, run_opened};
 use crate::phases::{BlockPhase, Phases};
@@ -33,9 +34,9 @@ use tl_types::{Limits, NoMemory};
 /// How a run ended, and the disk that it was given.
 #[derive(Drop)]
 pub struct Ending<D> {
-    /// How it ended.
+    /// How it ended, which is the exit status of the program.
     pub status: Status,
-    /// The disk.
+    /// The disk that was handed in, as the run left it.
     pub disk: D,
 }
 
@@ -193,19 +194,19 @@ fn run_sample<R: AllocGlobal + Threads + Wait + Sync, K: Sink, G: Gate>(
 // Does what the words ask for.
 fn do_command<R: AllocGlobal + Threads + Wait + Sync, S: Source, K: Sink, D: Disk + Send, G: Gate>(
     rt: &R,
-    asked: Asked,
+    settings: Settings,
     source: &mut S,
     sink: &mut K,
     disk: D,
     gate: &G,
 ) -> Ending<D>
-    ensures ends { EndsBy asked.command
+    ensures ends { EndsBy settings.command
         (outside S.Source K.Sink D.Disk source.old sink.old disk)
         (outside S.Source K.Sink D.Disk source.new sink.new result.disk) result.status }
-    ensures unread { reads_source asked.command ≡ false → source.new ≡ source.old }
-    ensures unused { uses_disk asked.command ≡ false → result.disk ≡ disk }
+    ensures unread { reads_source settings.command ≡ false → source.new ≡ source.old }
+    ensures unused { uses_disk settings.command ≡ false → result.disk ≡ disk }
 {
-    let Asked { command, pace } = asked;
+    let Settings { command, pace } = settings;
     match command {
         None => Ending {
             status: close(rt.alloc(), sink, Status::Usage),
@@ -295,8 +296,8 @@ pub fn timeline<
     ensures unused { uses_disk (command_of (texts_of words.now)) ≡ false
         → result.disk ≡ disk }
 {
-    match asked_of(rt.alloc(), words) {
-        Ok(asked) => do_command(rt, asked, source, sink, disk, gate),
+    match settings_of(rt.alloc(), words) {
+        Ok(settings) => do_command(rt, settings, source, sink, disk, gate),
         Err(_) => Ending {
             status: Status::NoMemory,
             disk,

@@ -1,4 +1,5 @@
 //! The words after the program's name, as they are handed over, and as the program goes by them.
+//! Each is copied whole; where one is not UTF-8 there are none.
 ghost use Rattle.std.specs.Prelude.{◌≡◌, ◌<◌, ◌≤◌, ◌+◌, ◌^◌, List, ℕ, length, slice_get, take, true, IfOk, IfSome, Some, None, Err};
 ghost use Rattle.std.specs.List.{list_all};
 ghost use Rattle.std.specs.Str.{is_utf8};

@@ -1,4 +1,5 @@
-//! What is written to a sink: bytes for which room is taken first.
+//! What is written to a sink: bytes for which room is taken first. So where memory runs out nothing
+//! is written, and where the sink fails a prefix.
 ghost use Rattle.tl_program.specs.Writing.{WritesBytes};
 
 use crate::stops::Stop;

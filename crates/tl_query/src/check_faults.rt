@@ -1,5 +1,4 @@
-//! Why a query or a new table does not fit the tables, each with the byte offset in the statement
-//! where it shows. Of several, the one of least offset is told.
+//! Why a query or a new table does not fit the tables.
 ghost use Rattle.std.specs.Prelude.{◌≡◌};
 ghost use Rattle.tl_query.specs.declared.check_faults.CheckFault.TheVariants.{NoMemory};
 

@@ -1,5 +1,4 @@
-//! What can be wrong with a text, each with its byte offset. Of several, the one of least offset
-//! is told, and at one offset the one that stands first here.
+//! What can be wrong with a text.
 
 /// The fault of a text. Offsets count bytes from the text's first, which is 0.
 #[derive(Clone, Copy, Debug, PartialEq, Eq)]

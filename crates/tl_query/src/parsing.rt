@@ -1,5 +1,4 @@
-//! The statement that a text spells, or its first fault. The text is cut into tokens first, up to
-//! its first lexical fault, so that of both kinds of fault the earlier is told.
+//! The statement that a text spells, or its first fault.
 ghost use Rattle.std.specs.Prelude.{◌≡◌, ◌⊎◌, IfOk, IfErr};
 ghost use Rattle.tl_query.specs.declared.faults.TextFault.TheVariants as faults;
 ghost use Rattle.tl_query.specs.Parsed.{IsParsed};

@@ -1,14 +1,16 @@
 -- What a reader says between two phases.
-use Rattle.std.proofs.Common.{◌≡◌, ℕ, ◌<◌, ◌⊎◌, inl, inr, Bool, true, false, List, [], ◌++◌, length, take, Option, Some, None, Ok, All, refl, ap, sym, ◌∙◌, append_assoc, append-nil, subst}
+use Rattle.std.proofs.Common.{◌≡◌, ℕ, ◌<◌, ◌⊎◌, inl, inr, Bool, true, false, List, [], ◌++◌, length, take, Option, Some, None, Ok, Err, All, refl, ap, sym, ◌∙◌, append_assoc, append-nil, subst}
 use Rattle.std.proofs.lemmas.List.Elements.{All-nil}
 use Rattle.std.proofs.Math.Seq.{take-length}
 use Rattle.tl_types.specs.declared.limits.Limits.{Limits}
 use Rattle.tl_script.specs.declared.open_phase.OpenPhase.{OpenPhase}
+use Rattle.tl_script.specs.declared.phases.NextError.{NextError}
+use Rattle.tl_script.specs.declared.phases.NextError.TheVariants as next
 use Rattle.tl_script.specs.declared.phases.Phase.{Phase}
 use Rattle.tl_script.specs.Script.{Job}
-use Rattle.tl_script.specs.Phases.{Spot, phase_start, reading_from, with_phase, no_phase}
-use Rattle.tl_script.specs.Reader.{Grows, AnswersNext, ComesNext, ComesLast}
-use Rattle.tl_script.specs.InHand.{spot_in, place_of, IsBetween, IsNamed, IsNamedPlace, JobsNamed, TakesPhase, PhaseSays, state_in}
+use Rattle.tl_script.specs.Phases.{Spot, phase_start, reading_from, with_phase, no_phase, no_phase_but}
+use Rattle.tl_script.specs.Reader.{Grows, AnswersNext, ComesNext, ComesLast, IsNeeded, StopsFor}
+use Rattle.tl_script.specs.InHand.{part_ahead, spot_in, place_of, IsBetween, IsNamed, IsNamedPlace, JobsNamed, TakesPhase, PhaseSays, state_in}
 
 -- the names before a phase of which nothing is read are all
 names_before : (phase : OpenPhase) → IsBetween phase → take phase.known phase.names ≡ phase.names
@@ -38,6 +40,12 @@ between_spot phase between =
     let b = names_before phase between in
     let p : place_of phase.block ≡ place_of None = ap place_of between.block in
     cc (b, p, between.size, between.jobs)
+
+-- what was needed of the source
+pub needed_between : (phase : OpenPhase) (pending taken : List ℕ) → IsBetween phase → IsNeeded (part_ahead phase.limits (spot_in phase) pending) (spot_in phase).before taken
+    → IsNeeded (part_ahead phase.limits (phase_start phase.names phase.line phase.ended) pending) phase.names taken
+needed_between phase pending taken between needed =
+    subst (λ s. IsNeeded (part_ahead phase.limits s pending) s.before taken) (between_spot phase between) needed
 
 -- A PHASE IS GIVEN
 
@@ -92,6 +100,7 @@ gives old found last pending rest old_end live at_end before after phase between
       taken = takes.taken;
       order = takes.order;
       bound = takes.bound;
+      needed = needed_between old pending takes.taken between takes.needed;
       idle = λ e. absurd (let f = sym on ∙ e in cc);
       says = record {
         limits = l-2 ∙ l-1;
@@ -99,6 +108,42 @@ gives old found last pending rest old_end live at_end before after phase between
         names = (grown.0, n ∙ (grown.1 ∙ ap (λ names. names ++ grown.0) (names_before old between)));
         sessions = named_at found.jobs.items phase.jobs.items found.names last.names j n is_named;
         comes = comes old found last pending takes.taken rest old_end live at_end after phase.jobs.items between (l-2 ∙ l-1) j n m g takes.says;
+      };
+    }
+
+-- NO PHASE IS GIVEN
+
+-- why a reader stops
+cause_between : (old found : OpenPhase) (pending taken rest : List ℕ) (old_end live at_end : Bool) (after : Option (List ℕ)) (e : NextError) → IsBetween old
+    → PhaseSays old.limits (spot_in old) (pending ++ taken) (Err e) found rest at_end after → StopsFor (state_in old pending old_end live) taken e after
+cause_between old found pending taken rest old_end live at_end after next.NoMemory between says = tt
+cause_between old found pending taken rest old_end live at_end after (next.Source faults) between says =
+    subst (λ s. reading_from false old.limits s (pending ++ taken) ≡ no_phase s.before) (between_spot old between) says
+cause_between old found pending taken rest old_end live at_end after (next.Fault f) between (inl says) =
+    inl (λ whole more.
+    ap (reading_from whole old.limits (phase_start old.names old.line old.ended)) (sym (append_assoc pending taken more))
+    ∙ subst (λ s. reading_from whole old.limits s ((pending ++ taken) ++ more) ≡ no_phase_but s.before f) (between_spot old between) (says whole more))
+cause_between old found pending taken rest old_end live at_end after (next.Fault f) between (inr says) =
+    inr (record {
+      none_left = says.0;
+      read = subst (λ s. reading_from true old.limits s (pending ++ taken) ≡ no_phase_but s.before f) (between_spot old between) says.1;
+    })
+
+pub stops : (old found last : OpenPhase) (pending rest : List ℕ) (old_end live at_end : Bool) (before after : Option (List ℕ)) (e : NextError) → IsBetween old → old_end ≡ false
+    → TakesPhase old.limits (spot_in old) pending before (Err e) found rest at_end after
+    → (spot_in found).before ≡ (spot_in old).before → last.names ≡ (spot_in found).before
+    → AnswersNext (state_in old pending old_end live) before (Err e) (state_in last rest at_end false) after
+stops old found last pending rest old_end live at_end before after e between on takes same names =
+    record {
+      taken = takes.taken;
+      order = takes.order;
+      bound = takes.bound;
+      needed = needed_between old pending takes.taken between takes.needed;
+      idle = λ f. absurd (let g = sym on ∙ f in cc);
+      says = record {
+        ends = refl;
+        names = names ∙ (same ∙ names_before old between);
+        cause = cause_between old found pending takes.taken rest old_end live at_end after e between takes.says;
       };
     }
 

@@ -1,5 +1,5 @@
 -- What the bytes in hand say of what is read, whatever follows them.
-use Rattle.std.proofs.Common.{◌≡◌, ℕ, ◌+◌, ◌-◌, ◌<◌, ◌≤◌, ◌==◌, Bool, true, false, ltb, List, [], ◌∷◌, ◌++◌, length, take, drop, Option, Some, None, Result, Ok, Err, IfOk, refl, ap, sym, ◌∙◌, arith, not, nat_lt, nat_le, append_assoc, append-nil, length-append, subst}
+use Rattle.std.proofs.Common.{◌≡◌, ◌⊎◌, inl, inr, ℕ, ◌+◌, ◌-◌, ◌<◌, ◌≤◌, ◌==◌, Bool, true, false, ltb, List, [], ◌∷◌, ◌++◌, length, take, drop, Option, Some, None, Result, Ok, Err, IfOk, refl, ap, sym, ◌∙◌, arith, not, nat_lt, nat_le, append_assoc, append-nil, length-append, subst}
 use Rattle.std.proofs.lemmas.Bool.{ltb-true, ltb-false, lt-ltb}
 use Rattle.std.proofs.lemmas.List.Sums.{prefix_len-le-length}
 use Rattle.std.proofs.Math.Seq.{take-append_seam}
@@ -8,9 +8,10 @@ use Rattle.tl_types.specs.declared.limits.Limits.{Limits}
 use Rattle.tl_device.specs.Known.{prepend_known}
 use Rattle.tl_device.proofs.Known.{prepend_both}
 use Rattle.tl_script.specs.declared.jobs.ScriptFault.{ScriptFault}
-use Rattle.tl_script.specs.Script.{lines_of, before_lines, without_last, stands_in}
+use Rattle.tl_script.specs.Script.{ScriptReading, lines_of, before_lines, without_last, stands_in}
 use Rattle.tl_script.specs.Phases.{Spot, Step, Fails, Goes, Ends, early_fault, after_line, line_step, with_step, reading_lines, reading_from, with_phase, no_phase, no_phase_but, end_at}
-use Rattle.tl_script.specs.InHand.{IsPart, IsNamed, StepIs, SoFar, ReadsLines, ahead_of, InHandSays, TakesToGo, LastLineSays, RefillEnds}
+use Rattle.tl_script.specs.Reader.{IsNeeded, WasAsked}
+use Rattle.tl_script.specs.InHand.{IsPart, IsNamed, StepIs, SoFar, ReadsLines, ahead_of, part_ahead, InHandSays, TakesToGo, LastLineSays, RefillEnds}
 use Rattle.tl_script.specs.Taking.{IsAtEnd}
 use Rattle.tl_script.specs.declared.lines_in_hand.Found.{Found}
 use Rattle.tl_script.specs.declared.jobs.ScriptError.{ScriptError}
@@ -185,30 +186,47 @@ hand_faulty limits limits-2 old spot pending bytes passed part found f e b p q l
 
 -- ONE READ MORE
 
+-- nothing follows
+nothing_more : (bytes : List ℕ) (spot : Spot) (limits : Limits) (whole : Bool) → reading_from whole limits spot (bytes ++ []) ≡ reading_from whole limits spot bytes
+nothing_more bytes spot limits whole = ap (reading_from whole limits spot) (append-nil bytes)
+
+-- one read more was needed where what was taken before it did not decide
+asked_again : (ahead : List ℕ → ScriptReading) (names : List (List ℕ)) (taken more : List ℕ) → IsNeeded ahead names taken → ahead taken ≡ no_phase names → length more ≤ 65536
+    → IsNeeded ahead names (taken ++ more)
+asked_again ahead names taken more needed undecided few =
+    inr (record { in_hand = at_first needed; front = taken; last = more; parts = refl; bound = few; undecided = undecided }) where
+      at_first : IsNeeded ahead names taken → ahead [] ≡ no_phase names
+      at_first (inl none) = ap ahead (sym none) ∙ undecided
+      at_first (inr asked) = asked.in_hand
+
 -- what was read before a read, and the bytes that it took
 pub read_more : (limits limits-2 : Limits) (old spot new : Spot) (pending rest rest-2 taken : List ℕ) (before middle after : Option (List ℕ))
     → limits-2 ≡ limits → SoFar limits old pending before spot rest middle → InHandSays limits-2 spot rest (Ok false) new rest-2 → new.size ≤ limits.phase
-    → middle ≡ prepend_known taken after → length taken ≤ 65536 → SoFar limits old pending before new (rest-2 ++ taken) after
-read_more limits limits-2 old spot new pending rest rest-2 taken before middle after l so_far says-2 fits order few =
+    → new.before ≡ old.before → middle ≡ prepend_known taken after → length taken ≤ 65536 → SoFar limits old pending before new (rest-2 ++ taken) after
+read_more limits limits-2 old spot new pending rest rest-2 taken before middle after l so_far says-2 fits same order few =
     let says = subst (λ l. InHandSays l spot rest (Ok false) new rest-2) l says-2 in
     let short = part_short limits new rest-2 says.0 in
     let both : length (so_far.taken ++ taken) ≡ length so_far.taken + length taken = length-append so_far.taken taken in
     let both_rest : length (rest-2 ++ taken) ≡ length rest-2 + length taken = length-append rest-2 taken in
+    let undecided : part_ahead limits old pending so_far.taken ≡ no_phase old.before =
+    sym (nothing_more (pending ++ so_far.taken) old limits false)
+    ∙ (so_far.read false []
+    ∙ (says.2 false []
+    ∙ (nothing_more rest-2 new limits false
+    ∙ (part_silent limits new rest-2 says.0
+    ∙ ap no_phase same)))) in
     record {
       taken = so_far.taken ++ taken;
       order = so_far.order ∙ (ap (prepend_known so_far.taken) order ∙ sym (prepend_both so_far.taken taken after));
       size = omega (arith, so_far.size, says.1, both, both_rest);
       bound = omega (arith, so_far.size, says.1, short, fits, few, both);
+      needed = asked_again (part_ahead limits old pending) old.before so_far.taken taken so_far.needed undecided few;
       read = λ whole more.
           ap (reading_from whole limits old) (ap (λ xs. xs ++ more) (sym (append_assoc pending so_far.taken taken)) ∙ append_assoc (pending ++ so_far.taken) taken more)
           ∙ (so_far.read whole (taken ++ more)
           ∙ (says.2 whole (taken ++ more)
           ∙ ap (reading_from whole limits new) (sym (append_assoc rest-2 taken more))));
     }
-
--- nothing follows
-nothing_more : (bytes : List ℕ) (spot : Spot) (limits : Limits) (whole : Bool) → reading_from whole limits spot (bytes ++ []) ≡ reading_from whole limits spot bytes
-nothing_more bytes spot limits whole = ap (reading_from whole limits spot) (append-nil bytes)
 
 -- the source is at its end
 pub end_found : (limits : Limits) (old new : Spot) (pending rest rest-2 taken : List ℕ) (before after : Option (List ℕ))
@@ -220,6 +238,7 @@ end_found limits old new pending rest rest-2 taken before after so_far no_lf sam
       taken = so_far.taken;
       order = so_far.order;
       bound = so_far.bound;
+      needed = so_far.needed;
       says = (at_end, ap (stands_in 10) same ∙ no_lf, sym (nothing_more (pending ++ so_far.taken) old limits true) ∙ (so_far.read true [] ∙ (nothing_more (rest ++ taken) new limits true ∙ ap (reading_from true limits new) joined)));
     }
 
@@ -227,7 +246,7 @@ end_found limits old new pending rest rest-2 taken before after so_far no_lf sam
 pub read_failed : (limits : Limits) (old new : Spot) (pending rest rest-2 taken : List ℕ) (before after : Option (List ℕ)) (e : NextError)
     → SoFar limits old pending before new (rest ++ taken) after → IsPart limits new rest → new.before ≡ old.before → RefillEnds rest taken (Err e) rest-2 after
     → TakesToGo limits old pending before (Err e) new rest-2 after
-read_failed limits old new pending rest rest-2 taken before after next.NoMemory so_far is_part b ends = record { taken = so_far.taken; order = so_far.order; bound = so_far.bound; says = tt }
+read_failed limits old new pending rest rest-2 taken before after next.NoMemory so_far is_part b ends = record { taken = so_far.taken; order = so_far.order; bound = so_far.bound; needed = so_far.needed; says = tt }
 read_failed limits old new pending rest rest-2 taken before after (next.Fault f) so_far is_part b ends = absurd ends
 read_failed limits old new pending rest rest-2 taken before after (next.Source faults) so_far is_part b none =
     let joined : rest ++ taken ≡ rest = ap (λ xs. rest ++ xs) none ∙ append-nil rest in
@@ -235,6 +254,7 @@ read_failed limits old new pending rest rest-2 taken before after (next.Source f
       taken = so_far.taken;
       order = so_far.order;
       bound = so_far.bound;
+      needed = so_far.needed;
       says = sym (nothing_more (pending ++ so_far.taken) old limits false) ∙ (so_far.read false [] ∙ (nothing_more (rest ++ taken) new limits false ∙ (ap (reading_from false limits new) joined ∙ (part_silent limits new rest is_part ∙ ap no_phase b))));
     }
 

@@ -11,7 +11,7 @@ use Rattle.tl_script.specs.declared.phases.NextError.{NextError}
 use Rattle.tl_script.specs.declared.phases.NextError.TheVariants as next
 use Rattle.tl_script.specs.declared.lines_in_hand.Found.{Found}
 use Rattle.tl_script.specs.Script.{ScriptReading, lines_of, stands_in}
-use Rattle.tl_script.specs.Reader.{ScriptState}
+use Rattle.tl_script.specs.Reader.{ScriptState, IsNeeded}
 use Rattle.tl_script.specs.Taking.{IsAtEnd}
 use Rattle.tl_script.specs.Phases.{Place, Outside, Inside, Spot, Step, Fails, Goes, Ends, early_fault, end_at, no_phase, phase_start, behind_go, session_number, most_sessions, with_name, with_job, reading_from, with_phase, no_phase_but}
 
@@ -184,6 +184,10 @@ ToGoSays limits old bytes (Err (next.Source faults)) new rest after =
 ToGoSays limits old bytes (Err (next.Fault f)) new rest after = (whole : Bool) (more : List ℕ) →
     reading_from whole limits old (bytes ++ more) ≡ no_phase_but old.before f
 
+-- what is read of the bytes in hand with these behind them, which may go on
+abbrev pub part_ahead : Limits → Spot → List ℕ → List ℕ → ScriptReading
+part_ahead limits spot pending more = reading_from false limits spot (pending ++ more)
+
 -- what was read up to here of the bytes in hand and of those taken
 pub record SoFar (limits : Limits) (old : Spot) (pending : List ℕ) (before : Option (List ℕ))
     (spot : Spot) (rest : List ℕ) (after : Option (List ℕ)) : Type 0 where
@@ -191,6 +195,7 @@ pub record SoFar (limits : Limits) (old : Spot) (pending : List ℕ) (before : O
   pub order : before ≡ prepend_known taken after
   pub size : old.size + length pending + length taken ≡ spot.size + length rest
   pub bound : length taken ≤ limits.phase + limits.line + 65536
+  pub needed : IsNeeded (part_ahead limits old pending) old.before taken
   pub read : (whole : Bool) (more : List ℕ) →
       reading_from whole limits old ((pending ++ taken) ++ more)
       ≡ reading_from whole limits spot (rest ++ more)
@@ -202,6 +207,7 @@ pub record TakesToGo (limits : Limits) (old : Spot) (pending : List ℕ) (before
   pub taken : List ℕ
   pub order : before ≡ prepend_known taken after
   pub bound : length taken ≤ limits.phase + limits.line + 65536
+  pub needed : IsNeeded (part_ahead limits old pending) old.before taken
   pub says : ToGoSays limits old (pending ++ taken) result new rest after
 
 -- the last line was read, which may lack its LF
@@ -262,6 +268,7 @@ pub record TakesPhase (limits : Limits) (old : Spot) (pending : List ℕ) (befor
   pub taken : List ℕ
   pub order : before ≡ prepend_known taken after
   pub bound : length taken ≤ limits.phase + limits.line + 65536
+  pub needed : IsNeeded (part_ahead limits old pending) old.before taken
   pub says : PhaseSays limits old (pending ++ taken) result new rest at_end after
 
 -- the sessions of the jobs of a phase are named

@@ -119,14 +119,32 @@ SaysNext old taken (Ok (Some phase)) new left = GivesPhase old taken phase.jobs.
 SaysNext old taken (Ok None) new left = IsDone old taken new left
 SaysNext old taken (Err e) new left = ReadStops old taken e new left
 
+-- the source was asked for bytes while those in hand had neither a whole phase nor a fault, at
+-- first and before the last read; `ahead` is what is read of the bytes in hand with these behind
+-- them
+pub record WasAsked (ahead : List ℕ → ScriptReading) (names : List (List ℕ)) (taken : List ℕ)
+    : Type 0 where
+  pub in_hand : ahead [] ≡ no_phase names
+  pub front : List ℕ
+  pub last : List ℕ
+  pub parts : taken ≡ front ++ last
+  pub bound : length last ≤ 65536
+  pub undecided : ahead front ≡ no_phase names
+
+-- nothing is taken of the source where the bytes in hand decide
+abbrev pub IsNeeded : (List ℕ → ScriptReading) → List (List ℕ) → List ℕ → Type 0
+IsNeeded ahead names taken = (taken ≡ []) ⊎ WasAsked ahead names taken
+
 -- a call took bytes of a source, no more than the lines of a phase, a line and one read have, and
--- says this of them; where the source is at its end already none is taken and none comes
+-- none where those in hand decided, and says this of them; where the source is at its end already
+-- none is taken and none comes
 pub record AnswersNext (old : ScriptState) (before : Option (List ℕ))
     (answer : Result (Option Phase) NextError) (new : ScriptState) (after : Option (List ℕ))
     : Type 0 where
   pub taken : List ℕ
   pub order : before ≡ prepend_known taken after
   pub bound : length taken ≤ old.limits.phase + old.limits.line + 65536
+  pub needed : IsNeeded (reading_ahead false old) old.names taken
   pub idle : old.at_end ≡ true → (taken ≡ []) × (answer ≡ Ok None)
   pub says : SaysNext old taken answer new after
 

@@ -1,4 +1,5 @@
-//! The lines of the bytes in hand.
+//! The lines of the bytes in hand, read one after the other up to a GO line or to the last LF. It
+//! keeps how many bytes were read, and stops at the first line with a fault.
 ghost use Rattle.std.specs.Prelude.{◌≡◌, ◌≤◌, length, take, true, false, MatchOption, IfOk};
 ghost use Rattle.tl_script.specs.Script.{stands_in};
 ghost use Rattle.tl_script.specs.InHand.{BeginsLine, IsNamed, ReadsHand, spot_in};

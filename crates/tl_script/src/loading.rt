@@ -1,4 +1,5 @@
-//! A whole input as the block of one statement.
+//! A whole input as the block of one statement. It is kept as it came, and refused where it has
+//! more bytes than a phase may have.
 ghost use Rattle.std.specs.Prelude.{◌≡◌, ◌∷◌, [], IfOk, IfErr, OnOk, Some};
 ghost use Rattle.tl_script.specs.Reader.{FailsBlock, Loads, NextFaults, TakesBlock};
 ghost use Rattle.tl_script.specs.Script.{job_with};

@@ -1,4 +1,5 @@
-//! The phase that is read, line by line.
+//! The phase that is read, line by line: its jobs so far, the block that is not ended, and the
+//! names of the sessions. A line with a fault ends it, and leaves the names of the phases before.
 ghost use Rattle.std.specs.Prelude.{◌≡◌, ◌+◌, ◌≤◌, ◌<◌, ◌^◌, [], length, None, Some, OnOk, IfOk, IsTrue, IsUtf8};
 ghost use Rattle.tl_script.specs.Phases.{most_sessions, statement, outside, inside, early_fault, after_line, behind, behind_go, phase_start};
 
@@ -259,7 +260,8 @@ impl OpenPhase {
             && number as u64 <= self.limits.phase - self.size
     }
 
-    // Puts lines behind the bytes of a block.
+    // Puts lines behind the bytes of a block. That a line's number is a u64 is said for its caller,
+    // which reads no `self.line` of its own.
     fn extend_block(&mut self, block: OpenBlock, lines: &[u8]) -> Result<(), NoMemory>
         requires fits { self.old.size + length lines.now ≤ self.old.limits.phase }
         ensures step { OnOk result (spot_in self.new ≡ behind_plain (spot_in self.old) lines.now

@@ -1,4 +1,5 @@
-//! The bytes that are taken of a source and not read yet.
+//! The bytes that are taken of a source and not read yet. They stand in one room, which grows by a
+//! read at a time and is used again; a source that fails leaves them as they were.
 ghost use Rattle.std.specs.Prelude.{◌≡◌, ◌↔◌, ◌+◌, ◌-◌, ◌≤◌, length, take, drop, [], IfOk, IfSome, OnOk, OnErr, IfErr, vec_len};
 ghost use Rattle.tl_device.specs.Known.{prepend_known, Rose};
 ghost use Rattle.tl_script.specs.InHand.{Refills};
@@ -13,8 +14,8 @@ use tl_types::NoMemory;
 // How many bytes one read asks for.
 const PIECE: usize = 65536;
 
-// The bytes from `place` up to `end` are not read yet; those behind are room for one read. A contract
-// sees the bytes that are not read as their list.
+// The bytes from `place` up to `end` are not read yet; those behind are room for one read. A
+// contract sees the bytes that are not read as their list.
 #[derive(Drop)]
 pub(crate) struct Pending {
     room: Vec<u8>,
@@ -72,7 +73,7 @@ fn read_behind<S: Source>(room: &mut [u8], end: usize, source: &mut S) -> Result
 }
 
 impl Pending {
-    /// No bytes.
+    /// No bytes, and no room yet: the first read makes it.
     pub fn new(alloc: Global) -> Pending
         ensures { result ≡ [] }
     {
@@ -83,7 +84,7 @@ impl Pending {
         }
     }
 
-    /// The bytes, lent.
+    /// The bytes that are not read yet, lent.
     pub fn as_slice(&self) -> &[u8]
         ensures { result.now ≡ self.now }
     {
@@ -102,7 +103,7 @@ impl Pending {
         self.end - self.place
     }
 
-    /// Leaves out the first `number` bytes, which are read.
+    /// Leaves out so many bytes at the start, which are read now.
     pub fn pass(&mut self, number: usize)
         requires { number ≤ length self.old }
         ensures { self.new ≡ drop number self.old }
@@ -110,7 +111,7 @@ impl Pending {
         self.place += number;
     }
 
-    /// Leaves out all bytes, which are read.
+    /// Leaves out all bytes, which are read now; the room stays.
     pub fn clear(&mut self)
         ensures { self.new ≡ [] }
     {

@@ -1,4 +1,5 @@
-//! What a script is: phases of jobs, each a statement with its block.
+//! What a script is: phases of jobs, each a statement with its block. Why a reader has no further
+//! one is told apart: a fault of the script, one of the source, or memory that ran out.
 use crate::jobs::{ScriptError, ScriptFault};
 use std::alloc::AllocFailed;
 use std::marker::Model;
@@ -33,7 +34,7 @@ impl Model for Job {
 /// The jobs that are run before the replies to them are written, in the order of their lines.
 #[derive(Drop)]
 pub struct Phase {
-    /// The jobs. There is none where a `GO` has no job before it.
+    /// The jobs, in the order of their lines. There is none where a `GO` has no job before it.
     pub jobs: Vec<Job>,
 }
 
@@ -44,7 +45,7 @@ pub enum NextError {
     NoMemory,
     /// The source failed. `faults` is its count of faults, which rose.
     Source {
-        /// The count.
+        /// Its count of faults.
         faults: u64,
     },
     /// The next phase has this fault.

@@ -1,4 +1,5 @@
-//! Whole lines without a backslash, which end no block.
+//! Whole lines without a backslash, which end no block, so that they are read together. They are
+//! found by their last LF before the first backslash, and counted 128 bytes at a time.
 ghost use Rattle.std.specs.Prelude.{◌≡◌, ◌≤◌, length, take, true, false};
 ghost use Rattle.tl_script.specs.Script.{stands_in};
 ghost use Rattle.tl_script.specs.PlainLines.{ArePlain, are_lines, line_ends};

@@ -1,4 +1,6 @@
-//! Reading a phase of the bytes in hand and of those that a source has left.
+//! Reading a phase of the bytes in hand and of those that a source has left. The source is asked
+//! only while those in hand have neither a whole phase nor a fault; so a fault that was read wins
+//! over a source that fails.
 ghost use Rattle.std.specs.Prelude.{◌≡◌, ◌<◌, ◌≤◌, length, take, true, false, [], IfOk, IfErr, OnOk, OnErr, MatchOption, None, Some};
 ghost use Rattle.tl_script.specs.Script.{stands_in};
 ghost use Rattle.tl_script.specs.Phases.{early_fault};

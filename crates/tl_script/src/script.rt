@@ -1,4 +1,5 @@
-//! A script that is read from a source, phase by phase.
+//! A script that is read from a source, phase by phase. It keeps the names of its sessions and the
+//! bytes that were read ahead, and reads no more once a phase has a fault or the source failed.
 ghost use Rattle.std.specs.Prelude.{◌≡◌, ◌<◌, ◌^◌, length, true, get_or, [], OnOk, IfErr};
 ghost use Rattle.tl_script.specs.Reader.{new_state, AnswersNext, NextFaults};
 
@@ -88,8 +89,10 @@ impl Script {
     /// this call, is handed on. `NoMemory`: memory ran out.
     ///
     /// After None and after an error the script is not live, and its names are those of the phases
-    /// before. The source is asked only while the bytes in hand do not decide the answer; a call
-    /// takes at most as many bytes as a phase and a line may have, and 65,536 more.
+    /// before. The source is asked only while the bytes in hand do not decide the answer: where
+    /// those that were read ahead have a phase or a fault nothing is taken, and before the last
+    /// read they had none. A call takes at most as many bytes as a phase and a line may have, and
+    /// 65,536 more.
     pub fn next_phase<S: Source>(
         &mut self,
         alloc: Global,

@@ -1,4 +1,5 @@
-//! The names of the sessions of a script, each found by its number and by its bytes.
+//! The names of the sessions of a script, each found by its number and by its bytes. A name keeps
+//! its number; those of a phase that is not run are left out again.
 ghost use Rattle.std.specs.Prelude.{◌≡◌, ◌<◌, ◌≤◌, [], length, take, get_or, position, OnOk, OnErr};
 ghost use Rattle.tl_types.specs.Names.{same_bytes};
 ghost use Rattle.tl_script.specs.Phases.{session_number, with_name};

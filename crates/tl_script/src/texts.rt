@@ -1,4 +1,5 @@
-//! What one line of a script says.
+//! What one line of a script says: nothing, the end of a phase, a statement of a session, or the
+//! end of a block. What is none of these is told as none, and no byte is copied.
 ghost use Rattle.std.specs.Prelude.{◌≡◌, ◌==◌, position, not, MatchOption, IsUtf8, IsTrue, Some, None};
 ghost use Rattle.std.specs.Str.{is_utf8};
 ghost use Rattle.std.specs.List.{list_all};

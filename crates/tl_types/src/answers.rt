@@ -1,6 +1,4 @@
-//! The answer to a query: rows of fields, in the order in which the query asks for them. A field
-//! is a number of up to 128 bits, a text, a ratio that is not reduced, empty, or an end of time
-//! without end.
+//! What a query answers.
 use crate::sequences::Seq;
 use crate::texts::Text;
 
@@ -13,9 +11,9 @@ pub enum Field {
     Text(Text),
     /// A sum over a count, not reduced.
     Ratio {
-        /// The sum of the numbers of the rows.
+        /// The sum.
         sum: i128,
-        /// How many rows there are, 1 or more.
+        /// The count.
         count: u32,
     },
     /// The value over no row.

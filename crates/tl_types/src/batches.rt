@@ -1,5 +1,4 @@
-//! What a statement loads, before it is clear what becomes of it, and the reasons why it becomes
-//! no commit, in the order in which they are tried. A batch keeps its lines as they came.
+//! What a statement loads.
 use crate::cells::Cell;
 use crate::periods::Period;
 use crate::rows::Opened;
@@ -10,9 +9,9 @@ use crate::texts::Text;
 /// A line of a removal: a key, and the valid period to remove where the table has them.
 #[derive(Debug, Drop, PartialEq, Eq)]
 pub struct KeyLine {
-    /// The cell that the key column has.
+    /// The key.
     pub key: Cell,
-    /// The valid time that the line speaks of; there in a table with valid time alone.
+    /// The valid period.
     pub period: Option<Period>,
 }
 
@@ -46,7 +45,7 @@ pub enum Batch {
     Forget {
         /// The table's name.
         table: Text,
-        /// The version before which nothing may be asked of the table from then on.
+        /// The version.
         floor: i64,
     },
 }
@@ -80,7 +79,7 @@ pub enum BatchFault {
     NoMemory,
     /// The moment is not greater than that of the last statement of one.
     MomentFalls {
-        /// The moment that was stated last, in the user's unit.
+        /// The moment of the last statement.
         now: i64,
     },
     /// The version is greater than the number of commits.

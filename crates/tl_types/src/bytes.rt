@@ -1,5 +1,4 @@
-//! Bytes of any number: a block, a reply, a record of the journal. Contracts see them as a list of
-//! numbers below 256.
+//! Bytes of any number: a block, a reply, a record of the journal.
 ghost use Rattle.std.specs.Prelude.{◌≡◌, ◌==◌, ◌<◌, ◌^◌, length};
 
 use std::marker::Model;

@@ -1,5 +1,4 @@
-//! Cells, whole numbers of 64 bits or texts, and what a column holds. Their order and their
-//! equality are derived: numbers by size, before texts, which go by their bytes.
+//! Cells, and what a column holds.
 ghost use Rattle.std.specs.Prelude.{◌≡◌};
 
 use crate::NoMemory;

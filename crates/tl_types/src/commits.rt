@@ -1,5 +1,4 @@
-//! Commits, and the entries of a history. A change keeps that its closed ids ascend and that it
-//! has fewer than 2^32 of them and of opened rows, and refuses to be made otherwise.
+//! Commits, and the entries of a history.
 ghost use Rattle.std.specs.Prelude.{◌≡◌};
 ghost use Rattle.tl_types.specs.Plain as plain;
 ghost use Rattle.tl_types.specs.Facts.{IsChange};
@@ -152,7 +151,7 @@ pub enum Entry {
     Mark {
         /// The number of the table, from 0.
         table: u16,
-        /// The version of which the checkpoint is kept.
+        /// The version.
         version: u32,
     },
     /// The break that a device fault leaves, with the commit whose append failed.

@@ -1,5 +1,4 @@
-//! The keywords of the language, how each is spelled, and which words are names: words of 1 to 64
-//! letters, digits and `_` that do not begin with a digit and are no keyword.
+//! The keywords of the language, and which words are names.
 ghost use Rattle.std.specs.Prelude.{◌≡◌};
 ghost use Rattle.std.specs.List.{list_all};
 ghost use Rattle.tl_types.specs.Names.{

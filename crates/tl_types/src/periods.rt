@@ -1,5 +1,4 @@
-//! Half-open periods of valid time, in the user's unit. A period keeps that it begins before it
-//! ends, and cannot be made otherwise.
+//! Half-open periods of valid time.
 ghost use Rattle.std.specs.Prelude.{◌≡◌, ◌<ℤ◌};
 
 use std::marker::Model;

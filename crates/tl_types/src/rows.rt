@@ -1,5 +1,4 @@
-//! Rows as commits open them: 1 to 16 cells, and a valid period where the table has valid time. A
-//! row keeps its number of cells; that they match a schema is asked where a commit is made.
+//! Rows as commits open them.
 ghost use Rattle.std.specs.Prelude.{◌≡◌};
 ghost use Rattle.tl_types.specs.Plain as plain;
 ghost use Rattle.tl_types.specs.Facts.{IsOpened};

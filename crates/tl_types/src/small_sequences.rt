@@ -1,5 +1,4 @@
-//! A short list of items, which stand in the value itself while they are at most four. Contracts
-//! see the list.
+//! A short list of items.
 ghost use Rattle.std.specs.Prelude.{◌≡◌, List, [], ◌∷◌, ◌++◌, OnOk, OnErr, IfOk};
 ghost use Rattle.std.specs.List.{AllZip};
 ghost use Rattle.std.specs.Cmp.Lexicographic.{pointwise, lists_per, lists_equiv};

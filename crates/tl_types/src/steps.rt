@@ -1,5 +1,4 @@
-//! A counter of steps that costs nothing when the program runs: what looks at a row, a word or an
-//! event ticks, and contracts bound how often.
+//! A counter of steps that costs nothing when the program runs.
 ghost use Rattle.std.specs.Prelude.{◌≡◌, ◌+◌, ◌<◌};
 
 use std::marker::Model;

@@ -1,6 +1,6 @@
 use Rattle.std.proofs.Common.{ap, refl, subst}
 use Rattle.std.specs.declared.option.Option.{Option}
-use Rattle.tl_program.specs.declared.commands.Asked.{Asked}
+use Rattle.tl_program.specs.declared.commands.Settings.{Settings}
 use Rattle.tl_program.specs.declared.commands.Command.{Command}
 use Rattle.tl_program.specs.Commands.{command_of, texts_of}
 use Rattle.tl_program.specs.Headline.{CompletesBy, HeadlineBy}
@@ -16,7 +16,7 @@ returns-in-Ok-clause-headline g c =
     let disk = g.D.Disk in
     let before = outside source sink disk c.args.source.now c.args.sink.now c.args.disk in
     let after = outside source sink disk c.do_command.new.source c.do_command.new.sink c.do_command.result.disk in
-    subst (λ (o : Option Command). HeadlineBy o before after c.do_command.result.status) (ap (λ (a : Asked). a.command) c.in-Ok.ensures) (command_tells c.in-Ok.asked.command before after c.do_command.result.status c.do_command.ensures.ends)
+    subst (λ (o : Option Command). HeadlineBy o before after c.do_command.result.status) (ap (λ (a : Settings). a.command) c.in-Ok.ensures) (command_tells c.in-Ok.settings.command before after c.do_command.result.status c.do_command.ensures.ends)
 
 pub returns-in-Ok-clause-complete : goal.returns-in-Ok-clause-complete
 returns-in-Ok-clause-complete g c =
@@ -25,7 +25,7 @@ returns-in-Ok-clause-complete g c =
     let disk = g.D.Disk in
     let before = outside source sink disk c.args.source.now c.args.sink.now c.args.disk in
     let after = outside source sink disk c.do_command.new.source c.do_command.new.sink c.do_command.result.disk in
-    subst (λ (o : Option Command). CompletesBy o before after c.do_command.result.status) (ap (λ (a : Asked). a.command) c.in-Ok.ensures) (command_completes c.in-Ok.asked.command before after c.do_command.result.status c.do_command.ensures.ends)
+    subst (λ (o : Option Command). CompletesBy o before after c.do_command.result.status) (ap (λ (a : Settings). a.command) c.in-Ok.ensures) (command_completes c.in-Ok.settings.command before after c.do_command.result.status c.do_command.ensures.ends)
 
 pub returns-in-Err-clause-headline : goal.returns-in-Err-clause-headline
 returns-in-Err-clause-headline g c = memory_tells (command_of (texts_of c.args.words.now)) _ _ refl

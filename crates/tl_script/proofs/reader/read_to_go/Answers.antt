@@ -34,7 +34,7 @@ reading-preserved g c =
     let refills = c.in-Ok-true-refill.ensures.refills in
     let some = some_read rest refills.taken c.refill.new.self _ c.in-Ok-true-refill.field-0 c.in-Ok-true-refill.field-0-test refills.ends in
     let searched = searched_before rest c.refill.new.self refills.taken some.0 says.0.no_lf in
-    let so_far = read_more limits c.reading.phase.limits (spot_in c.args.phase.now) spot new c.args.pending.now c.reading.pending rest refills.taken _ _ _ same invariant.so_far says fits refills.order refills.bound in
+    let so_far = read_more limits c.reading.phase.limits (spot_in c.args.phase.now) spot new c.args.pending.now c.reading.pending rest refills.taken _ _ _ same invariant.so_far says fits (c.read_in_hand.ensures.before ∙ invariant.before) refills.order refills.bound in
     record {
       within = subst (λ n. n ≤ length c.refill.new.self) (sym c.len-searched.ensures) searched.0;
       none = subst (λ n. stands_in 10 (take n c.refill.new.self) ≡ false) (sym c.len-searched.ensures) searched.1;
@@ -58,7 +58,7 @@ returns-in-Ok-false-refill-clause-takes g c =
     let fits : c.read_in_hand.new.phase.size ≤ limits.phase = subst (λ l. c.read_in_hand.new.phase.size ≤ l.phase) same_new c.read_in_hand.new.phase.fits in
     let refills = c.in-Ok-false-refill.ensures.refills in
     let none = none_read rest refills.taken c.refill.new.self _ c.in-Ok-false-refill.field-0 c.in-Ok-false-refill.field-0-test refills.ends in
-    let so_far = read_more limits c.reading.phase.limits (spot_in c.args.phase.now) spot new c.args.pending.now c.reading.pending rest refills.taken _ _ _ same invariant.so_far says fits refills.order refills.bound in
+    let so_far = read_more limits c.reading.phase.limits (spot_in c.args.phase.now) spot new c.args.pending.now c.reading.pending rest refills.taken _ _ _ same invariant.so_far says fits (c.read_in_hand.ensures.before ∙ invariant.before) refills.order refills.bound in
     end_found limits (spot_in c.args.phase.now) new c.args.pending.now rest c.refill.new.self refills.taken _ _ so_far says.0.no_lf none.0 none.1 none.2
 
 pub returns-in-Err-refill-clause-takes : goal.returns-in-Err-refill-clause-takes
@@ -74,5 +74,5 @@ returns-in-Err-refill-clause-takes g c =
     let fits : c.read_in_hand.new.phase.size ≤ limits.phase = subst (λ l. c.read_in_hand.new.phase.size ≤ l.phase) same_new c.read_in_hand.new.phase.fits in
     let refills = c.in-Err-refill.ensures.refills in
     let is_part : IsPart limits new rest = subst (λ l. IsPart l new rest) same says.0 in
-    let so_far = read_more limits c.reading.phase.limits (spot_in c.args.phase.now) spot new c.args.pending.now c.reading.pending rest refills.taken _ _ _ same invariant.so_far says fits refills.order refills.bound in
+    let so_far = read_more limits c.reading.phase.limits (spot_in c.args.phase.now) spot new c.args.pending.now c.reading.pending rest refills.taken _ _ _ same invariant.so_far says fits (c.read_in_hand.ensures.before ∙ invariant.before) refills.order refills.bound in
     read_failed limits (spot_in c.args.phase.now) new c.args.pending.now rest c.refill.new.self refills.taken _ _ c.in-Err-refill.error so_far is_part (c.read_in_hand.ensures.before ∙ invariant.before) refills.ends

@@ -12,7 +12,7 @@ use Rattle.tl_types.specs.declared.cells.Cell.{Cell}
 use Rattle.tl_query.specs.Aggregates.{aggregate_of, in_group}
 use Rattle.tl_running.specs.Standing.{Kept, counting, summing, Suits, StandsFor, IsShort, CanChange, Changes}
 use Rattle.tl_running.specs.Touching.{add_touching}
-use Rattle.tl_running.specs.Telling.{TellsNumber}
+use Rattle.tl_running.specs.Telling.{TellsNumber, has_rows}
 use Rattle.tl_agg.specs.Kept.{both, picked, kept_at}
 
 -- WHAT IS WANTED

@@ -4,7 +4,7 @@ use Rattle.tl_lanes.specs.Masks.{words_for}
 use Rattle.tl_index.specs.Tables.{TableOf, rows_in, search_steps}
 use Rattle.tl_agg.specs.Kept.{size}
 use Rattle.tl_agg.specs.Scans.{ScanOf, scan_of, table_in}
-use Rattle.tl_agg.proofs.aggregates.KeptRows.aggregate.Goals as goal
+use Rattle.tl_agg.proofs.kept.KeptRows.aggregate.Goals as goal
 
 pub returns-in_err-runs-clause-steps : goal.returns-in_err-runs-clause-steps
 returns-in_err-runs-clause-steps g c =

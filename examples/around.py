@@ -2,6 +2,7 @@
 """Runs the command `timeline` where a script with its expected replies does not reach: what it does around the program.
 Ends with 1 where something is not as it should be, and says what."""
 import fcntl
+import hashlib
 import os
 import pty
 import random
@@ -47,13 +48,15 @@ def copy_of_the_command(room, rt):
     """A copy of the command over crates of its own and with an `rt` of its own, which is a shell script."""
     os.makedirs(f"{room}/crates/timeline/src")
     os.makedirs(f"{room}/crates/low/src")
+    os.makedirs(f"{room}/crates/timeline_log/src")
     os.makedirs(f"{room}/docs")
     os.makedirs(f"{room}/bin")
     shutil.copy(TIMELINE, f"{room}/timeline")
+    shutil.copytree(f"{HERE}/../script", f"{room}/script")
     shutil.copy(f"{HERE}/../docs/FORMATS.md", f"{room}/docs")
     with open(f"{room}/crates.txt", "w") as crates:
         crates.write("low:\nhigh: low\ntimeline: low\n")
-    for crate in ("timeline", "low"):
+    for crate in ("timeline", "timeline_log", "low"):
         with open(f"{room}/crates/{crate}/src/main.rt", "w") as source:
             source.write("\n")
     with open(f"{room}/bin/rt", "w") as command:
@@ -78,15 +81,22 @@ def words_are_answered_at_once():
         judge("--version", status == 0 and printed.startswith("timeline") and not said, (status, printed, said))
 
 
-# What the prover says of two crates, and then the program that it makes, which says how it is called.
+# What the prover says of two crates, and then the program that it makes, which says how it is called; and the one that
+# lists.
 BUILDS = r"""
+[[ $1 == version ]] && echo a kit && exit
+mkdir -p out
+if [[ $2 == -- ]]; then
+    printf '#!/usr/bin/env bash\necho "the lister: $*"\n' >out/timeline_log
+    chmod +x out/timeline_log
+    exit 7
+fi
 echo 'so far: 0 of 2 functions checked; the verdict comes last' >&2
 echo 'fn low::add: proved' >&2
 echo 'fn low::take: proved' >&2
 echo 'logic=proved functions=2' >&2
 echo 'so far: 0 of 1 functions checked; the verdict comes last' >&2
 echo 'fn timeline::main: proved' >&2
-mkdir -p out
 printf '#!/usr/bin/env bash\necho "the program: $*"\n' >out/timeline
 chmod +x out/timeline
 [[ -e fails ]] && exit 1
@@ -95,25 +105,39 @@ exit 2
 """
 
 
-def the_build_says_how_far_it_is():
-    """Builds, runs with nothing built anew, and builds again where a source is newer; a build that fails ends with 125."""
+def only_build_builds():
+    """A build says how far it is; no other command builds, also where a source is newer; a build that fails ends with 125."""
     with tempfile.TemporaryDirectory() as room:
         command = copy_of_the_command(room, BUILDS)
-        status, printed, said = command("run")
+        for words in (("run",), ("load", "t"), ("init",), ("log",), ("tables",), ("ask", "SELECT k FROM t"), ("shell",), ("seal",)):
+            found = command(*words)
+            judge(f"{words} with nothing built", found == (125, "", "timeline: not built: ./timeline build\n"), found)
+        judge("options, with nothing built", command("run", "--workers", "99")[:2] == (2, "! usage\n"), "")
+        judge("nothing is built", not os.path.exists(f"{room}/calls"), "")
+        status, printed, said = command("build")
         told = re.findall(r"crate (\d) of 2, (\w+): (\d) of (\d) functions checked, 0 minutes gone", said)
-        judge("a build", (status, printed) == (0, "the program: run\n"), (status, printed, said))
+        judge("a build", (status, printed) == (0, "") and said.endswith("timeline: built\n"), (status, printed, said))
         judge("how far a build is", told == [("1", "low", "1", "2"), ("2", "timeline", "1", "1")], said)
-        judge("built once", command("run") == (0, "the program: run\n", ""), "")
+        judge("a run", command("run") == (0, "the program: run\n", ""), "")
+        judge("a listing", command("log", "--csv") == (0, "the lister: log\n", ""), command("log", "--csv"))
+        judge("a second build", command("build") == (0, "", ""), "")
+        printed = command("--version")[1]
+        judge("--version", "built from a kit\n" in printed, printed)
         later = time.time() + 5
         os.utime(f"{room}/crates/low/src/main.rt", (later, later))
-        status, printed, said = command("init")
-        judge("a source that is newer", printed == "the program: init\n" and "building" in said, (status, printed, said))
+        found = command("init")
+        wanted = (0, "the program: init\n", "timeline: the sources are newer than the program: ./timeline build\n")
+        judge("a source that is newer", found == wanted, found)
         with open(f"{room}/calls") as calls:
-            judge("builds", [it for it in calls.read().split("\n") if it == "run"] == ["run"] * 2, "")
+            judge("builds", [it for it in calls.read().split("\n") if it.startswith("run")] == ["run", "run -- log"], "")
         with open(f"{room}/crates/timeline/fails", "w"):
             os.utime(f"{room}/crates/low/src/main.rt", (later + 60, later + 60))
-        status, printed, said = command("run")
+        status, printed, said = command("build")
         judge("a build that fails", (status, printed) == (125, "") and "build.log" in said, (status, printed, said))
+        with open(f"{room}/crates/low/large", "w"), open(f"{room}/crates/timeline/out/large", "w"):
+            found = command("clean")
+        left = sorted(os.listdir(f"{room}/crates/timeline/out"))
+        judge("clean", found[0] == 0 and left == ["built", "checked", "timeline"], (found, left))
 
 
 def try_without_a_program():
@@ -149,8 +173,8 @@ def refusals_are_told():
         make_journal(room, "a> CREATE TABLE t (k INT) KEY k\n")
         told = "timeline: 1 of 1 statements was refused: nothing was loaded\n"
         refused = "load @1 ! NotInt 2 1\n"
-        judge("a refused load", run(["load", "t"], "k\nx\n", room) == (0, refused, told), "")
-        judge("--strict load", run(["--strict", "load", "t"], "k\nx\n", room) == (20, refused, told), "")
+        judge("a refused load", run(["load", "t"], "k\nx\n", room) == (20, refused, told), "")
+        judge("--lenient load", run(["--lenient", "load", "t"], "k\nx\n", room) == (0, refused, told), "")
         script = 'a> SELECT k FROM t\na> select k FROM t\na> SELECT x FROM t\n'
         replies = "a @1 rows 0\na @1 ! Unexpected 0\na @1 ! UnknownColumn 7\n"
         judge("a run", run(["run"], script, room) == (0, replies, ""), "")
@@ -167,6 +191,20 @@ def refusals_are_told():
         # A row that looks like a reply, in a text of several lines, is none.
         odd = 'a> CREATE TABLE o (k TEXT) KEY k\na> PUT o\nk\n"x\na @1 ! NotInt 2 1"\n\\.\na> SELECT k FROM o\n'
         judge("--strict over texts of lines", run(["--strict", "run"], odd, room)[0::2] == (0, ""), "")
+    for first in range(0, 256, 64):
+        with tempfile.TemporaryDirectory(dir=JOURNALS) as room:
+            # Each byte as a cell: those from 128 on are no UTF-8 alone, and stand for the letter with that number.
+            make_journal(room, "a> CREATE TABLE b (k INT, t TEXT) KEY k\n")
+            quoted = {'"': '""'}
+            rows = "".join(f'{it},"{quoted.get(chr(it), chr(it))}""x"\n' for it in range(first, first + 64))
+            asked = f"a> PUT b\nk,t\n{rows}\\.\na> SELECT t, k FROM b\na> SELECT x FROM b\n"
+            done = subprocess.run([TIMELINE, "--strict", "run"], input=asked.encode(), cwd=room, capture_output=True, timeout=60)
+            told = "timeline: 1 of 3 statements was refused\n"
+            judge(f"--strict behind the bytes from {first} on", (done.returncode, done.stderr.decode()) == (20, told), done)
+            passed = subprocess.run([f"{HERE}/rows", "2"], input=done.stdout, capture_output=True, timeout=60).stdout
+            judge(f"examples/rows of the bytes from {first} on", passed == done.stdout.split(b" rows 64\n")[1].rpartition(b"a @2")[0], passed)
+            explained = subprocess.run([TIMELINE, "--explain", "run"], input=asked.encode(), cwd=room, capture_output=True, timeout=60)
+            judge(f"--explain behind the bytes from {first} on", b"UnknownColumn 7\n    SELECT x FROM b\n           ^\n" in explained.stderr, explained)
 
 
 def explanations_come_from_a_pipe():
@@ -178,7 +216,7 @@ def explanations_come_from_a_pipe():
         judge("--explain run", (status, printed) == (0, "a @1 ! Unexpected 9\n") and said.startswith(wanted), said)
         status, printed, said = run(["--explain", "load", "t"], "k,x\r\n1,2\r\n3,12.50\r\n", room)
         wanted = "timeline: the load was refused: NotInt 3 2\n    PUT t\n    line 3, record 3:\n    3,12.50\n      ^\n"
-        judge("--explain load", (status, printed) == (0, "load @1 ! NotInt 3 2\n") and said.startswith(wanted), said)
+        judge("--explain load", (status, printed) == (20, "load @1 ! NotInt 3 2\n") and said.startswith(wanted), said)
 
 
 def what_is_not_open_fails():
@@ -315,7 +353,7 @@ def another_program_has_the_journal():
             judge("--wait, while it is held", waiter.poll() is None, waiter.returncode)
         printed, said = waiter.stdout.read(), waiter.stderr.read()
         judge("--wait, once it is free", (waiter.wait(), printed, said) == (0, "load @2 ok\n", ""), (printed, said))
-        judge("a folder in the journal's place", refused_folder() == (5, "! device\n", ""), "")
+        judge("a folder in the journal's place", refused_folder() == (5, "! device\n", "timeline: timeline.tlj is a folder\n"), "")
 
 
 def refused_folder():
@@ -342,8 +380,10 @@ def a_long_load_goes_on():
                 os.killpg(loader.pid, signal.SIGKILL)
                 loader.wait()
         printed = run(["run"], "a> SELECT k, x FROM t\n", room)[1]
-        wanted = "a @1501 rows 3000\n" + "".join(f"{key},{key % 7}\n" for key in range(3000))
-        judge("a long load", loader.returncode == 0 and printed == wanted, (loader.returncode, printed[:200]))
+        wanted = "".join(f"{key},{key % 7}\n" for key in range(3000))
+        judge("a long load", loader.returncode == 0 and printed.partition("\n")[2] == wanted, (loader.returncode, printed[:200]))
+        printed = run(["run"], "a> COUNT FROM t OVER SYSTEM ALL\n", room)[1]
+        judge("a long load puts each batch once", printed.split("\n")[0].endswith("rows 1501"), printed[:200])
 
 
 def a_long_load_names_what_is_refused():
@@ -355,16 +395,43 @@ def a_long_load_names_what_is_refused():
         for turn in range(2):
             load = subprocess.run(["bash", f"{HERE}/long_load.sh", "rows.csv", "t", "2"], cwd=room, text=True,
                                   capture_output=True)
-            named = "batch 2, lines 4 to 5: load @2 ! NotInt 2 2\n" in load.stderr
+            named = "batch 2, lines 4 to 5: load @5 ! NotInt 2 2\n" in load.stderr
             printed = run(["run"], "a> SELECT k FROM t\n", room)[1]
             judge("a long load with a batch that is refused",
-                  load.returncode == 20 and named and printed == "a @3 rows 3\n1\n2\n5\n", (load, printed))
+                  load.returncode == 20 and named and printed.endswith(" rows 3\n1\n2\n5\n"), (load, printed))
+
+
+def a_long_load_knows_its_file():
+    """A load that is not done keeps another file out of its table; commits of others between leave no row out."""
+    with tempfile.TemporaryDirectory(dir=JOURNALS) as room:
+        make_journal(room, "a> CREATE TABLE t (k INT, x INT) KEY k\na> CREATE TABLE u (k INT) KEY k\n")
+        for name, first in (("A.csv", 0), ("B.csv", 100)):
+            with open(f"{room}/{name}", "w") as rows:
+                rows.write("k,x\n" + "".join(f"{first + key},{key}\n" for key in range(10)))
+        load = lambda *words: run([f"{HERE}/long_load.sh", *words], room=room, command="bash")
+        with open(f"{room}/A.csv", "rb") as rows:
+            digest = hashlib.sha256(rows.read()).hexdigest()
+        # As if killed: two batches are marked, a third one is there without its mark, and then others committed.
+        mark = f'a> PUT long_load\nload,file,size,sum,lines,batch\nt,A.csv,{os.path.getsize(f"{room}/A.csv")},{digest},2,%d\n\\.\n'
+        put = lambda *keys: "a> PUT t\nk,x\n" + "".join(f"{key},{key}\n" for key in keys) + "\\.\n"
+        columns = "load TEXT, file TEXT, size INT, sum TEXT, lines INT, batch INT"
+        make_journal_part = f"a> CREATE TABLE long_load ({columns}) KEY load\n" + mark % 0 + put(0, 1) + mark % 1 + put(2, 3) + mark % 2 + put(4, 5)
+        judge("the front of a load", run(["--strict", "run"], make_journal_part + "a> PUT u\nk\n1\n\\.\n", room)[0] == 0, "")
+        status, printed, said = load("B.csv", "t", "2")
+        judge("another file", status == 1 and "another load of t came to batch 2" in said, (status, printed, said))
+        found = load("A.csv", "t", "2")
+        judge("a load that goes on", found == (0, "3 batches are loaded\nall of A.csv is loaded\n", ""), found)
+        found = load("B.csv", "t", "2")
+        judge("the next file", found == (0, "0 batches are loaded\nall of B.csv is loaded\n", ""), found)
+        printed = run(["run"], "a> SELECT k FROM t\na> COUNT FROM t OVER SYSTEM ALL\n", room)[1]
+        wanted = "".join(f"{key}\n" for key in [*range(10), *range(100, 110)])
+        judge("the rows of both", wanted in printed and printed.count("\n") == 1 + 20 + 1 + 11, printed)
 
 
 # A command that does not end is not as it should be either.
 signal.alarm(550)
 words_are_answered_at_once()
-the_build_says_how_far_it_is()
+only_build_builds()
 try_without_a_program()
 files_are_opened()
 refusals_are_told()
@@ -376,4 +443,5 @@ two_loaders_at_once()
 another_program_has_the_journal()
 a_long_load_goes_on()
 a_long_load_names_what_is_refused()
+a_long_load_knows_its_file()
 sys.exit(failed)

@@ -59,9 +59,10 @@ def the_table_has_each_fault():
     judge("faults without a sentence", not wanted - found, sorted(wanted - found))
     judge("sentences without a fault", not found - wanted, sorted(found - wanted))
     judge("a fault with two sentences", len(told) == len([it for it in rows if not it[0].startswith("-")]))
-    command = text_of("timeline")
+    command = text_of("script/explain.awk")
     for fault, case in sorted(told):
-        judge(f"the case '{case}' of {fault}", case == "" or f'"{case}"' in command, "the command does not tell it apart")
+        is_told = case == "" or f'"{case}"' in command or re.search(rf"\b{case}\b", command)
+        judge(f"the case '{case}' of {fault}", is_told, "the command does not tell it apart")
     formats = text_of("docs/FORMATS.md").split("\n## Fault words\n")[1].split("\n## ")[0]
     for fault in sorted(wanted - LINES):
         if " " not in fault:
@@ -71,8 +72,8 @@ def the_table_has_each_fault():
 
 
 def examples_are_as_shown():
-    """What docs/LANGUAGE.md shows of an example is what stands in its files, and so are the scripts of README.md, but for
-    their comments."""
+    """What docs/LANGUAGE.md shows of an example is what stands in its files, and so is the script of README.md, but for
+    its comments."""
     text = text_of("docs/LANGUAGE.md")
     shown = re.findall(r"\(\.\./(examples/[\w/]+)\.tl\)[^\n]*:\n\n```\n(.*?)```\n.*?\n```\n(.*?)```\n", text, re.S)
     judge("the examples of docs/LANGUAGE.md", shown, "none were found")
@@ -80,8 +81,8 @@ def examples_are_as_shown():
         judge(f"docs/LANGUAGE.md: {path}.tl", script == text_of(f"{path}.tl"), script)
         judge(f"docs/LANGUAGE.md: {path}.expected", replies == text_of(f"{path}.expected"), replies)
     scripts = re.findall(r"\n\n((?:    [^\n]*\n)+)", text_of("README.md"))
-    wanted = [re.sub(r"^#.*\n", "", text_of(f"examples/{it}.tl"), flags=re.M) for it in ("first", "go")]
-    judge("the scripts of README.md", [re.sub("^    ", "", it, flags=re.M) for it in scripts] == wanted, scripts)
+    wanted = [re.sub(r"^#.*\n", "", text_of("examples/first.tl"), flags=re.M)]
+    judge("the script of README.md", [re.sub("^    ", "", it, flags=re.M) for it in scripts] == wanted, scripts)
 
 
 def links_lead_somewhere():

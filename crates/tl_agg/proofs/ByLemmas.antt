@@ -18,16 +18,18 @@ use Rattle.tl_types.specs.Runs.{same_field, add_stretch, stretch_of, runs_over, 
 use Rattle.tl_types.proofs.RunLemmas.{count_is}
 use Rattle.tl_query.specs.declared.typed_queries.Span.TheVariants as span
 use Rattle.tl_query.specs.Aggregates.{aggregate_of, has_value, in_group, with_rows, runs_in, group_runs}
-use Rattle.tl_query.specs.Ordered.{cell_before, values_of}
+use Rattle.tl_query.specs.Ordered.{cell_before, values_of, has, Rises}
 use Rattle.tl_query.specs.Passing.{compare_cells}
 use Rattle.tl_agg.specs.Kept.{both, picked, kept_at}
-use Rattle.tl_agg.specs.Tables.{rows_in}
-use Rattle.tl_agg.specs.Groups.{Asked, kept_in, value_at, has_rows, State, IsNone, IsAdvanced, Tracks, HoldsIn, EachAdvanced, grouped, AreAdvanced}
+use Rattle.tl_index.specs.Tables.{rows_in}
+use Rattle.tl_agg.specs.Groups.{Wanted, kept_in, kept_value, State, IsNone, IsAdvanced, Tracks, HoldsIn, EachAdvanced, grouped, AreAdvanced}
+use Rattle.tl_running.specs.Telling.{has_rows}
 use Rattle.tl_agg.specs.Runs.{kept_with, runs_by, system_runs}
-use Rattle.tl_agg.specs.Scans.{ScanOf, asked_of, keep_with, Groups, AreAllAdvanced, TrackBy, AllTrack}
-use Rattle.tl_agg.specs.Values.{has, Rises}
-use Rattle.tl_agg.proofs.CellLemmas.{cell_self, cell_symm, cell_equal, before_apart, values_same, has_fold, rises_fold}
-use Rattle.tl_agg.proofs.GroupLemmas.{has_told, past_more, advances_made}
+use Rattle.tl_agg.specs.Scans.{ScanOf, wanted_of, keep_with, Groups, AreAllAdvanced, TrackBy, AllTrack}
+use Rattle.tl_query.proofs.CellOrder.{cell_itself, cell_symm, cell_equal}
+use Rattle.tl_query.proofs.ValueOrder.{before_apart, values_same, has_fold, rises_fold}
+use Rattle.tl_agg.proofs.GroupLemmas.{past_more, advances_made}
+use Rattle.tl_running.proofs.TellLemmas.{has_told}
 
 -- THE GROUPS, ONE BEHIND THE OTHER
 
@@ -114,10 +116,10 @@ filter_same f from to P Q (run ∷ runs) are same = ap (λ b. cond b (run ∷ fi
 abbrev pub runs_with : ScanOf → ℕ → Cell → List Run
 runs_with scan by value = group_runs scan.plan.kind scan.plan.column (span.System scan.from scan.to) (kept_with (rows_in scan.table) scan.keep by value) value
 
-group_told : (scan : ScanOf) (by : ℕ) (value : Cell) (set : List Bool) (group : State) (runs : List Run) → is_some scan.plan.by ≡ true → scan.from ≤ scan.to → Tracks (asked_of scan (keep_with scan by value)) set scan.to group → IsAdvanced group scan.to runs → map (in_group value) runs ≡ runs_with scan by value
+group_told : (scan : ScanOf) (by : ℕ) (value : Cell) (set : List Bool) (group : State) (runs : List Run) → is_some scan.plan.by ≡ true → scan.from ≤ scan.to → Tracks (wanted_of scan (keep_with scan by value)) set scan.to group → IsAdvanced group scan.to runs → map (in_group value) runs ≡ runs_with scan by value
 group_told scan by value set group runs gaps l tracks advanced = ap (map (in_group value)) (made ∙ filled ∙ functions) where
-  asked : Asked
-  asked = asked_of scan (keep_with scan by value)
+  wanted : Wanted
+  wanted = wanted_of scan (keep_with scan by value)
 
   rows : ℤ → List plain.Row
   rows = kept_with (rows_in scan.table) scan.keep by value
@@ -128,21 +130,21 @@ group_told scan by value set group runs gaps l tracks advanced = ap (map (in_gro
   Q : Run → Bool
   Q run = not (length (rows run.from) == 0)
 
-  made : runs ≡ filter P (runs_of (value_at asked) (pos scan.from) (pos scan.to))
-  made = advanced.runs_are ∙ advances_made asked set scan.to group advanced.state tracks advanced.advances
-      ∙ ap (λ b. cond b (filter P (runs_of (value_at asked) (pos scan.from) (pos scan.to))) (runs_of (value_at asked) (pos scan.from) (pos scan.to))) gaps
+  made : runs ≡ filter P (runs_of (kept_value wanted) (pos scan.from) (pos scan.to))
+  made = advanced.runs_are ∙ advances_made wanted set scan.to group advanced.state tracks advanced.advances
+      ∙ ap (λ b. cond b (filter P (runs_of (kept_value wanted) (pos scan.from) (pos scan.to))) (runs_of (kept_value wanted) (pos scan.from) (pos scan.to))) gaps
 
-  at_moment : (z : ℤ) → pos scan.from ≤ℤ z → z <ℤ pos scan.to → has_rows scan.plan.kind (value_at asked z) ≡ not (length (rows z) == 0)
+  at_moment : (z : ℤ) → pos scan.from ≤ℤ z → z <ℤ pos scan.to → has_rows scan.plan.kind (kept_value wanted z) ≡ not (length (rows z) == 0)
   at_moment (pos version) a b =
-      has_told scan.plan.kind scan.plan.column (kept_in asked (standing (rows_in scan.table) version)) (past_more asked set scan.to group tracks version (omega (arith, ints)) (omega (arith, ints)))
+      has_told scan.plan.kind scan.plan.column (kept_in wanted (standing (rows_in scan.table) version)) (past_more wanted set scan.to group tracks version (omega (arith, ints)) (omega (arith, ints)))
       ∙ ap (λ rs. not (length rs == 0)) (rows_with scan by value (pos version))
   at_moment (negsuc n) a b = absurd (omega (arith, ints))
 
-  filled : filter P (runs_of (value_at asked) (pos scan.from) (pos scan.to)) ≡ filter Q (runs_of (value_at asked) (pos scan.from) (pos scan.to))
-  filled = filter_same (value_at asked) (pos scan.from) (pos scan.to) P Q (runs_of (value_at asked) (pos scan.from) (pos scan.to)) (runs_are (value_at asked) (pos scan.from) (pos scan.to) (omega (arith, ints)))
+  filled : filter P (runs_of (kept_value wanted) (pos scan.from) (pos scan.to)) ≡ filter Q (runs_of (kept_value wanted) (pos scan.from) (pos scan.to))
+  filled = filter_same (kept_value wanted) (pos scan.from) (pos scan.to) P Q (runs_of (kept_value wanted) (pos scan.from) (pos scan.to)) (runs_are (kept_value wanted) (pos scan.from) (pos scan.to) (omega (arith, ints)))
       (λ run is. ap (has_rows scan.plan.kind) is.2 ∙ at_moment run.from is.0 is.1)
 
-  functions : filter Q (runs_of (value_at asked) (pos scan.from) (pos scan.to)) ≡ with_rows rows (runs_in scan.plan.kind scan.plan.column (span.System scan.from scan.to) rows)
+  functions : filter Q (runs_of (kept_value wanted) (pos scan.from) (pos scan.to)) ≡ with_rows rows (runs_in scan.plan.kind scan.plan.column (span.System scan.from scan.to) rows)
   functions = ap (λ (f : ℤ → Field). filter Q (runs_of f (pos scan.from) (pos scan.to))) (fun_ext (λ moment. ap (aggregate_of scan.plan.kind scan.plan.column) (rows_with scan by value moment)))
 
 -- a value that no group has
@@ -162,7 +164,7 @@ fresh_advanced scan = record {
   either none true = refl
   either none false = refl
 
-none_told : (scan : ScanOf) (by : ℕ) (value : Cell) (set : List Bool) → is_some scan.plan.by ≡ true → scan.from ≤ scan.to → HoldsIn (asked_of scan (keep_with scan by value)) set scan.to None → runs_with scan by value ≡ []
+none_told : (scan : ScanOf) (by : ℕ) (value : Cell) (set : List Bool) → is_some scan.plan.by ≡ true → scan.from ≤ scan.to → HoldsIn (wanted_of scan (keep_with scan by value)) set scan.to None → runs_with scan by value ≡ []
 none_told scan by value set gaps l holds = sym (group_told scan by value set (fresh scan) [] gaps l (holds (fresh scan) (fresh_none scan gaps)) (fresh_advanced scan))
 
 -- a value that no row has
@@ -293,7 +295,7 @@ found_behind first all (e ∷ es) later found = (rw (before_apart first.0 e.0 la
 
 all_found : (es : List (Cell × State)) → Rises (map (λ (e : Cell × State). e.0) es) → AllFound es es
 all_found [] up = tt
-all_found (e ∷ es) up = (rw (cell_self e.0) refl, found_behind e es es up.0 (all_found es up.1))
+all_found (e ∷ es) up = (rw (cell_itself e.0) refl, found_behind e es es up.0 (all_found es up.1))
 
 not_found : (es : List (Cell × State)) (z : Cell) → has (map (λ (e : Cell × State). e.0) es) z ≡ false → lookup (same_cell z) es ≡ None
 not_found [] z out = refl
@@ -303,14 +305,14 @@ not_found (e ∷ es) z out =
 
 -- ALL VALUES
 
-grouped_told : (scan : ScanOf) (by : ℕ) (set : List Bool) (groups all es : List (Cell × State)) (rs : List (List Run)) → is_some scan.plan.by ≡ true → scan.from ≤ scan.to → ((value : Cell) → HoldsIn (asked_of scan (keep_with scan by value)) set scan.to (lookup (same_cell value) groups))
+grouped_told : (scan : ScanOf) (by : ℕ) (set : List Bool) (groups all es : List (Cell × State)) (rs : List (List Run)) → is_some scan.plan.by ≡ true → scan.from ≤ scan.to → ((value : Cell) → HoldsIn (wanted_of scan (keep_with scan by value)) set scan.to (lookup (same_cell value) groups))
     → ((value : Cell) → lookup (same_cell value) all ≡ lookup (same_cell value) groups) → AllFound all es → EachAdvanced es scan.to rs
     → grouped es rs ≡ flat_map (runs_with scan by) (map (λ (e : Cell × State). e.0) es)
 grouped_told scan by set groups all [] [] gaps l tracks same found each = refl
 grouped_told scan by set groups all [] (r ∷ rs) gaps l tracks same found each = absurd each
 grouped_told scan by set groups all (e ∷ es) [] gaps l tracks same found each = absurd each
 grouped_told scan by set groups all (e ∷ es) (r ∷ rs) gaps l tracks same found each =
-    let own : Tracks (asked_of scan (keep_with scan by e.0)) set scan.to e.1 = subst (HoldsIn (asked_of scan (keep_with scan by e.0)) set scan.to) (sym (same e.0) ∙ found.0) (tracks e.0) in
+    let own : Tracks (wanted_of scan (keep_with scan by e.0)) set scan.to e.1 = subst (HoldsIn (wanted_of scan (keep_with scan by e.0)) set scan.to) (sym (same e.0) ∙ found.0) (tracks e.0) in
     ap (λ xs. xs ++ grouped es rs) (group_told scan by e.0 set e.1 r gaps l own each.0)
     ∙ ap (λ xs. runs_with scan by e.0 ++ xs) (grouped_told scan by set groups all es rs gaps l tracks same found.1 each.1)
 
@@ -327,6 +329,6 @@ groups_told scan by set groups runs by_is l tracks all =
     are.all_are
     ∙ grouped_told scan by set groups.by sorted sorted are.runs gaps l own.1 all.are.same (all_found sorted up) are.each
     ∙ flat_same (runs_with scan by) keys (values_of by rows) up (rises_fold [] (filter_map (λ (row : plain.Row). cell_at row.cells by) rows) tt)
-    (λ z out. none_told scan by z set gaps l (subst (HoldsIn (asked_of scan (keep_with scan by z)) set scan.to) (sym (all.are.same z) ∙ not_found sorted z out) (own.1 z)))
+    (λ z out. none_told scan by z set gaps l (subst (HoldsIn (wanted_of scan (keep_with scan by z)) set scan.to) (sym (all.are.same z) ∙ not_found sorted z out) (own.1 z)))
     (λ z out. absent_told scan by z out)
     ∙ ap (λ b. runs_by scan.plan.kind scan.plan.column b rows scan.keep scan.from scan.to) (sym by_is)

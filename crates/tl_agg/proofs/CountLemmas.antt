@@ -8,10 +8,11 @@ use Rattle.tl_query.specs.declared.ast.AggKind.TheVariants as kind
 use Rattle.tl_bits.specs.Sets.{is_member}
 use Rattle.tl_running.specs.Standing.{Kept, counting, is_ordered, CanChange}
 use Rattle.tl_agg.specs.Kept.{count_moved}
-use Rattle.tl_agg.specs.Tables.{rows_in, TellsNumber}
+use Rattle.tl_index.specs.Tables.{rows_in}
+use Rattle.tl_running.specs.Telling.{TellsNumber}
 use Rattle.tl_agg.specs.Groups.{State, Shifts, recounted}
 use Rattle.tl_agg.specs.Scans.{ScanOf, IsScan, Groups, TrackBy, AllTrack, IsReady, TakesEvent, set_after, all_recounted}
-use Rattle.tl_agg.proofs.NumberLemmas.{none_tells}
+use Rattle.tl_running.proofs.TellLemmas.{none_tells}
 use Rattle.tl_agg.proofs.StepLemmas.{turn_inside, can_take, takes_shifted, takes_left, run_ready, run_taken}
 
 pub kind_by : (by : Option ℕ) (scan : ScanOf) (set : List Bool) (at : ℕ) (groups : Groups) → by ≡ None → TrackBy by scan set at groups → groups.all.running.kind ≡ scan.plan.kind

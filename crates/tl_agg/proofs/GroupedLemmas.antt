@@ -17,18 +17,18 @@ use Rattle.tl_query.specs.declared.ast.AggKind.TheVariants as kind
 use Rattle.tl_query.specs.declared.typed_queries.AggPlan.{AggPlan}
 use Rattle.tl_query.specs.declared.typed_queries.Span.TheVariants as span
 use Rattle.tl_query.specs.Aggregates.{aggregate_of, has_value, in_group, with_rows, runs_in, group_runs}
-use Rattle.tl_query.specs.Ordered.{cell_before, values_of}
+use Rattle.tl_query.specs.Ordered.{cell_before, values_of, Rises}
 use Rattle.tl_running.specs.Standing.{HaveNumbers, Suits}
 use Rattle.tl_running.specs.Touching.{goes_on_as, add_touching}
 use Rattle.tl_running.proofs.TouchLemmas.{cover_runs, seam_touching}
-use Rattle.tl_agg.specs.Groups.{has_rows}
+use Rattle.tl_running.specs.Telling.{has_rows}
 use Rattle.tl_agg.specs.Kept.{both, picked, kept_at}
 use Rattle.tl_agg.specs.Runs.{kept_with, runs_by, system_runs}
-use Rattle.tl_agg.specs.Seams.{same_group, stands_behind, ends_in, add_grouped, front_upto, rest_behind, seam_behind, have_groups, seam_of}
-use Rattle.tl_agg.specs.Values.{Rises}
+use Rattle.tl_agg.specs.Seams.{same_group, stands_behind, ends_with_group, add_grouped, front_upto, rest_behind, seam_behind, have_groups, seam_of}
 use Rattle.tl_agg.proofs.ByLemmas.{runs_are, filter_same}
-use Rattle.tl_agg.proofs.CellLemmas.{cell_self, cell_symm, cell_ranks, before_apart, rises_fold}
-use Rattle.tl_agg.proofs.GroupLemmas.{has_told}
+use Rattle.tl_query.proofs.CellOrder.{cell_itself, cell_symm, cell_ranks}
+use Rattle.tl_query.proofs.ValueOrder.{before_apart, rises_fold}
+use Rattle.tl_running.proofs.TellLemmas.{has_told}
 use Rattle.tl_agg.proofs.JoinLemmas.{pieces_joined}
 
 -- RUNS OF ONE GROUP
@@ -55,7 +55,7 @@ all_in value (run ∷ runs) = (refl, all_in value runs)
 not_before_self : (x : Cell) → cell_before x x ≡ false
 not_before_self x = by_test (cell_before x x) refl where
   by_test : (b : Bool) → cell_before x x ≡ b → b ≡ false
-  by_test true e = absurd (let f = before_apart x x e in let g = cell_self x in cc)
+  by_test true e = absurd (let f = before_apart x x e in let g = cell_itself x in cc)
   by_test false e = refl
 
 -- runs of a group are not behind it, nor behind a later one
@@ -99,12 +99,12 @@ behind_none run value (x ∷ back) is all = let e : stands_behind x.group run.gr
 
 -- A RUN MORE OF A GROUP
 
-ends_append : (done : List Run) (x : Run) (xs : List Run) (group : Option Cell) → ends_in (done ++ x ∷ xs) group ≡ ends_in (x ∷ xs) group
+ends_append : (done : List Run) (x : Run) (xs : List Run) (group : Option Cell) → ends_with_group (done ++ x ∷ xs) group ≡ ends_with_group (x ∷ xs) group
 ends_append [] x xs group = refl
 ends_append (d ∷ []) x xs group = refl
 ends_append (d ∷ e ∷ done) x xs group = ends_append (e ∷ done) x xs group
 
-ends_all : (value other : Cell) (x : Run) (xs : List Run) → AllIn value (x ∷ xs) → ends_in (x ∷ xs) (Some other) ≡ same_cell value other
+ends_all : (value other : Cell) (x : Run) (xs : List Run) → AllIn value (x ∷ xs) → ends_with_group (x ∷ xs) (Some other) ≡ same_cell value other
 ends_all value other x [] all = ap (λ g. same_group g (Some other)) all.0
 ends_all value other x (y ∷ xs) all = ends_all value other y xs all.1
 
@@ -113,12 +113,12 @@ touching_append [] x xs run = refl
 touching_append (d ∷ []) x xs run = refl
 touching_append (d ∷ e ∷ done) x xs run = ap (λ rs. d ∷ rs) (touching_append (e ∷ done) x xs run)
 
-add_group : (value : Cell) (done acc : List Run) (run : Run) → ends_in done (Some value) ≡ false → AllIn value acc → run.group ≡ Some value → add_grouped (done ++ acc) run ≡ done ++ add_touching acc run
+add_group : (value : Cell) (done acc : List Run) (run : Run) → ends_with_group done (Some value) ≡ false → AllIn value acc → run.group ≡ Some value → add_grouped (done ++ acc) run ≡ done ++ add_touching acc run
 add_group value done [] run out all is =
-    let e : ends_in (done ++ []) run.group ≡ false = ap (λ rs. ends_in rs run.group) (append-nil done) ∙ ap (ends_in done) is ∙ out in
+    let e : ends_with_group (done ++ []) run.group ≡ false = ap (λ rs. ends_with_group rs run.group) (append-nil done) ∙ ap (ends_with_group done) is ∙ out in
     rw e (ap (λ rs. rs ++ run ∷ []) (append-nil done))
 add_group value done (x ∷ acc) run out all is =
-    let e : ends_in (done ++ x ∷ acc) run.group ≡ true = ends_append done x acc run.group ∙ ap (ends_in (x ∷ acc)) is ∙ ends_all value value x acc all ∙ cell_self value in
+    let e : ends_with_group (done ++ x ∷ acc) run.group ≡ true = ends_append done x acc run.group ∙ ap (ends_with_group (x ∷ acc)) is ∙ ends_all value value x acc all ∙ cell_itself value in
     rw e (touching_append done x acc run)
 
 in_touching : (value : Cell) (acc : List Run) (run : Run) → AllIn value acc → run.group ≡ Some value → AllIn value (add_touching acc run)
@@ -135,7 +135,7 @@ in_fold value acc (run ∷ runs) all more = in_fold value (add_touching acc run)
 
 -- ONE GROUP
 
-rest_of_group : (value : Cell) (done acc runs left right : List Run) → ends_in done (Some value) ≡ false → AllIn value acc → AllIn value runs → AllBehind value left
+rest_of_group : (value : Cell) (done acc runs left right : List Run) → ends_with_group done (Some value) ≡ false → AllIn value acc → AllIn value runs → AllBehind value left
     → seam_behind (done ++ acc) left (runs ++ right) ≡ seam_behind (done ++ fold add_touching acc runs) left right
 rest_of_group value done acc [] left right out all more later = refl
 rest_of_group value done acc (run ∷ runs) left right out all more later =
@@ -161,7 +161,7 @@ move_later value done moved left (run ∷ right) all later = by_group run.group 
   by_group None is e = absurd (cc)
   by_group (Some other) is e = move_group value done moved left right run other is (none_behind value other moved (cell_ranks.one_way value other e) all)
 
-one_group : (value : Cell) (done own more left right : List Run) → ends_in done (Some value) ≡ false → AllIn value own → AllIn value more → AllBehind value left → AllBehind value right
+one_group : (value : Cell) (done own more left right : List Run) → ends_with_group done (Some value) ≡ false → AllIn value own → AllIn value more → AllBehind value left → AllBehind value right
     → seam_behind done (own ++ left) (more ++ right) ≡ seam_behind (done ++ fold add_touching own more) left right
 one_group value done own [] left right out all some low high = move_later value done own left right all high
 one_group value done own (run ∷ more) left right out all some low high =
@@ -170,11 +170,11 @@ one_group value done own (run ∷ more) left right out all some low high =
 
 -- ALL GROUPS
 
-ends_then : (value other : Cell) (done own : List Run) → AllIn value own → ends_in done (Some other) ≡ false → same_cell value other ≡ false → ends_in (done ++ own) (Some other) ≡ false
-ends_then value other done [] all out apart = ap (λ rs. ends_in rs (Some other)) (append-nil done) ∙ out
+ends_then : (value other : Cell) (done own : List Run) → AllIn value own → ends_with_group done (Some other) ≡ false → same_cell value other ≡ false → ends_with_group (done ++ own) (Some other) ≡ false
+ends_then value other done [] all out apart = ap (λ rs. ends_with_group rs (Some other)) (append-nil done) ∙ out
 ends_then value other done (x ∷ own) all out apart = ends_append done x own (Some other) ∙ ends_all value other x own all ∙ apart
 
-all_out : (value : Cell) (done own : List Run) (values : List Cell) → AllIn value own → AllByRecursion (λ v. cell_before value v ≡ true) values → AllByRecursion (λ v. ends_in done (Some v) ≡ false) values → AllByRecursion (λ v. ends_in (done ++ own) (Some v) ≡ false) values
+all_out : (value : Cell) (done own : List Run) (values : List Cell) → AllIn value own → AllByRecursion (λ v. cell_before value v ≡ true) values → AllByRecursion (λ v. ends_with_group done (Some v) ≡ false) values → AllByRecursion (λ v. ends_with_group (done ++ own) (Some v) ≡ false) values
 all_out value done own [] all later out = tt
 all_out value done own (v ∷ values) all later out = (ends_then value v done own all out.0 (cell_symm value v ∙ before_apart value v later.0), all_out value done own values all later.1 out.1)
 
@@ -182,7 +182,7 @@ module _ (f g : Cell → List Run) (own : (v : Cell) → AllIn v (f v)) (more : 
   abbrev pub whole : Cell → List Run
   whole value = fold add_touching (f value) (g value)
 
-  pub all_groups : (done : List Run) (values : List Cell) → Rises values → AllByRecursion (λ v. ends_in done (Some v) ≡ false) values → seam_behind done (flat_map f values) (flat_map g values) ≡ done ++ flat_map whole values
+  pub all_groups : (done : List Run) (values : List Cell) → Rises values → AllByRecursion (λ v. ends_with_group done (Some v) ≡ false) values → seam_behind done (flat_map f values) (flat_map g values) ≡ done ++ flat_map whole values
   all_groups done [] up out = refl
   all_groups done (v ∷ values) up out =
       one_group v done (f v) (g v) (flat_map f values) (flat_map g values) out.0 (own v) (more v) (behind_all f own v values up.0) (behind_all g more v values up.0)
@@ -268,7 +268,7 @@ flat_equal : (f g : Cell → List Run) (values : List Cell) → ((v : Cell) → 
 flat_equal f g [] same = refl
 flat_equal f g (v ∷ values) same = ap (λ rs. rs ++ flat_map f values) (same v) ∙ ap (λ rs. g v ++ rs) (flat_equal f g values same)
 
-no_ends : (values : List Cell) → AllByRecursion (λ v. ends_in [] (Some v) ≡ false) values
+no_ends : (values : List Cell) → AllByRecursion (λ v. ends_with_group [] (Some v) ≡ false) values
 no_ends [] = tt
 no_ends (v ∷ values) = (refl, no_ends values)
 
@@ -362,7 +362,7 @@ grouped_pieces plan rows keep from middle to left right runs suits l h left_is r
 -- THE STEPS OF THE CODE
 
 -- the last run tells the group in which they end
-pub last_group : (runs : List Run) (group : Option Cell) (run : Run) (i : ℕ) → i + 1 ≡ length runs → run ≡ get_or runs i run → ends_in runs group ≡ same_group run.group group
+pub last_group : (runs : List Run) (group : Option Cell) (run : Run) (i : ℕ) → i + 1 ≡ length runs → run ≡ get_or runs i run → ends_with_group runs group ≡ same_group run.group group
 last_group [] group run i last is = absurd (omega arith)
 last_group (r ∷ []) group run zero last is = ap (λ (x : Run). same_group x.group group) (sym is)
 last_group (r ∷ []) group run (suc i) last is = absurd (omega arith)

@@ -10,7 +10,8 @@ use Rattle.tl_query.specs.declared.ast.AggKind.TheVariants as kind
 use Rattle.tl_query.specs.Aggregates.{number_of}
 use Rattle.tl_store.specs.Reading.{column_cells, some_int}
 use Rattle.tl_running.specs.Standing.{Suits}
-use Rattle.tl_agg.specs.Tables.{TellsNumber, AreNumbers}
+use Rattle.tl_agg.specs.Columns.{AreNumbers}
+use Rattle.tl_running.specs.Telling.{TellsNumber}
 
 pub cell_there : (rows : List plain.Row) (id column : ℕ) (ns : List ℤ) (r : plain.Row) → map some_int ns ≡ column_cells rows column → slice_get rows id ≡ Some r → cell_at r.cells column ≡ Some (cell.Int (slice_index_or ns id (pos 0)))
 cell_there [] id column ns r are is = absurd (cc)
@@ -55,7 +56,3 @@ column_none rows None None are is = refl
 column_none rows None (Some ms) are is = absurd are
 column_none rows (Some column) None are is = absurd are
 column_none rows (Some column) (Some ms) are is = absurd (cc)
-
--- where no column is asked for, as of a count, each number is 0
-pub none_tells : (k : AggKind) (rows : List plain.Row) (id : ℕ) → k ≡ kind.Count → TellsNumber k None rows id (pos 0)
-none_tells k rows id is = λ r here. (refl, subst (λ j. Suits j None (r ∷ [])) (sym is) tt)

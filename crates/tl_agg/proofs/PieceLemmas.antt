@@ -6,22 +6,23 @@ use Rattle.std.proofs.lemmas.Int.{ints}
 use Rattle.std.proofs.lemmas.List.{length-map}
 use Rattle.tl_types.specs.declared.runs.Run.{Run}
 use Rattle.tl_types.specs.Plain as plain
-use Rattle.tl_types.specs.History.{is_visible}
+use Rattle.tl_types.specs.History.{is_visible, same_cell}
 use Rattle.tl_types.specs.Runs.{runs_of}
 use Rattle.tl_types.specs.Walks.{standing}
 use Rattle.tl_types.proofs.RunLemmas.{runs_none}
 use Rattle.tl_bits.specs.Sets.{is_member}
 use Rattle.tl_running.specs.Standing.{Suits, StandsFor}
 use Rattle.tl_agg.specs.Kept.{both, picked, below, IsWithin}
-use Rattle.tl_agg.specs.Tables.{rows_in}
-use Rattle.tl_agg.specs.Groups.{Asked, kept_in, value_at, runs_to, has_rows, State, IsNone, IsAdvanced, Tracks, HoldsIn}
-use Rattle.tl_agg.specs.Scans.{ScanOf, IsScan, asked_of, keep_with, Groups, AreNone, TrackBy, AllTrack}
+use Rattle.tl_index.specs.Tables.{rows_in}
+use Rattle.tl_agg.specs.Groups.{Wanted, kept_in, kept_value, runs_to, State, IsNone, IsAdvanced, Tracks, HoldsIn}
+use Rattle.tl_running.specs.Telling.{has_rows}
+use Rattle.tl_agg.specs.Scans.{ScanOf, IsScan, wanted_of, keep_with, Groups, AreNone, TrackBy, AllTrack}
 use Rattle.tl_agg.specs.Runs.{runs_by, system_runs, start_set}
 use Rattle.std.specs.Map.{lookup}
-use Rattle.tl_types.specs.History.{same_cell}
 use Rattle.tl_agg.proofs.StepLemmas.{all_map}
 use Rattle.tl_agg.proofs.KeptLemmas.{both_length}
-use Rattle.tl_agg.proofs.GroupLemmas.{suits_none, advances_made, tracks_same}
+use Rattle.tl_agg.proofs.GroupLemmas.{advances_made, tracks_same}
+use Rattle.tl_running.proofs.TellLemmas.{suits_none}
 
 -- THE START
 
@@ -31,38 +32,38 @@ none_below (s ∷ set) [] rows = refl
 none_below (s ∷ set) (k ∷ keep) [] = refl
 none_below (s ∷ set) (k ∷ keep) (r ∷ rows) = none_below set keep rows
 
-pub none_made : (asked : Asked) (at : ℕ) → at ≡ asked.from → runs_to asked at ≡ []
-none_made asked at is = by_gaps (asked.gaps) where
-  none : runs_of (value_at asked) (pos asked.from) (pos at) ≡ []
-  none = runs_none (value_at asked) (pos asked.from) (pos at) (omega (arith, ints))
+pub none_made : (wanted : Wanted) (at : ℕ) → at ≡ wanted.from → runs_to wanted at ≡ []
+none_made wanted at is = by_gaps (wanted.gaps) where
+  none : runs_of (kept_value wanted) (pos wanted.from) (pos at) ≡ []
+  none = runs_none (kept_value wanted) (pos wanted.from) (pos at) (omega (arith, ints))
 
-  by_gaps : (gaps : Bool) → cond gaps (filter (λ (r : Run). has_rows asked.kind r.value) (runs_of (value_at asked) (pos asked.from) (pos at))) (runs_of (value_at asked) (pos asked.from) (pos at)) ≡ []
-  by_gaps true = ap (filter (λ (r : Run). has_rows asked.kind r.value)) none
+  by_gaps : (gaps : Bool) → cond gaps (filter (λ (r : Run). has_rows wanted.kind r.value) (runs_of (kept_value wanted) (pos wanted.from) (pos at))) (runs_of (kept_value wanted) (pos wanted.from) (pos at)) ≡ []
+  by_gaps true = ap (filter (λ (r : Run). has_rows wanted.kind r.value)) none
   by_gaps false = none
 
 -- a group of no rows is that of a set of none
-pub none_tracks : (asked : Asked) (set : List Bool) (group : State) → kept_in asked set ≡ [] → IsNone group asked.kind asked.gaps asked.from → Tracks asked set asked.from group
-none_tracks asked set group empty none =
+pub none_tracks : (wanted : Wanted) (set : List Bool) (group : State) → kept_in wanted set ≡ [] → IsNone group wanted.kind wanted.gaps wanted.from → Tracks wanted set wanted.from group
+none_tracks wanted set group empty none =
     let since = none.since_is in record {
       kind = none.kind_is;
       gaps = none.gaps_is;
-      stands = subst (StandsFor group.running asked.column) (sym empty) (none.stands asked.column);
-      suits = subst (Suits asked.kind asked.column) (sym empty) (suits_none asked.kind asked.column);
+      stands = subst (StandsFor group.running wanted.column) (sym empty) (none.stands wanted.column);
+      suits = subst (Suits wanted.kind wanted.column) (sym empty) (suits_none wanted.kind wanted.column);
       after = omega arith;
       before = omega arith;
-      made = none.none ∙ sym (none_made asked group.since since);
+      made = none.none ∙ sym (none_made wanted group.since since);
       same = λ v l h. absurd (omega arith);
       past = λ v l h. absurd (omega arith);
     }
 
 start_by : (by : Option ℕ) (scan : ScanOf) (start : List Bool) (groups : Groups) → AreNone groups scan.plan.kind (is_some scan.plan.by) scan.from → TrackBy by scan (below 0 start) scan.from groups
-start_by None scan start groups none = none_tracks (asked_of scan scan.keep) (below 0 start) groups.all (none_below start scan.keep (rows_in scan.table)) none.all
+start_by None scan start groups none = none_tracks (wanted_of scan scan.keep) (below 0 start) groups.all (none_below start scan.keep (rows_in scan.table)) none.all
 start_by (Some by) scan start groups none = (
   none.numbered,
   λ value.
       let keep = keep_with scan by value in
-      subst (λ entries. HoldsIn (asked_of scan keep) (below 0 start) scan.from (lookup (same_cell value) entries)) (sym none.by)
-      (λ group is. none_tracks (asked_of scan keep) (below 0 start) group (none_below start keep (rows_in scan.table)) is),
+      subst (λ entries. HoldsIn (wanted_of scan keep) (below 0 start) scan.from (lookup (same_cell value) entries)) (sym none.by)
+      (λ group is. none_tracks (wanted_of scan keep) (below 0 start) group (none_below start keep (rows_in scan.table)) is),
 )
 
 pub start_tracks : (scan : ScanOf) (start : List Bool) (groups : Groups) → AreNone groups scan.plan.kind (is_some scan.plan.by) scan.from → AllTrack scan (below 0 start) scan.from groups
@@ -95,20 +96,20 @@ pub start_stands : (scan : ScanOf) (start : List Bool) (groups : Groups) → sta
 start_stands scan start groups start_is tracks =
     let rows = rows_in scan.table in
     all_map scan.plan.by scan start (standing rows scan.from) scan.from scan.from groups (λ keep part group t.
-    tracks_same (asked_of scan keep) start (standing rows scan.from) scan.from group
+    tracks_same (wanted_of scan keep) start (standing rows scan.from) scan.from group
     (ap (λ s. picked (both s keep) rows) start_is ∙ ap (λ s. picked s rows) (part.again (standing rows scan.from))) t) tracks
 
 -- THE END
 
-single_by : (by : Option ℕ) (scan : ScanOf) (groups : Groups) (runs : List Run) → by ≡ None → TrackBy by scan (standing (rows_in scan.table) (scan.to - 1)) scan.to groups → IsAdvanced groups.all scan.to runs → runs ≡ runs_to (asked_of scan scan.keep) scan.to
+single_by : (by : Option ℕ) (scan : ScanOf) (groups : Groups) (runs : List Run) → by ≡ None → TrackBy by scan (standing (rows_in scan.table) (scan.to - 1)) scan.to groups → IsAdvanced groups.all scan.to runs → runs ≡ runs_to (wanted_of scan scan.keep) scan.to
 single_by (Some b) scan groups runs is tracks advanced = absurd (cc)
 single_by None scan groups runs is tracks advanced =
-    advanced.runs_are ∙ advances_made (asked_of scan scan.keep) (standing (rows_in scan.table) (scan.to - 1)) scan.to groups.all advanced.state tracks advanced.advances
+    advanced.runs_are ∙ advances_made (wanted_of scan scan.keep) (standing (rows_in scan.table) (scan.to - 1)) scan.to groups.all advanced.state tracks advanced.advances
 
 pub piece_runs : (scan : ScanOf) (groups : Groups) (runs : List Run) → scan.plan.by ≡ None → AllTrack scan (standing (rows_in scan.table) (scan.to - 1)) scan.to groups → IsAdvanced groups.all scan.to runs
     → runs ≡ system_runs scan.plan (rows_in scan.table) scan.keep scan.from scan.to
 piece_runs scan groups runs by_is tracks advanced =
     let rows = rows_in scan.table in
     single_by scan.plan.by scan groups runs by_is tracks advanced
-    ∙ ap (λ by. cond (is_some by) (filter (λ (r : Run). has_rows scan.plan.kind r.value) (runs_of (value_at (asked_of scan scan.keep)) (pos scan.from) (pos scan.to))) (runs_of (value_at (asked_of scan scan.keep)) (pos scan.from) (pos scan.to))) by_is
+    ∙ ap (λ by. cond (is_some by) (filter (λ (r : Run). has_rows scan.plan.kind r.value) (runs_of (kept_value (wanted_of scan scan.keep)) (pos scan.from) (pos scan.to))) (runs_of (kept_value (wanted_of scan scan.keep)) (pos scan.from) (pos scan.to))) by_is
     ∙ ap (λ by. runs_by scan.plan.kind scan.plan.column by rows scan.keep scan.from scan.to) (sym by_is)

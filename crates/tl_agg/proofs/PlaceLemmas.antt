@@ -8,7 +8,7 @@ use Rattle.tl_query.specs.declared.ast.AggKind.{AggKind}
 use Rattle.tl_keys.specs.Keys.{KeyNumbers, number_in, AreApart, KeepsNumbers}
 use Rattle.tl_agg.specs.Groups.{State, IsNone, IsOne, Moves}
 use Rattle.tl_agg.specs.Scans.{Groups, group_of, AreNumbered, HasPlace, MovesAt}
-use Rattle.tl_agg.proofs.CellLemmas.{cell_self, cell_symm, cell_equal}
+use Rattle.tl_query.proofs.CellOrder.{cell_itself, cell_symm, cell_equal}
 
 -- the groups of a part, whose first one has this number
 abbrev AreFrom : KeyNumbers → ℕ → List (Cell × State) → Type 0
@@ -34,7 +34,7 @@ apart_from keys k n e by value group are is = by_test (same_cell value e.0) refl
 
 found_from : (keys : KeyNumbers) (k n : ℕ) (by : List (Cell × State)) (value : Cell) (group : State) → AreFrom keys k by → slice_get by n ≡ Some (value, group) → lookup (same_cell value) by ≡ Some group
 found_from keys k n [] value group are is = absurd (cc)
-found_from keys k zero (e ∷ by) value group are is = let same : e ≡ (value, group) = some_same is in rw (same, cell_self value) refl
+found_from keys k zero (e ∷ by) value group are is = let same : e ≡ (value, group) = some_same is in rw (same, cell_itself value) refl
 found_from keys k (suc n) (e ∷ by) value group are is = rw (apart_from keys k n e by value group are is) (found_from keys (suc k) n by value group (later keys k e by are) is)
 
 -- the group with a number is that of its value

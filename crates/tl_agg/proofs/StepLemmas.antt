@@ -5,8 +5,8 @@ use Rattle.std.proofs.lemmas.Option.{slice_get_within}
 use Rattle.std.proofs.Math.ListN.{drop_of_length-le}
 use Rattle.tl_types.specs.declared.events.Event.{Event}
 use Rattle.tl_types.specs.Plain as plain
-use Rattle.tl_types.specs.History.{is_visible}
-use Rattle.tl_types.specs.Events.{events_at, events_of, place_of}
+use Rattle.tl_types.specs.History.{is_visible, same_cell, cell_at}
+use Rattle.tl_types.specs.Events.{events_at, events_of, place_of, activation}
 use Rattle.tl_types.specs.Walks.{standing, after_event, after_events, ChangesEach, IsQuiet}
 use Rattle.tl_types.specs.WellFormed.{AreWellFormed}
 use Rattle.tl_types.proofs.EventLemmas.{events_before}
@@ -14,23 +14,23 @@ use Rattle.tl_types.proofs.WalkLemmas.{events_lead, events_change, length_after,
 use Rattle.tl_events.specs.declared.version_maps.VersionEnd.{VersionEnd}
 use Rattle.tl_events.specs.Timeline.{ends_of, Follow}
 use Rattle.tl_events.proofs.FollowLemmas.{drop_get}
-use Rattle.tl_types.specs.Events.{activation}
 use Rattle.tl_bits.specs.Sets.{is_member, IsNext, IsFree}
 use Rattle.tl_agg.specs.Kept.{both, below}
 use Rattle.tl_agg.proofs.KeptLemmas.{both_again, both_less, both_out, both_tested}
-use Rattle.tl_agg.proofs.CellLemmas.{cell_self, cell_symm, cell_equal}
+use Rattle.tl_query.proofs.CellOrder.{cell_itself, cell_symm, cell_equal}
 use Rattle.std.specs.Prelude.{is_some}
 use Rattle.tl_types.specs.declared.cells.Cell.{Cell}
 use Rattle.tl_types.specs.declared.cells.Cell.TheVariants as cell
 use Rattle.tl_types.specs.declared.cells.Cmp.TheVariants as cmp
-use Rattle.tl_types.specs.History.{same_cell, cell_at}
 use Rattle.tl_query.specs.Aggregates.{has_value}
 use Rattle.tl_query.specs.Passing.{compare_cells}
 use Rattle.tl_agg.proofs.StartLemmas.{next_turns, next_below, rest_below}
 use Rattle.tl_running.specs.Standing.{IsShort}
-use Rattle.tl_agg.specs.Tables.{TableOf, rows_in, TellsNumber, HasKey, IsNextEntry}
-use Rattle.tl_agg.specs.Groups.{Asked, State, IsNone, IsOne, HoldsIn, Tracks, Advances, Shifts, MovesRow, CanMoveRow}
-use Rattle.tl_agg.specs.Scans.{ScanOf, IsScan, asked_of, keep_with, Turns, set_after, Groups, group_of, AreNumbered, HasPlace, CanMoveAt, MovesAt, TrackBy, AllTrack, IsReady, TakesEvent}
+use Rattle.tl_agg.specs.Columns.{HasKey}
+use Rattle.tl_agg.specs.Scans.{IsNextEntry, ScanOf, IsScan, wanted_of, keep_with, Turns, set_after, Groups, group_of, AreNumbered, HasPlace, CanMoveAt, MovesAt, TrackBy, AllTrack, IsReady, TakesEvent}
+use Rattle.tl_index.specs.Tables.{TableOf, rows_in}
+use Rattle.tl_running.specs.Telling.{TellsNumber}
+use Rattle.tl_agg.specs.Groups.{Wanted, State, IsNone, IsOne, HoldsIn, Tracks, Advances, Shifts, MovesRow, CanMoveRow}
 use Rattle.tl_agg.proofs.GroupLemmas.{can_move, tracks_moved, tracks_advanced, shift_moves, tracks_left, tracks_later}
 use Rattle.tl_agg.proofs.PlaceLemmas.{moved_place}
 
@@ -51,13 +51,13 @@ pub record IsPart (scan : ScanOf) (keep : List Bool) : Type 0 where
   pub out : (row : ℕ) → is_member scan.keep row ≡ false → is_member keep row ≡ false
   pub again : (set : List Bool) → both (both set scan.keep) keep ≡ both set keep
 
-holds_map : (asked : Asked) (set other : List Bool) (at next : ℕ) (found : Option State) → ((group : State) → Tracks asked set at group → Tracks asked other next group) → HoldsIn asked set at found → HoldsIn asked other next found
-holds_map asked set other at next None step holds = λ group none. step group (holds group none)
-holds_map asked set other at next (Some group) step holds = step group holds
+holds_map : (wanted : Wanted) (set other : List Bool) (at next : ℕ) (found : Option State) → ((group : State) → Tracks wanted set at group → Tracks wanted other next group) → HoldsIn wanted set at found → HoldsIn wanted other next found
+holds_map wanted set other at next None step holds = λ group none. step group (holds group none)
+holds_map wanted set other at next (Some group) step holds = step group holds
 
 -- what holds of each group when the set or the version goes on
 pub all_map : (by : Option ℕ) (scan : ScanOf) (set other : List Bool) (at next : ℕ) (groups : Groups)
-    → ((keep : List Bool) → IsPart scan keep → (group : State) → Tracks (asked_of scan keep) set at group → Tracks (asked_of scan keep) other next group)
+    → ((keep : List Bool) → IsPart scan keep → (group : State) → Tracks (wanted_of scan keep) set at group → Tracks (wanted_of scan keep) other next group)
     → TrackBy by scan set at groups → TrackBy by scan other next groups
 all_map None scan set other at next groups step tracks = step scan.keep (record { out = λ row h. h; again = λ set. both_again set scan.keep }) groups.all tracks
 all_map (Some by) scan set other at next groups step tracks = (
@@ -65,7 +65,7 @@ all_map (Some by) scan set other at next groups step tracks = (
   λ value.
       let keep = keep_with scan by value in
       let test = map (has_value by value) (rows_in scan.table) in
-      holds_map (asked_of scan keep) set other at next (group_of groups value)
+      holds_map (wanted_of scan keep) set other at next (group_of groups value)
       (step keep (record { out = λ row h. both_out scan.keep test row h; again = λ set. both_less set scan.keep test }))
       (tracks.1 value),
 )
@@ -77,7 +77,7 @@ can_by : (by : Option ℕ) (scan : ScanOf) (at : ℕ) (set : List Bool) (event :
 can_by (Some b) scan at set event groups is few kept turns tracks = absurd (cc)
 can_by None scan at set event groups is few kept turns tracks =
     let r = row_with (rows_in scan.table) event.row (turn_inside (rows_in scan.table) set event turns) in
-    can_move (asked_of scan scan.keep) set at groups.all event r.0 turns.long few r.1 turns.turn kept tracks
+    can_move (wanted_of scan scan.keep) set at groups.all event r.0 turns.long few r.1 turns.turn kept tracks
 
 pub can_take : (scan : ScanOf) (at : ℕ) (event : Event) (groups : Groups) → scan.plan.by ≡ None → length (rows_in scan.table) ≤ 16777216 → is_member scan.keep event.row ≡ true → IsReady scan at event groups
     → CanMoveRow scan.plan.kind scan.plan.column (rows_in scan.table) groups.all event
@@ -88,7 +88,7 @@ taken_by : (by : Option ℕ) (scan : ScanOf) (at : ℕ) (set : List Bool) (event
 taken_by (Some b) scan at set event old new is kept turns moved tracks = absurd (cc)
 taken_by None scan at set event old new is kept turns moved tracks =
     let r = row_with (rows_in scan.table) event.row (turn_inside (rows_in scan.table) set event turns) in
-    tracks_moved (asked_of scan scan.keep) set at old.all new.all event r.0 turns.long r.1 turns.turn kept tracks moved
+    tracks_moved (wanted_of scan scan.keep) set at old.all new.all event r.0 turns.long r.1 turns.turn kept tracks moved
 
 pub takes_shifted : (scan : ScanOf) (at : ℕ) (event : Event) (old new : Groups) (n : ℤ) → scan.plan.by ≡ None → is_member scan.keep event.row ≡ true → TellsNumber scan.plan.kind scan.plan.column (rows_in scan.table) event.row n → IsShort n
     → old.all.since ≡ at → Shifts old.all new.all event.opens n → TakesEvent scan at event old new
@@ -98,7 +98,7 @@ takes_shifted scan at event old new n is kept told short since shifts = λ set t
 -- before the events of a version the runs of the group of all rows are made to reach up to it
 advanced_by : (by : Option ℕ) (scan : ScanOf) (at : ℕ) (set : List Bool) (old new : Groups) → by ≡ None → Advances old.all new.all at → TrackBy by scan set at old → TrackBy by scan set at new × (new.all.since ≡ at)
 advanced_by (Some b) scan at set old new is advances tracks = absurd (cc)
-advanced_by None scan at set old new is advances tracks = (tracks_advanced (asked_of scan scan.keep) set at old.all new.all tracks advances, advances.since tracks.before)
+advanced_by None scan at set old new is advances tracks = (tracks_advanced (wanted_of scan scan.keep) set at old.all new.all tracks advances, advances.since tracks.before)
 
 pub all_advanced : (scan : ScanOf) (at : ℕ) (set : List Bool) (old new : Groups) → scan.plan.by ≡ None → Advances old.all new.all at → AllTrack scan set at old → AllTrack scan set at new × (new.all.since ≡ at)
 all_advanced scan at set old new is advances tracks = advanced_by scan.plan.by scan at set old new is advances tracks
@@ -114,9 +114,9 @@ first_since scan set groups tracks is = first_by scan.plan.by scan set groups is
 -- ONE EVENT OF A GROUP
 
 -- a group that is found, or one of no rows
-one_tracks : (asked : Asked) (set : List Bool) (at : ℕ) (found : Option State) (group : State) → asked.gaps ≡ true → HoldsIn asked set at found → IsOne found asked.kind asked.from group → Tracks asked set at group
-one_tracks asked set at None group gaps holds one = holds group (subst (λ g. IsNone group asked.kind g asked.from) (sym gaps) one)
-one_tracks asked set at (Some found) group gaps holds one = subst (Tracks asked set at) (sym one) holds
+one_tracks : (wanted : Wanted) (set : List Bool) (at : ℕ) (found : Option State) (group : State) → wanted.gaps ≡ true → HoldsIn wanted set at found → IsOne found wanted.kind wanted.from group → Tracks wanted set at group
+one_tracks wanted set at None group gaps holds one = holds group (subst (λ g. IsNone group wanted.kind g wanted.from) (sym gaps) one)
+one_tracks wanted set at (Some found) group gaps holds one = subst (Tracks wanted set at) (sym one) holds
 
 -- the row has the value in the column
 has_key : (by : ℕ) (value key : Cell) (r : plain.Row) → cell_at r.cells by ≡ Some key → has_value by value r ≡ same_cell key value
@@ -132,9 +132,9 @@ can_with : (scan : ScanOf) (by at : ℕ) (set : List Bool) (event : Event) (grou
     → TrackBy (Some by) scan set at groups → CanMoveRow scan.plan.kind scan.plan.column (rows_in scan.table) group event
 can_with scan by at set event groups r key group gaps long few kept turns is key_is one tracks =
     let keep = keep_with scan by key in
-    let member : is_member keep event.row ≡ true = both_tested scan.keep (has_value by key) (rows_in scan.table) event.row r long is kept ∙ has_key by key key r key_is ∙ cell_self key in
-    can_move (asked_of scan keep) set at group event r turns.long few is turns.turn member
-    (one_tracks (asked_of scan keep) set at (group_of groups key) group gaps (tracks.1 key) one)
+    let member : is_member keep event.row ≡ true = both_tested scan.keep (has_value by key) (rows_in scan.table) event.row r long is kept ∙ has_key by key key r key_is ∙ cell_itself key in
+    can_move (wanted_of scan keep) set at group event r turns.long few is turns.turn member
+    (one_tracks (wanted_of scan keep) set at (group_of groups key) group gaps (tracks.1 key) one)
 
 taken_with : (scan : ScanOf) (by at : ℕ) (set : List Bool) (event : Event) (old new : Groups) (r : plain.Row) (key : Cell) (group moved : State) → is_some scan.plan.by ≡ true → length scan.keep ≡ length (rows_in scan.table)
     → is_member scan.keep event.row ≡ true → Turns (rows_in scan.table) set event → slice_get (rows_in scan.table) event.row ≡ Some r → cell_at r.cells by ≡ Some key → IsOne (group_of old key) scan.plan.kind scan.from group
@@ -145,19 +145,19 @@ taken_with scan by at set event old new r key group moved gaps long kept turns i
   member : (value : Cell) → is_member (keep_with scan by value) event.row ≡ same_cell key value
   member value = both_tested scan.keep (has_value by value) (rows_in scan.table) event.row r long is kept ∙ has_key by value key r key_is
 
-  by_test : (value : Cell) (t : Bool) → same_cell value key ≡ t → HoldsIn (asked_of scan (keep_with scan by value)) (after_event set event) at (group_of new value)
+  by_test : (value : Cell) (t : Bool) → same_cell value key ≡ t → HoldsIn (wanted_of scan (keep_with scan by value)) (after_event set event) at (group_of new value)
   by_test value true e =
       let same : value ≡ key = cell_equal value key e in
       let keep = keep_with scan by value in
       let holds = subst (λ x. IsOne (group_of old x) scan.plan.kind scan.from group) (sym same) one in
-      let before = one_tracks (asked_of scan keep) set at (group_of old value) group gaps (tracks.1 value) holds in
-      let after = tracks_moved (asked_of scan keep) set at group moved event r turns.long is turns.turn (member value ∙ cell_symm key value ∙ e) before moves in
-      subst (HoldsIn (asked_of scan keep) (after_event set event) at) (sym (puts.1 value ∙ ap (λ b. cond b (Some moved) (group_of old value)) e)) after
+      let before = one_tracks (wanted_of scan keep) set at (group_of old value) group gaps (tracks.1 value) holds in
+      let after = tracks_moved (wanted_of scan keep) set at group moved event r turns.long is turns.turn (member value ∙ cell_symm key value ∙ e) before moves in
+      subst (HoldsIn (wanted_of scan keep) (after_event set event) at) (sym (puts.1 value ∙ ap (λ b. cond b (Some moved) (group_of old value)) e)) after
   by_test value false e =
       let keep = keep_with scan by value in
       let left : is_member keep event.row ≡ false = member value ∙ cell_symm key value ∙ e in
-      subst (HoldsIn (asked_of scan keep) (after_event set event) at) (sym (puts.1 value ∙ ap (λ b. cond b (Some moved) (group_of old value)) e))
-      (holds_map (asked_of scan keep) set (after_event set event) at at (group_of old value) (λ g t. tracks_left (asked_of scan keep) set at g event left t) (tracks.1 value))
+      subst (HoldsIn (wanted_of scan keep) (after_event set event) at) (sym (puts.1 value ∙ ap (λ b. cond b (Some moved) (group_of old value)) e))
+      (holds_map (wanted_of scan keep) set (after_event set event) at at (group_of old value) (λ g t. tracks_left (wanted_of scan keep) set at g event left t) (tracks.1 value))
 
 -- the groups are numbered
 numbered_by : (b : Option ℕ) (by : ℕ) (scan : ScanOf) (set : List Bool) (at : ℕ) (groups : Groups) → b ≡ Some by → TrackBy b scan set at groups → AreNumbered groups.keys groups.by
@@ -188,7 +188,7 @@ takes_in scan by at event old middle new key n number by_is is kept has place to
 
 pub takes_left : (scan : ScanOf) (at : ℕ) (event : Event) (groups : Groups) → is_member scan.keep event.row ≡ false → TakesEvent scan at event groups groups
 takes_left scan at event groups left = λ set turns tracks.
-    all_map scan.plan.by scan set (after_event set event) at at groups (λ keep part group t. tracks_left (asked_of scan keep) set at group event (part.out event.row left) t) tracks
+    all_map scan.plan.by scan set (after_event set event) at at groups (λ keep part group t. tracks_left (wanted_of scan keep) set at group event (part.out event.row left) t) tracks
 
 -- THE EVENTS OF A TABLE
 
@@ -275,7 +275,7 @@ version_begins scan at next place groups formed l within quiet place_is tracks =
     let same : set_after scan.table place ≡ standing (rows_in scan.table) at = ap (set_after scan.table) place_is ∙ set_at_version scan.table at formed (omega arith) in
     subst (λ set. AllTrack scan set next groups) (sym same)
     (all_map scan.plan.by scan (standing (rows_in scan.table) at) (standing (rows_in scan.table) at) at next groups
-    (λ keep part group t. tracks_later (asked_of scan keep) scan.table.db.version at next group formed quiet (omega arith) t) tracks)
+    (λ keep part group t. tracks_later (wanted_of scan keep) scan.table.db.version at next group formed quiet (omega arith) t) tracks)
 
 -- and after them those of the version
 pub version_ends : (scan : ScanOf) (at place : ℕ) (groups : Groups) → AreWellFormed scan.table.db.version (rows_in scan.table) → at ≤ scan.table.db.version → place ≡ place_of (rows_in scan.table) at
@@ -289,7 +289,7 @@ pub piece_ends : (scan : ScanOf) (at to : ℕ) (groups : Groups) → AreWellForm
 piece_ends scan at to groups formed l quiet tracks =
     subst (λ set. AllTrack scan set to groups) (sym (last_stands scan.table.db.version (rows_in scan.table) at to formed l quiet))
     (all_map scan.plan.by scan (standing (rows_in scan.table) at) (standing (rows_in scan.table) at) at to groups
-    (λ keep part group t. tracks_later (asked_of scan keep) scan.table.db.version at to group formed quiet (omega arith) t) tracks)
+    (λ keep part group t. tracks_later (wanted_of scan keep) scan.table.db.version at to group formed quiet (omega arith) t) tracks)
 
 -- THE NEXT ENTRY
 

@@ -11,9 +11,10 @@ use Rattle.tl_store.specs.Reading.{column_cells, some_int}
 use Rattle.tl_running.specs.Standing.{summing, is_ordered, HasRoom, CanChange}
 use Rattle.tl_running.proofs.StandingLemmas.{has_room}
 use Rattle.tl_agg.specs.declared.tallies.Tally.{Tally}
-use Rattle.tl_agg.specs.Tables.{rows_in, AreNumbers, AreKeys, HasKey}
+use Rattle.tl_agg.specs.Columns.{AreNumbers, AreKeys, HasKey}
+use Rattle.tl_index.specs.Tables.{rows_in}
 use Rattle.tl_agg.specs.Groups.{State, Shifts, summed, kept_in}
-use Rattle.tl_agg.specs.Scans.{ScanOf, Groups, TrackBy, AllTrack, IsReady, TakesEvent, asked_of, set_after, all_summed}
+use Rattle.tl_agg.specs.Scans.{ScanOf, Groups, TrackBy, AllTrack, IsReady, TakesEvent, wanted_of, set_after, all_summed}
 use Rattle.tl_agg.specs.Tallies.{IsFarFromEnds, total, count_with, IsTally, TalliesRow, TalliesWhere, tally_moved}
 use Rattle.tl_agg.proofs.KeptLemmas.{picked_few}
 use Rattle.tl_agg.proofs.NumberLemmas.{cell_there}
@@ -66,7 +67,7 @@ room_by : (by : Option ℕ) (scan : ScanOf) (set : List Bool) (at : ℕ) (groups
 room_by (Some b) scan set at groups is few tracks = absurd (cc)
 room_by None scan set at groups is few tracks =
     let short = picked_few set scan.keep (rows_in scan.table) in
-    has_room groups.all.running scan.plan.column (kept_in (asked_of scan scan.keep) set) tracks.stands (omega arith)
+    has_room groups.all.running scan.plan.column (kept_in (wanted_of scan scan.keep) set) tracks.stands (omega arith)
 
 wide_sum : (came kept : ℕ) (sum : ℤ) → came ≤ kept → kept < 2 ^ 64 → neg_ℤ (pos (2 ^ 96)) ≤ℤ (sum +ℤ (pos kept -ℤ pos came)) → (sum +ℤ (pos kept -ℤ pos came)) ≤ℤ pos (2 ^ 96) → IsFarFromEnds sum
 wide_sum came kept sum l few low high = (omega (arith, ints), omega (arith, ints))

@@ -1,9 +1,9 @@
 -- Each row of a history has in each column a cell of the column's kind, so a plan for a table suits its rows.
-use Rattle.std.proofs.Common.{◌≡◌, ℕ, zero, suc, ◌+◌, Bool, true, false, ◌&&◌, cond, nat_lt, nat_le, List, [], ◌∷◌, ◌++◌, length, map, fold, Option, Some, None, refl, sym, subst, slice_get}
+use Rattle.std.proofs.Common.{◌≡◌, ℕ, zero, suc, ◌+◌, Bool, true, false, ◌&&◌, cond, nat_le, List, [], ◌∷◌, ◌++◌, length, map, Option, Some, None, refl, sym, subst, slice_get}
 use Rattle.std.specs.Bool.{beq}
 use Rattle.std.specs.Prelude.{is_some, IsTrue}
 use Rattle.std.specs.List.{enumerate_from, list_all, AllByRecursion}
-use Rattle.tl_types.proofs.BodyLemmas.{IsKept, all_after}
+use Rattle.tl_types.proofs.BodyLemmas.{IsKept, commits_kept}
 use Rattle.tl_types.proofs.Lists.{and_left, and_right}
 use Rattle.tl_types.proofs.EntryLemmas.{fit_behind}
 use Rattle.tl_types.specs.Plain as plain
@@ -12,11 +12,10 @@ use Rattle.tl_types.specs.declared.cells.Cell.TheVariants as cell
 use Rattle.tl_types.specs.declared.cells.ColumnKind.{ColumnKind}
 use Rattle.tl_types.specs.declared.cells.ColumnKind.TheVariants.{IntKind, TextKind}
 use Rattle.tl_types.specs.declared.schemas.Column.{Column}
-use Rattle.tl_types.specs.declared.commits.Commit.{Commit}
 use Rattle.tl_types.specs.declared.commits.Entry.{Entry}
 use Rattle.tl_types.specs.Entries.{commits_of}
-use Rattle.tl_types.specs.History.{has_id, row_after, new_row, table_after, after_commit, nothing, database_of, fits_body, fits_table, is_of_kind, is_open_at, match_columns, matches, rows_of, cell_at}
-use Rattle.tl_types.specs.Legality.{FitFrom, are_legal}
+use Rattle.tl_types.specs.History.{has_id, row_after, new_row, table_after, nothing, database_of, fits_table, is_of_kind, is_open_at, match_columns, matches, rows_of, cell_at}
+use Rattle.tl_types.specs.Legality.{are_legal}
 use Rattle.tl_types.specs.Limits.{standard_limits}
 use Rattle.tl_query.specs.declared.ast.AggKind.{AggKind}
 use Rattle.tl_query.specs.declared.ast.AggKind.TheVariants as kind
@@ -24,7 +23,7 @@ use Rattle.tl_query.specs.declared.typed_queries.AggPlan.{AggPlan}
 use Rattle.tl_query.specs.Aggregates.{number_of}
 use Rattle.tl_store.specs.Reading.{columns_of, IsIntColumn}
 use Rattle.tl_running.specs.Standing.{HaveNumbers, Suits}
-use Rattle.tl_agg.specs.Scans.{IsPlanFor}
+use Rattle.tl_agg.specs.Scans.{IsSystemTimePlanFor}
 
 -- THE ROWS OF A HISTORY
 
@@ -61,13 +60,8 @@ table_typed w change t f h =
     changed_typed w 0 t.schema change.closes change.opens t.rows (and_right (list_all (is_open_at t.rows) change.closes) (list_all (matches t.schema) change.opens) both) h
 
 -- it stays so, whatever a commit does
-typed_kept : (w : ℕ) → IsKept w HasTypedRows
-typed_kept w = record { made = λ schema. tt; changed = table_typed w; floored = λ floor t h. h }
-
-commits_typed : (db : plain.Database) (cs : List Commit) → HaveTypedRows db.tables → FitFrom standard_limits db cs → HaveTypedRows (fold after_commit db cs).tables
-commits_typed db [] h f = h
-commits_typed db (c ∷ cs) h f =
-    commits_typed (after_commit db c) cs (all_after (db.version + 1) HasTypedRows (typed_kept (db.version + 1)) db c.body (and_right (nat_lt db.version standard_limits.versions) (fits_body standard_limits db c.body) f.0) h) f.1
+typed_kept : (v : ℕ) → IsKept v HasTypedRows HasTypedRows
+typed_kept v = record { made = λ schema. tt; changed = table_typed (v + 1); floored = λ floor t f h. h; left = λ t h. h }
 
 typed_at : (tables : List plain.Table) (i : ℕ) (t : plain.Table) → HaveTypedRows tables → slice_get tables i ≡ Some t → AreTyped t.schema.columns t.rows
 typed_at [] i t h e = absurd (cc)
@@ -108,6 +102,6 @@ column_suits : (db : plain.Database) (k : AggKind) (column : Option ℕ) (table 
 column_suits db k None table typed is count = subst (λ j. Suits j None (rows_of db table)) (sym (count refl)) tt
 column_suits db k (Some c) table typed is count = some_suit k c (rows_of db table) (rows_have db table c typed (is c refl))
 
-pub plans_suit : (entries : List Entry) (plan : AggPlan) → IsTrue (are_legal entries) → IsPlanFor (record { db = database_of (commits_of entries); number = plan.table }) plan → Suits plan.kind plan.column (rows_of (database_of (commits_of entries)) plan.table)
+pub plans_suit : (entries : List Entry) (plan : AggPlan) → IsTrue (are_legal entries) → IsSystemTimePlanFor (record { db = database_of (commits_of entries); number = plan.table }) plan → Suits plan.kind plan.column (rows_of (database_of (commits_of entries)) plan.table)
 plans_suit entries plan legal is =
-    column_suits (database_of (commits_of entries)) plan.kind plan.column plan.table (commits_typed nothing (commits_of entries) tt (fit_behind [] entries legal)) is.column is.kind
+    column_suits (database_of (commits_of entries)) plan.kind plan.column plan.table (commits_kept (λ v. HasTypedRows) (λ v l. typed_kept v) nothing (commits_of entries) tt (fit_behind [] entries legal)) is.column is.kind

@@ -1,28 +1,25 @@
 -- What is kept of the rows of a group while a scan goes on, and the runs that it has made.
-use Rattle.std.specs.Prelude.{◌≡◌, ℕ, ℤ, pos, ◌==◌, ◌≤◌, ◌<◌, nat_lt, Bool, true, false, not, List, [], Option, if◌then◌else◌, None, Some, map, ◌++◌, ◌∷◌}
+use Rattle.std.specs.Prelude.{◌≡◌, ℕ, ℤ, pos, ◌==◌, ◌≤◌, ◌<◌, nat_lt, Bool, true, List, [], Option, if◌then◌else◌, None, Some, map, ◌++◌, ◌∷◌}
 use Rattle.std.specs.List.{filter}
-use Rattle.std.specs.Ordering.{int_eq}
 use Rattle.tl_types.specs.declared.answers.Field.{Field}
-use Rattle.tl_types.specs.declared.answers.Field.TheVariants as field
 use Rattle.tl_types.specs.declared.events.Event.{Event}
 use Rattle.tl_types.specs.declared.runs.Run.{Run}
 use Rattle.tl_types.specs.Plain as plain
 use Rattle.tl_types.specs.Walks.{standing}
 use Rattle.tl_types.specs.Runs.{add_stretch, stretch_of, runs_of}
 use Rattle.tl_query.specs.declared.ast.AggKind.{AggKind}
-use Rattle.tl_query.specs.declared.ast.AggKind.TheVariants as kind
 use Rattle.tl_types.specs.declared.cells.Cell.{Cell}
 use Rattle.tl_query.specs.Aggregates.{aggregate_of, in_group}
 use Rattle.tl_running.specs.Standing.{Kept, counting, summing, Suits, StandsFor, IsShort, CanChange, Changes}
 use Rattle.tl_running.specs.Touching.{add_touching}
-use Rattle.tl_agg.specs.Tables.{TellsNumber}
+use Rattle.tl_running.specs.Telling.{TellsNumber}
 use Rattle.tl_agg.specs.Kept.{both, picked, kept_at}
 
--- WHAT IS ASKED FOR
+-- WHAT IS WANTED
 
 -- an aggregate of the kept rows of a table, from a version on; where its runs have gaps, those
 -- without a row are left out
-pub record Asked : Type 0 where
+pub record Wanted : Type 0 where
   pub rows : List plain.Row
   pub keep : List Bool
   pub kind : AggKind
@@ -31,26 +28,21 @@ pub record Asked : Type 0 where
   pub from : ℕ
 
 -- the kept rows of a set
-abbrev pub kept_in : Asked → List Bool → List plain.Row
-kept_in asked set = picked (both set asked.keep) asked.rows
+abbrev pub kept_in : Wanted → List Bool → List plain.Row
+kept_in wanted set = picked (both set wanted.keep) wanted.rows
 
 -- the value at a moment
-abbrev pub value_at : Asked → ℤ → Field
-value_at asked moment = aggregate_of asked.kind asked.column (kept_at asked.rows asked.keep moment)
-
--- a value of an aggregate of this kind that is that of some rows
-abbrev pub has_rows : AggKind → Field → Bool
-has_rows kind.Count (field.Number n) = not (int_eq n (pos 0))
-has_rows k field.Empty = false
-has_rows k value = true
+abbrev pub kept_value : Wanted → ℤ → Field
+kept_value wanted moment =
+    aggregate_of wanted.kind wanted.column (kept_at wanted.rows wanted.keep moment)
 
 -- the runs up to a version
-abbrev pub runs_to : Asked → ℕ → List Run
-runs_to asked to =
-    if asked.gaps
-    then filter (λ run. has_rows asked.kind run.value)
-    (runs_of (value_at asked) (pos asked.from) (pos to))
-    else runs_of (value_at asked) (pos asked.from) (pos to)
+abbrev pub runs_to : Wanted → ℕ → List Run
+runs_to wanted to =
+    if wanted.gaps
+    then filter (λ run. has_rows wanted.kind run.value)
+    (runs_of (kept_value wanted) (pos wanted.from) (pos to))
+    else runs_of (kept_value wanted) (pos wanted.from) (pos to)
 
 -- A GROUP
 
@@ -128,18 +120,18 @@ CanMoveRow kind column rows old event =
 
 -- at a version, when so many of its events are done that the rows of this set stand, the group is
 -- that of the kept ones among them; its runs reach up to the last version that changed it
-pub record Tracks (asked : Asked) (set : List Bool) (at : ℕ) (group : State) : Type 0 where
-  pub kind : group.running.kind ≡ asked.kind
-  pub gaps : group.gaps ≡ asked.gaps
-  pub stands : StandsFor group.running asked.column (kept_in asked set)
-  pub suits : Suits asked.kind asked.column (kept_in asked set)
-  pub after : asked.from ≤ group.since
+pub record Tracks (wanted : Wanted) (set : List Bool) (at : ℕ) (group : State) : Type 0 where
+  pub kind : group.running.kind ≡ wanted.kind
+  pub gaps : group.gaps ≡ wanted.gaps
+  pub stands : StandsFor group.running wanted.column (kept_in wanted set)
+  pub suits : Suits wanted.kind wanted.column (kept_in wanted set)
+  pub after : wanted.from ≤ group.since
   pub before : group.since ≤ at
-  pub made : group.runs ≡ runs_to asked group.since
+  pub made : group.runs ≡ runs_to wanted group.since
   pub same : (version : ℕ) → group.since ≤ version → version < at
-      → kept_in asked (standing asked.rows version) ≡ kept_in asked set
-  pub past : (version : ℕ) → asked.from ≤ version → version < group.since
-      → Suits asked.kind asked.column (kept_in asked (standing asked.rows version))
+      → kept_in wanted (standing wanted.rows version) ≡ kept_in wanted set
+  pub past : (version : ℕ) → wanted.from ≤ version → version < group.since
+      → Suits wanted.kind wanted.column (kept_in wanted (standing wanted.rows version))
 
 -- a group of no rows since a version, without runs before it
 pub record IsNone (group : State) (kind : AggKind) (gaps : Bool) (since : ℕ) : Type 0 where
@@ -160,12 +152,12 @@ abbrev pub IsOne : Option State → AggKind → ℕ → State → Type 0
 IsOne None kind since group = IsNone group kind true since
 IsOne (Some found) kind since group = group ≡ found
 
--- at a version, when the rows of a set stand, the group that is found is that of the kept ones among
--- them, and where none is found one of no rows is
-abbrev pub HoldsIn : Asked → List Bool → ℕ → Option State → Type 0
-HoldsIn asked set at None =
-    (group : State) → IsNone group asked.kind asked.gaps asked.from → Tracks asked set at group
-HoldsIn asked set at (Some group) = Tracks asked set at group
+-- at a version, when the rows of a set stand, the group that is found is that of the kept ones
+-- among them, and where none is found one of no rows is
+abbrev pub HoldsIn : Wanted → List Bool → ℕ → Option State → Type 0
+HoldsIn wanted set at None =
+    (group : State) → IsNone group wanted.kind wanted.gaps wanted.from → Tracks wanted set at group
+HoldsIn wanted set at (Some group) = Tracks wanted set at group
 
 -- these are the runs of the group of each value when it is advanced to a version, one group behind
 -- the other

@@ -1,8 +1,7 @@
-pub mod Tables
+pub mod Columns
 pub mod Kept
 pub mod Groups
 pub mod Scans
 pub mod Runs
-pub mod Values
 pub mod Seams
 pub mod Tallies

@@ -1,28 +1,37 @@
--- A scan of a table: what is asked for, and how far the walk along its events has come.
-use Rattle.std.specs.Prelude.{◌≡◌, ℕ, ℤ, ◌+◌, ◌<◌, ◌≤◌, Bool, not, List, length, take, Some, None, is_some, slice_get, slice_set, [], map, Option, if◌then◌else◌}
+-- A scan of a table: what is wanted, and how far the walk along its events has come.
+use Rattle.std.specs.Prelude.{◌≡◌, ℕ, ℤ, ◌+◌, ◌<◌, ◌≤◌, Bool, not, List, length, take, drop, Some, None, is_some, slice_get, slice_set, [], map, Option, if◌then◌else◌}
 use Rattle.tl_types.specs.declared.events.Event.{Event}
 use Rattle.tl_types.specs.Plain as plain
-use Rattle.tl_types.specs.Events.{events_of}
-use Rattle.tl_types.specs.Walks.{standing, after_event, after_events}
+use Rattle.tl_types.specs.Events.{events_at, events_of, place_of}
+use Rattle.tl_types.specs.Walks.{standing, after_event, after_events, IsQuiet}
 use Rattle.std.specs.Map.{lookup}
 use Rattle.tl_types.specs.declared.cells.Cell.{Cell}
-use Rattle.tl_types.specs.History.{same_cell}
+use Rattle.tl_types.specs.History.{database_of, same_cell}
 use Rattle.tl_query.specs.Aggregates.{has_value}
 use Rattle.tl_query.specs.declared.ast.AggKind.{AggKind}
 use Rattle.tl_query.specs.declared.ast.AggKind.TheVariants as kind
 use Rattle.tl_query.specs.declared.typed_queries.AggPlan.{AggPlan}
 use Rattle.tl_store.specs.Reading.{columns_of, IsIntColumn}
-use Rattle.tl_agg.specs.Tables.{TableOf, rows_in, AreNumbers, AreKeys}
+use Rattle.tl_agg.specs.Columns.{AreNumbers, AreKeys}
+use Rattle.tl_types.specs.declared.commits.Entry.{Entry}
+use Rattle.tl_types.specs.Entries.{commits_of}
+use Rattle.tl_events.specs.declared.version_maps.VersionEnd.{VersionEnd}
+use Rattle.tl_events.specs.Timeline.{Follow}
+use Rattle.tl_index.specs.Tables.{TableOf, rows_in}
 use Rattle.tl_agg.specs.Kept.{both}
-use Rattle.tl_agg.specs.Groups.{Asked, Tracks, State, IsNone, IsOne, HoldsIn, Moves, AreAdvanced, recounted, summed}
-use Rattle.tl_agg.specs.Values.{Rises}
+use Rattle.tl_agg.specs.Groups.{Wanted, Tracks, State, IsNone, IsOne, HoldsIn, Moves, AreAdvanced, recounted, summed}
+use Rattle.tl_query.specs.Ordered.{Rises}
 use Rattle.tl_keys.specs.Keys.{KeyNumbers, number_in, AreApart}
 use Rattle.tl_running.specs.Standing.{CanChange}
 use Rattle.tl_types.specs.declared.runs.Run.{Run}
 
+-- the table with a number of what a snapshot shows
+abbrev pub table_in : List Entry → ℕ → TableOf
+table_in entries number = record { db = database_of (commits_of entries); number = number }
+
 -- the plan is one for the table: its column holds numbers, a count has none, and what separates the
 -- rows into groups is a column
-pub record IsPlanFor (table : TableOf) (plan : AggPlan) : Type 0 where
+pub record IsSystemTimePlanFor (table : TableOf) (plan : AggPlan) : Type 0 where
   pub column : (c : ℕ) → plan.column ≡ Some c → IsIntColumn (columns_of table.db table.number) c
   pub kind : plan.column ≡ None → plan.kind ≡ kind.Count
   pub by : (c : ℕ) → plan.by ≡ Some c → c < length (columns_of table.db table.number)
@@ -40,9 +49,9 @@ abbrev pub scan_of : TableOf → AggPlan → List Bool → ℕ → ℕ → ScanO
 scan_of table plan keep from to =
     record { table = table; plan = plan; keep = keep; from = from; to = to }
 
--- what it asks for of the rows of a set
-abbrev pub asked_of : ScanOf → List Bool → Asked
-asked_of scan keep =
+-- what is wanted of the rows of a set
+abbrev pub wanted_of : ScanOf → List Bool → Wanted
+wanted_of scan keep =
     record {
       rows = rows_in scan.table;
       keep = keep;
@@ -58,7 +67,7 @@ keep_with scan by value = both scan.keep (map (has_value by value) (rows_in scan
 
 -- the plan suits the table, the set is of its rows, and the versions are there
 pub record IsScan (scan : ScanOf) : Type 0 where
-  pub plan : IsPlanFor scan.table scan.plan
+  pub plan : IsSystemTimePlanFor scan.table scan.plan
   pub keep : length scan.keep ≡ length (rows_in scan.table)
   pub within : scan.to ≤ scan.table.db.version + 1
   pub later : scan.from < scan.to
@@ -80,6 +89,17 @@ abbrev pub set_after : TableOf → ℕ → List Bool
 set_after table place =
     after_events (standing (rows_in table) 0)
     (take place (events_of (rows_in table) table.db.version))
+
+-- an entry of a version map that is behind a version and before another, by those behind the first
+pub record IsNextEntry (rows : List plain.Row) (last at to : ℕ) (entry : VersionEnd)
+    (behind : List VersionEnd) : Type 0 where
+  pub later : at < entry.version
+  pub before : entry.version < to
+  pub within : entry.version ≤ last
+  pub quiet : IsQuiet rows at entry.version
+  pub place : entry.end ≡ place_of rows entry.version
+  pub some : 0 < length (events_at rows entry.version)
+  pub rest : Follow rows last entry.version behind
 
 -- the groups of a scan: that of all rows, and that of each value of a column, by the number of the
 -- value
@@ -153,14 +173,37 @@ pub record AreAllAdvanced (by : List (Cell × State)) (to : ℕ) (all : List Run
 
 -- at a version, when the rows of a set stand, the groups are those of the kept ones among them
 abbrev pub TrackBy : Option ℕ → ScanOf → List Bool → ℕ → Groups → Type 0
-TrackBy None scan set at groups = Tracks (asked_of scan scan.keep) set at groups.all
+TrackBy None scan set at groups = Tracks (wanted_of scan scan.keep) set at groups.all
 TrackBy (Some by) scan set at groups =
     AreNumbered groups.keys groups.by × ((value : Cell)
-    → HoldsIn (asked_of scan (keep_with scan by value)) set at (group_of groups value))
+    → HoldsIn (wanted_of scan (keep_with scan by value)) set at (group_of groups value))
 
 -- so it is with the groups of the scan's plan
 abbrev pub AllTrack : ScanOf → List Bool → ℕ → Groups → Type 0
 AllTrack scan set at groups = TrackBy scan.plan.by scan set at groups
+
+-- the events stand at a place among those of the table, and at a version the groups are those of
+-- the rows that stand before them
+pub record IsRun (scan : ScanOf) (at place : ℕ) (events : List Event) (groups : Groups)
+    : Type 0 where
+  pub are : events ≡ take (length events)
+      (drop place (events_of (rows_in scan.table) scan.table.db.version))
+  pub tracks : AllTrack scan (set_after scan.table place) at groups
+
+-- so it is where all rows have one group, whose runs reach up to the version
+pub record IsRunOfAll (scan : ScanOf) (at place : ℕ) (events : List Event) (groups : Groups)
+    : Type 0 where
+  pub single : scan.plan.by ≡ None
+  pub are : events ≡ take (length events)
+      (drop place (events_of (rows_in scan.table) scan.table.db.version))
+  pub tracks : AllTrack scan (set_after scan.table place) at groups
+  pub since : groups.all.since ≡ at
+
+-- at a version the groups are those of the rows that stand behind the events, which begin at a
+-- place
+abbrev pub TakesRun : ScanOf → ℕ → ℕ → List Event → Groups → Type 0
+TakesRun scan at place events groups =
+    AllTrack scan (set_after scan.table (place + length events)) at groups
 
 -- the groups are those of a set which the event changes
 pub record IsReady (scan : ScanOf) (at : ℕ) (event : Event) (groups : Groups) : Type 0 where

@@ -21,15 +21,16 @@ stands_behind (Some x) None = false
 stands_behind (Some x) (Some y) = cell_before y x
 
 -- there are runs, and the last one is of this group
-abbrev pub ends_in : List Run → Option Cell → Bool
-ends_in [] group = false
-ends_in (run ∷ []) group = same_group run.group group
-ends_in (run ∷ next ∷ runs) group = ends_in (next ∷ runs) group
+abbrev pub ends_with_group : List Run → Option Cell → Bool
+ends_with_group [] group = false
+ends_with_group (run ∷ []) group = same_group run.group group
+ends_with_group (run ∷ next ∷ runs) group = ends_with_group (next ∷ runs) group
 
 -- the runs, and a run behind them: one of the same group as the last of them is put together with
 -- that, where it goes on
 abbrev pub add_grouped : List Run → Run → List Run
-add_grouped runs run = if ends_in runs run.group then add_touching runs run else runs ++ run ∷ []
+add_grouped runs run =
+    if ends_with_group runs run.group then add_touching runs run else runs ++ run ∷ []
 
 -- of runs in order of their groups, those at the front whose groups are not behind a run's
 abbrev pub front_upto : Run → List Run → List Run

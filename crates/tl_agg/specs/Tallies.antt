@@ -3,7 +3,8 @@ use Rattle.std.specs.Prelude.{◌≡◌, ℕ, ℤ, pos, neg_ℤ, ◌+ℤ◌, ◌
 use Rattle.tl_types.specs.declared.events.Event.{Event}
 use Rattle.tl_running.specs.Standing.{IsShort}
 use Rattle.tl_agg.specs.declared.tallies.Tally.{Tally}
-use Rattle.tl_agg.specs.Tables.{rows_in, TellsNumber}
+use Rattle.tl_index.specs.Tables.{rows_in}
+use Rattle.tl_running.specs.Telling.{TellsNumber}
 use Rattle.tl_agg.specs.Scans.{ScanOf}
 
 -- a sum that is far from the ends of a number of 128 bits

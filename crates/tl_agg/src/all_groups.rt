@@ -1,5 +1,7 @@
-//! All groups of a scan.
-ghost use Rattle.std.specs.Prelude.{◌≡◌, ◌++◌, ◌<◌, length, map, OnOk, IfOk};
+//! All groups of a scan: that of all rows, and that of each value of a column by the number of the
+//! value. It keeps that each group stands at the number of its value; a group that never had a row
+//! is not there.
+ghost use Rattle.std.specs.Prelude.{◌≡◌, ◌++◌, ◌<◌, map, OnOk, IfOk};
 ghost use Rattle.std.specs.Map.{lookup};
 ghost use Rattle.tl_types.specs.declared.cells.Cell.{Cell};
 ghost use Rattle.tl_types.specs.History.{same_cell};
@@ -8,7 +10,7 @@ ghost use Rattle.tl_running.specs.Standing.{CanChange};
 ghost use Rattle.tl_agg.specs.Groups.{IsAdvanced, AreAdvanced, Advances, Shifts};
 ghost use Rattle.tl_query.specs.Aggregates.{in_group};
 ghost use Rattle.tl_agg.specs.Scans.{AreNone, AreNumbered, HasPlace, CanMoveAt, MovesAt, AreAllAdvanced, all_recounted, all_summed};
-ghost use Rattle.tl_agg.specs.Values.{Rises};
+ghost use Rattle.tl_query.specs.Ordered.{Rises};
 
 use crate::groups::Group;
 use crate::value_groups::ValueGroup;

@@ -1,5 +1,6 @@
-//! The group of rows of one aggregate, while a scan goes on.
-ghost use Rattle.std.specs.Prelude.{◌≡◌, ◌<◌, pos, true, false, OnOk};
+//! The group of rows of one aggregate, while a scan goes on. It keeps the runs up to the last
+//! version that changed it; a version before that one cannot be taken any more.
+ghost use Rattle.std.specs.Prelude.{◌≡◌, ◌<◌, pos, true, OnOk};
 ghost use Rattle.tl_types.specs.Runs.{stretch_of};
 ghost use Rattle.tl_running.specs.Standing.{CanChange};
 ghost use Rattle.tl_agg.specs.Groups.{State, put_stretch, IsNone, Advances, Shifts, Moves, recounted, summed};

@@ -1,4 +1,5 @@
-//! The rows of a table that are kept.
+//! The rows of a table that are kept. They are counted once, and where they turn out to be all no
+//! row is looked at again.
 ghost use Rattle.std.specs.Prelude.{◌≡◌, ◌+◌, ◌<◌, ◌≤◌, length};
 ghost use Rattle.tl_bits.specs.Sets.{is_member};
 ghost use Rattle.tl_lanes.specs.Masks.{words_for};
@@ -8,9 +9,10 @@ use std::sync::ledger::Ledger;
 use tl_bits::RowSet;
 use tl_types::Steps;
 
-/// The rows of a table that are kept, and whether these are all. A contract sees the set of them.
+/// The rows of a table that are kept, and whether these are all. It is made once for all pieces of
+/// a query. A contract sees the set of the rows.
 #[derive(Drop)]
-pub(crate) struct KeptRows<'a> {
+pub struct KeptRows<'a> {
     rows: &'a RowSet,
     all: bool,
 }
@@ -28,12 +30,29 @@ impl<'a> Model for KeptRows<'a> {
 
 impl<'a> KeptRows<'a> {
     /// The rows of a set. It takes one step for each begun 64 rows.
-    pub(crate) fn new<L: Ledger>(rows: &'a RowSet, steps: &mut Steps<L>) -> KeptRows<'a>
+    pub fn new<L: Ledger>(rows: &'a RowSet, steps: &mut Steps<L>) -> KeptRows<'a>
         ensures rows { result ≡ rows.now }
         ensures steps { steps.new ≡ steps.old + words_for (length rows.now) }
     {
         let all = rows.count(steps) == rows.rows();
         KeptRows { rows, all }
+    }
+
+    /// The set of the kept rows, by id.
+    pub fn rows(&self) -> &'a RowSet
+        ensures { result.now ≡ self.now }
+    {
+        self.rows
+    }
+
+    /// The same rows once more, for a piece.
+    pub(crate) fn share(&self) -> KeptRows<'a>
+        ensures { result ≡ self.now }
+    {
+        KeptRows {
+            rows: self.rows,
+            all: self.all,
+        }
     }
 
     /// Whether the row with this id is kept. It takes at most one step.

@@ -13,7 +13,7 @@ ghost use Rattle.tl_query.specs.Aggregates.{aggregate_runs};
 ghost use Rattle.tl_query.specs.Passing.{passes};
 ghost use Rattle.tl_running.specs.Standing.{Suits};
 ghost use Rattle.tl_agg.specs.Runs.{system_runs};
-ghost use Rattle.tl_agg.specs.Scans.{IsPlanFor};
+ghost use Rattle.tl_agg.specs.Scans.{IsSystemTimePlanFor, table_in};
 
 /// Carries a law in its contract, and does nothing: where the rows that are kept are those that
 /// pass a predicate, the runs of a plan are those with which its query is answered.
@@ -29,6 +29,6 @@ pub fn kept_rows_pass()
 /// unless they are counted.
 pub fn plans_suit()
     ensures { (entries : List Entry) (plan : AggPlan) → IsTrue (are_legal entries)
-        → IsPlanFor (record { db = database_of (commits_of entries); number = plan.table }) plan
+        → IsSystemTimePlanFor (table_in entries plan.table) plan
         → Suits plan.kind plan.column (rows_of (database_of (commits_of entries)) plan.table) }
 {}

@@ -5,14 +5,15 @@
 
 mod aggregates;
 mod all_groups;
+mod columns;
 mod groups;
 mod kept;
 pub mod laws;
 mod scans;
 mod seams;
-mod tables;
 mod tallies;
 mod value_groups;
 
 pub use aggregates::aggregate;
+pub use kept::KeptRows;
 pub use seams::seam;

@@ -1,6 +1,8 @@
-//! The walk along the events of a table.
-ghost use Rattle.std.specs.Prelude.{◌≡◌, None, Some, ◌+◌, ◌-◌, ◌*◌, ◌^◌, ◌<◌, ◌≤◌, true, false, length, take, drop, is_some, OnOk, IfOk, IfSome, IfNone};
-ghost use Rattle.tl_types.specs.Events.{events_of, place_of};
+//! The walk along the events of a table over a piece of its versions. At each version it keeps that
+//! the groups are those of the kept rows that stand there; a least or greatest number is not folded
+//! into one sum, and a row that is not kept changes nothing.
+ghost use Rattle.std.specs.Prelude.{◌≡◌, None, Some, ◌+◌, ◌-◌, ◌*◌, ◌^◌, ◌<◌, ◌≤◌, true, false, length, drop, is_some, OnOk, IfOk, IfSome, IfNone};
+ghost use Rattle.tl_types.specs.Events.{place_of};
 ghost use Rattle.tl_types.specs.Walks.{IsQuiet, standing};
 ghost use Rattle.tl_events.specs.Timeline.{Follow};
 ghost use Rattle.tl_bits.specs.Sets.{is_member};
@@ -9,19 +11,22 @@ ghost use Rattle.tl_running.specs.Standing.{IsShort, is_ordered};
 ghost use Rattle.tl_store.specs.Reading.{cell_shown, IsShort as IsShortCell};
 ghost use Rattle.tl_agg.specs.Kept.{below, size, IsWithin, count_moved};
 ghost use Rattle.tl_agg.specs.Runs.{system_runs, start_set};
-ghost use Rattle.tl_agg.specs.Tables.{rows_in, ends_in, search_steps, TellsNumber, AreNumbers, HasKey, IsNextEntry};
-ghost use Rattle.tl_agg.specs.Scans.{IsScan, scan_of, AllTrack, IsReady, TakesEvent, set_after, all_recounted, all_summed};
+ghost use Rattle.tl_agg.specs.Columns.{AreNumbers, HasKey};
+ghost use Rattle.tl_agg.specs.Scans.{IsNextEntry, IsScan, scan_of, AllTrack, IsRun, IsRunOfAll, TakesRun, IsReady, TakesEvent, set_after, all_recounted, all_summed};
+ghost use Rattle.tl_index.specs.Tables.{rows_in, ends_in, search_steps};
+ghost use Rattle.tl_running.specs.Telling.{TellsNumber};
 ghost use Rattle.tl_agg.specs.Tallies.{IsFarFromEnds, total, count_with, IsTally, TalliesWhere};
 
 use crate::all_groups::Groups;
+use crate::columns::{int_keys, key_at, numbers};
 use crate::kept::KeptRows;
-use crate::tables::TimedTable;
 use crate::tallies::Tally;
 use std::alloc::Global;
 use std::marker::Model;
 use std::sync::ledger::Ledger;
 use tl_bits::RowSet;
 use tl_events::{PackedEvent, VersionEnd};
+use tl_index::TimedTable;
 use tl_query::{AggKind, AggPlan};
 use tl_store::{CellRef, IntsRef};
 use tl_types::{Event, NoMemory, Piece, Run, Steps};
@@ -82,8 +87,8 @@ impl<'a> Scan<'a> {
         requires { IsScan (scan_of table plan keep piece.from piece.to) }
         ensures { result ≡ scan_of table.entry plan keep.entry piece.from piece.to }
     {
-        let numbers = table.numbers(plan.column);
-        let keys = table.int_keys(plan.by);
+        let numbers = numbers(&table, plan.column);
+        let keys = int_keys(&table, plan.by);
         Scan {
             alloc,
             table,
@@ -144,7 +149,7 @@ impl<'a> Scan<'a> {
     {
         match &self.keys {
             Some(cells) => CellRef::Int(cells.at(row, steps)),
-            None => self.table.cell(by, row, steps),
+            None => key_at(&self.table, by, row, steps),
         }
     }
 
@@ -250,15 +255,9 @@ impl<'a> Scan<'a> {
         events: &[PackedEvent],
         steps: &mut Steps<L>,
     ) -> u32
-        requires single { self.now.plan.by ≡ None }
+        requires run { IsRunOfAll self.now at place events.now groups.now }
         requires counts { self.now.plan.column ≡ None }
-        requires events { events.now ≡ take (length events.now)
-            (drop place (events_of (rows_in self.now.table) self.now.table.db.version)) }
-        requires tracks { AllTrack self.now (set_after self.now.table place) at groups.now }
-        requires since { groups.now.all.since ≡ at }
-        ensures tracks { AllTrack self.now
-            (set_after self.now.table (place + length events.now)) at
-            (all_recounted groups.now result) }
+        ensures tracks { TakesRun self.now at place events.now (all_recounted groups.now result) }
         ensures steps { steps.new ≤ steps.old + length events.now }
     {
         let _at = at;
@@ -310,17 +309,11 @@ impl<'a> Scan<'a> {
         events: &[PackedEvent],
         steps: &mut Steps<L>,
     ) -> Tally
-        requires single { self.now.plan.by ≡ None }
+        requires run { IsRunOfAll self.now at place events.now groups.now }
         requires kind { is_ordered self.now.plan.kind ≡ false }
         requires column { is_some self.now.plan.column ≡ true }
-        requires events { events.now ≡ take (length events.now)
-            (drop place (events_of (rows_in self.now.table) self.now.table.db.version)) }
-        requires tracks { AllTrack self.now (set_after self.now.table place) at groups.now }
-        requires since { groups.now.all.since ≡ at }
-        ensures tracks { AllTrack self.now
-            (set_after self.now.table (place + length events.now)) at
-            (all_summed groups.now (count_with groups.now.all.running.count result)
-            (total result)) }
+        ensures tracks { TakesRun self.now at place events.now (all_summed groups.now
+            (count_with groups.now.all.running.count result) (total result)) }
         ensures tally { IsTally groups.now.all.running.count (length events.now) result }
         ensures steps { steps.new ≤ steps.old + 2 * length events.now }
     {
@@ -348,15 +341,10 @@ impl<'a> Scan<'a> {
         events: &[PackedEvent],
         steps: &mut Steps<L>,
     )
-        requires single { self.now.plan.by ≡ None }
+        requires run { IsRunOfAll self.now at place events.now groups.old }
         requires kind { is_ordered self.now.plan.kind ≡ false }
         requires column { is_some self.now.plan.column ≡ true }
-        requires events { events.now ≡ take (length events.now)
-            (drop place (events_of (rows_in self.now.table) self.now.table.db.version)) }
-        requires tracks { AllTrack self.now (set_after self.now.table place) at groups.old }
-        requires since { groups.old.all.since ≡ at }
-        ensures tracks { AllTrack self.now
-            (set_after self.now.table (place + length events.now)) at groups.new }
+        ensures tracks { TakesRun self.now at place events.now groups.new }
         ensures steps { steps.new ≤ steps.old + 2 * length events.now }
     {
         let _ = self.table.rows();
@@ -376,13 +364,8 @@ impl<'a> Scan<'a> {
         events: &[PackedEvent],
         steps: &mut Steps<L>,
     ) -> Result<(), NoMemory>
-        requires single { self.now.plan.by ≡ None }
-        requires events { events.now ≡ take (length events.now)
-            (drop place (events_of (rows_in self.now.table) self.now.table.db.version)) }
-        requires tracks { AllTrack self.now (set_after self.now.table place) at groups.old }
-        requires since { groups.old.all.since ≡ at }
-        ensures tracks { OnOk result (AllTrack self.now
-            (set_after self.now.table (place + length events.now)) at groups.new) }
+        requires run { IsRunOfAll self.now at place events.now groups.old }
+        ensures tracks { OnOk result (TakesRun self.now at place events.now groups.new) }
         ensures steps { steps.new ≤ steps.old + 3 * length events.now }
     {
         let _place = place;
@@ -404,14 +387,9 @@ impl<'a> Scan<'a> {
         events: &[PackedEvent],
         steps: &mut Steps<L>,
     ) -> Result<(), NoMemory>
-        requires single { self.now.plan.by ≡ None }
+        requires run { IsRunOfAll self.now at place events.now groups.old }
         requires column { is_some self.now.plan.column ≡ true }
-        requires events { events.now ≡ take (length events.now)
-            (drop place (events_of (rows_in self.now.table) self.now.table.db.version)) }
-        requires tracks { AllTrack self.now (set_after self.now.table place) at groups.old }
-        requires since { groups.old.all.since ≡ at }
-        ensures tracks { OnOk result (AllTrack self.now
-            (set_after self.now.table (place + length events.now)) at groups.new) }
+        ensures tracks { OnOk result (TakesRun self.now at place events.now groups.new) }
         ensures steps { steps.new ≤ steps.old + 3 * length events.now }
     {
         let is_ordered = is_ordered(self.plan.kind);
@@ -433,11 +411,8 @@ impl<'a> Scan<'a> {
         steps: &mut Steps<L>,
     ) -> Result<(), NoMemory>
         requires single { self.now.plan.by ≡ None }
-        requires events { events.now ≡ take (length events.now)
-            (drop place (events_of (rows_in self.now.table) self.now.table.db.version)) }
-        requires tracks { AllTrack self.now (set_after self.now.table place) at groups.old }
-        ensures tracks { OnOk result (AllTrack self.now
-            (set_after self.now.table (place + length events.now)) at groups.new) }
+        requires run { IsRun self.now at place events.now groups.old }
+        ensures tracks { OnOk result (TakesRun self.now at place events.now groups.new) }
         ensures steps { steps.new ≤ steps.old + 3 * length events.now }
     {
         groups.advance(at)?;
@@ -462,11 +437,8 @@ impl<'a> Scan<'a> {
         steps: &mut Steps<L>,
     ) -> Result<(), NoMemory>
         requires grouped { is_some self.now.plan.by ≡ true }
-        requires events { events.now ≡ take (length events.now)
-            (drop place (events_of (rows_in self.now.table) self.now.table.db.version)) }
-        requires tracks { AllTrack self.now (set_after self.now.table place) at groups.old }
-        ensures tracks { OnOk result (AllTrack self.now
-            (set_after self.now.table (place + length events.now)) at groups.new) }
+        requires run { IsRun self.now at place events.now groups.old }
+        ensures tracks { OnOk result (TakesRun self.now at place events.now groups.new) }
         ensures steps { steps.new ≤ steps.old + 3 * length events.now }
     {
         let _place = place;
@@ -487,11 +459,8 @@ impl<'a> Scan<'a> {
         events: &[PackedEvent],
         steps: &mut Steps<L>,
     ) -> Result<(), NoMemory>
-        requires events { events.now ≡ take (length events.now)
-            (drop place (events_of (rows_in self.now.table) self.now.table.db.version)) }
-        requires tracks { AllTrack self.now (set_after self.now.table place) at groups.old }
-        ensures tracks { OnOk result (AllTrack self.now
-            (set_after self.now.table (place + length events.now)) at groups.new) }
+        requires run { IsRun self.now at place events.now groups.old }
+        ensures tracks { OnOk result (TakesRun self.now at place events.now groups.new) }
         ensures steps { steps.new ≤ steps.old + 3 * length events.now }
     {
         match self.plan.by {
@@ -532,7 +501,8 @@ impl<'a> Scan<'a> {
             (drop i (ends_in self.now.table)) }
         requires later { at < self.now.to }
         ensures some { IfSome result (λ entry. IsNextEntry (rows_in self.now.table)
-            self.now.table.db.version at self.now.to entry (drop (i + 1) (ends_in self.now.table))) }
+            self.now.table.db.version at self.now.to entry
+            (drop (i + 1) (ends_in self.now.table))) }
         ensures few { IfSome result (λ entry. i < length (ends_in self.now.table)) }
         ensures room { IfSome result (λ entry. i < 18446744073709551615) }
         ensures none { IfNone result (IsQuiet (rows_in self.now.table) at self.now.to) }

@@ -1,17 +1,18 @@
-//! Runs of pieces that follow on each other, put together.
+//! Runs of pieces that follow on each other, put together group by group, in the order of their
+//! values. Runs of two groups are never joined, nor runs with a gap between them.
 ghost use Rattle.std.specs.Prelude.{◌≡◌, ℕ, ◌≤◌, ◌++◌, ◌||◌, [], None, Bool, List, reverse, OnOk, IfOk};
 ghost use Rattle.tl_types.specs.Plain as plain;
 ghost use Rattle.tl_types.specs.Runs.{seam};
 ghost use Rattle.tl_query.specs.declared.typed_queries.AggPlan.{AggPlan};
 ghost use Rattle.tl_running.specs.Standing.{Suits};
 ghost use Rattle.tl_agg.specs.Runs.{system_runs};
-ghost use Rattle.tl_agg.specs.Seams.{same_group, stands_behind, ends_in, add_grouped, front_upto, rest_behind, seam_behind, have_groups, seam_of};
+ghost use Rattle.tl_agg.specs.Seams.{same_group, stands_behind, ends_with_group, add_grouped, front_upto, rest_behind, seam_behind, have_groups, seam_of};
 
 use tl_running::add_touching;
 use tl_types::{Cell, NoMemory, Run, Seq, add_stretch};
 
 // Whether two groups are one.
-#[tactic(auto, using(crate::proofs::CellLemmas::same_cells))]
+#[tactic(auto, using(tl_query::proofs::CellOrder::same_cells))]
 fn same_group(first: &Option<Cell>, second: &Option<Cell>) -> bool
     ensures { result ≡ same_group first.now second.now }
 {
@@ -25,7 +26,7 @@ fn same_group(first: &Option<Cell>, second: &Option<Cell>) -> bool
 }
 
 // Whether a group stands behind another.
-#[tactic(auto, using(crate::proofs::CellLemmas::cells_before))]
+#[tactic(auto, using(tl_query::proofs::CellOrder::cells_before))]
 fn stands_behind(group: &Option<Cell>, other: &Option<Cell>) -> bool
     ensures { result ≡ stands_behind group.now other.now }
 {
@@ -39,8 +40,8 @@ fn stands_behind(group: &Option<Cell>, other: &Option<Cell>) -> bool
 }
 
 // Whether there are runs, and the last one is of the group.
-fn ends_in(runs: &[Run], group: &Option<Cell>) -> bool
-    ensures { result ≡ ends_in runs.now group.now }
+fn ends_with_group(runs: &[Run], group: &Option<Cell>) -> bool
+    ensures { result ≡ ends_with_group runs.now group.now }
 {
     match runs {
         [] => false,
@@ -53,7 +54,7 @@ fn ends_in(runs: &[Run], group: &Option<Cell>) -> bool
 fn add_grouped(runs: &mut Vec<Run>, run: Run) -> Result<(), NoMemory>
     ensures { OnOk result (runs.new.items ≡ add_grouped runs.old.items run) }
 {
-    if ends_in(runs.as_slice(), &run.group) {
+    if ends_with_group(runs.as_slice(), &run.group) {
         return add_touching(runs, run);
     }
     runs.push(run)?;

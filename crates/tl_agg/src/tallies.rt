@@ -1,4 +1,5 @@
-//! What the numbers of rows that come and go add up to.
+//! What the numbers of rows that come and go add up to, without a test of which it is in the sum.
+//! It holds fewer than 2^64 rows, whose sum stays far from the ends of 128 bits.
 ghost use Rattle.std.specs.Prelude.{◌≡◌, ◌+◌, ◌-◌, ◌*◌, ◌^◌, ◌<◌, ◌≤◌};
 ghost use Rattle.tl_agg.specs.Tallies.{IsFarFromEnds, total, count_with, signed, tally_moved};
 

@@ -1,4 +1,5 @@
-//! The group of a value.
+//! The group of a value, as an item of a list that the value's number leads to. A contract sees the
+//! value and the group's state.
 ghost use Rattle.std.specs.Prelude.{◌≡◌, IfOk, OnOk};
 ghost use Rattle.tl_store.specs.Reading.{IsShort, cell_shown};
 ghost use Rattle.tl_running.specs.Standing.{CanChange};

@@ -1,12 +1,12 @@
 -- The events up to a moment are the first ones, and stay the same up to the next one.
 use Rattle.std.proofs.Common.{◌≡◌, ℕ, zero, suc, ◌+◌, ◌<◌, ◌≤◌, ℤ, ◌-ℤ◌, ◌<ℤ◌, ◌≤ℤ◌, int_le, int_lt, Bool, true, false, cond, List, [], ◌∷◌, length, take, get_or, Some, None, ◌⊎◌, inl, inr, refl, sym, ap, ◌∙◌, subst, arith, slice_get}
-use Rattle.std.specs.List.{filter}
+use Rattle.std.specs.List.{filter, AllByRecursion}
 use Rattle.std.proofs.lemmas.Int.{ints}
 use Rattle.std.proofs.lemmas.Option.{slice_get_cases, get_or_from_slice_get}
 use Rattle.tl_types.specs.declared.events.ValidEvent.{ValidEvent}
 use Rattle.tl_types.specs.Runs.{count_of}
 use Rattle.tl_types.proofs.RunLemmas.{count_is, runs_none, IsMade}
-use Rattle.tl_types.specs.Runs.{runs_of}
+use Rattle.tl_types.specs.Runs.{runs_of, same_field, add_stretch}
 use Rattle.tl_types.specs.declared.answers.Field.{Field}
 use Rattle.tl_types.specs.declared.runs.Run.{Run}
 use Rattle.tl_app.specs.Opening.{InTime, up_to}
@@ -123,3 +123,12 @@ made_all f from to at runs made past = by_within made.within where
 
 pub less_false : (x y : ℤ) → int_lt x y ≡ false → y ≤ℤ x
 less_false x y h = grind (arith, ints)
+
+-- what is so of each run, wherever it ends, is so with a stretch more
+pub add_all : (P : Run → Type 0) (runs : List Run) (s : Run) → AllByRecursion P runs → P s → ((r : Run) (x : ℤ) → P r → P (record r { to = x })) → AllByRecursion P (add_stretch runs s)
+add_all P [] s all one longer = (one, tt)
+add_all P (run ∷ []) s all one longer = by_test (same_field run.value s.value) where
+  by_test : (b : Bool) → AllByRecursion P (cond b (record run { to = s.to } ∷ []) (run ∷ s ∷ []))
+  by_test true = (longer run s.to all.0, tt)
+  by_test false = (all.0, (one, tt))
+add_all P (run ∷ next ∷ runs) s all one longer = (all.0, add_all P (next ∷ runs) s all.1 one longer)

@@ -11,7 +11,7 @@ use Rattle.tl_types.specs.declared.events.ValidEvent.{ValidEvent}
 use Rattle.tl_types.specs.Plain as plain
 use Rattle.tl_keys.specs.Keys.{KeyNumbers, no_keys, number_in, number_at, AreApart, KeepsNumbers}
 use Rattle.tl_keys.proofs.KeyLemmas.{none_apart}
-use Rattle.tl_app.specs.declared.keyed.Group.{Group}
+use Rattle.tl_app.specs.declared.keyed.KeyGroup.{KeyGroup}
 use Rattle.tl_app.proofs.KeptLemmas.{length_set}
 use Rattle.tl_app.specs.Groups.{key_of, are_some, has_events, value_with, HasOneMore, is_number, has_number, AreDealt}
 
@@ -86,25 +86,25 @@ module _ (rows : List plain.Row) (column : ℕ) (old new : KeyNumbers) (e : Vali
   events_more n done = filter-append (has_number new rows column n) done (e ∷ []) ∙ ap (λ o. filter (has_number new rows column n) done ++ cond (is_number n o) (e ∷ []) []) (ap (number_at new) cell ∙ is)
 
   -- what is so of the groups over the new numbers before the event
-  record Ready (groups : List Group) (done : List ValidEvent) : Type 0 where
-    events : (n : ℕ) (g : Group) → slice_get groups n ≡ Some g → g.events.items ≡ filter (has_number new rows column n) done
-    key : (n : ℕ) (g : Group) → slice_get groups n ≡ Some g → has_events g ≡ true → number_in new g.key ≡ Some n
+  record Ready (groups : List KeyGroup) (done : List ValidEvent) : Type 0 where
+    events : (n : ℕ) (g : KeyGroup) → slice_get groups n ≡ Some g → g.events.items ≡ filter (has_number new rows column n) done
+    key : (n : ℕ) (g : KeyGroup) → slice_get groups n ≡ Some g → has_events g ≡ true → number_in new g.key ≡ Some n
 
-  ready : (groups : List Group) (done : List ValidEvent) → AreDealt rows column old groups done → Ready groups done
+  ready : (groups : List KeyGroup) (done : List ValidEvent) → AreDealt rows column old groups done → Ready groups done
   ready groups done dealt = record {
     events = λ n g at. dealt.events n g at ∙ sym (same_events rows column old new kept n done dealt.numbered);
     key = λ n g at some. kept g.key n (dealt.key n g at some);
   }
 
-  ready_more : (groups : List Group) (done : List ValidEvent) (none : Group) → none.events.items ≡ [] → AreDealt rows column old groups done → Ready groups done → Ready (groups ++ none ∷ []) done
+  ready_more : (groups : List KeyGroup) (done : List ValidEvent) (none : KeyGroup) → none.events.items ≡ [] → AreDealt rows column old groups done → Ready groups done → Ready (groups ++ none ∷ []) done
   ready_more groups done none empty dealt was = record {
-    events = λ n g at. elim (last_or_before groups none g n at) [ inl e ↦ was.events n g e | inr e ↦ ap (λ (h : Group). h.events.items) (sym e.1) ∙ empty ∙ sym (same_events rows column old new kept n done dealt.numbered ∙ none_has rows column old n done dealt.apart (let low = dealt.count in let at = e.0 in omega arith)) ];
-    key = λ n g at some. elim (last_or_before groups none g n at) [ inl e ↦ was.key n g e some | inr e ↦ absurd (let f : are_some none.events.items ≡ true = ap (λ (h : Group). are_some h.events.items) e.1 ∙ some in let k = ap are_some empty in cc) ];
+    events = λ n g at. elim (last_or_before groups none g n at) [ inl e ↦ was.events n g e | inr e ↦ ap (λ (h : KeyGroup). h.events.items) (sym e.1) ∙ empty ∙ sym (same_events rows column old new kept n done dealt.numbered ∙ none_has rows column old n done dealt.apart (let low = dealt.count in let at = e.0 in omega arith)) ];
+    key = λ n g at some. elim (last_or_before groups none g n at) [ inl e ↦ was.key n g e some | inr e ↦ absurd (let f : are_some none.events.items ≡ true = ap (λ (h : KeyGroup). are_some h.events.items) e.1 ∙ some in let k = ap are_some empty in cc) ];
   }
 
   -- the groups, and the one of the event's number with the event
-  module _ (groups after : List Group) (done : List ValidEvent) (before group : Group)
-      (there : slice_get groups number ≡ Some before) (changed : (n : ℕ) (g : Group) → slice_get after n ≡ Some g → ((n ≡ number) × (g ≡ group)) ⊎ ((number ≡ n → ⊥) × (slice_get groups n ≡ Some g)))
+  module _ (groups after : List KeyGroup) (done : List ValidEvent) (before group : KeyGroup)
+      (there : slice_get groups number ≡ Some before) (changed : (n : ℕ) (g : KeyGroup) → slice_get after n ≡ Some g → ((n ≡ number) × (g ≡ group)) ⊎ ((number ≡ n → ⊥) × (slice_get groups n ≡ Some g)))
       (with_event : group.events.items ≡ before.events.items ++ e ∷ []) (with_key : group.key ≡ cond (has_events before) before.key c) where
     key_is : Ready groups done → number_in new group.key ≡ Some number
     key_is was = ap (number_in new) with_key ∙ by_test (has_events before) refl where
@@ -112,16 +112,16 @@ module _ (rows : List plain.Row) (column : ℕ) (old new : KeyNumbers) (e : Vali
       by_test true h = was.key number before there h
       by_test false h = is
 
-    events_at : Ready groups done → (n : ℕ) (g : Group) → slice_get after n ≡ Some g → g.events.items ≡ filter (has_number new rows column n) (done ++ e ∷ [])
+    events_at : Ready groups done → (n : ℕ) (g : KeyGroup) → slice_get after n ≡ Some g → g.events.items ≡ filter (has_number new rows column n) (done ++ e ∷ [])
     events_at was n g at = elim (changed n g at) [
-      | inl h ↦ ap (λ (x : Group). x.events.items) h.1 ∙ with_event ∙ ap (λ es. es ++ e ∷ []) (was.events number before there)
+      | inl h ↦ ap (λ (x : KeyGroup). x.events.items) h.1 ∙ with_event ∙ ap (λ es. es ++ e ∷ []) (was.events number before there)
           ∙ sym (events_more n done ∙ ap (λ b. filter (has_number new rows column n) done ++ cond b (e ∷ []) []) (ap (λ m. number == m) h.0 ∙ same_number number) ∙ ap (λ m. filter (has_number new rows column m) done ++ e ∷ []) h.0)
       | inr h ↦ was.events n g h.1 ∙ sym (events_more n done ∙ ap (λ b. filter (has_number new rows column n) done ++ cond b (e ∷ []) []) (other_number number n h.0) ∙ append-nil (filter (has_number new rows column n) done))
     ]
 
-    keys_at : Ready groups done → (n : ℕ) (g : Group) → slice_get after n ≡ Some g → has_events g ≡ true → number_in new g.key ≡ Some n
+    keys_at : Ready groups done → (n : ℕ) (g : KeyGroup) → slice_get after n ≡ Some g → has_events g ≡ true → number_in new g.key ≡ Some n
     keys_at was n g at some = elim (changed n g at) [
-      | inl h ↦ ap (λ (x : Group). number_in new x.key) h.1 ∙ key_is was ∙ ap Some (sym h.0)
+      | inl h ↦ ap (λ (x : KeyGroup). number_in new x.key) h.1 ∙ key_is was ∙ ap Some (sym h.0)
       | inr h ↦ was.key n g h.1 some
     ]
 
@@ -149,7 +149,7 @@ module _ (rows : List plain.Row) (column : ℕ) (old new : KeyNumbers) (e : Vali
   less_or_not zero (suc n) = inl (omega arith)
   less_or_not (suc m) (suc n) = elim (less_or_not m n) [ inl l ↦ inl (omega arith) | inr l ↦ inr (omega arith) ]
 
-  pub deal_step : (groups reached after : List Group) (before group : Group) (done : List ValidEvent) → (length groups < new.count → HasOneMore groups reached) → (new.count ≤ length groups → reached ≡ groups)
+  pub deal_step : (groups reached after : List KeyGroup) (before group : KeyGroup) (done : List ValidEvent) → (length groups < new.count → HasOneMore groups reached) → (new.count ≤ length groups → reached ≡ groups)
       → slice_get reached number ≡ Some before → after ≡ slice_set reached number group → group.events.items ≡ before.events.items ++ e ∷ [] → group.key ≡ value_with before c
       → AreDealt rows column old groups done → AreDealt rows column new after (done ++ e ∷ [])
   deal_step groups reached after before group done longer same there is_set with_event with_key dealt = by_count (less_or_not (length groups) new.count) where
@@ -171,7 +171,7 @@ module _ (rows : List plain.Row) (column : ℕ) (old new : KeyNumbers) (e : Vali
         let few = dealt.few in
         finish (subst (λ gs. Ready gs done) (sym is_same) (ready groups done dealt)) (omega arith) (omega arith)
 
-pub none_dealt : (rows : List plain.Row) (column : ℕ) (groups : List Group) → groups ≡ [] → AreDealt rows column no_keys groups []
+pub none_dealt : (rows : List plain.Row) (column : ℕ) (groups : List KeyGroup) → groups ≡ [] → AreDealt rows column no_keys groups []
 none_dealt rows column groups is = record {
   apart = none_apart;
   count = omega arith;

@@ -1,71 +1,17 @@
 -- What is kept stays that of the open rows, event by event.
-use Rattle.std.proofs.Common.{◌≡◌, ℕ, ◌+◌, ◌≤◌, ℤ, ◌<ℤ◌, Bool, true, false, cond, List, [], ◌∷◌, ◌++◌, length, take, Option, Some, None, refl, sym, ap, ◌∙◌, arith, subst, slice_get}
+use Rattle.std.proofs.Common.{◌≡◌, ℕ, ◌+◌, ◌≤◌, ℤ, ◌<ℤ◌, false, cond, List, [], ◌∷◌, ◌++◌, length, take, Option, Some, None, refl, sym, ap, ◌∙◌, arith, subst, slice_get}
 use Rattle.std.specs.Prelude.{option_map}
 use Rattle.tl_types.specs.declared.events.ValidEvent.{ValidEvent}
 use Rattle.tl_types.specs.Plain as plain
-use Rattle.tl_query.specs.declared.ast.AggKind.{AggKind}
-use Rattle.tl_query.specs.declared.ast.AggKind.TheVariants as kind
 use Rattle.tl_query.specs.declared.typed_queries.AggPlan.{AggPlan}
-use Rattle.tl_running.specs.Standing.{Kept, number_in, HaveNumbers, Suits, StandsFor, Inserts, Changes, CanChange, IsShort}
-use Rattle.tl_running.proofs.StandingLemmas.{has_room, row_enters, can_leave, row_leaves}
+use Rattle.tl_running.specs.Standing.{Kept, Suits, StandsFor, Changes, CanChange, IsShort}
+use Rattle.tl_running.specs.Telling.{TellsNumber}
+use Rattle.tl_running.proofs.TellLemmas.{suits_none, Turn, changes_kind, stands_then, suits_then, can_then}
 use Rattle.tl_app.specs.Opening.{is_open, open_rows, Alternate}
-use Rattle.tl_app.specs.Scans.{TellsNumber, Holds}
-use Rattle.tl_app.proofs.OpenLemmas.{chosen, chosen_step, chosen_few, Turn, turned}
-
--- ROWS THAT HAVE A NUMBER
-
-have_seam_in : (column : Option ℕ) (front back : List plain.Row) (r : plain.Row) → HaveNumbers column (r ∷ []) → HaveNumbers column (front ++ back) → HaveNumbers column (front ++ r ∷ back)
-have_seam_in column [] back r h s = (h.0, s)
-have_seam_in column (x ∷ front) back r h s = (s.0, have_seam_in column front back r h s.1)
-
-have_seam_out : (column : Option ℕ) (front back : List plain.Row) (r : plain.Row) → HaveNumbers column (front ++ r ∷ back) → HaveNumbers column (front ++ back)
-have_seam_out column [] back r s = s.1
-have_seam_out column (x ∷ front) back r s = (s.0, have_seam_out column front back r s.1)
-
-have_enter : (column : Option ℕ) (r : plain.Row) (fewer more : List plain.Row) → Inserts r fewer more → HaveNumbers column (r ∷ []) → HaveNumbers column fewer → HaveNumbers column more
-have_enter column r fewer more ins h s = subst (HaveNumbers column) (sym ins.with) (have_seam_in column ins.front ins.back r h (subst (HaveNumbers column) ins.without s))
-
-have_leave : (column : Option ℕ) (r : plain.Row) (fewer more : List plain.Row) → Inserts r fewer more → HaveNumbers column more → HaveNumbers column fewer
-have_leave column r fewer more ins s = subst (HaveNumbers column) (sym ins.without) (have_seam_out column ins.front ins.back r (subst (HaveNumbers column) ins.with s))
-
-suits_enter : (k : AggKind) (column : Option ℕ) (r : plain.Row) (fewer more : List plain.Row) → Inserts r fewer more → Suits k column (r ∷ []) → Suits k column fewer → Suits k column more
-suits_enter kind.Count column r fewer more ins h s = tt
-suits_enter kind.Sum column r fewer more ins h s = have_enter column r fewer more ins h s
-suits_enter kind.Avg column r fewer more ins h s = have_enter column r fewer more ins h s
-suits_enter kind.Min column r fewer more ins h s = have_enter column r fewer more ins h s
-suits_enter kind.Max column r fewer more ins h s = have_enter column r fewer more ins h s
-
-suits_leave : (k : AggKind) (column : Option ℕ) (r : plain.Row) (fewer more : List plain.Row) → Inserts r fewer more → Suits k column more → Suits k column fewer
-suits_leave kind.Count column r fewer more ins s = tt
-suits_leave kind.Sum column r fewer more ins s = have_leave column r fewer more ins s
-suits_leave kind.Avg column r fewer more ins s = have_leave column r fewer more ins s
-suits_leave kind.Min column r fewer more ins s = have_leave column r fewer more ins s
-suits_leave kind.Max column r fewer more ins s = have_leave column r fewer more ins s
-
-suits_none : (k : AggKind) (column : Option ℕ) → Suits k column []
-suits_none kind.Count column = tt
-suits_none kind.Sum column = tt
-suits_none kind.Avg column = tt
-suits_none kind.Min column = tt
-suits_none kind.Max column = tt
+use Rattle.tl_app.specs.Scans.{Holds}
+use Rattle.tl_app.proofs.OpenLemmas.{chosen, chosen_step, chosen_few, turned}
 
 -- ONE EVENT
-
-changes_kind : (opens : Bool) (old new : Kept) (n : ℤ) → Changes opens old new n → new.kind ≡ old.kind
-changes_kind true old new n changes = changes.kind
-changes_kind false old new n changes = sym changes.kind
-
-stands_then : (opens : Bool) (old new : Kept) (column : Option ℕ) (r : plain.Row) (was now : List plain.Row) → IsShort (number_in column r) → StandsFor old column was → Turn opens r was now → Changes opens old new (number_in column r) → StandsFor new column now
-stands_then true old new column r was now short stands turn changes = row_enters old new column r was now short stands (turn.comes refl) changes
-stands_then false old new column r was now short stands turn changes = row_leaves old new column r now was stands (turn.goes refl) changes
-
-suits_then : (opens : Bool) (k : AggKind) (column : Option ℕ) (r : plain.Row) (was now : List plain.Row) → Suits k column (r ∷ []) → Suits k column was → Turn opens r was now → Suits k column now
-suits_then true k column r was now one suits turn = suits_enter k column r was now (turn.comes refl) one suits
-suits_then false k column r was now one suits turn = suits_leave k column r now was (turn.goes refl) suits
-
-can_then : (opens : Bool) (old : Kept) (column : Option ℕ) (r : plain.Row) (was now : List plain.Row) → length was ≤ 16777216 → StandsFor old column was → Turn opens r was now → CanChange opens old (number_in column r)
-can_then true old column r was now few stands turn = has_room old column was stands (omega arith)
-can_then false old column r was now few stands turn = can_leave old column r now was stands (turn.goes refl) (omega arith)
 
 module _ (rows : List plain.Row) (plan : AggPlan) (events : List ValidEvent) (i : ℕ) (e : ValidEvent) (p : plain.Period)
     (alternate : Alternate rows events) (is : slice_get events i ≡ Some e) (lasts : p.from <ℤ p.to) where

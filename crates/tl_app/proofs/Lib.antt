@@ -9,7 +9,6 @@ pub mod RunsLemmas
 pub mod MarkLemmas
 pub mod DealLemmas
 pub mod KeyLemmas
-pub mod TellLemmas
 pub mod GroupLemmas
 pub mod GroupedLemmas
 pub mod PlanLemmas

@@ -1,5 +1,5 @@
 -- The numbers of rows, read off a column.
-use Rattle.std.proofs.Common.{◌≡◌, ℕ, zero, suc, ℤ, pos, List, [], ◌∷◌, map, take, drop, Some, None, refl, sym, ap, ◌∙◌, subst, slice_get}
+use Rattle.std.proofs.Common.{◌≡◌, ℕ, zero, suc, ℤ, List, [], ◌∷◌, map, take, drop, Some, refl, sym, ap, ◌∙◌, slice_get}
 use Rattle.std.specs.Prelude.{is_some}
 use Rattle.tl_types.specs.declared.cells.Cell.TheVariants as cell
 use Rattle.tl_types.specs.Plain as plain
@@ -9,7 +9,7 @@ use Rattle.tl_query.specs.declared.ast.AggKind.TheVariants as kind
 use Rattle.tl_query.specs.Aggregates.{number_of}
 use Rattle.tl_store.specs.Reading.{column_cells, some_int}
 use Rattle.tl_running.specs.Standing.{Suits}
-use Rattle.tl_app.specs.Scans.{TellsNumber}
+use Rattle.tl_running.specs.Telling.{TellsNumber}
 
 head_is : (rows : List plain.Row) (id k column : ℕ) (n : ℤ) (ns : List ℤ) (r : plain.Row) → map some_int (n ∷ ns) ≡ take k (drop id (column_cells rows column)) → slice_get rows id ≡ Some r → cell_at r.cells column ≡ Some (cell.Int n)
 head_is [] id k column n ns r are is = absurd (cc)
@@ -34,7 +34,3 @@ first_tells k rows id m column n (x ∷ ns) are first = λ r is.
     let e : x ≡ n = cc in
     let h = head_is rows id m column x ns r are is ∙ ap (λ i. Some (cell.Int i)) e in
     (rw h refl, suits_number k column n r h)
-
--- where no column is asked for, as of a count, each number is 0
-pub none_tells : (k : AggKind) (rows : List plain.Row) (id : ℕ) → k ≡ kind.Count → TellsNumber k None rows id (pos 0)
-none_tells k rows id is = λ r here. (refl, subst (λ j. Suits j None (r ∷ [])) (sym is) tt)

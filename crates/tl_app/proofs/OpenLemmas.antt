@@ -8,6 +8,7 @@ use Rattle.std.proofs.lemmas.List.Folds.{list_any-append}
 use Rattle.tl_types.specs.declared.events.ValidEvent.{ValidEvent}
 use Rattle.tl_types.specs.Plain as plain
 use Rattle.tl_running.specs.Standing.{Inserts}
+use Rattle.tl_running.proofs.TellLemmas.{Turn}
 use Rattle.tl_app.specs.Opening.{same_event, has, begin_of, end_of, is_open, open_rows, Turns}
 
 -- ROWS THAT A TEST CHOOSES
@@ -95,11 +96,6 @@ open_apart done e id None apart = refl
 open_apart done e id (Some p) apart =
     sym (ap (λ b. b && not (has (done ++ e ∷ []) (end_of id p))) (has_apart done e (begin_of id p) (λ s. apart (sym s)))
     ∙ ap (λ b. has done (begin_of id p) && not b) (has_apart done e (end_of id p) (λ s. apart (sym s))))
-
--- the rows change by the row
-pub record Turn (opens : Bool) (r : plain.Row) (was now : List plain.Row) : Type 0 where
-  pub comes : opens ≡ true → Inserts r was now
-  pub goes : opens ≡ false → Inserts r now was
 
 pub turned : (rows : List plain.Row) (done : List ValidEvent) (e : ValidEvent) (r : plain.Row) → slice_get rows e.row ≡ Some r → Turns done e r.period → Turn e.opens r (open_rows rows done) (open_rows rows (done ++ e ∷ []))
 turned rows done e r is turns = record {

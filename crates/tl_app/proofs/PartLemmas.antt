@@ -17,7 +17,7 @@ use Rattle.tl_ckpt.proofs.Members.{Above}
 use Rattle.tl_index.proofs.ChangeLemmas.{rises_valid, has_valid}
 use Rattle.tl_app.specs.Opening.{same_event, has, begin_of, end_of, is_open, open_rows, up_to, InTime, Turns, Alternate}
 use Rattle.tl_app.specs.Parts.{part_of}
-use Rattle.tl_app.proofs.ValueLemmas.{all_filter}
+use Rattle.tl_query.proofs.ValueOrder.{all_filter}
 use Rattle.tl_app.proofs.OpenLemmas.{chosen, chosen_step, chosen_same, has_append}
 
 -- EVENTS THAT A TEST CHOOSES

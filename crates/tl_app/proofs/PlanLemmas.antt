@@ -13,7 +13,7 @@ use Rattle.tl_query.specs.declared.typed_queries.Typed.TheVariants as typed
 use Rattle.tl_query.specs.declared.typed_queries.TypedPred.{TypedPred}
 use Rattle.tl_query.specs.declared.typed_queries.Span.TheVariants as span
 use Rattle.tl_store.specs.Reading.{has_periods_table, columns_of_table, IsIntColumn}
-use Rattle.tl_app.specs.Scans.{plan_of, IsPlanFor}
+use Rattle.tl_app.specs.Scans.{plan_of, IsValidTimePlanFor}
 
 parts_of : (a b c d e f : Bool) → (((a && b) && c) && ((d && e) && f)) ≡ true → (a ≡ true) × (b ≡ true) × (d ≡ true)
 parts_of true true true true e f h = (refl, refl, refl)
@@ -52,9 +52,9 @@ group_of schema (Some d) h c is = let g = subst (λ (o : Option ℕ). is_typed_g
   below : (c n : ℕ) → nat_lt c n ≡ true → c < n
   below c n g = grind (arith, nat_tests)
 
-pub plan_suits : (db : plain.Database) (table : ℕ) (k : AggKind) (column by : Option ℕ) (pred : TypedPred) (version : ℕ) (from to : ℤ) → IsTypedFor db (typed.Agg table k column by pred (span.Valid version from to)) → IsPlanFor db (plan_of table k column by)
+pub plan_suits : (db : plain.Database) (table : ℕ) (k : AggKind) (column by : Option ℕ) (pred : TypedPred) (version : ℕ) (from to : ℤ) → IsTypedFor db (typed.Agg table k column by pred (span.Valid version from to)) → IsValidTimePlanFor db (plan_of table k column by)
 plan_suits db table k column by pred version from to typed_is = by_table (slice_get db.tables table) refl typed_is where
-  by_table : (o : Option plain.Table) → slice_get db.tables table ≡ o → is_typed_agg db.version k column by pred (span.Valid version from to) (option_map (λ (t : plain.Table). t.schema) o) ≡ true → IsPlanFor db (plan_of table k column by)
+  by_table : (o : Option plain.Table) → slice_get db.tables table ≡ o → is_typed_agg db.version k column by pred (span.Valid version from to) (option_map (λ (t : plain.Table). t.schema) o) ≡ true → IsValidTimePlanFor db (plan_of table k column by)
   by_table None is h = absurd (cc)
   by_table (Some t) is h =
       let parts = parts_of (is_typed_aggregate t.schema k column) (is_typed_group t.schema by) (is_typed_pred t.schema pred) t.schema.valid (nat_le version db.version) (int_lt from to) h in record {

@@ -1,12 +1,12 @@
 -- The runs of a scan are those of the definition.
 use Rattle.std.proofs.Common.{◌≡◌, ℕ, suc, ◌+◌, ◌*◌, ◌≤◌, ◌<◌, ℤ, Bool, true, false, cond, List, [], ◌∷◌, length, map, get_or, Option, Some, None, refl, sym, ap, ◌∙◌, arith, subst, slice_get}
-use Rattle.std.specs.List.{All, filter, fold, enumerate_from}
-use Rattle.std.proofs.lemmas.List.{length-append}
+use Rattle.std.specs.List.{All, filter, enumerate_from}
 use Rattle.std.proofs.Math.Path.{fun_ext}
 use Rattle.std.proofs.lemmas.Option.{slice_get-get_or}
 use Rattle.tl_types.specs.declared.events.ValidEvent.{ValidEvent}
 use Rattle.tl_types.specs.Plain as plain
-use Rattle.tl_types.specs.Checkpoints.{inserted, comes_before, ends_of, ends_of_rows, valid_events_in}
+use Rattle.tl_types.specs.Checkpoints.{ends_of_rows, valid_events_in, AreEventsOf}
+use Rattle.tl_types.proofs.EventCounts.{fold_many, rows_few}
 use Rattle.tl_types.specs.History.{rows_of, with_ids, is_visible}
 use Rattle.tl_types.specs.Runs.{runs_of}
 use Rattle.tl_query.specs.Aggregates.{aggregate_of, passing_at, aggregate_runs}
@@ -17,8 +17,8 @@ use Rattle.tl_query.specs.declared.typed_queries.TypedPred.{TypedPred}
 use Rattle.tl_bits.specs.Sets.{is_member}
 use Rattle.tl_ckpt.specs.Choices.{Choice, is_chosen, chosen}
 use Rattle.tl_app.specs.Opening.{open_rows, up_to, Alternate}
-use Rattle.tl_app.specs.Parts.{kept_events, part_of, AreEventsOf, IsPart, planned_runs}
-use Rattle.tl_app.specs.Scans.{value_at}
+use Rattle.tl_app.specs.Parts.{kept_events, part_of, IsPart, planned_runs}
+use Rattle.tl_app.specs.Scans.{open_value}
 use Rattle.tl_app.proofs.PartLemmas.{alternate_part, open_is, member_is}
 
 -- THE EVENTS OF KEPT ROWS
@@ -60,29 +60,6 @@ rows_within rows events m are is =
 
 -- HOW MANY THEY ARE
 
-inserted_one : (event : ValidEvent) (events : List ValidEvent) → length (inserted event events) ≡ length events + 1
-inserted_one event [] = refl
-inserted_one event (next ∷ events) = by_test (comes_before next event) (inserted_one event events) where
-  by_test : (b : Bool) → length (inserted event events) ≡ length events + 1 → length (cond b (next ∷ inserted event events) (event ∷ next ∷ events)) ≡ length (next ∷ events) + 1
-  by_test true h = omega arith
-  by_test false h = omega arith
-
-fold_many : (done events : List ValidEvent) → length (fold (λ ordered event. inserted event ordered) done events) ≡ length done + length events
-fold_many done [] = omega arith
-fold_many done (event ∷ events) = let h = fold_many (inserted event done) events in let k = inserted_one event done in omega arith
-
-ends_few : (id : ℕ) (period : Option plain.Period) → length (ends_of id period) ≤ 2
-ends_few id None = omega arith
-ends_few id (Some period) = omega arith
-
-rows_few : (rows : List (ℕ × plain.Row)) → length (ends_of_rows rows) ≤ 2 * length rows
-rows_few [] = omega arith
-rows_few (r ∷ rows) =
-    let a = length-append (ends_of r.0 r.1.period) (ends_of_rows rows) in
-    let b = ends_few r.0 r.1.period in
-    let c = rows_few rows in
-    omega arith
-
 ids_many : (n : ℕ) (rows : List plain.Row) → length (enumerate_from n rows) ≡ length rows
 ids_many n [] = refl
 ids_many n (r ∷ rows) = let later = ids_many (n + 1) rows in omega arith
@@ -101,10 +78,10 @@ part_few rows events part =
 -- ALL KEPT ROWS TOGETHER
 
 pub planned : (db : plain.Database) (plan : AggPlan) (pred : TypedPred) (version : ℕ) (from to : ℤ) (keep : List Bool) (events : List ValidEvent) → plan.by ≡ None → keep ≡ map (passes pred) (rows_of db plan.table)
-    → events ≡ kept_events keep (valid_events_in (rows_of db plan.table) version) → runs_of (value_at (rows_of db plan.table) plan events) from to ≡ planned_runs db plan pred (span.Valid version from to)
+    → events ≡ kept_events keep (valid_events_in (rows_of db plan.table) version) → runs_of (open_value (rows_of db plan.table) plan events) from to ≡ planned_runs db plan pred (span.Valid version from to)
 unfolding aggregate_runs
 planned db plan pred version from to keep events together keep_is events_are =
-    ap (λ es. runs_of (value_at (rows_of db plan.table) plan es) from to) events_are
+    ap (λ es. runs_of (open_value (rows_of db plan.table) plan es) from to) events_are
     ∙ ap (λ f. runs_of f from to) (fun_ext (λ m. ap (aggregate_of plan.kind plan.column) (rows_are m)))
     ∙ ap (λ by. aggregate_runs db plan.table plan.kind plan.column by pred (span.Valid version from to)) (sym together) where
       rows_are : (m : ℤ) → open_rows (rows_of db plan.table) (up_to (kept_events keep (valid_events_in (rows_of db plan.table) version)) m) ≡ passing_at db plan.table pred (span.Valid version from to) m

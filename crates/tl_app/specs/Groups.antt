@@ -1,23 +1,24 @@
 -- Groups of events: those of the rows that have one value in a column.
-use Rattle.std.specs.Prelude.{◌≡◌, ℕ, ℤ, ◌+◌, ◌≤◌, ◌==◌, Bool, true, false, not, List, [], ◌∷◌, ◌++◌, length, map, Option, Some, None, is_some, slice_get, if◌then◌else◌}
+use Rattle.std.specs.Prelude.{◌≡◌, ℕ, ℤ, ◌+◌, ◌<◌, ◌≤◌, ◌==◌, Bool, true, false, not, List, [], ◌∷◌, ◌++◌, length, map, Option, Some, None, is_some, slice_get, if◌then◌else◌}
 use Rattle.std.specs.List.{filter, flat_map, AllByRecursion}
 use Rattle.std.specs.List.Sorted.{IsSortedBy}
 use Rattle.tl_types.specs.declared.cells.Cell.{Cell}
 use Rattle.tl_types.specs.declared.events.ValidEvent.{ValidEvent}
 use Rattle.tl_types.specs.declared.runs.Run.{Run}
-use Rattle.tl_types.specs.History.{same_cell}
+use Rattle.tl_types.specs.History.{database_of, rows_of, same_cell}
 use Rattle.tl_types.specs.Plain as plain
 use Rattle.tl_types.specs.Runs.{runs_of}
 use Rattle.tl_query.specs.Aggregates.{in_group}
 use Rattle.tl_query.specs.Ordered.{cell_before}
 use Rattle.tl_query.specs.declared.ast.AggKind.{AggKind}
 use Rattle.tl_query.specs.declared.typed_queries.AggPlan.{AggPlan}
-use Rattle.tl_store.specs.Reading.{cell_of_row}
+use Rattle.tl_store.specs.Reading.{cell_of_row, columns_of}
 use Rattle.tl_keys.specs.Keys.{KeyNumbers, number_in, number_at, AreApart}
-use Rattle.tl_app.specs.declared.keyed.Group.{Group}
+use Rattle.tl_app.specs.declared.keyed.KeyColumn.{KeyColumn}
+use Rattle.tl_app.specs.declared.keyed.KeyGroup.{KeyGroup}
 use Rattle.tl_app.specs.Opening.{open_rows, up_to}
-use Rattle.tl_app.specs.Scans.{value_at}
-use Rattle.tl_app.specs.Telling.{has_rows}
+use Rattle.tl_app.specs.Scans.{open_value}
+use Rattle.tl_running.specs.Telling.{has_rows}
 
 -- THE EVENTS OF A VALUE
 
@@ -38,14 +39,22 @@ has_cell rows column value id = is_value value (cell_of_row column (slice_get ro
 abbrev pub group_of : List plain.Row → ℕ → Cell → List ValidEvent → List ValidEvent
 group_of rows column value events = filter (λ event. has_cell rows column value event.row) events
 
+-- the rows of the table that has the column
+abbrev pub column_rows : KeyColumn → List plain.Row
+column_rows by = rows_of (database_of by.store.now) by.table
+
+-- the column is one of its table's
+abbrev pub HasColumn : KeyColumn → Type 0
+HasColumn by = by.column < length (columns_of (database_of by.store.now) by.table)
+
 -- GROUPS
 
 -- the first group's value comes before the second's
-abbrev pub key_before : Group → Group → Bool
+abbrev pub key_before : KeyGroup → KeyGroup → Bool
 key_before first second = cell_before first.key second.key
 
 -- the group is that of the value
-abbrev pub has_key : Cell → Group → Bool
+abbrev pub has_key : Cell → KeyGroup → Bool
 has_key key group = same_cell key group.key
 
 -- there are some
@@ -54,21 +63,21 @@ are_some [] = false
 are_some (event ∷ events) = true
 
 -- the group has an event
-abbrev pub has_events : Group → Bool
+abbrev pub has_events : KeyGroup → Bool
 has_events group = are_some group.events.items
 
 -- the group's value, which is that of its first event
-abbrev pub value_with : Group → Cell → Cell
+abbrev pub value_with : KeyGroup → Cell → Cell
 value_with group key = if has_events group then group.key else key
 
 -- the groups, and one without events behind them
-pub record HasOneMore (groups more : List Group) : Type 0 where
-  pub none : Group
+pub record HasOneMore (groups more : List KeyGroup) : Type 0 where
+  pub none : KeyGroup
   pub empty : none.events.items ≡ []
   pub are : more ≡ groups ++ none ∷ []
 
 -- how many events the groups have
-abbrev pub event_count : List Group → ℕ
+abbrev pub event_count : List KeyGroup → ℕ
 event_count [] = 0
 event_count (group ∷ groups) = length group.events.items + event_count groups
 
@@ -85,20 +94,20 @@ has_number keys rows column n event = is_number n (number_at keys (key_of rows c
 
 -- each group has the events of the rows whose cell has the group's place as its number, in their
 -- order, and that cell as its value
-pub record AreDealt (rows : List plain.Row) (column : ℕ) (keys : KeyNumbers) (groups : List Group)
-    (done : List ValidEvent) : Type 0 where
+pub record AreDealt (rows : List plain.Row) (column : ℕ) (keys : KeyNumbers)
+    (groups : List KeyGroup) (done : List ValidEvent) : Type 0 where
   pub apart : AreApart keys
   pub count : keys.count ≤ length groups
   pub few : length groups ≤ length done
   pub numbered : AllByRecursion
       (λ event. is_some (number_at keys (key_of rows column event)) ≡ true) done
-  pub events : (n : ℕ) (g : Group) → slice_get groups n ≡ Some g
+  pub events : (n : ℕ) (g : KeyGroup) → slice_get groups n ≡ Some g
       → g.events.items ≡ filter (has_number keys rows column n) done
-  pub key : (n : ℕ) (g : Group) → slice_get groups n ≡ Some g → has_events g ≡ true
+  pub key : (n : ℕ) (g : KeyGroup) → slice_get groups n ≡ Some g → has_events g ≡ true
       → number_in keys g.key ≡ Some n
 
 -- so it is for some numbers
-pub record IsDealt (rows : List plain.Row) (column : ℕ) (groups : List Group)
+pub record IsDealt (rows : List plain.Row) (column : ℕ) (groups : List KeyGroup)
     (events : List ValidEvent) : Type 0 where
   pub keys : KeyNumbers
   pub dealt : AreDealt rows column keys groups events
@@ -106,7 +115,7 @@ pub record IsDealt (rows : List plain.Row) (column : ℕ) (groups : List Group)
 -- the groups are in order of their values, no two have the same, and those of each value, one at
 -- most, have its events in their order
 pub record AreGroupsOf (rows : List plain.Row) (column : ℕ) (events : List ValidEvent)
-    (groups : List Group) : Type 0 where
+    (groups : List KeyGroup) : Type 0 where
   pub ascend : IsSortedBy key_before groups
   pub alone : (value : Cell) → length (filter (has_key value) groups) ≤ 1
   pub found : (value : Cell) → flat_map (λ group. group.events.items)
@@ -123,9 +132,9 @@ abbrev pub grouped_runs : List plain.Row → AggPlan → ℤ → ℤ → Cell �
 grouped_runs rows plan from to value events =
     map (in_group value)
     (filter (λ run. not (length (open_rows rows (up_to events run.from)) == 0))
-    (runs_of (value_at rows plan events) from to))
+    (runs_of (open_value rows plan events) from to))
 
 -- the runs of each of these groups, one group behind the other
-abbrev pub runs_of_groups : List plain.Row → AggPlan → ℤ → ℤ → List Group → List Run
+abbrev pub runs_of_groups : List plain.Row → AggPlan → ℤ → ℤ → List KeyGroup → List Run
 runs_of_groups rows plan from to groups =
     flat_map (λ group. grouped_runs rows plan from to group.key group.events.items) groups

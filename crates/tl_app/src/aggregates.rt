@@ -1,7 +1,8 @@
-//! Aggregates over valid time.
-ghost use Rattle.std.specs.Prelude.{◌≡◌, ℕ, ◌+◌, ◌-◌, ◌*◌, ◌≤◌, ◌<ℤ◌, Bool, List, Some, None, length, map, IfOk};
+//! Aggregates over valid time: the events of the rows that are kept, in order, and the maximal runs
+//! that one scan of them gives, of all rows together or of each group.
+ghost use Rattle.std.specs.Prelude.{◌≡◌, ℕ, ◌+◌, ◌-◌, ◌*◌, ◌≤◌, ◌<ℤ◌, Some, None, length, map, IfOk};
 ghost use Rattle.tl_types.specs.Entries.{commits_of};
-ghost use Rattle.tl_types.specs.Checkpoints.{valid_events_in};
+ghost use Rattle.tl_types.specs.Checkpoints.{valid_events_in, AreEventsOf};
 ghost use Rattle.tl_types.specs.History.{database_of, rows_of};
 ghost use Rattle.tl_types.specs.Events.{place_of};
 ghost use Rattle.tl_events.specs.Timeline.{ends_of, binary_digits};
@@ -10,13 +11,13 @@ ghost use Rattle.tl_index.specs.Snapshots.{mark_before};
 ghost use Rattle.tl_query.specs.Passing.{passes};
 ghost use Rattle.tl_query.specs.declared.typed_queries.Span.TheVariants as span;
 ghost use Rattle.tl_query.specs.declared.typed_queries.TypedPred.{TypedPred};
-ghost use Rattle.tl_app.specs.Parts.{AreEventsOf, IsPart, kept_events, planned_runs};
-ghost use Rattle.tl_app.specs.Scans.{IsPlanFor, rows_in};
+ghost use Rattle.tl_app.specs.Parts.{ArePlanned, IsPart, kept_events, planned_runs};
+ghost use Rattle.tl_app.specs.Scans.{IsValidTimePlanFor, plan_rows};
 
-use crate::groups::{Groups, runs_of_groups};
+use crate::groups::{KeyGroups, runs_of_groups};
 use crate::kept::{events_kept_at, kept_events};
 use crate::keyed::{KeyColumn, groups_of};
-use crate::scans::{Scan, scanned_runs};
+use crate::scans::{ValidScan, scanned_runs};
 use std::alloc::Global;
 use std::sync::ledger::Ledger;
 use tl_bits::RowSet;
@@ -35,8 +36,8 @@ fn list_kept<L: Ledger>(
     keep: &RowSet,
     steps: &mut Steps<L>,
 ) -> Result<Vec<ValidEvent>, NoMemory>
-    requires events { AreEventsOf (rows_in store.now plan.now) events.now }
-    requires keep { length keep.now ≡ length (rows_in store.now plan.now) }
+    requires events { AreEventsOf (plan_rows store.now plan.now) events.now }
+    requires keep { length keep.now ≡ length (plan_rows store.now plan.now) }
     ensures list { IfOk result (λ list. list.items ≡ kept_events keep.now events.now) }
     ensures steps { steps.new ≤ steps.old + length events.now }
 {
@@ -47,21 +48,17 @@ fn list_kept<L: Ledger>(
 // The runs of all kept rows together.
 fn runs_of_all<L: Ledger>(
     alloc: Global,
-    scan: &Scan<'_>,
+    scan: &ValidScan<'_>,
     from: i64,
     to: i64,
     steps: &mut Steps<L>,
 ) -> Result<Vec<Run>, NoMemory>
-    requires plan { IsPlanFor (database_of scan.now.store.now) scan.now.plan.now }
-    requires events { IsPart (rows_in scan.now.store.now scan.now.plan.now)
+    requires plan { IsValidTimePlanFor (database_of scan.now.store.now) scan.now.plan.now }
+    requires events { IsPart (plan_rows scan.now.store.now scan.now.plan.now)
         scan.now.events.now }
     requires together { scan.now.plan.now.by ≡ None }
-    ensures runs { (pred : TypedPred) (version : ℕ) (keep : List Bool)
-        → keep ≡ map (passes pred) (rows_in scan.now.store.now scan.now.plan.now)
-        → scan.now.events.now ≡ kept_events keep
-        (valid_events_in (rows_in scan.now.store.now scan.now.plan.now) version)
-        → IfOk result (λ runs. runs.items ≡ planned_runs (database_of scan.now.store.now)
-        scan.now.plan.now pred (span.Valid version from to)) }
+    ensures runs { IfOk result (λ runs. ArePlanned (database_of scan.now.store.now)
+        scan.now.plan.now scan.now.events.now from to runs.items) }
     ensures steps { steps.new ≤ steps.old + 2 * length scan.now.events.now }
 {
     let runs = scanned_runs(alloc, scan, from, to, steps)?;
@@ -71,22 +68,18 @@ fn runs_of_all<L: Ledger>(
 // The runs of each group of kept rows, which a column separates.
 fn runs_by<L: Ledger>(
     alloc: Global,
-    scan: &Scan<'_>,
+    scan: &ValidScan<'_>,
     by: u8,
     from: i64,
     to: i64,
     steps: &mut Steps<L>,
 ) -> Result<Vec<Run>, NoMemory>
-    requires plan { IsPlanFor (database_of scan.now.store.now) scan.now.plan.now }
-    requires events { IsPart (rows_in scan.now.store.now scan.now.plan.now)
+    requires plan { IsValidTimePlanFor (database_of scan.now.store.now) scan.now.plan.now }
+    requires events { IsPart (plan_rows scan.now.store.now scan.now.plan.now)
         scan.now.events.now }
     requires by { scan.now.plan.now.by ≡ Some by }
-    ensures runs { (pred : TypedPred) (version : ℕ) (keep : List Bool)
-        → keep ≡ map (passes pred) (rows_in scan.now.store.now scan.now.plan.now)
-        → scan.now.events.now ≡ kept_events keep
-        (valid_events_in (rows_in scan.now.store.now scan.now.plan.now) version)
-        → IfOk result (λ runs. runs.items ≡ planned_runs (database_of scan.now.store.now)
-        scan.now.plan.now pred (span.Valid version from to)) }
+    ensures runs { IfOk result (λ runs. ArePlanned (database_of scan.now.store.now)
+        scan.now.plan.now scan.now.events.now from to runs.items) }
     ensures steps { steps.new ≤ steps.old + 3 * length scan.now.events.now }
 {
     let column = KeyColumn {
@@ -96,7 +89,7 @@ fn runs_by<L: Ledger>(
     };
     let _ = scan.store.rows(scan.plan.table); // says that rows are few
     let groups_of_events = groups_of(alloc, &column, scan.events, steps)?;
-    let groups = Groups {
+    let groups = KeyGroups {
         store: scan.store,
         plan: scan.plan,
         groups: groups_of_events.as_slice(),
@@ -109,20 +102,16 @@ fn runs_by<L: Ledger>(
 // The runs that the plan asks for.
 fn runs_of_plan<L: Ledger>(
     alloc: Global,
-    scan: &Scan<'_>,
+    scan: &ValidScan<'_>,
     from: i64,
     to: i64,
     steps: &mut Steps<L>,
 ) -> Result<Vec<Run>, NoMemory>
-    requires plan { IsPlanFor (database_of scan.now.store.now) scan.now.plan.now }
-    requires events { IsPart (rows_in scan.now.store.now scan.now.plan.now)
+    requires plan { IsValidTimePlanFor (database_of scan.now.store.now) scan.now.plan.now }
+    requires events { IsPart (plan_rows scan.now.store.now scan.now.plan.now)
         scan.now.events.now }
-    ensures runs { (pred : TypedPred) (version : ℕ) (keep : List Bool)
-        → keep ≡ map (passes pred) (rows_in scan.now.store.now scan.now.plan.now)
-        → scan.now.events.now ≡ kept_events keep
-        (valid_events_in (rows_in scan.now.store.now scan.now.plan.now) version)
-        → IfOk result (λ runs. runs.items ≡ planned_runs (database_of scan.now.store.now)
-        scan.now.plan.now pred (span.Valid version from to)) }
+    ensures runs { IfOk result (λ runs. ArePlanned (database_of scan.now.store.now)
+        scan.now.plan.now scan.now.events.now from to runs.items) }
     ensures steps { steps.new ≤ steps.old + 3 * length scan.now.events.now }
 {
     match scan.plan.by {
@@ -148,20 +137,20 @@ pub fn valid_runs<L: Ledger>(
     keep: &RowSet,
     steps: &mut Steps<L>,
 ) -> Result<Seq<Run>, NoMemory>
-    requires plan { IsPlanFor (database_of (commits_of snapshot.now)) plan.now }
+    requires plan { IsValidTimePlanFor (database_of (commits_of snapshot.now)) plan.now }
     requires some { from <ℤ to }
-    requires events { AreEventsOf (rows_in (commits_of snapshot.now) plan.now) events.now }
-    requires keep { length keep.now ≡ length (rows_in (commits_of snapshot.now) plan.now) }
+    requires events { AreEventsOf (plan_rows (commits_of snapshot.now) plan.now) events.now }
+    requires keep { length keep.now ≡ length (plan_rows (commits_of snapshot.now) plan.now) }
     ensures runs { (pred : TypedPred) (version : ℕ)
-        → keep.now ≡ map (passes pred) (rows_in (commits_of snapshot.now) plan.now)
-        → events.now ≡ valid_events_in (rows_in (commits_of snapshot.now) plan.now) version
+        → keep.now ≡ map (passes pred) (plan_rows (commits_of snapshot.now) plan.now)
+        → events.now ≡ valid_events_in (plan_rows (commits_of snapshot.now) plan.now) version
         → IfOk result (λ runs. runs ≡ planned_runs (database_of (commits_of snapshot.now))
         plan.now pred (span.Valid version from to)) }
     ensures steps { steps.new ≤ steps.old + (4 * length events.now + 2) }
 {
     let store = snapshot.store();
     let kept = list_kept(alloc, store, plan, events, keep, steps)?;
-    let scan = Scan {
+    let scan = ValidScan {
         store,
         plan,
         events: kept.as_slice(),
@@ -174,8 +163,8 @@ pub fn valid_runs<L: Ledger>(
 /// valid time, at a version, of the rows that are in `keep`, which has a bit for each row of the
 /// plan's table; separated by a column, those of each value that the column has, in order, where
 /// they have a row. The version is not after the snapshot's, and `from` is before `to`. The events
-/// of rows that are not in `keep` are left out before the others are put in order, so no list of all
-/// is made.
+/// of rows that are not in `keep` are left out before the others are put in order, so no list of
+/// all is made.
 ///
 /// With e events from the version of the nearest mark that is not after it up to this one, w begun
 /// 64s of rows, as many versions with events, and one more, as a number of s binary digits tells,
@@ -191,12 +180,12 @@ pub fn valid_runs_at<L: Ledger>(
     keep: &RowSet,
     steps: &mut Steps<L>,
 ) -> Result<Seq<Run>, NoMemory>
-    requires plan { IsPlanFor (database_of (commits_of snapshot.now)) plan.now }
+    requires plan { IsValidTimePlanFor (database_of (commits_of snapshot.now)) plan.now }
     requires version { version ≤ (database_of (commits_of snapshot.now)).version }
     requires some { from <ℤ to }
-    requires keep { length keep.now ≡ length (rows_in (commits_of snapshot.now) plan.now) }
+    requires keep { length keep.now ≡ length (plan_rows (commits_of snapshot.now) plan.now) }
     ensures runs { (pred : TypedPred)
-        → keep.now ≡ map (passes pred) (rows_in (commits_of snapshot.now) plan.now)
+        → keep.now ≡ map (passes pred) (plan_rows (commits_of snapshot.now) plan.now)
         → IfOk result (λ runs. runs ≡ planned_runs (database_of (commits_of snapshot.now))
         plan.now pred (span.Valid version from to)) }
     ensures steps { let db = database_of (commits_of snapshot.now) in
@@ -210,7 +199,7 @@ pub fn valid_runs_at<L: Ledger>(
 {
     let store = snapshot.store();
     let kept = events_kept_at(alloc, snapshot, plan.table, version, keep, steps)?;
-    let scan = Scan {
+    let scan = ValidScan {
         store,
         plan,
         events: kept.as_slice(),

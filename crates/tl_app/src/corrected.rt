@@ -1,4 +1,5 @@
-//! The events of valid time at a version.
+//! The events of valid time at a version: those of the nearest mark that is not after it, corrected
+//! by the events of versions since.
 ghost use Rattle.std.specs.Prelude.{◌≡◌, ◌+◌, ◌-◌, ◌*◌, ◌≤◌, IsTrue, length, IfOk};
 ghost use Rattle.tl_types.specs.Checkpoints.{valid_events_in};
 ghost use Rattle.tl_types.specs.Entries.{commits_of};

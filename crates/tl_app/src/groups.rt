@@ -1,15 +1,17 @@
-//! The runs of groups of rows, each with one value in a column.
+//! The runs of groups of rows, each with one value in a column, one group behind the other. A run
+//! that has no row is left out.
 ghost use Rattle.std.specs.Prelude.{◌≡◌, ◌+◌, ◌*◌, ◌≤◌, ◌++◌, ◌∷◌, [], length, IfOk, OnOk};
 ghost use Rattle.std.specs.List.{All};
 ghost use Rattle.tl_types.specs.History.{database_of};
 ghost use Rattle.tl_query.specs.Aggregates.{in_group};
+ghost use Rattle.tl_query.specs.declared.ast.AggKind.TheVariants as kind;
+ghost use Rattle.tl_running.specs.Telling.{has_rows};
 ghost use Rattle.tl_app.specs.Groups.{runs_with, grouped_runs, event_count, runs_of_groups};
 ghost use Rattle.tl_app.specs.Opening.{Alternate};
-ghost use Rattle.tl_app.specs.Scans.{IsPlanFor, rows_in};
-ghost use Rattle.tl_app.specs.Telling.{counts_some, is_there, has_rows};
+ghost use Rattle.tl_app.specs.Scans.{IsValidTimePlanFor, plan_rows};
 
-use crate::keyed::Group;
-use crate::scans::{AT_ONCE, Scan, scanned_runs};
+use crate::keyed::KeyGroup;
+use crate::scans::{AT_ONCE, ValidScan, scanned_runs};
 use std::alloc::Global;
 use std::sync::ledger::Ledger;
 use tl_query::{AggKind, AggPlan};
@@ -19,20 +21,20 @@ use tl_types::{Cell, Field, NoMemory, Run, Steps};
 /// What is scanned group by group: the groups of events of valid time, in order of their values,
 /// and what a plan asks of these rows.
 #[derive(Clone, Copy)]
-pub(crate) struct Groups<'a> {
+pub(crate) struct KeyGroups<'a> {
     /// The store that has the rows.
     pub store: &'a Store,
-    /// The plan.
+    /// What is asked: the kind of aggregate, and its column.
     pub plan: &'a AggPlan,
-    /// The groups.
-    pub groups: &'a [Group],
-    /// How many events they have.
+    /// The groups, in order of their values, no two of one value.
+    pub groups: &'a [KeyGroup],
+    /// How many events they have together.
     pub events: usize,
 }
 
-// Whether a count is not 0.
+// Whether a count is not 0: is that of some rows.
 fn counts_some(value: &Field) -> bool
-    ensures { result ≡ counts_some value.now }
+    ensures { result ≡ has_rows kind.Count value.now }
 {
     match value {
         Field::Number(number) => *number != 0,
@@ -41,9 +43,9 @@ fn counts_some(value: &Field) -> bool
     }
 }
 
-// Whether a field is not empty.
+// Whether a field is not empty: as a value that is no count, is that of some rows.
 fn is_there(value: &Field) -> bool
-    ensures { result ≡ is_there value.now }
+    ensures { result ≡ has_rows kind.Sum value.now }
 {
     match value {
         Field::Empty => false,
@@ -96,21 +98,21 @@ fn add_runs(
 // The runs of the rows of a group. It takes at most two steps for each of its events.
 fn runs_of_group<L: Ledger>(
     alloc: Global,
-    groups: &Groups<'_>,
-    group: &Group,
+    groups: &KeyGroups<'_>,
+    group: &KeyGroup,
     from: i64,
     to: i64,
     steps: &mut Steps<L>,
 ) -> Result<Vec<Run>, NoMemory>
-    requires plan { IsPlanFor (database_of groups.now.store.now) groups.now.plan.now }
-    requires events { Alternate (rows_in groups.now.store.now groups.now.plan.now)
+    requires plan { IsValidTimePlanFor (database_of groups.now.store.now) groups.now.plan.now }
+    requires events { Alternate (plan_rows groups.now.store.now groups.now.plan.now)
         group.now.events.items }
     ensures runs { IfOk result (λ runs. runs_with groups.now.plan.now.kind group.now.key runs.items
-        ≡ grouped_runs (rows_in groups.now.store.now groups.now.plan.now) groups.now.plan.now
+        ≡ grouped_runs (plan_rows groups.now.store.now groups.now.plan.now) groups.now.plan.now
         from to group.now.key group.now.events.items) }
     ensures steps { steps.new ≤ steps.old + 2 * length group.now.events.items }
 {
-    let scan = Scan {
+    let scan = ValidScan {
         store: groups.store,
         plan: groups.plan,
         events: group.events.as_slice(),
@@ -123,16 +125,16 @@ fn runs_of_group<L: Ledger>(
 /// steps for each event. The error is `NoMemory`.
 pub(crate) fn runs_of_groups<L: Ledger>(
     alloc: Global,
-    groups: &Groups<'_>,
+    groups: &KeyGroups<'_>,
     from: i64,
     to: i64,
     steps: &mut Steps<L>,
 ) -> Result<Vec<Run>, NoMemory>
-    requires plan { IsPlanFor (database_of groups.now.store.now) groups.now.plan.now }
-    requires events { All (λ group. Alternate (rows_in groups.now.store.now groups.now.plan.now)
+    requires plan { IsValidTimePlanFor (database_of groups.now.store.now) groups.now.plan.now }
+    requires events { All (λ group. Alternate (plan_rows groups.now.store.now groups.now.plan.now)
         group.events.items) groups.now.groups.now }
     ensures runs { IfOk result (λ runs. runs.items ≡ runs_of_groups
-        (rows_in groups.now.store.now groups.now.plan.now) groups.now.plan.now from to
+        (plan_rows groups.now.store.now groups.now.plan.now) groups.now.plan.now from to
         groups.now.groups.now) }
     ensures steps { steps.new ≤ steps.old + 2 * event_count groups.now.groups.now }
 {

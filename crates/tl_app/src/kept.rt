@@ -1,4 +1,5 @@
-//! The events of valid time of the rows in a set.
+//! The events of valid time of the rows in a set, in order: chosen before they are put in order, or
+//! left of a list of all.
 ghost use Rattle.std.specs.Prelude.{◌≡◌, ◌+◌, ◌-◌, ◌*◌, ◌≤◌, ◌<◌, IsTrue, length, IfOk};
 ghost use Rattle.std.specs.List.{All};
 ghost use Rattle.tl_types.specs.Checkpoints.{valid_events_in};

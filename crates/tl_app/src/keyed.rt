@@ -1,12 +1,11 @@
-//! Events by the value that their rows have in a column: each distinct value gets a number once, and
-//! an event is dealt to the group of its value's number.
+//! Events by the value that their rows have in a column: each distinct value gets a number once,
+//! and an event is dealt to the group of its value's number. Groups come in order of their values.
 ghost use Rattle.std.specs.Prelude.{◌≡◌, ◌+◌, ◌-◌, ◌^◌, ◌≤◌, ◌<◌, ◌++◌, ◌∷◌, [], List, length, IfOk, OnOk};
 ghost use Rattle.std.specs.List.{All, filter};
 ghost use Rattle.tl_types.specs.declared.events.ValidEvent.{ValidEvent};
-ghost use Rattle.tl_types.specs.History.{database_of, rows_of};
-ghost use Rattle.tl_store.specs.Reading.{columns_of, cell_shown, IsShort};
+ghost use Rattle.tl_store.specs.Reading.{cell_shown, IsShort};
 ghost use Rattle.tl_keys.specs.Keys.{AreApart};
-ghost use Rattle.tl_app.specs.Groups.{has_events, value_with, HasOneMore, AreDealt, IsDealt, AreGroupsOf};
+ghost use Rattle.tl_app.specs.Groups.{column_rows, has_events, value_with, HasColumn, HasOneMore, AreDealt, IsDealt, AreGroupsOf};
 
 use std::alloc::Global;
 use std::sync::ledger::Ledger;
@@ -16,10 +15,10 @@ use tl_types::{Cell, NoMemory, Steps, ValidEvent};
 
 /// The events of the rows that have one value in a column.
 #[derive(Drop)]
-pub(crate) struct Group {
-    /// The value.
+pub(crate) struct KeyGroup {
+    /// The value that the rows have in the column.
     pub key: Cell,
-    /// The events, in order.
+    /// The events of these rows, in order of time.
     pub events: Vec<ValidEvent>,
 }
 
@@ -35,17 +34,17 @@ pub(crate) struct KeyColumn<'a> {
 }
 
 // A group without events, whose value is not known yet.
-fn no_events(alloc: Global) -> Group
+fn no_events(alloc: Global) -> KeyGroup
     ensures { result.events.items ≡ [] }
 {
-    Group {
+    KeyGroup {
         key: Cell::Int(0),
         events: Vec::new(alloc),
     }
 }
 
 // Whether the group has an event.
-fn has_events(group: &Group) -> bool
+fn has_events(group: &KeyGroup) -> bool
     ensures { result ≡ has_events group.now }
 {
     match group.events.as_slice() {
@@ -55,7 +54,7 @@ fn has_events(group: &Group) -> bool
 }
 
 // One group more, where there are fewer than so many.
-fn reach_number(alloc: Global, groups: &mut Vec<Group>, count: u32) -> Result<(), NoMemory>
+fn reach_number(alloc: Global, groups: &mut Vec<KeyGroup>, count: u32) -> Result<(), NoMemory>
     ensures more { OnOk result (length groups.old.items < count
         → HasOneMore groups.old.items groups.new.items) }
     ensures same { OnOk result (count ≤ length groups.old.items
@@ -70,7 +69,7 @@ fn reach_number(alloc: Global, groups: &mut Vec<Group>, count: u32) -> Result<()
 }
 
 // Gives a group without events its value.
-fn name_group(alloc: Global, group: &mut Group, key: CellRef<'_>) -> Result<(), NoMemory>
+fn name_group(alloc: Global, group: &mut KeyGroup, key: CellRef<'_>) -> Result<(), NoMemory>
     requires { IsShort key }
     ensures key { OnOk result (group.new.key ≡ value_with group.old (cell_shown key.entry)) }
     ensures events { OnOk result (group.new.events ≡ group.old.events) }
@@ -85,7 +84,7 @@ fn name_group(alloc: Global, group: &mut Group, key: CellRef<'_>) -> Result<(), 
 // Puts an event behind those of its value's group.
 fn put_event(
     alloc: Global,
-    group: &mut Group,
+    group: &mut KeyGroup,
     key: CellRef<'_>,
     event: ValidEvent,
 ) -> Result<(), NoMemory>
@@ -104,21 +103,19 @@ fn deal<'a, L: Ledger>(
     alloc: Global,
     by: &KeyColumn<'a>,
     keys: &mut Keys<'a>,
-    groups: &mut Vec<Group>,
+    groups: &mut Vec<KeyGroup>,
     event: ValidEvent,
     steps: &mut Steps<L>,
 ) -> Result<(), NoMemory>
-    requires column { by.now.column
-        < length (columns_of (database_of by.now.store.now) by.now.table) }
-    requires row { event.row < length (rows_of (database_of by.now.store.now) by.now.table) }
+    requires column { HasColumn by.now }
+    requires row { event.row < length (column_rows by.now) }
     requires apart { AreApart keys.old }
     requires count { keys.old.count ≤ length groups.old.items }
     requires room { length groups.old.items + 1 < 2 ^ 32 }
     ensures dealt { OnOk result ((done : List ValidEvent)
-        → AreDealt (rows_of (database_of by.now.store.now) by.now.table) by.now.column
-        keys.old groups.old.items done
-        → AreDealt (rows_of (database_of by.now.store.now) by.now.table) by.now.column
-        keys.new groups.new.items (done ++ event ∷ [])) }
+        → AreDealt (column_rows by.now) by.now.column keys.old groups.old.items done
+        → AreDealt (column_rows by.now) by.now.column keys.new groups.new.items
+        (done ++ event ∷ [])) }
     ensures steps { steps.new ≡ steps.old + 1 }
 {
     let key = by.store.cell(by.table, event.row, by.column, steps);
@@ -135,15 +132,12 @@ fn dealt<L: Ledger>(
     by: &KeyColumn<'_>,
     events: &[ValidEvent],
     steps: &mut Steps<L>,
-) -> Result<Vec<Group>, NoMemory>
-    requires column { by.now.column
-        < length (columns_of (database_of by.now.store.now) by.now.table) }
-    requires rows { All (λ event. event.row
-        < length (rows_of (database_of by.now.store.now) by.now.table)) events.now }
+) -> Result<Vec<KeyGroup>, NoMemory>
+    requires column { HasColumn by.now }
+    requires rows { All (λ event. event.row < length (column_rows by.now)) events.now }
     requires few { length events.now + 1 < 2 ^ 32 }
-    ensures dealt { IfOk result (λ groups. IsDealt
-        (rows_of (database_of by.now.store.now) by.now.table) by.now.column groups.items
-        events.now) }
+    ensures dealt { IfOk result (λ groups. IsDealt (column_rows by.now) by.now.column
+        groups.items events.now) }
     ensures steps { steps.new ≤ steps.old + length events.now }
 {
     let mut keys = Keys::none(alloc);
@@ -155,7 +149,7 @@ fn dealt<L: Ledger>(
 }
 
 // The groups that have an event.
-fn with_events(alloc: Global, groups: Vec<Group>) -> Result<Vec<Group>, NoMemory>
+fn with_events(alloc: Global, groups: Vec<KeyGroup>) -> Result<Vec<KeyGroup>, NoMemory>
     ensures { IfOk result (λ kept. kept.items ≡ filter has_events groups.items) }
 {
     let mut kept = Vec::with_capacity(alloc, groups.len())?;
@@ -174,15 +168,12 @@ pub(crate) fn groups_of<L: Ledger>(
     by: &KeyColumn<'_>,
     events: &[ValidEvent],
     steps: &mut Steps<L>,
-) -> Result<Vec<Group>, NoMemory>
-    requires column { by.now.column
-        < length (columns_of (database_of by.now.store.now) by.now.table) }
-    requires rows { All (λ event. event.row
-        < length (rows_of (database_of by.now.store.now) by.now.table)) events.now }
+) -> Result<Vec<KeyGroup>, NoMemory>
+    requires column { HasColumn by.now }
+    requires rows { All (λ event. event.row < length (column_rows by.now)) events.now }
     requires few { length events.now + 1 < 2 ^ 32 }
-    ensures groups { IfOk result (λ groups. AreGroupsOf
-        (rows_of (database_of by.now.store.now) by.now.table) by.now.column events.now
-        groups.items) }
+    ensures groups { IfOk result (λ groups. AreGroupsOf (column_rows by.now) by.now.column
+        events.now groups.items) }
     ensures steps { steps.new ≤ steps.old + length events.now }
 {
     let all = dealt(alloc, by, events, steps)?;

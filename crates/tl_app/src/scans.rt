@@ -1,4 +1,5 @@
-//! A scan of events of valid time, in order.
+//! A scan of events of valid time, in order: rows come and go, and between two events the value of
+//! the aggregate stays the same. It keeps the value up to date, and looks at no row twice.
 ghost use Rattle.std.specs.Prelude.{◌≡◌, ℕ, ◌+◌, ◌*◌, ◌≤◌, ◌<◌, ◌<ℤ◌, ◌≤ℤ◌, length, take, Some, IsTrue, IfOk, OnOk, slice_get, slice_index_or};
 ghost use Rattle.std.specs.List.{AllByRecursion};
 ghost use Rattle.tl_types.specs.History.{database_of, rows_of};
@@ -6,9 +7,9 @@ ghost use Rattle.tl_types.specs.Runs.{runs_of};
 ghost use Rattle.tl_store.specs.Reading.{columns_of, IsIntColumn};
 ghost use Rattle.tl_query.specs.declared.ast.AggKind.{AggKind};
 ghost use Rattle.tl_running.specs.Standing.{IsShort};
+ghost use Rattle.tl_running.specs.Telling.{TellsNumber};
 ghost use Rattle.tl_app.specs.Opening.{Alternate};
-ghost use Rattle.tl_app.specs.Scans.{IsPlanFor, rows_in, TellsNumber, Holds, value_at, due_at, next_of, IsCut};
-ghost use Rattle.tl_app.specs.Telling.{Tells};
+ghost use Rattle.tl_app.specs.Scans.{IsValidTimePlanFor, plan_rows, Holds, open_value, Tells, due_at, next_of, IsCut};
 
 use std::alloc::Global;
 use std::sync::ledger::Ledger;
@@ -23,12 +24,12 @@ pub(crate) const AT_ONCE: usize = 65_536;
 /// What is scanned: some events of valid time of a table, in order, and what a plan asks of their
 /// rows.
 #[derive(Clone, Copy)]
-pub(crate) struct Scan<'a> {
+pub(crate) struct ValidScan<'a> {
     /// The store that has the rows.
     pub store: &'a Store,
-    /// The plan.
+    /// What is asked: the table, the kind of aggregate, its column and that of its groups.
     pub plan: &'a AggPlan,
-    /// The events.
+    /// The events, in order of time, two for each row at most.
     pub events: &'a [ValidEvent],
 }
 
@@ -80,10 +81,10 @@ fn column_number<L: Ledger>(
 
 // The number of a row, 0 where no column is asked for. It takes at most one step.
 fn number_of<L: Ledger>(store: &Store, plan: &AggPlan, row: u32, steps: &mut Steps<L>) -> i64
-    requires plan { IsPlanFor (database_of store.now) plan.now }
-    requires row { row < length (rows_in store.now plan.now) }
+    requires plan { IsValidTimePlanFor (database_of store.now) plan.now }
+    requires row { row < length (plan_rows store.now plan.now) }
     ensures number { TellsNumber plan.now.kind plan.now.column
-        (rows_in store.now plan.now) row result }
+        (plan_rows store.now plan.now) row result }
     ensures short { IsShort result }
     ensures steps { steps.new ≤ steps.old + 1 }
 {
@@ -96,17 +97,17 @@ fn number_of<L: Ledger>(store: &Store, plan: &AggPlan, row: u32, steps: &mut Ste
 // Takes the event at a place: its row comes, or goes. It takes at most two steps.
 fn take_event<L: Ledger>(
     running: &mut Running,
-    scan: &Scan<'_>,
+    scan: &ValidScan<'_>,
     i: usize,
     steps: &mut Steps<L>,
 ) -> Result<(), NoMemory>
-    requires plan { IsPlanFor (database_of scan.now.store.now) scan.now.plan.now }
-    requires events { Alternate (rows_in scan.now.store.now scan.now.plan.now)
+    requires plan { IsValidTimePlanFor (database_of scan.now.store.now) scan.now.plan.now }
+    requires events { Alternate (plan_rows scan.now.store.now scan.now.plan.now)
         scan.now.events.now }
     requires some { i < length scan.now.events.now }
-    requires holds { Holds (rows_in scan.now.store.now scan.now.plan.now) scan.now.plan.now
+    requires holds { Holds (plan_rows scan.now.store.now scan.now.plan.now) scan.now.plan.now
         (take i scan.now.events.now) running.old }
-    ensures holds { OnOk result (Holds (rows_in scan.now.store.now scan.now.plan.now)
+    ensures holds { OnOk result (Holds (plan_rows scan.now.store.now scan.now.plan.now)
         scan.now.plan.now (take (i + 1) scan.now.events.now) running.new) }
     ensures steps { steps.new ≤ steps.old + 2 }
 {
@@ -124,21 +125,21 @@ fn take_event<L: Ledger>(
 // It takes at most two steps for each.
 fn take_due<L: Ledger>(
     running: &mut Running,
-    scan: &Scan<'_>,
+    scan: &ValidScan<'_>,
     from: usize,
     at: i64,
     steps: &mut Steps<L>,
 ) -> Result<usize, NoMemory>
-    requires plan { IsPlanFor (database_of scan.now.store.now) scan.now.plan.now }
-    requires events { Alternate (rows_in scan.now.store.now scan.now.plan.now)
+    requires plan { IsValidTimePlanFor (database_of scan.now.store.now) scan.now.plan.now }
+    requires events { Alternate (plan_rows scan.now.store.now scan.now.plan.now)
         scan.now.events.now }
     requires within { from ≤ length scan.now.events.now }
-    requires holds { Holds (rows_in scan.now.store.now scan.now.plan.now) scan.now.plan.now
+    requires holds { Holds (plan_rows scan.now.store.now scan.now.plan.now) scan.now.plan.now
         (take from scan.now.events.now) running.old }
     requires front { (k : ℕ) (d : _) → k < from
         → (slice_index_or scan.now.events.now k d).time ≤ℤ at }
     ensures cut { IfOk result (λ i. IsCut scan.now.events.now at i) }
-    ensures holds { IfOk result (λ i. Holds (rows_in scan.now.store.now scan.now.plan.now)
+    ensures holds { IfOk result (λ i. Holds (plan_rows scan.now.store.now scan.now.plan.now)
         scan.now.plan.now (take i scan.now.events.now) running.new) }
     ensures steps { IfOk result (λ i. steps.new + 2 * from ≤ steps.old + 2 * i) }
     ensures all_steps { steps.new + 2 * from
@@ -156,19 +157,19 @@ fn take_due<L: Ledger>(
 /// moment. It takes at most two steps for each event. The error is `NoMemory`.
 pub(crate) fn scanned_runs<L: Ledger>(
     alloc: Global,
-    scan: &Scan<'_>,
+    scan: &ValidScan<'_>,
     from: i64,
     to: i64,
     steps: &mut Steps<L>,
 ) -> Result<Vec<Run>, NoMemory>
-    requires plan { IsPlanFor (database_of scan.now.store.now) scan.now.plan.now }
-    requires events { Alternate (rows_in scan.now.store.now scan.now.plan.now)
+    requires plan { IsValidTimePlanFor (database_of scan.now.store.now) scan.now.plan.now }
+    requires events { Alternate (plan_rows scan.now.store.now scan.now.plan.now)
         scan.now.events.now }
     ensures runs { IfOk result (λ runs. runs.items
-        ≡ runs_of (value_at (rows_in scan.now.store.now scan.now.plan.now) scan.now.plan.now
+        ≡ runs_of (open_value (plan_rows scan.now.store.now scan.now.plan.now) scan.now.plan.now
         scan.now.events.now) from to) }
     ensures tells { IfOk result (λ runs. AllByRecursion (Tells
-        (rows_in scan.now.store.now scan.now.plan.now) scan.now.plan.now scan.now.events.now)
+        (plan_rows scan.now.store.now scan.now.plan.now) scan.now.plan.now scan.now.events.now)
         runs.items) }
     ensures steps { steps.new ≤ steps.old + 2 * length scan.now.events.now }
 {

@@ -88,7 +88,12 @@ impl<'a> OpenTable<'a> {
     }
 
     /// The cells of a row, one for each column. The error is `NoMemory`.
-    pub(crate) fn row_cells(&self, alloc: Global, row: u32) -> Result<Seq<Cell>, NoMemory>
+    pub(crate) fn row_cells<L: Ledger>(
+        &self,
+        alloc: Global,
+        row: u32,
+        steps: &mut Steps<L>,
+    ) -> Result<Seq<Cell>, NoMemory>
         requires row { row < length self.now.rows }
         ensures value { IfOk result (λ cells. Some cells
             ≡ option_map (λ r. r.cells) (slice_get self.now.rows row)) }
@@ -97,7 +102,7 @@ impl<'a> OpenTable<'a> {
         ensures few { IfOk result (λ cells. length cells ≤ 16) }
     {
         let _columns = self.schema.columns();
-        let cells = self.store.row_cells(alloc, self.number, row)?;
+        let cells = self.store.row_cells(alloc, self.number, row, steps)?;
         Ok(cells)
     }
 

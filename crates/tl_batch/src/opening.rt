@@ -157,7 +157,7 @@ fn push_many<L: Ledger>(
         → opens.new.items ≡ opens.old.items ++ over r.cells (cuts true lines r.period)) }
 {
     let period = table.period_at(row, steps);
-    let row_cells = table.row_cells(alloc, row)?;
+    let row_cells = table.row_cells(alloc, row, steps)?;
     let parts = many.gaps(alloc, period)?;
     push_over(alloc, opens, row_cells.as_slice(), parts.as_slice())?;
     Ok(())

@@ -390,7 +390,7 @@ checked_fault now db (query.Join form) e h = fault_first _ _ form.left e (no_joi
 pub answered_first : (now : ℕ) (db : plain.Database) (q : Query) (r : Result Typed CheckFault) → IsUnlessMemory r (checked now db q) → IfErr r (λ e. (e ≡ fault.NoMemory) ⊎ IsFirst e (faults_of now db q))
 answered_first now db q (Ok t) h = tt
 answered_first now db q (Err fault.NoMemory) h = inl refl
-answered_first now db q (Err e) h = inr (first_is (faults_of now db q) e (checked_fault now db q e h))
+answered_first now db q (Err e) h = inr (first_is (faults_of now db q) e (checked_fault now db q e (h (λ k. cc))))
 
 checked_right : (now : ℕ) (db : plain.Database) (q : Query) (t : Typed) → checked now db q ≡ Ok t → first_of (faults_of now db q) ≡ None
 checked_right now db (query.Select form) t h = (fault_or_right _ _ form.table t h).0

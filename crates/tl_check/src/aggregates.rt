@@ -1,4 +1,5 @@
-//! The check of a query for an aggregate over time.
+//! The check of a query for an aggregate over time: its column, its table, its predicate, its
+//! groups and its range. It refuses what it finds wrong furthest to the left.
 ghost use Rattle.std.specs.Prelude.{◌≡◌, option_map};
 ghost use Rattle.tl_query.specs.Checking.{first_of, IsUnlessMemory};
 ghost use Rattle.tl_query.specs.CheckingQueries.{
@@ -81,8 +82,8 @@ fn column_place_of(schema: &Schema, name: &Option<Name>) -> Option<u8>
     }
 }
 
-/// The aggregate by numbers, where this is known of versions, over the table that its name means if it means one,
-/// or its first fault. `NoMemory` says that memory ran out.
+/// The aggregate by numbers over the table that its name means, if it means one, or its first
+/// fault. `NoMemory` says that memory ran out.
 pub(crate) fn check_agg(
     alloc: Global,
     times: &StoreTimes<'_>,

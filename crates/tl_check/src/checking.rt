@@ -1,4 +1,5 @@
-//! The check of a query.
+//! The check of a query over a store: the tables that it names, the versions that may be asked of
+//! them, and then the check of its kind. It refuses a query at the first place where it is wrong.
 ghost use Rattle.std.specs.Prelude.{◌≡◌, ◌⊎◌, IfErr, IfOk, length};
 ghost use Rattle.tl_types.specs.History.{database_of};
 ghost use Rattle.tl_query.specs.Checking.{IsUnlessMemory};
@@ -27,7 +28,7 @@ fn query_floor(query: &Query, store: &Store) -> u32
     }
 }
 
-// The check where this is known of versions.
+// The check of a query of each kind, over the tables that its names mean.
 fn check_at(
     alloc: Global,
     times: &StoreTimes<'_>,
@@ -64,14 +65,14 @@ fn check_at(
 ///   number of commits and one.
 /// - `EmptyRange` stands at the first bound of a range where it is not less than the second.
 /// - `NoMemory` says that memory ran out.
-/// - `Forgotten` stands at the number after AS OF, with MOMENT or without, where the version that it
-///   stands for is below the greatest floor of the known tables of the query, and at the first bound
-///   of a range of versions where that is.
+/// - `Forgotten` stands at the number after AS OF, with MOMENT or without, where the version that
+///   it stands for is below the greatest floor of the known tables of the query, and at the first
+///   bound of a range of versions where that is.
 ///
 /// `*` stands for all columns in order, and then the ends of the valid period where the table's
 /// rows have one. Without AS OF the version is the last one, and `SYSTEM ALL` is all versions from
-/// the greatest floor of the query's tables up to it. `AS OF MOMENT` is the version before the first
-/// one that states a greater moment, or the last one where none does.
+/// the greatest floor of the query's tables up to it. `AS OF MOMENT` is the version before the
+/// first one that states a greater moment, or the last one where none does.
 pub fn check(alloc: Global, query: &Query, store: &Store) -> Result<Typed, CheckFault>
     requires { IsQuery query.now }
     // What is answered is the definition's answer, unless memory runs out.

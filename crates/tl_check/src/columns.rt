@@ -1,4 +1,5 @@
-//! Tables and columns that names mean.
+//! The tables of a store and the columns of a table that names mean, by number, and the faults at
+//! names that mean none.
 ghost use Rattle.std.specs.Prelude.{◌≡◌};
 ghost use Rattle.tl_types.specs.History.{database_of};
 ghost use Rattle.tl_query.specs.Checking.{floor_named, place_among, table_named};
@@ -26,7 +27,8 @@ pub(crate) fn table_named<'a>(store: &'a Store, name: &Name) -> Option<(u16, &'a
     }
 }
 
-/// The floor of the table of a store that a name means, 0 where it means none.
+/// The floor of the table of a store that a name means, the least version that may be asked of it:
+/// 0 where the name means none.
 pub(crate) fn floor_named(store: &Store, name: &Name) -> u32
     ensures { result ≡ floor_named (database_of store.now) name.now }
 {
@@ -56,7 +58,7 @@ pub(crate) fn is_timeless(table: Option<(u16, &Schema)>) -> bool
     }
 }
 
-/// The place of a name among columns.
+/// The place of a name among columns, from 0.
 pub(crate) fn place_among(columns: &[Column], name: &Text) -> Option<usize>
     ensures { result ≡ place_among columns.now name.now }
 {
@@ -73,7 +75,7 @@ pub(crate) fn column_fault(schema: &Schema, name: &Name) -> Option<CheckFault>
     }
 }
 
-/// The place of the column that a name means, from 0.
+/// The place of the column that a name means, from 0, and 0 where it means none.
 pub(crate) fn column_place(schema: &Schema, name: &Name) -> u8
     ensures { result ≡ column_place schema.now name.now }
 {

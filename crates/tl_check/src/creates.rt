@@ -1,4 +1,5 @@
-//! The check of a new table.
+//! The check of a new table: its schema, where no two of its columns have one name and its key is
+//! one of them.
 ghost use Rattle.std.specs.Prelude.{IfOk, ◌≡◌, ◌≤◌, length, None, IsTrue, Ok};
 ghost use Rattle.std.specs.List.{list_any};
 ghost use Rattle.tl_types.specs.Names.{same_bytes};

@@ -1,9 +1,11 @@
-//! The first of several faults.
+//! The first of several faults: the one that stands furthest to the left, and of those at one place
+//! the one with the least number.
 ghost use Rattle.std.specs.Prelude.{◌≡◌};
 ghost use Rattle.tl_query.specs.Checking.{comes_before, earlier, first_of, place_of, rank_of};
 
 use tl_query::CheckFault;
 
+// Where a fault stands, as an offset in bytes.
 fn place_of(fault: &CheckFault) -> u32
     ensures { result ≡ place_of fault.now }
 {
@@ -20,6 +22,7 @@ fn place_of(fault: &CheckFault) -> u32
     }
 }
 
+// The number of a fault, which decides between two at one place.
 fn rank_of(fault: &CheckFault) -> u8
     ensures { result ≡ rank_of fault.now }
 {

@@ -1,4 +1,5 @@
-//! The check of a query for a join over time.
+//! The check of a query for a join over time: both tables with their predicates, the columns after
+//! ON and the range. It refuses what it finds wrong furthest to the left.
 ghost use Rattle.std.specs.Prelude.{◌≡◌, ◌∷◌, ◌||◌, [], Some};
 ghost use Rattle.tl_query.specs.Checking.{first_of, IsUnlessMemory};
 ghost use Rattle.tl_query.specs.CheckingQueries.{
@@ -91,7 +92,8 @@ fn join_fault(
     form: &JoinForm,
 ) -> Option<CheckFault>
     requires { HasVersions form.now.over }
-    ensures { result ≡ first_of (join_faults times.now (known left.entry) (known right.entry) form.now) }
+    ensures { result ≡ first_of
+        (join_faults times.now (known left.entry) (known right.entry) form.now) }
 {
     let left_name = table_fault(left, &form.left);
     let left_pred = pred_fault(left, &form.left_pred);
@@ -102,8 +104,8 @@ fn join_fault(
     first_of([left_name, left_pred, right_name, right_pred, columns, over].as_slice())
 }
 
-/// The join by numbers, where this is known of versions, over the tables that its names mean if they mean any, or
-/// its first fault. `NoMemory` says that memory ran out.
+/// The join by numbers over the tables that its names mean, if they mean any, or its first fault.
+/// `NoMemory` says that memory ran out.
 pub(crate) fn check_join(
     alloc: Global,
     times: &StoreTimes<'_>,

@@ -1,4 +1,5 @@
-//! The tests of a query.
+//! The tests of a query's predicate: their faults, and the tests by the places of their columns. An
+//! order of texts and a constant of another kind than its column are refused.
 ghost use Rattle.std.specs.Prelude.{◌≡◌, IfOk, flat_map, map};
 ghost use Rattle.tl_types.specs.History.{is_of_kind};
 ghost use Rattle.tl_query.specs.Checking.{first_of};
@@ -41,7 +42,7 @@ fn is_of_kind(kind: ColumnKind, cell: &Cell) -> bool
     }
 }
 
-// An order of texts.
+// `WrongType` at an order that is asked of texts.
 fn order_fault(kind: Option<ColumnKind>, test: &Test) -> Option<CheckFault>
     ensures { result ≡ order_fault kind test.now }
 {
@@ -57,7 +58,7 @@ fn order_fault(kind: Option<ColumnKind>, test: &Test) -> Option<CheckFault>
     }
 }
 
-// A constant that is not of its column's kind.
+// `WrongType` at a constant that is not of its column's kind.
 fn constant_fault(kind: Option<ColumnKind>, test: &Test) -> Option<CheckFault>
     ensures { result ≡ constant_fault kind test.now }
 {

@@ -1,4 +1,6 @@
-//! Versions and ranges of time.
+//! The versions and the ranges of time that a query names: their faults, and where there are none
+//! the versions that they stand for. A version after the last commit, one that is forgotten and a
+//! range with nothing in it are refused.
 ghost use Rattle.std.specs.Prelude.{◌≡◌, ◌≤◌, ◌+◌, None, nat_abs};
 ghost use Rattle.std.specs.Option.{ForSome};
 ghost use Rattle.tl_query.specs.Checking.{
@@ -71,6 +73,7 @@ fn version_meant(times: &StoreTimes<'_>, as_of: AsOf) -> u64
     }
 }
 
+// The number after AS OF, with MOMENT or without.
 fn stamp_of(as_of: AsOf) -> Stamp
     ensures { result ≡ stamp_of as_of }
 {
@@ -127,7 +130,7 @@ pub(crate) fn version_of(times: &StoreTimes<'_>, asked: Option<AsOf>) -> u32
     }
 }
 
-// `NotValidTable` at `VALID`, where the rows of a known table have no valid period.
+// `NotValidTable` at `VALID`, where the rows of a known table have no valid period: are timeless.
 fn valid_fault(timeless: bool, at: u32) -> Option<CheckFault>
     ensures { result ≡ fault_if timeless (fault.NotValidTable at) }
 {
@@ -138,7 +141,7 @@ fn valid_fault(timeless: bool, at: u32) -> Option<CheckFault>
     }
 }
 
-/// The same at VALID AT, where it is asked for.
+/// `NotValidTable` at VALID AT, where that is asked for of a timeless table.
 pub(crate) fn point_fault(timeless: bool, point: Option<ValidPoint>) -> Option<CheckFault>
     ensures { result ≡ point_fault timeless point }
 {
@@ -166,6 +169,7 @@ fn end_fault(now: u32, to: Stamp) -> Option<CheckFault>
     }
 }
 
+// `EmptyRange` at the first bound, where no version is in the range.
 fn versions_fault(from: Stamp, to: Stamp) -> Option<CheckFault>
     requires from { IsVersion from }
     requires to { IsVersion to }
@@ -193,6 +197,7 @@ fn start_fault(floor: u32, from: Stamp) -> Option<CheckFault>
     }
 }
 
+// `EmptyRange` at the first bound, where no moment of valid time is in the range.
 fn moments_fault(from: Stamp, to: Stamp) -> Option<CheckFault>
     ensures { result ≡ moments_fault from to }
 {
@@ -203,9 +208,9 @@ fn moments_fault(from: Stamp, to: Stamp) -> Option<CheckFault>
     }
 }
 
-/// The first fault of a range of time, where the rows of a known table have no valid period, or not:
-/// `EmptyRange` at the first bound where it is not less than the second, `VersionAhead` at a version
-/// that is too great, `Forgotten` at one that is too small, and `NotValidTable` at `VALID`.
+/// The first fault of a range of time: `EmptyRange` at the first bound where it is not less than
+/// the second, `VersionAhead` at a version that is too great, `Forgotten` at one that is too small,
+/// and `NotValidTable` at `VALID`, where the rows of a known table of the query are timeless.
 pub(crate) fn over_fault(times: &StoreTimes<'_>, timeless: bool, over: Over) -> Option<CheckFault>
     requires { HasVersions over }
     ensures { result ≡ first_of (over_faults times.now timeless over) }
@@ -241,7 +246,8 @@ fn bound_of(now: u32, bound: Stamp) -> u32
     (bound.value as u64).min(now as u64 + 1) as u32
 }
 
-/// A range of time without a fault. All versions are those from the least one that may be asked.
+/// The span that a range of time without a fault stands for. `SYSTEM ALL` is all versions from the
+/// least one that may be asked on.
 pub(crate) fn span_of(times: &StoreTimes<'_>, timeless: bool, over: Over) -> Span
     requires positive { HasVersions over }
     requires right { first_of (over_faults times.now timeless over) ≡ None }

@@ -1,4 +1,5 @@
-//! The check of a query for rows.
+//! The check of a query for rows: its items, its table, its predicate, its moment of valid time and
+//! its version. It refuses what it finds wrong furthest to the left.
 ghost use Rattle.std.specs.Prelude.{◌≡◌, ◌≤◌, IfOk, length, map, option_map};
 ghost use Rattle.std.specs.List.{enumerate_from};
 ghost use Rattle.std.specs.Option.{ForSome};
@@ -98,7 +99,7 @@ fn typed_items(alloc: Global, schema: &Schema, items: &[Item]) -> Result<Seq<Typ
     Ok(Seq::from_vec(typed))
 }
 
-// Each column by its place.
+// Each of at most 16 columns by its place.
 fn column_items(alloc: Global, columns: &[Column]) -> Result<Vec<TypedItem>, NoMemory>
     requires { length columns.now ≤ 16 }
     ensures { IfOk result (λ typed. typed.items
@@ -147,9 +148,9 @@ fn moment_of(form: &SelectForm) -> Option<i64>
     }
 }
 
-/// The query by numbers, where this is known of versions, over the table that its name means if it means one, or
-/// its first fault. `*` stands for all columns in order, and then the ends of the valid period
-/// where the table's rows have one. `NoMemory` says that memory ran out.
+/// The query by numbers over the table that its name means, if it means one, or its first fault.
+/// `*` stands for all columns in order, and then the ends of the valid period where the table's
+/// rows have one. `NoMemory` says that memory ran out.
 pub(crate) fn check_select(
     alloc: Global,
     times: &StoreTimes<'_>,

@@ -1,12 +1,13 @@
-//! What a check knows of versions.
+//! What a check knows of versions: how many commits there are, which version a moment stands for,
+//! and the least version that may be asked. It keeps no copy of the stamps, but asks the store.
 ghost use Rattle.std.specs.Prelude.{◌≡◌, ◌≤◌};
 ghost use Rattle.tl_types.specs.History.{database_of, version_at_moment};
 
 use std::marker::Model;
 use tl_store::Store;
 
-/// The number of commits, the stamps, and the least version that may be asked of the query's tables:
-/// a store, and the greatest floor of those tables.
+/// A store, which has the number of commits and their stamps, and the greatest floor of the query's
+/// tables, which is the least version that may be asked of them.
 #[derive(Drop)]
 pub(crate) struct StoreTimes<'a> {
     store: &'a Store,
@@ -27,7 +28,7 @@ impl<'a> Model for StoreTimes<'a> {
 }
 
 impl<'a> StoreTimes<'a> {
-    /// What is known of versions where this floor stands.
+    /// What a store tells of versions to a query whose tables have this greatest floor.
     pub fn new(store: &'a Store, floor: u32) -> StoreTimes<'a>
         ensures { result ≡ record {
           now = (database_of store.now).version;
@@ -38,7 +39,7 @@ impl<'a> StoreTimes<'a> {
         StoreTimes { store, floor }
     }
 
-    /// The number of commits.
+    /// The number of commits, which is the last version.
     pub fn now(&self) -> u32
         ensures number { result ≡ self.now.now }
         ensures few { result ≤ 16777215 }
@@ -53,7 +54,7 @@ impl<'a> StoreTimes<'a> {
         self.floor
     }
 
-    /// The version at a moment.
+    /// The version at a moment: the one before the first that states a greater moment, or the last.
     pub fn at(&self, moment: i64) -> u32
         ensures { result ≡ version_at_moment self.now.now self.now.stamps moment }
     {

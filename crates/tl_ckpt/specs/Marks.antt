@@ -40,7 +40,13 @@ Climb [] = ⊤
 Climb (first ∷ others) =
     AllByRecursion (λ mark. first.version ≤ mark.version) others × Climb others
 
--- so are the marks of each table
+-- and no two have one version
+abbrev pub ClimbStrictly : List Checkpoint → Type 0
+ClimbStrictly [] = ⊤
+ClimbStrictly (first ∷ others) =
+    AllByRecursion (λ mark. first.version < mark.version) others × ClimbStrictly others
+
+-- the marks of each table are in order of version
 abbrev pub EachClimbs : List (List Checkpoint) → Type 0
 EachClimbs [] = ⊤
 EachClimbs (first ∷ others) = Climb first × EachClimbs others

@@ -7,6 +7,7 @@ pub mod RowLemmas
 pub mod FittingLemmas
 pub mod ReadingLemmas
 pub mod SeparatorLemmas
+pub mod Lent
 pub mod WritingLemmas
 pub mod SampleLemmas
 pub mod BoundTextLemmas

@@ -1,6 +1,5 @@
 -- Several blocks as one text.
-use Rattle.std.proofs.Common.{◌≡◌, ℕ, zero, suc, ◌+◌, ◌-◌, ◌<◌, ◌==◌, Bool, true, false, cond, ◌||◌, List, [], ◌∷◌, ◌++◌, length, Option, Some, None, refl, sym, ap, ◌∙◌, arith, drop, take, get_or, map, append_assoc, slice_get, nat_eq}
-use Rattle.std.specs.List.{flat_map}
+use Rattle.std.proofs.Common.{◌≡◌, ℕ, zero, suc, ◌+◌, ◌-◌, ◌<◌, ◌==◌, Bool, true, false, cond, ◌||◌, List, [], ◌∷◌, ◌++◌, length, Option, Some, None, refl, ap, ◌∙◌, arith, slice_get, nat_eq}
 use Rattle.csv.specs.Machine.{Read, next_record, step, in_field, start_field, start_record, ends_with, after_end, ends_at_end, is_end, fields_after, field_after}
 use Rattle.csv.specs.Reading.{default_config, strip_bom}
 use Rattle.csv.specs.declared.parser.Action.{Action}
@@ -10,12 +9,11 @@ use Rattle.csv.specs.declared.parser.State.TheVariants as st
 use Rattle.csv.specs.declared.parser.Terminator.TheVariants as term
 use Rattle.tl_csv.specs.Block.{records_of}
 use Rattle.tl_csv.specs.ByteOrderMarks.{past_byte_order_marks}
-use Rattle.tl_csv.specs.Separators.{separator, separated_text, is_quote, is_separator, has_separator, before_separator, behind_separator, AreOfBlocks, has_quote, ends_line, begins_plain, IsPlain, ArePlain}
+use Rattle.tl_csv.specs.Separators.{separator, separated_text, is_quote, is_separator, has_separator, before_separator, behind_separator, AreOfBlocks, has_quote, ends_line, begins_plain, ArePlain}
 use Rattle.csv.specs.Records.{field_at}
 use Rattle.tl_csv.specs.declared.reading.BlockRecords.{BlockRecords}
-use Rattle.std.specs.Borrow.{Bor}
 use Rattle.csv.specs.declared.reader.Reader.{Reader}
-use Rattle.tl_csv.specs.BlockRecords.{KeepsBlock, IsBlock, IsBefore, StandsBefore, BeginsWith, block_left, behind_block}
+use Rattle.tl_csv.specs.BlockRecords.{KeepsBlock, IsBlock, IsBefore, StandsBefore, block_left, behind_block}
 use Rattle.tl_csv.specs.Reading.{records_on, records_left, IsReading}
 use Rattle.tl_csv.proofs.ReadingLemmas.{Behind, next_behind, first_record, no_record, none_at_end}
 
@@ -334,7 +332,7 @@ pub record IsFirst (b : BlockRecords) (block : List ℕ) (blocks : List (List �
   pub left : block_left b ≡ records_of block
   pub behind : AreOfBlocks (behind_block b) blocks
 
-first_block : (b : BlockRecords) (block : List ℕ) (blocks : List (List ℕ)) → IsBefore b (block ∷ blocks) → IsFirst b block blocks
+pub first_block : (b : BlockRecords) (block : List ℕ) (blocks : List (List ℕ)) → IsBefore b (block ∷ blocks) → IsFirst b block blocks
 unfolding block_left
 first_block b block blocks h =
     let over = h.over in
@@ -344,14 +342,6 @@ first_block b block blocks h =
       left = rw (over, several) records.0;
       behind = rw over records.2;
     }
-
--- the same where the blocks begin with this one
-pub first_of_all : (b : BlockRecords) (block : List ℕ) (all : List (List ℕ)) → IsBefore b all → BeginsWith all block → IsFirst b block (drop 1 all)
-first_of_all b block all h begins = first_block b block (drop 1 all) (rw begins at h)
-
-pub not_empty : (block : List ℕ) (all : List (List ℕ)) → BeginsWith all block → 0 < length all
-not_empty block [] begins = absurd (cc)
-not_empty block (x ∷ all) begins = omega arith
 
 -- what the block leaves behind stays so while it is read
 pub behind_kept : (a b : BlockRecords) (block : List ℕ) (blocks : List (List ℕ)) → a.is_one_of_several ≡ true → IsFirst a block blocks → KeepsBlock a b → AreOfBlocks (behind_block b) blocks
@@ -365,34 +355,6 @@ passed a b blocks several over kept h =
       over = refl;
       stands = record { reading = kept.block.several (kept.several ∙ several); records = rw over at all };
     }
-
-abbrev Lent : Type 0
-Lent = List (Bor (List ℕ))
-
-lent_at : (xs : Lent) (p : ℕ) → p < length xs → (x : Bor (List ℕ)) × (drop p xs ≡ x ∷ drop (p + 1) xs)
-lent_at [] p h = absurd (omega (arith, h))
-lent_at (x ∷ xs) zero h = (x, refl)
-lent_at (x ∷ xs) (suc p) h =
-    let (y, e) = lent_at xs p (omega (arith, h)) in
-    let more : suc p + 1 ≡ suc (p + 1) = omega arith in
-    (y, rw more e)
-
-pub first_lent : (b : BlockRecords) (xs : Lent) (p : ℕ) → p < length xs → IsBefore b (map (λ b. b.now) (drop p xs)) → IsBlock b × AreOfBlocks (behind_block b) (map (λ b. b.now) (drop (p + 1) xs))
-first_lent b xs p within h =
-    let (x, e) = lent_at xs p within in
-    let first = first_block b x.now (map (λ b. b.now) (drop (p + 1) xs)) (rw e at h) in
-    (first.is, first.behind)
-
--- without the first one
-pub rest_lent : (xs : Lent) (p : ℕ) (all : List (List ℕ)) → map (λ b. b.now) (drop p xs) ≡ all → drop 1 all ≡ map (λ b. b.now) (drop (p + 1) xs)
-rest_lent [] zero all h = rw (← h) refl
-rest_lent [] (suc p) all h = let more : suc p + 1 ≡ suc (p + 1) = omega arith in rw (← h, more) refl
-rest_lent (x ∷ xs) zero all h = rw (← h) refl
-rest_lent (x ∷ xs) (suc p) all h = let more : suc p + 1 ≡ suc (p + 1) = omega arith in rw more (rest_lent xs p all h)
-
--- this block, and then the others
-pub begins_lent : (xs : Lent) (p : ℕ) (block : List ℕ) → map (λ b. b.now) (drop p xs) ≡ block ∷ map (λ b. b.now) (drop (p + 1) xs) → BeginsWith (map (λ b. b.now) (drop p xs)) block
-begins_lent xs p block h = h ∙ ap (λ all. block ∷ all) (sym (rest_lent xs p _ refl))
 
 -- A READER FOR BLOCKS
 
@@ -417,33 +379,6 @@ pub before_all : (reader : Reader (List ℕ)) (blocks : List (List ℕ)) (text :
 before_all reader blocks text plain is whole reading =
     let all : records_left reader ≡ records_on st.StartRecord (Some (separated_text blocks)) = whole ∙ (rw (is, no_separator_before blocks plain) refl) in
     record { reading = reading; records = rw all (all_records blocks plain) }
-
--- THE TEXT
-
-pub separated_push : (blocks : List (List ℕ)) (block : List ℕ) → separated_text (blocks ++ block ∷ []) ≡ separated_text blocks ++ (block ++ separator)
-separated_push [] block = refl
-separated_push (b ∷ blocks) block =
-    ap (λ text. b ++ (separator ++ text)) (separated_push blocks block)
-    ∙ sym (append_assoc b (separator ++ separated_text blocks) (block ++ separator))
-
-next_taken : (blocks : Lent) (i : ℕ) (d : Bor (List ℕ)) → i < length blocks → map (λ b. b.now) (take (i + 1) blocks) ≡ map (λ b. b.now) (take i blocks) ++ (get_or blocks i d).now ∷ []
-next_taken [] i d h = absurd (omega (arith, h))
-next_taken (x ∷ blocks) zero d h = refl
-next_taken (x ∷ blocks) (suc i) d h =
-    let more : suc i + 1 ≡ suc (i + 1) = omega arith in
-    rw more (ap (λ all. x.now ∷ all) (next_taken blocks i d (omega (arith, h))))
-
--- one block more
-pub pieces_next : (pieces new blocks : Lent) (i : ℕ) (d : Bor (List ℕ)) → i < length blocks → flat_map (λ p. p.now) new ≡ flat_map (λ p. p.now) pieces ++ ((get_or blocks i d).now ++ separator)
-    → flat_map (λ p. p.now) pieces ≡ separated_text (map (λ b. b.now) (take i blocks)) → flat_map (λ p. p.now) new ≡ separated_text (map (λ b. b.now) (take (i + 1) blocks))
-pieces_next pieces new blocks i d within h before =
-    h ∙ (rw (before, next_taken blocks i d within) (sym (separated_push (map (λ b. b.now) (take i blocks)) (get_or blocks i d).now)))
-
-pub plain_behind : (xs ys : Lent) (x : Bor (List ℕ)) → ys ≡ xs ++ x ∷ [] → ArePlain (map (λ b. b.now) xs) → IsPlain x.now → ArePlain (map (λ b. b.now) ys)
-plain_behind xs ys x e h plain = rw e (push_plain xs x h plain) where
-  push_plain : (xs : Lent) (x : Bor (List ℕ)) → ArePlain (map (λ b. b.now) xs) → IsPlain x.now → ArePlain (map (λ b. b.now) (xs ++ x ∷ []))
-  push_plain [] x h plain = (plain, tt)
-  push_plain (y ∷ xs) x h plain = (h.0, push_plain xs x h.1 plain)
 
 pub last_line : (bytes : List ℕ) (b : ℕ) → slice_get bytes (length bytes - 1) ≡ Some b → nat_eq b 10 ≡ true → ends_line bytes ≡ true
 last_line [] b h e = absurd (cc)

@@ -91,9 +91,11 @@ row_of limits layout rec fields =
 -- the same where the cells of the columns come first, in the order of the table
 abbrev pub row_in_order : Limits → Layout → ℕ → List (List ℕ) → Result plain.Opened CsvFault
 row_in_order limits layout rec fields =
-    each_from (cell_at limits rec) 0 (zip (take (length layout.columns) layout.kinds) fields) >>= λ xs.
+    each_from (cell_at limits rec) 0 (zip (take (length layout.columns) layout.kinds) fields)
+    >>= λ xs.
     each_from (cell_at limits rec) (length layout.columns)
-    (zip (drop (length layout.columns) layout.kinds) (drop (length layout.columns) fields)) >>= λ ys.
+    (zip (drop (length layout.columns) layout.kinds) (drop (length layout.columns) fields))
+    >>= λ ys.
     period_of rec (xs ++ ys) layout.period >>= λ period.
     Ok (record { cells = xs; period = period })
 

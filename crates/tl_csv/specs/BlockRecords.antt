@@ -1,5 +1,5 @@
 -- The records of a block that are yet to be read.
-use Rattle.std.specs.Prelude.{◌≡◌, ℕ, true, false, List, [], ◌∷◌, drop, if◌then◌else◌}
+use Rattle.std.specs.Prelude.{◌≡◌, ℕ, true, false, List, [], if◌then◌else◌}
 use Rattle.tl_csv.specs.declared.reading.BlockRecords.{BlockRecords}
 use Rattle.csv.specs.declared.reader.Reader.{Reader}
 use Rattle.tl_csv.specs.Separators.{AreOfBlocks, before_separator, behind_separator, has_separator}
@@ -42,7 +42,3 @@ pub record IsBefore (b : BlockRecords) (blocks : List (List ℕ)) : Type 0 where
   pub several : b.is_one_of_several ≡ true
   pub over : b.is_over ≡ false
   pub stands : StandsBefore b.reader.value blocks
-
--- the first of the blocks is this one
-abbrev pub BeginsWith : List (List ℕ) → List ℕ → Type 0
-BeginsWith blocks block = blocks ≡ block ∷ drop 1 blocks

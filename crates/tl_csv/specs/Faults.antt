@@ -1,5 +1,6 @@
 -- The first fault of several things in order.
-use Rattle.std.specs.Prelude.{ℕ, ◌≡◌, ◌≢◌, ◌+◌, List, [], ◌∷◌, ◌++◌, Option, Some, None, Result, Ok, Err}
+use Rattle.std.specs.Prelude.{ℕ, ◌≢◌, ◌+◌, List, [], ◌∷◌, ◌++◌, Option, Some, None, Result, Ok, Err}
+use Rattle.tl_types.specs.Results.{IsUnless}
 use Rattle.tl_csv.specs.declared.faults.CsvFault.{CsvFault}
 use Rattle.tl_csv.specs.declared.faults.CsvFault.TheVariants as fault
 
@@ -39,8 +40,7 @@ with_value x (Err e) = Err e
 
 -- the answer is the one that is meant, or memory ran out
 abbrev pub IsUnlessMemory : {X : Type 0} → Result X CsvFault → Result X CsvFault → Type 0
-IsUnlessMemory (Ok x) meant = meant ≡ Ok x
-IsUnlessMemory (Err e) meant = e ≢ fault.NoMemory → meant ≡ Err e
+IsUnlessMemory answer meant = IsUnless fault.NoMemory answer meant
 
 -- this is so, or memory ran out
 abbrev pub HoldsUnlessMemory : {X : Type 0} → Result X CsvFault → Type 0 → Type 0

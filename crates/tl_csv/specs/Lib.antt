@@ -6,6 +6,7 @@ pub mod Header
 pub mod Block
 pub mod Reading
 pub mod Separators
+pub mod LentBlocks
 pub mod BlockRecords
 pub mod Answers
 pub mod BoundTexts

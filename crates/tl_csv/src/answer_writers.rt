@@ -1,4 +1,5 @@
-//! A writer of the rows of many answers.
+//! A writer of the rows of many answers, which keeps csv's writer from one answer to the next. It
+//! refuses nothing but memory.
 ghost use Rattle.std.specs.Prelude.{◌≡◌, ◌++◌, ◌≤◌, length, drop, IfOk, OnOk};
 ghost use Rattle.csv.specs.Writing.{writer_under};
 ghost use Rattle.tl_csv.specs.Answers.{answer_text};

@@ -1,4 +1,5 @@
-//! The rows of an answer as CSV.
+//! The rows of an answer as CSV, as csv's default writer writes them: rows of fields as they are,
+//! and runs as their group, bounds and value. It refuses nothing but memory.
 ghost use Rattle.std.specs.Prelude.{◌≡◌, ℕ, List, ◌<◌, ◌++◌, ◌∷◌, [], length, map, IfOk, OnOk};
 ghost use Rattle.std.specs.List.{flat_map};
 ghost use Rattle.csv.specs.Writing.{default_writer, row_text};

@@ -1,4 +1,5 @@
-//! The batch of a block.
+//! The batch of a block: the header first, then row by row. The first fault ends the reading; a
+//! batch that is given matches the schema of its table.
 ghost use Rattle.std.specs.Prelude.{◌≡◌, ◌≢◌, ◌≤◌, ◌+◌, IfOk, IfErr, OnOk, Ok, Err, [], true};
 ghost use Rattle.std.specs.Prelude.{length, map};
 ghost use Rattle.csv.specs.Records.{fields_of};

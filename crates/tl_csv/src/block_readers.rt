@@ -1,15 +1,18 @@
-//! One reader for several blocks.
-ghost use Rattle.std.specs.Prelude.{◌≡◌, ◌≢◌, ◌≤◌, ◌<◌, ◌+◌, ◌∷◌, List, ℕ, IfOk, IfErr, IfSome, OnOk, Ok, Err, true, drop, length, map};
+//! One reader for several blocks: each is asked for by its place among them. Those that may stand
+//! in one text are read by one reader of CSV, the others each by one of its own.
+ghost use Rattle.std.specs.Prelude.{◌≡◌, ◌≢◌, ◌≤◌, ◌+◌, ◌∷◌, List, ℕ, IfOk, IfErr, IfSome, OnOk, Ok, Err, true, drop, length, map};
 ghost use Rattle.tl_csv.specs.declared.faults.CsvFault.TheVariants as fault;
 ghost use Rattle.tl_csv.specs.Block.{batch_of, records_of, rows_of, IsBatchFor};
-ghost use Rattle.tl_csv.specs.BlockRecords.{behind_block, BeginsWith, IsBefore, IsBlock, StandsBefore};
+ghost use Rattle.tl_csv.specs.BlockRecords.{behind_block, IsBefore, IsBlock, StandsBefore};
 ghost use Rattle.tl_csv.specs.Faults.{IsUnlessMemory};
 ghost use Rattle.tl_csv.specs.Header.{columns_of};
-ghost use Rattle.tl_csv.specs.Separators.{begins_plain, ends_line, has_quote, AreOfBlocks, ArePlain, IsPlain};
+ghost use Rattle.tl_csv.specs.LentBlocks.{block_at, bytes_of, plain_of};
+ghost use Rattle.tl_csv.specs.Separators.{AreOfBlocks, ArePlain};
 ghost use Rattle.tl_types.specs.Facts.{are_distinct, names_of};
 
 use crate::batches::{batch_with, rows_alone, rows_of};
 use crate::faults::CsvFault;
+use crate::lent_blocks::{LentBlock, block_at, is_plain_at, lent_blocks, share_text};
 use crate::needs::BatchKind;
 use crate::reading::{BlockRecords, reader_of};
 use crate::sources::BlockBytes;
@@ -17,105 +20,6 @@ use csv::Reader;
 use std::alloc::Global;
 use std::marker::Model;
 use tl_types::{Batch, Limits, NoMemory, Opened, Schema, Seq};
-
-// A block of more bytes has a reader of its own.
-const LONGEST: usize = 65_536;
-
-// Among how many of the next blocks a block is looked for.
-const AHEAD: usize = 8;
-
-// Whether bytes have a quote. All are looked at: without a way out at each byte LLVM takes many at
-// once.
-fn has_quote(bytes: &[u8]) -> bool
-    ensures { result ≡ has_quote bytes.now }
-{
-    let mut found = false;
-    for byte in bytes {
-        found = found | (*byte == b'"');
-    }
-    found
-}
-
-// Whether bytes end with a line feed.
-fn ends_line(bytes: &[u8]) -> bool
-    ensures { result ≡ true → ends_line bytes.now ≡ true }
-{
-    match bytes.last() {
-        Some(last) => *last == b'\n',
-        None => false,
-    }
-}
-
-// Whether there is a first byte, which begins no byte order mark.
-fn begins_plain(bytes: &[u8]) -> bool
-    ensures { result ≡ begins_plain bytes.now }
-{
-    match bytes {
-        [first, ..] => *first != 0xEF,
-        [] => false,
-    }
-}
-
-// Whether a block may stand among others in one text, and is not too long for that to pay.
-fn is_plain(block: &[u8]) -> bool
-    ensures { result ≡ true → IsPlain block.now }
-{
-    block.len() <= LONGEST && begins_plain(block) && ends_line(block) && !has_quote(block)
-}
-
-// Puts a block behind others that may stand in one text, where it may as well.
-#[tactic(auto, using(crate::proofs::SeparatorLemmas::plain_behind))]
-fn push_plain<'a>(plain: &mut Vec<&'a [u8]>, block: &'a [u8]) -> Result<(), NoMemory>
-    requires { ArePlain (map (λ b. b.now) plain.old.items) }
-    ensures { OnOk result (ArePlain (map (λ b. b.now) plain.new.items)) }
-{
-    if !is_plain(block) {
-        return Ok(());
-    }
-    plain.push(block)?;
-    Ok(())
-}
-
-// Those of the blocks that may stand in one text.
-fn plain_blocks<'a>(alloc: Global, blocks: &[&'a [u8]]) -> Result<Vec<&'a [u8]>, NoMemory>
-    ensures { IfOk result (λ plain. ArePlain (map (λ b. b.now) plain.items)) }
-{
-    let mut plain = Vec::new(alloc);
-    for block in blocks {
-        push_plain(&mut plain, *block)?;
-    }
-    Ok(plain)
-}
-
-// Whether bytes are the same. Where they are as many, all are looked at, many at once.
-fn are_same(a: &[u8], b: &[u8]) -> bool
-    ensures { result ≡ true → a.now ≡ b.now }
-{
-    if a.len() != b.len() {
-        return false;
-    }
-    let mut same = true;
-    for place in 0..a.len() {
-        same = same & (a[place] == b[place]);
-    }
-    same
-}
-
-// Where a block stands among the next few ones from a place on.
-fn place_of(blocks: &[&[u8]], from: usize, block: &[u8]) -> Option<usize>
-    ensures from { IfSome result (λ place. from ≤ place) }
-    ensures within { IfSome result (λ place. place < length blocks.now) }
-    ensures here { IfSome result (λ place. map (λ b. b.now) (drop place blocks.now)
-        ≡ block.now ∷ map (λ b. b.now) (drop (place + 1) blocks.now)) }
-{
-    let end = from.saturating_add(AHEAD).min(blocks.len());
-    for place in from..end {
-        if are_same(blocks[place], block) {
-            return Some(place);
-        }
-    }
-    None
-}
 
 // Goes on to the block behind this one.
 fn pass_block(alloc: Global, records: &mut BlockRecords<'_>) -> Result<(), NoMemory>
@@ -129,130 +33,154 @@ fn pass_block(alloc: Global, records: &mut BlockRecords<'_>) -> Result<(), NoMem
     Ok(())
 }
 
-// The records of the block at a place, where a reader stands before one at this place or further
-// ahead.
+// Goes on to what is behind the block at a place, which may stand in the text or not.
+#[tactic(auto, using(crate::proofs::Lent::first_block_rules))]
+fn pass_place(
+    alloc: Global,
+    records: &mut BlockRecords<'_>,
+    blocks: &[LentBlock<'_>],
+    place: usize,
+) -> Result<(), NoMemory>
+    requires { IsBefore records.old (plain_of (drop place blocks.now)) }
+    ensures { OnOk result (IsBefore records.new (plain_of (drop (place + 1) blocks.now))) }
+{
+    if !is_plain_at(blocks, place) {
+        return Ok(());
+    }
+    pass_block(alloc, records)?;
+    Ok(())
+}
+
+// The records of the block at a place, where a reader stands before those from an earlier one on.
 fn records_at<'a>(
     alloc: Global,
     reader: Box<Reader<BlockBytes<'a>>>,
-    blocks: &[&'a [u8]],
+    blocks: &[LentBlock<'a>],
     from: usize,
     place: usize,
 ) -> Result<BlockRecords<'a>, NoMemory>
-    requires stands { StandsBefore reader.value (map (λ b. b.now) (drop from blocks.now)) }
+    requires stands { StandsBefore reader.value (plain_of (drop from blocks.now)) }
     requires from { from ≤ place }
-    requires within { place < length blocks.now }
-    ensures { IfOk result
-        (λ records. IsBefore records (map (λ b. b.now) (drop place blocks.now))) }
+    ensures { IfOk result (λ records. IsBefore records (plain_of (drop place blocks.now))) }
 {
     let mut records = BlockRecords {
         reader,
         is_one_of_several: true,
         is_over: false,
     };
-    for _at in from..place {
-        pass_block(alloc, &mut records)?;
+    for at in from..place {
+        pass_place(alloc, &mut records, blocks, at)?;
     }
     Ok(records)
 }
 
-/// Reads blocks as batches, with one reader for those that it was made for and that can stand in one
-/// text: blocks of at most 64 KB without a quote, of which the first byte begins no byte order mark
-/// and the last is LF. What is left out or comes otherwise is read all the same, where need be by a
-/// reader of its own; its `read_batch` says so, and asks nothing of the blocks to come.
+// A reader of those of the blocks that stand in one text, where they are two or more.
+#[tactic(auto, using(crate::proofs::SeparatorLemmas::before_all))]
+fn text_reader<'a>(
+    alloc: Global,
+    blocks: &[LentBlock<'a>],
+) -> Result<Option<Box<Reader<BlockBytes<'a>>>>, NoMemory>
+    requires { ArePlain (plain_of blocks.now) }
+    ensures { IfOk result (λ reader. IfSome reader
+        (λ r. StandsBefore r.value (plain_of blocks.now))) }
+{
+    if !share_text(blocks) {
+        return Ok(None);
+    }
+    let bytes = BlockBytes::of_plain(alloc, blocks)?;
+    let reader = reader_of(alloc, bytes)?;
+    Ok(Some(reader))
+}
+
+/// Reads blocks as batches, each asked for by its place, with one reader for those that can stand
+/// in one text: blocks of at most 64 KB without a quote, of which the first byte begins no byte
+/// order mark and the last is LF. Any other block, and one whose place is behind that of one that
+/// was read, has a reader of its own.
 #[derive(Drop)]
 pub struct BlockReader<'a> {
     reader: Option<Box<Reader<BlockBytes<'a>>>>,
-    blocks: Vec<&'a [u8]>,
-    place: usize,
+    blocks: Vec<LentBlock<'a>>,
+    next: usize,
 }
 
 impl<'a> Model for BlockReader<'a> {
-    ghost use Rattle.std.specs.Prelude.{ℕ, List, drop, map, IfSome};
+    ghost use Rattle.std.specs.Prelude.{drop, IfSome};
     ghost use Rattle.tl_csv.specs.BlockRecords.{StandsBefore};
+    ghost use Rattle.tl_csv.specs.LentBlocks.{BlocksRead, bytes_of, plain_of};
 
-    ghost Value = { List (List ℕ) };
+    ghost Value = { BlocksRead };
 
-    ghost view = { λ s. map (λ b. b.now) (drop s.place s.blocks.items) };
+    ghost view = { λ s. record {
+      blocks = bytes_of s.blocks.items;
+      to_come = plain_of (drop s.next s.blocks.items);
+    } };
 
     ghost invariant = { λ s. IfSome s.reader
-        (λ r. StandsBefore r.value (map (λ b. b.now) (drop s.place s.blocks.items))) };
+        (λ r. StandsBefore r.value (plain_of (drop s.next s.blocks.items))) };
 }
 
 impl<'a> BlockReader<'a> {
-    /// A reader that was made for no block.
-    pub fn new(alloc: Global) -> BlockReader<'a> {
-        BlockReader {
-            reader: None,
-            blocks: Vec::new(alloc),
-            place: 0,
-        }
-    }
-
-    // One reader for blocks that may stand in one text.
-    fn over_plain(alloc: Global, blocks: Vec<&'a [u8]>) -> Result<BlockReader<'a>, NoMemory>
-        requires { ArePlain (map (λ b. b.now) blocks.items) }
+    /// A reader for these blocks, best in the order in which they are asked for. The error is
+    /// `NoMemory`.
+    pub fn over(alloc: Global, blocks: &[&'a [u8]]) -> Result<BlockReader<'a>, NoMemory>
+        ensures { IfOk result (λ reader. reader.blocks ≡ map (λ b. b.now) blocks.now) }
     {
-        let bytes = BlockBytes::of_all(alloc, blocks.as_slice())?;
-        let reader = reader_of(alloc, bytes)?;
+        let lent = lent_blocks(alloc, blocks)?;
+        let reader = text_reader(alloc, lent.as_slice())?;
         Ok(BlockReader {
-            reader: Some(reader),
-            blocks,
-            place: 0,
+            reader,
+            blocks: lent,
+            next: 0,
         })
     }
 
-    /// A reader for these blocks, which are to come in this order: one reader for those that can
-    /// stand in one text, where there are two or more. Each may also be left out, and any other
-    /// block may come; after more than eight that were left out in a row each block has a reader of
-    /// its own. The error is `NoMemory`.
-    pub fn over(alloc: Global, blocks: &[&'a [u8]]) -> Result<BlockReader<'a>, NoMemory> {
-        if blocks.len() < 2 {
-            return Ok(BlockReader::new(alloc));
-        }
-        let plain = plain_blocks(alloc, blocks)?;
-        if plain.len() < 2 {
-            return Ok(BlockReader::new(alloc));
-        }
-        BlockReader::over_plain(alloc, plain)
+    // The bytes of the block at a place.
+    fn block(&self, place: usize) -> &'a [u8]
+        ensures { result.now ≡ block_at self.now.blocks place }
+    {
+        block_at(self.blocks.as_slice(), place)
     }
 
-    // The records of a block, where it is one of those to come.
-    fn take(&mut self, alloc: Global, block: &[u8]) -> Result<Option<BlockRecords<'a>>, NoMemory>
-        ensures before { IfOk result (λ taken. IfSome taken
-            (λ records. IsBefore records self.new)) }
-        ensures block { IfOk result (λ taken. IfSome taken
-            (λ _. BeginsWith self.new block.now)) }
+    // The records of the block at a place, where it is one of those to come in the text.
+    #[tactic(auto, using(crate::proofs::Lent::first_block_rules))]
+    fn take(&mut self, alloc: Global, place: usize) -> Result<Option<BlockRecords<'a>>, NoMemory>
+        ensures same { self.new.blocks ≡ self.old.blocks }
+        ensures before { IfOk result (λ taken. IfSome taken (λ records.
+            IsBefore records (block_at self.old.blocks place ∷ self.new.to_come))) }
     {
-        let Some(place) = place_of(self.blocks.as_slice(), self.place, block) else {
+        if place < self.next {
             return Ok(None);
-        };
+        }
+        if !is_plain_at(self.blocks.as_slice(), place) {
+            return Ok(None);
+        }
         let Some(reader) = self.reader.take() else {
             return Ok(None);
         };
-        let records = records_at(alloc, reader, self.blocks.as_slice(), self.place, place)?;
-        self.place = place;
+        let records = records_at(alloc, reader, self.blocks.as_slice(), self.next, place)?;
+        self.next = place + 1;
         Ok(Some(records))
     }
 
-    // Goes on to the block behind the first one, whose records these are.
+    // Goes on to the block behind the one whose records these are.
     fn put_back(&mut self, alloc: Global, records: BlockRecords<'a>) -> Result<(), NoMemory>
-        requires some { 0 < length self.old }
         requires block { IsBlock records }
         requires several { records.is_one_of_several ≡ true }
-        requires behind { AreOfBlocks (behind_block records) (drop 1 self.old) }
+        requires behind { AreOfBlocks (behind_block records) self.old.to_come }
+        ensures { self.new.blocks ≡ self.old.blocks }
     {
         let mut passed = records;
         pass_block(alloc, &mut passed)?;
-        self.place += 1;
         self.reader = Some(passed.reader);
         Ok(())
     }
 
-    // The rows of a block.
-    fn rows_of(
+    // The rows of the block at a place.
+    #[tactic(auto, using(crate::proofs::Lent::first_block_rules))]
+    fn rows_at(
         &mut self,
         alloc: Global,
-        block: &[u8],
+        place: usize,
         schema: &Schema,
         kind: BatchKind,
         limits: &Limits,
@@ -260,12 +188,14 @@ impl<'a> BlockReader<'a> {
         requires text { limits.now.text ≤ 65535 }
         requires batch { limits.now.batch ≤ 1000000 }
         ensures rows { IsUnlessMemory result
-            (rows_of limits.now schema.now kind (records_of block.now)) }
+            (rows_of limits.now schema.now kind (records_of (block_at self.old.blocks place))) }
         ensures some { OnOk result (1 ≤ length (columns_of schema.now kind)) }
         ensures distinct { OnOk result
             (are_distinct (names_of (columns_of schema.now kind)) ≡ true) }
+        ensures same { self.new.blocks ≡ self.old.blocks }
     {
-        let Some(records) = self.take(alloc, block)? else {
+        let block = self.block(place);
+        let Some(records) = self.take(alloc, place)? else {
             return rows_alone(alloc, limits, schema, kind, block);
         };
         let mut first = records;
@@ -282,11 +212,12 @@ impl<'a> BlockReader<'a> {
         }
     }
 
-    /// The batch of a block, or its first fault, as `read_batch` tells it.
+    /// The batch of the block at a place, or its first fault, as `read_batch` tells it. Where there
+    /// is no block, it is one without bytes.
     pub fn read_batch(
         &mut self,
         alloc: Global,
-        block: &[u8],
+        place: usize,
         schema: &Schema,
         kind: BatchKind,
         limits: &Limits,
@@ -294,12 +225,13 @@ impl<'a> BlockReader<'a> {
         requires text { limits.now.text ≤ 65535 }
         requires batch { limits.now.batch ≤ 1000000 }
         ensures batch { IfOk result (λ batch.
-            batch_of limits.now schema.now kind block.now ≡ Ok batch) }
+            batch_of limits.now schema.now kind (block_at self.old.blocks place) ≡ Ok batch) }
         ensures fault { IfErr result (λ e. e ≢ fault.NoMemory →
-            batch_of limits.now schema.now kind block.now ≡ Err e) }
+            batch_of limits.now schema.now kind (block_at self.old.blocks place) ≡ Err e) }
         ensures rows { IfOk result (λ batch. IsBatchFor limits.now schema.now kind batch) }
+        ensures same { self.new.blocks ≡ self.old.blocks }
     {
-        let rows = self.rows_of(alloc, block, schema, kind, limits)?;
+        let rows = self.rows_at(alloc, place, schema, kind, limits)?;
         Ok(batch_with(alloc, schema, kind, rows)?)
     }
 }

@@ -1,4 +1,4 @@
-//! Byte order marks at the start of a block.
+//! Byte order marks at the start of a block, one or several, are passed over.
 ghost use Rattle.std.specs.Prelude.{◌≡◌, ◌<◌, length, None, IfSome};
 ghost use Rattle.tl_csv.specs.ByteOrderMarks.{is_byte_order_mark, past_byte_order_marks};
 

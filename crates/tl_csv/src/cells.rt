@@ -1,4 +1,5 @@
-//! The cell of a field.
+//! The cell of a field: a number of 64 bits, or a text in UTF-8 of limited length. What is neither
+//! is refused by its place in its record.
 ghost use Rattle.std.specs.Prelude.{◌≡◌, ◌≤◌, ◌<◌, ◌+◌, ◌^◌, length, Err, if◌then◌else◌};
 ghost use Rattle.std.specs.Str.{is_utf8};
 ghost use Rattle.tl_csv.specs.declared.faults.CsvFault.TheVariants as fault;

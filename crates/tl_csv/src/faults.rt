@@ -1,4 +1,4 @@
-//! Why a block is no batch.
+//! Why a block is no batch: each fault with the number of its record and the place of its field.
 ghost use Rattle.std.specs.Prelude.{◌≡◌};
 ghost use Rattle.tl_csv.specs.declared.faults.CsvFault.TheVariants.{NoMemory};
 

@@ -1,4 +1,5 @@
-//! The texts of fields, lent.
+//! The texts of fields, lent: a text as it stands, and a number as digits in room that serves
+//! again.
 ghost use Rattle.std.specs.Prelude.{◌≡◌, ◌++◌, codes, IfOk, OnOk};
 ghost use Rattle.std.specs.Fmt.{decimal, signed_decimal};
 ghost use Rattle.tl_csv.specs.Answers.{field_text};

@@ -1,4 +1,5 @@
-//! What the header of a block names.
+//! What the header of a block names: each needed column once, in any order, and nothing else. It
+//! gives the layout of the records behind it, or the header's first fault.
 ghost use Rattle.std.specs.Prelude.{◌≡◌, ◌≤◌, ◌<◌, ◌+◌, ◌^◌, OnOk, length, take, true};
 ghost use Rattle.csv.specs.Records.{fields_of};
 ghost use Rattle.tl_csv.specs.Faults.{IsUnlessMemory};

@@ -1,4 +1,5 @@
-//! How the records behind a header are laid out.
+//! How the records behind a header are laid out: what each field is, and where the columns and the
+//! ends of the period stand. No place stands twice.
 ghost use Rattle.std.specs.Prelude.{◌≡◌, ◌+◌, ◌<◌, ◌^◌, length};
 ghost use Rattle.tl_csv.specs.Layouts.{are_places_from, are_in_order, IsLayout};
 

@@ -14,6 +14,7 @@ mod faults;
 mod field_texts;
 mod headers;
 mod layouts;
+mod lent_blocks;
 mod needs;
 mod numbers;
 mod reading;

@@ -1,4 +1,5 @@
-//! The integers that fields spell.
+//! The integers that fields spell: an optional sign and digits, within 64 bits, and FOREVER at the
+//! end of a period. What is spelled otherwise is none.
 ghost use Rattle.std.specs.Prelude.{◌≡◌, ◌≤◌, ◌+◌, ◌*◌, ◌<◌, ◌^◌, Some, IfSome, true};
 ghost use Rattle.std.specs.Char.{digit_value, is_ascii_digit};
 ghost use Rattle.std.specs.Str.{is_utf8};

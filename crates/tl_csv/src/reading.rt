@@ -1,4 +1,5 @@
-//! The records of a block, one after the other.
+//! The records of a block, one after the other, up to the end of its bytes or to the separator
+//! behind it. Records of any length are taken; nothing but memory is refused.
 ghost use Rattle.std.specs.Prelude.{◌≡◌, ◌∷◌, [], true, false, IfOk, OnOk, Some};
 ghost use Rattle.csv.specs.Records.{fields_of};
 ghost use Rattle.csv.specs.Reading.{error_kind, NotLengths, strip_bom};

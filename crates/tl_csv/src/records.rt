@@ -1,4 +1,4 @@
-//! The fields of a record.
+//! The fields of a record, lent by their places.
 ghost use Rattle.std.specs.Prelude.{◌≡◌, ◌<◌, ◌+◌, ◌^◌, ◌∷◌, [], true, false, None, IfSome, length};
 ghost use Rattle.std.specs.Prelude.{drop, slice_get};
 ghost use Rattle.std.specs.Option.{option_map};

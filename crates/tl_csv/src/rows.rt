@@ -1,4 +1,5 @@
-//! The row of a record.
+//! The row of a record: its cells in the order of the table, and its period. The first field that
+//! is wrong is refused, and then a period that is empty.
 ghost use Rattle.std.specs.Prelude.{◌≡◌, ◌≤◌, ◌<◌, ◌+◌, ◌++◌, [], length, map, drop, pos, set};
 ghost use Rattle.std.specs.Prelude.{true, OnOk};
 ghost use Rattle.std.specs.List.{zip};

@@ -1,10 +1,13 @@
-//! The bytes that the records of a block, or of several, are read from.
-ghost use Rattle.std.specs.Prelude.{◌≡◌, ◌++◌, [], drop, map, Some, IfOk, OnOk};
+//! The bytes that the records of a block, or of several with a separator behind each, are read
+//! from. They are lent and not copied together.
+ghost use Rattle.std.specs.Prelude.{◌≡◌, ◌++◌, ◌∷◌, [], drop, Some, IfOk, OnOk};
 ghost use Rattle.std.specs.Io.{ReadsAtMost};
 ghost use Rattle.std.specs.Io.KnownBytes.{ReadConsumes};
 ghost use Rattle.std.specs.List.{flat_map};
-ghost use Rattle.tl_csv.specs.Separators.{separator, separated_text};
+ghost use Rattle.tl_csv.specs.LentBlocks.{plain_of};
+ghost use Rattle.tl_csv.specs.Separators.{separated_text};
 
+use crate::lent_blocks::LentBlock;
 use std::alloc::Global;
 use std::io;
 use std::io::Read;
@@ -31,24 +34,28 @@ impl<'a> Model for BlockBytes<'a> {
     ghost view = { λ s. s.front.now ++ flat_map (λ p. p.now) (drop s.next s.pieces.items) };
 }
 
-// Puts a block and a separator behind the pieces.
-fn push_block<'a>(pieces: &mut Vec<&'a [u8]>, block: &'a [u8]) -> Result<(), NoMemory>
+// Puts a block and a separator behind the pieces, where it stands in the text.
+fn push_plain<'a>(pieces: &mut Vec<&'a [u8]>, block: &LentBlock<'a>) -> Result<(), NoMemory>
     ensures { OnOk result (flat_map (λ p. p.now) pieces.new.items
-        ≡ flat_map (λ p. p.now) pieces.old.items ++ (block.now ++ separator)) }
+        ≡ flat_map (λ p. p.now) pieces.old.items
+        ++ separated_text (plain_of (block.now ∷ []))) }
 {
-    pieces.push(block)?;
+    if !block.is_plain {
+        return Ok(());
+    }
+    pieces.push(block.bytes)?;
     pieces.push(SEPARATOR)?;
     Ok(())
 }
 
-// Pieces for the blocks, each with a separator behind it.
-fn pieces_of<'a>(alloc: Global, blocks: &[&'a [u8]]) -> Result<Vec<&'a [u8]>, NoMemory>
+// Pieces for those of the blocks that stand in one text, each with a separator behind it.
+fn pieces_of<'a>(alloc: Global, blocks: &[LentBlock<'a>]) -> Result<Vec<&'a [u8]>, NoMemory>
     ensures { IfOk result (λ pieces. flat_map (λ p. p.now) pieces.items
-        ≡ separated_text (map (λ b. b.now) blocks.now)) }
+        ≡ separated_text (plain_of blocks.now)) }
 {
     let mut pieces = Vec::new(alloc);
     for block in blocks {
-        push_block(&mut pieces, *block)?;
+        push_plain(&mut pieces, block)?;
     }
     Ok(pieces)
 }
@@ -81,9 +88,9 @@ impl<'a> BlockBytes<'a> {
         }
     }
 
-    /// The bytes of several blocks, each with a separator behind it.
-    pub fn of_all(alloc: Global, blocks: &[&'a [u8]]) -> Result<BlockBytes<'a>, NoMemory>
-        ensures { IfOk result (λ bytes. bytes ≡ separated_text (map (λ b. b.now) blocks.now)) }
+    /// The bytes of those of the blocks that stand in one text, each with a separator behind it.
+    pub fn of_plain(alloc: Global, blocks: &[LentBlock<'a>]) -> Result<BlockBytes<'a>, NoMemory>
+        ensures { IfOk result (λ bytes. bytes ≡ separated_text (plain_of blocks.now)) }
     {
         let pieces = pieces_of(alloc, blocks)?;
         Ok(BlockBytes {

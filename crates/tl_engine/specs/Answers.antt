@@ -46,7 +46,9 @@ pub record IsOpened {D : Type 0} (k : ℕ) (history : plain.History D) : Type 0 
   pub fitting : FitInTurn history.limits (commits_of history.entries)
 
 -- what an opening with given limits and marks at this pace answers, over a disk as it was before
-pub record Opens {D : Type 0} (read : D → Option (List ℕ)) (may_leave : D → List ℕ → Type 0) (moment : D → ℕ) (left_since : D → ℕ → List ℕ → Type 0) (fault_count : D → ℕ) (given : Limits) (k : ℕ) (disk : D) (answer : Result (plain.History D) (Refused D)) : Type 0 where
+pub record Opens {D : Type 0} (read : D → Option (List ℕ)) (may_leave : D → List ℕ → Type 0)
+    (moment : D → ℕ) (left_since : D → ℕ → List ℕ → Type 0) (fault_count : D → ℕ) (given : Limits)
+    (k : ℕ) (disk : D) (answer : Result (plain.History D) (Refused D)) : Type 0 where
   -- the history has commits that fit in turn, with the marks that are due
   pub opened : IfOk answer (IsOpened k)
   -- its limits are those given
@@ -108,7 +110,8 @@ pub record Opens {D : Type 0} (read : D → Option (List ℕ)) (may_leave : D �
 
 -- the history has one entry more, which is made of what the batch becomes over the commits before;
 -- there was no break before
-pub record Appends {D : Type 0} (author : ℕ) (batch : Batch) (of_commit : Commit → Entry) (old new : plain.History D) : Type 0 where
+pub record Appends {D : Type 0} (author : ℕ) (batch : Batch) (of_commit : Commit → Entry)
+    (old new : plain.History D) : Type 0 where
   pub commit : Commit
   pub whole : has_break old.entries ≡ false
   pub resolves : resolved old.limits (database_of (commits_of old.entries)) author batch ≡ Ok commit

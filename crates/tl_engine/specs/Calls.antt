@@ -52,7 +52,8 @@ abbrev pub seen_after : Call → List Entry
 seen_after call = call.base ++ as_list call.entry
 
 -- without a break in the base, the entry is made of what the batch becomes over it
-pub record Publishes (meaning : List Entry → Result Commit BatchFault) (of_commit : Commit → Entry) (base : List Entry) (entry : Option Entry) : Type 0 where
+pub record Publishes (meaning : List Entry → Result Commit BatchFault) (of_commit : Commit → Entry)
+    (base : List Entry) (entry : Option Entry) : Type 0 where
   pub commit : Commit
   pub whole : has_break base ≡ false
   pub makes : meaning base ≡ Ok commit
@@ -81,7 +82,8 @@ AnswersOver meaning first_count base entry (Err f) = FailsOver meaning first_cou
 
 -- a commit over all that is written when it has the lock: what its pass had seen begins that; it is
 -- answered over that; what is written then, and seen, is that and the entry which it publishes
-pub record TakesEffect (meaning : List Entry → Result Commit BatchFault) (first_count : ℕ) (written more old new : List Entry) (answer : Result ℕ CommitFault) : Type 0 where
+pub record TakesEffect (meaning : List Entry → Result Commit BatchFault) (first_count : ℕ)
+    (written more old new : List Entry) (answer : Result ℕ CommitFault) : Type 0 where
   pub entry : Option Entry
   pub begins : IsPrefix old written
   pub more_is : more ≡ written ++ as_list entry
@@ -89,7 +91,8 @@ pub record TakesEffect (meaning : List Entry → Result Commit BatchFault) (firs
   pub answers : AnswersOver meaning first_count written entry answer
 
 -- the same of the mark of a checkpoint, which was built of so many entries
-pub record MarkTakesEffect (table version read : ℕ) (written more old new : List Entry) (answer : Result Tended TendFault) : Type 0 where
+pub record MarkTakesEffect (table version read : ℕ) (written more old new : List Entry)
+    (answer : Result Tended TendFault) : Type 0 where
   pub entry : Option Entry
   pub begins : IsPrefix old written
   pub more_is : more ≡ written ++ as_list entry
@@ -98,7 +101,8 @@ pub record MarkTakesEffect (table version read : ℕ) (written more old new : Li
 
 -- a commit has a base, which what its pass had seen begins: it is answered over that; its pass has
 -- seen then that and the entry which it publishes; and its share counts the entry
-pub record HasBase (meaning : List Entry → Result Commit BatchFault) (first_count : ℕ) (old new : List Entry) (before after : ℕ) (answer : Result ℕ CommitFault) : Type 0 where
+pub record HasBase (meaning : List Entry → Result Commit BatchFault) (first_count : ℕ)
+    (old new : List Entry) (before after : ℕ) (answer : Result ℕ CommitFault) : Type 0 where
   pub base : List Entry
   pub entry : Option Entry
   pub begins : IsPrefix old base
@@ -149,7 +153,8 @@ MarksItsBuild state call =
 
 -- a call of the pass, which had seen the one list and then has seen the other, and published so
 -- many commits and breaks
-pub record IsCallOf (limits : Limits) (first_count pass : ℕ) (old new : List Entry) (count : ℕ) : Type 0 where
+pub record IsCallOf (limits : Limits) (first_count pass : ℕ) (old new : List Entry) (count : ℕ)
+    : Type 0 where
   pub call : Call
   pub pass_is : call.pass ≡ pass
   pub old_is : call.old ≡ old
@@ -160,7 +165,8 @@ pub record IsCallOf (limits : Limits) (first_count pass : ℕ) (old new : List E
 -- two calls of the pass, which had seen the one list and in the end has seen the other: the first
 -- reads so many entries with so many commits, and begins to build the checkpoint of the table on
 -- them; the second publishes the entry, if there is one. A mark is that of the build
-pub record AreCallsOf (limits : Limits) (first_count pass table version read : ℕ) (old new : List Entry) (entry : Option Entry) : Type 0 where
+pub record AreCallsOf (limits : Limits) (first_count pass table version read : ℕ)
+    (old new : List Entry) (entry : Option Entry) : Type 0 where
   pub first : Call
   pub second : Call
   pub first_is : first.pass ≡ pass
@@ -239,7 +245,8 @@ after_call state call = left_by state call (seen_after call) (seen_after call)
 
 -- the call takes effect in this state: its pass had seen what it says, its base is all that is
 -- written, it keeps its promise and marks its own build, and what its pass then has seen is legal
-pub record IsCallIn (limits : Limits) (first_count : ℕ) (state : HeadState) (call : Call) : Type 0 where
+pub record IsCallIn (limits : Limits) (first_count : ℕ) (state : HeadState) (call : Call)
+    : Type 0 where
   pub pass : seen_in state call.pass ≡ Some call.old
   pub base : call.base ≡ state.written
   pub promise : KeepsPromise limits first_count call

@@ -22,7 +22,9 @@ IsRefusal limits commits author batch fault.NoMemory = Unit {0}
 IsRefusal limits commits author batch (fault.Device version count) = ⊥
 
 -- at most the disk's room and the journal's spare have changed
-pub record TakesRoom {D : Type 0} (reads : D → Option (List ℕ)) (may_leave : D → List ℕ → Type 0) (moment : D → ℕ) (left_since : D → ℕ → List ℕ → Type 0) (faults : D → ℕ) (old new : journal.Journal D) : Type 0 where
+pub record TakesRoom {D : Type 0} (reads : D → Option (List ℕ)) (may_leave : D → List ℕ → Type 0)
+    (moment : D → ℕ) (left_since : D → ℕ → List ℕ → Type 0) (faults : D → ℕ)
+    (old new : journal.Journal D) : Type 0 where
   pub gate_same : new.gate ≡ old.gate
   pub broken_same : new.broken ≡ old.broken
   pub untouched : IsUntouched reads may_leave old.disk new.disk

@@ -81,7 +81,8 @@ state_of d s =
 
 -- the table shows a legal world: the history word is the number of its entries, the value at home
 -- stands for them, its passes are as far as the seats have seen, and the writer's seat has seen all
-pub record ShowsWorld {V : Type 0} (entries : V → List Entry) (d : DoorState) (s : State (Option V) View) : Type 0 where
+pub record ShowsWorld {V : Type 0} (entries : V → List Entry) (d : DoorState)
+    (s : State (Option V) View) : Type 0 where
   pub state : IsLegalState (state_of d s)
   pub legal : IsLegal (world_of (state_of d s))
   pub word : slice_get s.words 2 ≡ Some (length (world_of (state_of d s)).entries)

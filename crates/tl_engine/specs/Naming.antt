@@ -14,7 +14,8 @@ history_attached (Ok opening) = Ok opening.history
 history_attached (Err refused) = Err refused
 
 -- these are the table, the entries, the count of faults and the limits of the opening
-pub record IsNameOf {D : Type 0} (table : TableId) (entries : List Entry) (count : ℕ) (limits : Limits) (opening : plain.Opening D) : Type 0 where
+pub record IsNameOf {D : Type 0} (table : TableId) (entries : List Entry) (count : ℕ)
+    (limits : Limits) (opening : plain.Opening D) : Type 0 where
   pub table_is : opening.table ≡ table
   pub entries_are : opening.history.entries ≡ entries
   pub count_is : opening.history.first_count ≡ count
@@ -22,7 +23,8 @@ pub record IsNameOf {D : Type 0} (table : TableId) (entries : List Entry) (count
 
 -- what a committer keeps: its history is what is written, it goes on from the named entries by as
 -- many commits and breaks as are counted, and count and limits are the named ones
-pub record IsCommitting {D : Type 0} (first_entries : List Entry) (count : ℕ) (limits : Limits) (written : List Entry) (total : ℕ) (history : plain.History D) : Type 0 where
+pub record IsCommitting {D : Type 0} (first_entries : List Entry) (count : ℕ) (limits : Limits)
+    (written : List Entry) (total : ℕ) (history : plain.History D) : Type 0 where
   pub entries_are : history.entries ≡ written
   pub count_is : history.first_count ≡ count
   pub limits_are : history.limits ≡ limits

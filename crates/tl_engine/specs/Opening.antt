@@ -12,6 +12,7 @@ disk_begun (Ok begun) = begun.found_commits.disk
 disk_begun (Err refused) = refused.disk
 
 -- these bytes were read, and the disk has just them, also in a crash
-pub record HasImage {D : Type 0} (reads : D → Option (List ℕ)) (may_leave : D → List ℕ → Type 0) (image : List ℕ) (found_commits : journal.FoundCommits D) : Type 0 where
+pub record HasImage {D : Type 0} (reads : D → Option (List ℕ)) (may_leave : D → List ℕ → Type 0)
+    (image : List ℕ) (found_commits : journal.FoundCommits D) : Type 0 where
   pub same : found_commits.image ≡ image
   pub stored : IsStored reads may_leave found_commits.disk found_commits.image

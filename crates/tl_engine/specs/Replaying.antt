@@ -27,7 +27,8 @@ IsApplied limits k old new commit false =
     (fits limits (database_of (commits_of old)) commit ≡ false) × (new ≡ old)
 
 -- after these commits, one was read that does not fit them; its gate is at the offset
-pub record IsFirstUnfit {D : Type 0} (limits : Limits) (before : List Commit) (found_commits : journal.FoundCommits D) (at : ℕ) : Type 0 where
+pub record IsFirstUnfit {D : Type 0} (limits : Limits) (before : List Commit)
+    (found_commits : journal.FoundCommits D) (at : ℕ) : Type 0 where
   pub commit : Commit
   pub read : HasRead (before ++ commit ∷ []) found_commits
   pub unfit : fits limits (database_of before) commit ≡ false

@@ -35,7 +35,8 @@ version_after entries = length (commits_of entries)
 
 -- what was seen begins a base without a break; over the base the batch becomes a commit; the base
 -- and the entry made of that commit are seen now
-pub record Adds (meaning : List Entry → Result Commit BatchFault) (of_commit : Commit → Entry) (old new : List Entry) : Type 0 where
+pub record Adds (meaning : List Entry → Result Commit BatchFault) (of_commit : Commit → Entry)
+    (old new : List Entry) : Type 0 where
   pub base : List Entry
   pub commit : Commit
   pub begins : IsPrefix old base

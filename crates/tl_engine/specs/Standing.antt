@@ -23,12 +23,14 @@ IsCount false first now = now ≡ first
 IsCount true first now = Rose first now
 
 -- while there is no break, the keys stand for the commits' tables and the journal is not broken
-pub record KeepsUp {D : Type 0} (entries : List Entry) (keys : List IdsByKey) (journal : journal.Journal D) : Type 0 where
+pub record KeepsUp {D : Type 0} (entries : List Entry) (keys : List IdsByKey)
+    (journal : journal.Journal D) : Type 0 where
   pub keys_stand : has_break entries ≡ false → StandFor keys (database_of (commits_of entries))
   pub unbroken : has_break entries ≡ false → journal.broken ≡ None
 
 -- what every history keeps
-pub record IsHistory {D : Type 0} (faults : D → ℕ) (keys : List IdsByKey) (history : plain.History D) : Type 0 where
+pub record IsHistory {D : Type 0} (faults : D → ℕ) (keys : List IdsByKey)
+    (history : plain.History D) : Type 0 where
   pub within : AreWithin history.limits standard_limits
   pub keeps_up : KeepsUp history.entries keys history.journal
   pub count : IsCount (has_break history.entries) history.first_count (faults history.journal.disk)
@@ -41,7 +43,8 @@ ImageStandsForEntries entries image =
 -- the disk stands for the history: while there is no break it has just the journal of the commits,
 -- also in a crash; once there is one, what a crash leaves and what a read gives, which it does
 -- tell, stand for the commits, or for these and the commit of the break
-pub record DiskStandsForHistory {D : Type 0} (reads : D → Option (List ℕ)) (may_leave : D → List ℕ → Type 0) (history : plain.History D) : Type 0 where
+pub record DiskStandsForHistory {D : Type 0} (reads : D → Option (List ℕ))
+    (may_leave : D → List ℕ → Type 0) (history : plain.History D) : Type 0 where
   pub whole : has_break history.entries ≡ false
       → JournalStandsFor reads may_leave history.journal (commits_of history.entries)
   pub leaves : (image : List ℕ) → may_leave history.journal.disk image
@@ -50,7 +53,8 @@ pub record DiskStandsForHistory {D : Type 0} (reads : D → Option (List ℕ)) (
       × ImageStandsForEntries history.entries image
 
 -- nothing has changed but the room that the disk has taken
-pub record HasRoomAlone {D : Type 0} (reads : D → Option (List ℕ)) (may_leave : D → List ℕ → Type 0) (faults : D → ℕ) (old new : plain.History D) : Type 0 where
+pub record HasRoomAlone {D : Type 0} (reads : D → Option (List ℕ)) (may_leave : D → List ℕ → Type 0)
+    (faults : D → ℕ) (old new : plain.History D) : Type 0 where
   pub entries_same : new.entries ≡ old.entries
   pub broken_same : new.journal.broken ≡ old.journal.broken
   pub gate_same : new.journal.gate ≡ old.journal.gate

@@ -1,4 +1,6 @@
-//! A history that is opened to become an engine's.
+//! A history that is opened to become an engine's: `attach` reads the journal and hands the disk
+//! back where it refuses; `start` gives the engine its name, once, with the first pass and the
+//! share that has all parts.
 ghost use Rattle.std.specs.Prelude.{◌≡◌, ◌<◌, true, IfOk, IfErr};
 ghost use Rattle.tl_types.specs.Limits.{standard_limits};
 ghost use Rattle.tl_batch.specs.Made.{AreWithin};

@@ -1,4 +1,5 @@
-//! The checkpoint of a table, built over a snapshot.
+//! The checkpoint of a table at the version of a snapshot, built without any lock. It is the one
+//! that tl_types defines there; the only refusal is for memory.
 ghost use Rattle.std.specs.Prelude.{◌≡◌, ◌<◌, length, IfOk};
 ghost use Rattle.tl_types.specs.Checkpoints.{checkpoint_at};
 ghost use Rattle.tl_types.specs.Entries.{commits_of};

@@ -1,4 +1,6 @@
-//! What lies behind the lock of an engine.
+//! What lies behind the lock of an engine: the history, the pass that writes the head, and the
+//! book. A commit or a mark is in the history, on the head and, where it counts, in the book, or in
+//! none of them; whoever comes is first shown all that is written.
 ghost use Rattle.std.specs.Prelude.{◌≡◌, ◌+◌, ◌<◌, ◌≤◌, ◌++◌, ◌∷◌, [], false, length, IsTrue, IfOk};
 ghost use mathlib.Core.List.{IsPrefix};
 ghost use Rattle.tl_types.specs.declared.commits.Entry.{Entry};
@@ -9,6 +11,7 @@ ghost use Rattle.tl_types.specs.Legality.{are_legal, has_mark};
 ghost use Rattle.tl_batch.specs.Made.{batch_matches};
 ghost use Rattle.tl_index.specs.Snapshots.{mark_entry};
 ghost use Rattle.tl_engine.specs.Calls.{MarkTakesEffect, TakesEffect};
+ghost use Rattle.tl_engine.specs.Counting.{SeesCounted};
 ghost use Rattle.tl_engine.specs.Saying.{CommitSays, becomes, names_table};
 ghost use Rattle.tl_engine.specs.Tending.{IsCheckpoint, MarkSays};
 ghost use Rattle.tl_engine.specs.Writing.{shown_at, shown_by};
@@ -31,9 +34,9 @@ use tl_types::{Batch, NoMemory, Published};
 /// The pass with which entries are published, and the book in which they are counted.
 #[derive(Drop)]
 pub(crate) struct Publisher<J: Named> {
-    /// The pass.
+    /// The one pass that writes the head.
     pub writer: WriterPass<Snapshot>,
-    /// The book.
+    /// The book of the commits and breaks since the opening.
     pub book: Book<J>,
 }
 
@@ -98,9 +101,9 @@ impl<J: Named> Publisher<J> {
 /// its contents at the opening, it stands for the history.
 #[derive(Drop)]
 pub(crate) struct Committer<D: Disk, J: Named> {
-    /// The history.
+    /// The history, which has the entries that are written.
     pub history: History<D>,
-    /// What publishes it.
+    /// What publishes and counts them.
     pub publisher: Publisher<J>,
 }
 
@@ -190,9 +193,9 @@ fn marked_copies(
 /// What an author wants to commit.
 #[derive(Drop)]
 pub(crate) struct Offer {
-    /// The author.
+    /// The author: the number of a session, which the commit keeps.
     pub author: u32,
-    /// The batch.
+    /// The batch, not resolved yet.
     pub batch: Batch,
 }
 
@@ -218,12 +221,15 @@ impl<D: Disk, J: Named> Committer<D, J> {
             self.old self.new pass.old.seen pass.new.seen result }
         ensures legal { IsTrue (are_legal pass.new.seen) }
         ensures parts { share.new.parts ≡ share.old.parts }
+        ensures counted { SeesCounted J.first_entries pass.new.seen share.new.parts
+            share.new.amount }
         ensures says { CommitSays (becomes J.limits offer.author offer.batch) J.first_count
             pass.old.seen pass.new.seen share.old.amount share.new.amount result }
     {
         let alloc = rt.alloc();
         let Committer { history, publisher } = self;
         publisher.show(head, pass);
+        publisher.book.audit(share);
         let _legal = history.has_break();
         let Offer { author, batch } = offer;
         let draft = history.draft(alloc, author, batch)?;

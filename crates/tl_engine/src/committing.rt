@@ -1,4 +1,5 @@
-//! The steps of a commit: what the batch becomes, all memory, and the append.
+//! The steps of a commit: what the batch becomes, all memory, and the append. Why a batch is
+//! refused, and want of memory, come before the first byte is written.
 ghost use Rattle.std.specs.Prelude.{◌≡◌, ◌≤◌, ◌++◌, ◌∷◌, [], ℕ, List, length, None, Ok, Some, false, IsTrue, IfOk, IfErr, OnOk};
 ghost use Rattle.tl_types.specs.declared.commits.Commit.{Commit as CommitValue};
 ghost use Rattle.tl_types.specs.Entries.{commits_of, has_break};
@@ -54,7 +55,7 @@ pub(crate) fn resolve(
 /// A commit that is ready: all that it needs but its keys, made before its first byte is written.
 #[derive(Drop)]
 pub(crate) struct Draft {
-    /// The commit.
+    /// The commit, which the break shares.
     pub commit: Shared<Commit>,
     /// The snapshot with the commit.
     pub next: Snapshot,

@@ -1,4 +1,5 @@
-//! The engine.
+//! The engine: threads read from its head, each by a pass of its own, and commit or mark under its
+//! lock. What each call says, it says of the entries that its pass had seen and then has seen.
 ghost use Rattle.std.specs.Prelude.{◌≡◌, ◌+◌, ◌<◌, ℕ, length, List, Some, true, false, IsTrue, IfOk};
 ghost use mathlib.Core.List.{IsPrefix};
 ghost use Rattle.tl_types.specs.Entries.{commits_of, has_break};
@@ -6,7 +7,7 @@ ghost use Rattle.tl_types.specs.History.{database_of};
 ghost use Rattle.tl_batch.specs.Made.{batch_matches};
 ghost use Rattle.tl_types.specs.Legality.{are_legal};
 ghost use Rattle.tl_journal.specs.Stands.{DiskStandsFor};
-ghost use Rattle.tl_engine.specs.Counting.{news};
+ghost use Rattle.tl_engine.specs.Counting.{SeesCounted, news};
 ghost use Rattle.tl_engine.specs.Saying.{CommitSays, becomes, names_table};
 ghost use Rattle.tl_engine.specs.Standing.{IsCount, ImageStandsForEntries};
 ghost use Rattle.tl_engine.specs.Tending.{IsCheckpoint, MarkSays, TendSays};
@@ -37,11 +38,11 @@ pub struct Engine<D: Disk, J: Named> {
 
 /// An engine, with its first pass and the share that has all parts.
 pub struct Started<D: Disk, J: Named> {
-    /// The engine.
+    /// The engine, over what is written on its head.
     pub engine: Engine<D, J>,
     /// A pass that has seen the entries at the opening.
     pub pass: Pass<Snapshot>,
-    /// The share.
+    /// The share, which counts nothing yet.
     pub share: Share<J>,
 }
 
@@ -66,8 +67,9 @@ impl<D: Disk, J: Named> Engine<D, J> {
     }
 
     /// Commits a batch of an author over all that is written, and answers the version that it
-    /// makes: the number of the commits with it. It takes the lock. In every answer but `NoMemory`
-    /// the pass has then seen all that is written, which is legal.
+    /// makes: the number of the commits with it. It takes the lock. In every answer the pass has
+    /// then seen all that is written, which is legal: so, past the opening, at least the commits
+    /// and breaks that the share counts, and just these where the share has all parts.
     ///
     /// Rows that the batch puts match the schema of the table that it names, which is among those
     /// of what the pass has seen. The faults are tried in this order. `Broken`: there is a break.
@@ -91,11 +93,14 @@ impl<D: Disk, J: Named> Engine<D, J> {
         ensures own { pass.new.table ≡ J.table }
         ensures legal { IsTrue (are_legal pass.new.seen) }
         ensures parts { share.new.parts ≡ share.old.parts }
+        ensures counted { SeesCounted J.first_entries pass.new.seen share.new.parts
+            share.new.amount }
         ensures says { CommitSays (becomes J.limits author batch) J.first_count
             pass.old.seen pass.new.seen share.old.amount share.new.amount result }
     {
+        let mut committer = self.lock.for_commit(rt, share);
         let offer = Offer { author, batch };
-        self.lock.commit(rt, &self.head, pass, share, offer)
+        committer.commit(rt, &self.head, pass, share, offer)
     }
 
     /// Reads a snapshot and, where a mark of a table is due in it by `k`, builds the checkpoint of
@@ -152,7 +157,8 @@ impl<D: Disk, J: Named> Engine<D, J> {
         ensures says { MarkSays checkpoint.table checkpoint.version read
             pass.old.seen pass.new.seen result }
     {
-        self.lock.mark(rt, &self.head, pass, checkpoint, read)
+        let mut committer = self.lock.for_mark(rt, &checkpoint);
+        committer.mark(rt, &self.head, pass, checkpoint, read)
     }
 
     /// Ends with the engine: a snapshot of all that is written, and the disk. The share that has

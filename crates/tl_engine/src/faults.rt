@@ -1,4 +1,5 @@
-//! Why a batch is not committed.
+//! Why a batch is not committed, and what becomes of the mark of a table. The variants of a fault
+//! stand in the order in which they are tried.
 use tl_types::BatchFault;
 
 /// Why a batch is not committed. The first one that applies is answered. `version` is the number

@@ -1,4 +1,6 @@
-//! The history.
+//! The history: a journal, the snapshot of its entries and the keys of the open rows, which stand
+//! for the same commits. What is committed is on the disk before it is seen; behind a break nothing
+//! is committed.
 ghost use Rattle.std.specs.Prelude.{◌≡◌, ◌+◌, ◌<◌, ◌++◌, ◌∷◌, [], ℕ, List, Some, None, false, Ok, IsTrue, IfOk, IfErr};
 ghost use Rattle.tl_types.specs.Entries.{commits_of, has_break};
 ghost use Rattle.tl_types.specs.History.{database_of};
@@ -73,7 +75,7 @@ impl<D: Disk> Model for History<D> {
 pub struct Closed<D: Disk> {
     /// The snapshot of its entries.
     pub snapshot: Snapshot,
-    /// The disk.
+    /// The disk, with the journal on it.
     pub disk: D,
 }
 

@@ -1,4 +1,5 @@
-//! The calls of an engine are steps of the world.
+//! The calls of an engine are steps of the world of tl_core, by what they promise. Each function's
+//! contract is a law; calling it does nothing.
 ghost use Rattle.std.specs.Prelude.{◌≡◌, ℕ, ◌+◌, IsTrue, List, length, Some, None, Result};
 ghost use Rattle.std.specs.declared.option.Option.{Option};
 ghost use mathlib.Core.List.{IsPrefix};

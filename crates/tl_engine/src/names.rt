@@ -1,4 +1,5 @@
-//! Which engine it is.
+//! Which engine it is: what its passes, its shares and what lies behind its lock all know of it by
+//! their types alone. The name is picked once the opening is there.
 use std::marker::Brand;
 use std::sync::ledger::Ledger;
 

@@ -1,4 +1,5 @@
-//! The begin of the opening of a history: its journal is read and its commits are applied.
+//! The begin of the opening of a history: its journal is read and its commits are applied. Nothing
+//! is written; a journal that is damaged, or a commit that does not fit, is refused with the disk.
 ghost use Rattle.std.specs.Prelude.{◌≡◌, ◌<◌, ℕ, List, Some, IfSome, IfOk, IfErr};
 ghost use Rattle.tl_types.specs.Entries.{commits_of};
 ghost use Rattle.tl_types.specs.Limits.{standard_limits};

@@ -17,7 +17,7 @@ use Rattle.tl_query.specs.declared.typed_queries.Typed.TheVariants as typed
 use Rattle.tl_query.specs.declared.typed_queries.TypedPred.{TypedPred}
 use Rattle.tl_query.specs.TypedFor.{IsTypedFor, is_typed_agg, is_typed_aggregate, is_typed_group, is_int_column, is_int_kind, is_typed_pred, is_typed_span, kind_at}
 use Rattle.tl_filter.specs.Selecting.{IsTypedPredFor}
-use Rattle.tl_agg.specs.Scans.{IsPlanFor}
+use Rattle.tl_agg.specs.Scans.{IsSystemTimePlanFor}
 use Rattle.tl_exec.specs.Pieces.{IsAskedOf}
 use Rattle.tl_exec.specs.Moments.{IsAskedAt, IsAggFor}
 
@@ -58,7 +58,7 @@ agg_group schema (Some d) c h is = let e : d ≡ c = cc in let l = ltb-true d (l
 -- what an aggregate over a range has
 pub record AggFacts (db : plain.Database) (table : ℕ) (k : AggKind) (column by : Option ℕ) (pred : TypedPred) (range : Span) : Type 0 where
   pub there : table < length db.tables
-  pub suits : IsPlanFor (record { db = db; number = table }) (record { table = table; kind = k; column = column; by = by })
+  pub suits : IsSystemTimePlanFor (record { db = db; number = table }) (record { table = table; kind = k; column = column; by = by })
   pub typed : IsTypedPredFor db table pred
   pub t : plain.Table
   pub found : slice_get db.tables table ≡ Some t

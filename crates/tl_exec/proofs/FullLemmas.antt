@@ -1,20 +1,20 @@
 -- Each row of a history has a cell for each column of its table.
-use Rattle.std.proofs.Common.{◌≡◌, ℕ, zero, suc, ◌+◌, ◌≤◌, Bool, true, false, ◌&&◌, cond, nat_lt, nat_le, List, [], ◌∷◌, ◌++◌, length, map, take, fold, Option, Some, None, refl, ap, sym, subst, ◌∙◌, arith, slice_get}
+use Rattle.std.proofs.Common.{◌≡◌, ℕ, zero, suc, ◌+◌, ◌≤◌, Bool, true, false, ◌&&◌, cond, nat_le, List, [], ◌∷◌, ◌++◌, length, map, take, Option, Some, None, refl, ap, sym, subst, ◌∙◌, arith, slice_get}
 use Rattle.std.specs.List.{enumerate_from, list_all, AllByRecursion}
 use Rattle.std.proofs.lemmas.List.{take_more, map-append, take_all, append_assoc}
 use Rattle.std.proofs.lemmas.Option.{slice_get_within, get_or_from_slice_get}
-use Rattle.tl_types.proofs.BodyLemmas.{IsKept, all_after}
+use Rattle.tl_types.proofs.BodyLemmas.{IsKept, commits_kept}
 use Rattle.tl_types.proofs.Lists.{and_left, and_right}
 use Rattle.tl_types.specs.Plain as plain
 use Rattle.tl_types.specs.declared.answers.Field.{Field}
 use Rattle.tl_types.specs.declared.cells.Cell.{Cell}
 use Rattle.tl_types.specs.declared.schemas.Column.{Column}
 use Rattle.tl_types.specs.declared.commits.Commit.{Commit}
-use Rattle.tl_types.specs.History.{has_id, row_after, new_row, table_after, after_commit, nothing, database_of, fits_body, fits_table, is_of_kind, is_open_at, match_columns, matches, rows_of}
+use Rattle.tl_types.specs.History.{has_id, row_after, new_row, table_after, nothing, database_of, fits_table, is_of_kind, is_open_at, match_columns, matches, rows_of}
 use Rattle.tl_types.specs.Limits.{standard_limits}
 use Rattle.std.specs.Bool.{beq}
 use Rattle.std.specs.Prelude.{is_some, IsTrue}
-use Rattle.tl_types.specs.Legality.{FitFrom, FitInTurn, are_legal}
+use Rattle.tl_types.specs.Legality.{FitInTurn, are_legal}
 use Rattle.tl_types.specs.declared.commits.Entry.{Entry}
 use Rattle.tl_types.specs.Entries.{commits_of}
 use Rattle.tl_types.proofs.EntryLemmas.{fit_behind}
@@ -61,13 +61,8 @@ table_full w change t f h =
     changed_full w 0 t.schema change.closes change.opens t.rows (and_right (list_all (is_open_at t.rows) change.closes) (list_all (matches t.schema) change.opens) both) h
 
 -- it stays so, whatever a commit does
-full_kept : (w : ℕ) → IsKept w HasFullRows
-full_kept w = record { made = λ schema. tt; changed = table_full w; floored = λ floor t h. h }
-
-commits_full : (db : plain.Database) (cs : List Commit) → HaveFullRows db.tables → FitFrom standard_limits db cs → HaveFullRows (fold after_commit db cs).tables
-commits_full db [] h f = h
-commits_full db (c ∷ cs) h f =
-    commits_full (after_commit db c) cs (all_after (db.version + 1) HasFullRows (full_kept (db.version + 1)) db c.body (and_right (nat_lt db.version standard_limits.versions) (fits_body standard_limits db c.body) f.0) h) f.1
+full_kept : (v : ℕ) → IsKept v HasFullRows HasFullRows
+full_kept v = record { made = λ schema. tt; changed = table_full (v + 1); floored = λ floor t f h. h; left = λ t h. h }
 
 full_at : (tables : List plain.Table) (i : ℕ) (t : plain.Table) → HaveFullRows tables → slice_get tables i ≡ Some t → AreFull (length t.schema.columns) t.rows
 full_at [] i t h e = absurd (cc)
@@ -87,7 +82,7 @@ full_in db table row r full there = by_table (slice_get db.tables table) refl th
 
 -- a row of a history has a cell for each column
 pub full_row : (cs : List Commit) (table row : ℕ) (r : plain.Row) → FitInTurn standard_limits cs → row_of (database_of cs) table row ≡ Some r → length r.cells ≡ length (columns_of (database_of cs) table)
-full_row cs table row r f there = full_in (database_of cs) table row r (commits_full nothing cs tt f) there
+full_row cs table row r f there = full_in (database_of cs) table row r (commits_kept (λ v. HasFullRows) (λ v l. full_kept v) nothing cs tt f) there
 
 -- one cell more
 pub cell_more : (db : plain.Database) (table row i : ℕ) (r : plain.Row) (start out new : List Field) (field : Field) (cell : Cell)

@@ -176,8 +176,8 @@ both_are f rows keep set new is kept long met =
     ∙ ap (λ s. both s keep) is
 
 -- steps of a piece
-pub piece_steps : (before between after e0 e inside r r2 w w2 s s2 : ℕ) → between ≤ before + e0 + 3 * w + 2 * s → after ≤ between + (5 * inside + 3 * r2 + 2 * w2 + 2 * s2 + 2)
-    → inside ≡ e → r2 ≡ r → w2 ≡ w → s2 ≡ s → after ≤ before + (e0 + 5 * e + 3 * r + 5 * w + 4 * s + 2)
+pub piece_steps : (before between after e0 e inside r r2 w w2 s s2 : ℕ) → between ≤ before + e0 + 3 * w + 2 * s → after ≤ between + (5 * inside + 3 * r2 + w2 + 2 * s2 + 1)
+    → inside ≡ e → r2 ≡ r → w2 ≡ w → s2 ≡ s → after ≤ before + (e0 + 5 * e + 3 * r + 4 * w + 4 * s + 2)
 piece_steps before between after e0 e inside r r2 w w2 s s2 start scan es rs ws ss = omega arith
 
 pub if_ok_put : (parts : List (List Run)) (result : Result (List Run) AllocError) (plan : AggPlan) (rows : List plain.Row) (keep : List Bool) (from to : ℕ) (pieces : List Piece) → Suits plan.kind plan.column rows → Follow from to pieces
@@ -206,9 +206,9 @@ start_size db table pred version keep is =
     ap (λ k. size (start_set rows k version)) is ∙ ap size (both_tests_are (is_visible version) (passes pred) rows)
     ∙ size_of_tests f rows ∙ ap length (sym (rows_by_test f rows)) ∙ chosen_shown db table pred version (map f rows) refl
 
-pub range_steps : (before between after p w e0 e r r2 s : ℕ) → between ≤ before + p * w → after ≤ between + (e0 + 5 * e + 3 * r2 + 5 * w + 4 * s + 2) → r2 ≡ r
+pub range_steps : (before between counted after p w e0 e r r2 s : ℕ) → between ≤ before + p * w → counted ≡ between + w → after ≤ counted + (e0 + 5 * e + 3 * r2 + 4 * w + 4 * s + 2) → r2 ≡ r
     → after ≤ before + (p * w + e0 + 5 * e + 3 * r + 5 * w + 4 * s + 2)
-range_steps before between after p w e0 e r r2 s first then same = omega arith
+range_steps before between counted after p w e0 e r r2 s first count then same = omega arith
 
 -- what can be scanned for the rows that pass
 pub scan_of_asked : (entries : List Entry) (plan : AggPlan) (pred : TypedPred) (keep : List Bool) (to : ℕ) → IsAskedOf (database_of (commits_of entries)) plan pred to

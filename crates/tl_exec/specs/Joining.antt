@@ -9,7 +9,8 @@ use Rattle.tl_types.specs.Plain as plain
 use Rattle.tl_query.specs.declared.typed_queries.JoinPlan.{JoinPlan}
 use Rattle.tl_query.specs.declared.typed_queries.TypedPred.{TypedPred}
 use Rattle.tl_store.specs.Reading.{columns_of}
-use Rattle.tl_join.specs.Pieces.{passing, pairs_in}
+use Rattle.tl_join.specs.Pieces.{pairs_in}
+use Rattle.tl_query.specs.Passing.{passing}
 
 -- a join of two tables of a snapshot over a range of versions, with the rows of each side that may
 -- stand in a pair

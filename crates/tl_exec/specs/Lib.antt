@@ -5,3 +5,4 @@ pub mod JoinBounds
 pub mod JoinsFor
 pub mod Pieces
 pub mod Moments
+pub mod Kinds

@@ -13,7 +13,7 @@ use Rattle.tl_query.specs.Aggregates.{aggregate_runs}
 use Rattle.tl_filter.specs.Selecting.{IsTypedPredFor}
 use Rattle.tl_running.specs.Standing.{Suits}
 use Rattle.tl_agg.specs.Runs.{system_runs}
-use Rattle.tl_agg.specs.Scans.{IsPlanFor}
+use Rattle.tl_agg.specs.Scans.{IsSystemTimePlanFor, table_in}
 use Rattle.tl_range.specs.Dividing.{Follow}
 
 -- the plan is one for a table of the snapshot, the kept rows are some of that table's, and the
@@ -21,8 +21,7 @@ use Rattle.tl_range.specs.Dividing.{Follow}
 pub record CanScan (entries : List Entry) (plan : AggPlan) (keep : List Bool) (to : ℕ)
     : Type 0 where
   pub table : plan.table < length (database_of (commits_of entries)).tables
-  pub suits : IsPlanFor (record { db = database_of (commits_of entries); number = plan.table })
-      plan
+  pub suits : IsSystemTimePlanFor (table_in entries plan.table) plan
   pub kept : length keep ≡ length (rows_of (database_of (commits_of entries)) plan.table)
   pub few : length keep ≤ 16777216
   pub within : to ≤ (database_of (commits_of entries)).version + 1
@@ -39,7 +38,7 @@ pub record CanDivide (entries : List Entry) (plan : AggPlan) (keep : List Bool) 
 pub record IsAskedOf (db : plain.Database) (plan : AggPlan) (pred : TypedPred) (to : ℕ)
     : Type 0 where
   pub table : plan.table < length db.tables
-  pub suits : IsPlanFor (record { db = db; number = plan.table }) plan
+  pub suits : IsSystemTimePlanFor (record { db = db; number = plan.table }) plan
   pub typed : IsTypedPredFor db plan.table pred
   pub within : to ≤ db.version + 1
 
@@ -50,14 +49,14 @@ asked_runs db plan pred from to =
     aggregate_runs db plan.table plan.kind plan.column plan.by pred (span.System from to)
 
 -- a scan of the rows of a snapshot that are kept, by a plan, up to a version
-pub record ScanOf : Type 0 where
+pub record DividedScanOf : Type 0 where
   pub entries : List Entry
   pub plan : AggPlan
   pub keep : List Bool
   pub to : ℕ
 
 -- the runs that a scan has over the versions from one on and before another
-abbrev pub runs_of_scan : ScanOf → ℕ → ℕ → List Run
+abbrev pub runs_of_scan : DividedScanOf → ℕ → ℕ → List Run
 runs_of_scan scan from to =
     system_runs scan.plan (rows_of (database_of (commits_of scan.entries)) scan.plan.table)
     scan.keep from to

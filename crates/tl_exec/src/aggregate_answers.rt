@@ -1,4 +1,5 @@
-//! The answer to a query for an aggregate over time.
+//! The answer to a query for an aggregate over time: over versions by a scan of the timeline, over
+//! valid time by the events at one version. What is asked for fits its table.
 ghost use Rattle.std.specs.Prelude.{◌≡◌, ◌<◌, ◌≤◌, map, IfOk};
 ghost use Rattle.tl_types.specs.Entries.{commits_of};
 ghost use Rattle.tl_types.specs.History.{database_of};
@@ -22,11 +23,11 @@ use tl_types::{NoMemory, Piece, Run, Seq, Steps};
 /// predicate.
 #[derive(Clone, Copy)]
 pub(crate) struct AskedSpan<'a> {
-    /// The plan.
+    /// What is aggregated, and by which column the rows are grouped.
     pub(crate) plan: AggPlan,
-    /// The predicate.
+    /// What the rows pass that are aggregated.
     pub(crate) pred: &'a TypedPred,
-    /// The range.
+    /// Versions, or moments of valid time at a version.
     pub(crate) span: Span,
 }
 
@@ -70,8 +71,8 @@ fn span_runs<R: AllocGlobal + Threads + Sync, L: Ledger, G: Gate>(
     }
 }
 
-/// The answer to a query for an aggregate. So many workers divide a range of versions where they are
-/// more than one, and then each of the pieces passes the gate. The error is `NoMemory`.
+/// The answer to a query for an aggregate. So many workers divide a range of versions where they
+/// are more than one, and then each of the pieces passes the gate. The error is `NoMemory`.
 pub(crate) fn answer_aggregate<R: AllocGlobal + Threads + Sync, L: Ledger, G: Gate>(
     rt: &R,
     snapshot: &Snapshot,

@@ -1,4 +1,5 @@
-//! Aggregates over the versions of a table, of the rows that pass a predicate.
+//! Aggregates over the versions of a table, of the rows that pass a predicate: which rows are kept,
+//! which of these stand where a piece begins, and the runs over the piece.
 ghost use Rattle.std.specs.Prelude.{◌≡◌, None, ◌+◌, ◌-◌, ◌*◌, ◌<◌, ◌≤◌, IfOk, length, map};
 ghost use Rattle.tl_types.specs.Entries.{commits_of};
 ghost use Rattle.tl_types.specs.History.{database_of, rows_of};
@@ -13,7 +14,7 @@ ghost use Rattle.tl_exec.specs.Bounds.{events_inside};
 use crate::sets::meet;
 use std::alloc::Global;
 use std::sync::ledger::Ledger;
-use tl_agg::aggregate;
+use tl_agg::KeptRows;
 use tl_bits::RowSet;
 use tl_filter::select;
 use tl_index::Snapshot;
@@ -70,14 +71,14 @@ fn start_set<L: Ledger>(
     Ok(set)
 }
 
-/// The maximal runs of a plan over the versions of a piece, of the rows that are kept. The error is
-/// out of memory.
+/// The maximal runs of a plan over the versions of a piece, of the rows that are kept, which were
+/// counted before. The error is out of memory.
 pub(crate) fn piece_runs<L: Ledger>(
     alloc: Global,
     snapshot: &Snapshot,
     plan: &AggPlan,
     piece: Piece,
-    keep: &RowSet,
+    keep: &KeptRows<'_>,
     steps: &mut Steps<L>,
 ) -> Result<Seq<Run>, NoMemory>
     requires scan { CanScan snapshot.now plan.now keep.now piece.to }
@@ -90,8 +91,9 @@ pub(crate) fn piece_runs<L: Ledger>(
         let r = size (start_set (rows_of db plan.now.table) keep.now piece.from) in
         let w = begun_words db plan.now.table in
         let s = map_digits db plan.now.table in
-        steps.new ≤ steps.old + (e0 + 5 * e + 3 * r + 5 * w + 4 * s + 2) }
+        steps.new ≤ steps.old + (e0 + 5 * e + 3 * r + 4 * w + 4 * s + 2) }
 {
-    let start = start_set(alloc, snapshot, plan.table, piece.from, keep, steps)?;
-    aggregate(alloc, snapshot, plan, piece, &start, keep, steps)
+    let rows = keep.rows();
+    let start = start_set(alloc, snapshot, plan.table, piece.from, rows, steps)?;
+    keep.aggregate(alloc, snapshot, plan, piece, &start, steps)
 }

@@ -1,4 +1,5 @@
-//! Rows that a store keeps, as the fields of an answer.
+//! Rows that a store keeps, as the fields of an answer: cells as they are, and the ends of valid
+//! periods as moments, of which one that never comes has a field of its own.
 ghost use Rattle.std.specs.Prelude.{◌≡◌, ◌+◌, ◌<◌, ◌≤◌, ◌++◌, ◌∷◌, [], OnOk, Some, length};
 ghost use Rattle.tl_types.specs.History.{database_of, rows_of};
 ghost use Rattle.tl_types.specs.Plain as plain;
@@ -13,7 +14,7 @@ use tl_rows::{FieldRef, RowsWriter};
 use tl_store::{CellRef, Store};
 use tl_types::{NoMemory, Period, Steps};
 
-/// A cell as a field.
+/// A cell as a field of an answer: its number, or the bytes of its text.
 pub(crate) fn cell_field(cell: CellRef<'_>) -> FieldRef<'_>
     ensures { field_shown result ≡ cell_field (cell_shown cell.entry) }
 {

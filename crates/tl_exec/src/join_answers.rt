@@ -1,4 +1,5 @@
-//! The answer to a query for the pairs of rows of two tables that hold at one time.
+//! The answer to a query for the pairs of rows of two tables that hold at one time: over versions
+//! in pieces, over valid time by the events of both sides at one version.
 ghost use Rattle.std.specs.Prelude.{◌≡◌, ◌+◌, ◌<◌, ◌≤◌, pos, IfOk, map};
 ghost use Rattle.tl_types.specs.Entries.{commits_of};
 ghost use Rattle.tl_types.specs.History.{database_of, rows_of};
@@ -27,19 +28,19 @@ use tl_types::{NoMemory, Piece, Steps};
 /// together at a time of a range, of the rows of each that pass.
 #[derive(Clone, Copy)]
 pub(crate) struct AskedPairs<'a> {
-    /// The left table's number.
+    /// The left table's number, from 0.
     pub(crate) left: u16,
-    /// What its rows pass.
+    /// What the rows of the left table pass.
     pub(crate) left_pred: &'a TypedPred,
-    /// The right table's number.
+    /// The right table's number, from 0.
     pub(crate) right: u16,
-    /// What its rows pass.
+    /// What the rows of the right table pass.
     pub(crate) right_pred: &'a TypedPred,
-    /// The column of the left table.
+    /// The place, from 0, of the column of the left table that is compared.
     pub(crate) left_on: u8,
-    /// The column of the right table.
+    /// The place, from 0, of the column of the right table that is compared.
     pub(crate) right_on: u8,
-    /// The range.
+    /// Versions, or moments of valid time at a version.
     pub(crate) span: Span,
 }
 
@@ -48,7 +49,7 @@ pub(crate) struct AskedPairs<'a> {
 pub(crate) struct Joined<'a> {
     /// The tables, their columns, and the range.
     pub(crate) plan: JoinPlan,
-    /// The range.
+    /// The versions of the range, which the plan has as moments.
     pub(crate) range: Piece,
     /// What the rows of the left table pass.
     pub(crate) left_pred: &'a TypedPred,
@@ -113,47 +114,38 @@ pub(crate) fn answer_join<R: AllocGlobal + Threads + Sync, L: Ledger, G: Gate>(
         ≡ answer_of (database_of (commits_of snapshot.now)) (query_of asked.entry)) }
     ensures steps { IsWithinBound snapshot.now (query_of asked.entry) workers steps.old steps.new }
 {
-    let AskedPairs {
-        left,
-        left_pred,
-        right,
-        right_pred,
-        left_on,
-        right_on,
-        span,
-    } = asked;
-    match span {
+    match asked.span {
         Span::System { from, to } => {
             let plan = JoinPlan {
-                left,
-                right,
-                left_on,
-                right_on,
+                left: asked.left,
+                right: asked.right,
+                left_on: asked.left_on,
+                right_on: asked.right_on,
                 from: i64::from(from),
                 to: i64::from(to),
             };
             let joined = Joined {
                 plan,
                 range: Piece { from, to },
-                left_pred,
-                right_pred,
+                left_pred: asked.left_pred,
+                right_pred: asked.right_pred,
             };
             join_rows(rt, snapshot, joined, workers, gate, steps)
         }
         Span::Valid { version, from, to } => {
             let plan = JoinPlan {
-                left,
-                right,
-                left_on,
-                right_on,
+                left: asked.left,
+                right: asked.right,
+                left_on: asked.left_on,
+                right_on: asked.right_on,
                 from,
                 to,
             };
             let joined = JoinedAt {
                 plan,
                 version,
-                left_pred,
-                right_pred,
+                left_pred: asked.left_pred,
+                right_pred: asked.right_pred,
             };
             moment_rows(rt.alloc(), snapshot, joined, steps)
         }

@@ -1,4 +1,5 @@
-//! Joins over versions: of one piece, or of pieces of which each has a thread of its own.
+//! Joins over versions: of one piece, or of pieces of which each has a thread of its own. A pair
+//! stands in the piece in which it begins, so no pair comes twice.
 ghost use Rattle.std.specs.Prelude.{◌≡◌, ◌+◌, ◌<◌, ◌≤◌, ◌++◌, IfOk, OnOk};
 ghost use Rattle.std.specs.List.{flat_map};
 ghost use Rattle.tl_query.specs.declared.typed_queries.TypedPred.{TypedPred};

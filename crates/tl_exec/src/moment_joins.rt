@@ -1,4 +1,5 @@
-//! Joins over valid time at a version.
+//! Joins over valid time at a version, by the events of both sides there. Both tables have valid
+//! periods; a version that is not there is refused.
 ghost use Rattle.std.specs.Prelude.{◌≡◌, ◌+◌, ◌≤◌, IfOk, map};
 ghost use Rattle.tl_types.specs.Entries.{commits_of};
 ghost use Rattle.tl_types.specs.History.{database_of, rows_of};
@@ -25,7 +26,7 @@ use tl_valid_join::valid_join;
 pub(crate) struct JoinedAt<'a> {
     /// The tables, their columns, and the range.
     pub(crate) plan: JoinPlan,
-    /// The version.
+    /// The version at which the rows of both sides are visible.
     pub(crate) version: u32,
     /// What the rows of the left table pass.
     pub(crate) left_pred: &'a TypedPred,

@@ -1,4 +1,5 @@
-//! Aggregates over a range of valid time.
+//! Aggregates over a range of valid time at a version, of the rows that pass a predicate. The table
+//! has valid periods; a version that is not there is refused.
 ghost use Rattle.std.specs.Prelude.{◌≡◌, ◌+◌, ◌≤◌, IfOk};
 ghost use Rattle.tl_types.specs.Entries.{commits_of};
 ghost use Rattle.tl_types.specs.History.{database_of};
@@ -19,13 +20,13 @@ use tl_types::{NoMemory, Run, Seq, Steps};
 /// rows that pass a predicate.
 #[derive(Clone, Copy)]
 pub(crate) struct AskedMoments<'a> {
-    /// The plan.
+    /// What is aggregated, and by which column the rows are grouped.
     pub(crate) plan: AggPlan,
-    /// The predicate.
+    /// What the rows pass that are aggregated.
     pub(crate) pred: &'a TypedPred,
-    /// The version.
+    /// The version at which the rows are visible.
     pub(crate) version: u32,
-    /// The first moment.
+    /// The first moment of the range.
     pub(crate) from: i64,
     /// The moment that ends the range.
     pub(crate) to: i64,

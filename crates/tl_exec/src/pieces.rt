@@ -1,17 +1,17 @@
-//! Aggregates over versions in pieces, each in a thread of its own.
+//! Aggregates over versions in pieces, each in a thread of its own, whose runs are put together in
+//! order. The kept rows are counted once, before the pieces; the runs are those of one piece.
 ghost use Rattle.std.specs.Prelude.{◌≡◌, ◌<◌, ◌≤◌, IfOk};
 ghost use Rattle.tl_types.specs.Entries.{commits_of};
 ghost use Rattle.tl_types.specs.History.{database_of, rows_of};
 ghost use Rattle.tl_agg.specs.Runs.{system_runs};
-ghost use Rattle.tl_exec.specs.Pieces.{CanScan, CanDivide, ScanOf, runs_of_scan, PutsTogether};
+ghost use Rattle.tl_exec.specs.Pieces.{CanScan, CanDivide, DividedScanOf, runs_of_scan, PutsTogether};
 
 use crate::aggregates::piece_runs;
 use std::alloc::{AllocGlobal, Global};
 use std::marker::{Brand, Model};
 use std::sync::ledger::{Blank, Ledger};
 use std::thread::Threads;
-use tl_agg::seam;
-use tl_bits::RowSet;
+use tl_agg::{KeptRows, seam};
 use tl_device::Gate;
 use tl_index::Snapshot;
 use tl_query::AggPlan;
@@ -20,18 +20,18 @@ use tl_types::{NoMemory, Piece, Run, Seq, Steps};
 
 /// A scan of the rows of a snapshot that are kept, by a plan, up to a version.
 #[derive(Drop)]
-pub(crate) struct Scan<'a> {
+pub(crate) struct DividedScan<'a> {
     alloc: Global,
     snapshot: &'a Snapshot,
     plan: AggPlan,
-    keep: &'a RowSet,
+    keep: &'a KeptRows<'a>,
     to: u32,
 }
 
-impl<'a> Model for Scan<'a> {
-    ghost use Rattle.tl_exec.specs.Pieces.{CanDivide, ScanOf};
+impl<'a> Model for DividedScan<'a> {
+    ghost use Rattle.tl_exec.specs.Pieces.{CanDivide, DividedScanOf};
 
-    ghost Value = { ScanOf };
+    ghost Value = { DividedScanOf };
 
     ghost view = { λ s. record {
       entries = s.snapshot.now;
@@ -43,15 +43,15 @@ impl<'a> Model for Scan<'a> {
     ghost invariant = { λ s. CanDivide s.snapshot.now s.plan s.keep.now s.to };
 }
 
-impl<'a> Scan<'a> {
+impl<'a> DividedScan<'a> {
     /// The scan of the rows of a snapshot that are kept, by a plan, up to a version.
     pub(crate) fn new(
         alloc: Global,
         snapshot: &'a Snapshot,
         plan: AggPlan,
-        keep: &'a RowSet,
+        keep: &'a KeptRows<'a>,
         to: u32,
-    ) -> Scan<'a>
+    ) -> DividedScan<'a>
         requires { CanDivide snapshot.now plan keep.now to }
         ensures { result ≡ record {
           entries = snapshot.now;
@@ -60,7 +60,7 @@ impl<'a> Scan<'a> {
           to = to;
         } }
     {
-        Scan {
+        DividedScan {
             alloc,
             snapshot,
             plan,
@@ -110,7 +110,7 @@ impl<'a> Scan<'a> {
     }
 }
 
-impl<'a> PieceWork for Scan<'a> {
+impl<'a> PieceWork for DividedScan<'a> {
     ghost use Rattle.std.specs.Prelude.{◌≡◌, ◌≤◌};
     ghost use Rattle.tl_exec.specs.Pieces.{runs_of_scan};
 
@@ -130,7 +130,7 @@ fn counted_runs<L: Ledger>(
     snapshot: &Snapshot,
     plan: &AggPlan,
     piece: Piece,
-    keep: &RowSet,
+    keep: &KeptRows<'_>,
     blank: Blank,
 ) -> Result<Seq<Run>, NoMemory>
     requires name { blank.name ≡ L.name }

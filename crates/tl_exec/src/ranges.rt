@@ -1,4 +1,5 @@
-//! Aggregates over a range of versions.
+//! Aggregates over a range of versions, by one worker or by several. Which rows pass is found once,
+//! and so is whether these are all rows.
 ghost use Rattle.std.specs.Prelude.{◌≡◌, ◌+◌, ◌<◌, ◌≤◌, IfOk};
 ghost use Rattle.tl_types.specs.Entries.{commits_of};
 ghost use Rattle.tl_types.specs.History.{database_of};
@@ -6,10 +7,11 @@ ghost use Rattle.tl_exec.specs.Pieces.{IsAskedOf, asked_runs};
 ghost use Rattle.tl_exec.specs.Bounds.{aggregate_steps};
 
 use crate::aggregates::{passing_rows, piece_runs};
-use crate::pieces::Scan;
+use crate::pieces::DividedScan;
 use std::alloc::AllocGlobal;
 use std::sync::ledger::Ledger;
 use std::thread::Threads;
+use tl_agg::KeptRows;
 use tl_agg::laws::{kept_rows_pass, plans_suit};
 use tl_device::Gate;
 use tl_index::Snapshot;
@@ -20,11 +22,11 @@ use tl_types::{NoMemory, Piece, Run, Seq, Steps};
 /// predicate.
 #[derive(Clone, Copy)]
 pub(crate) struct AskedRuns<'a> {
-    /// The plan.
+    /// What is aggregated, and by which column the rows are grouped.
     pub(crate) plan: AggPlan,
-    /// The predicate.
+    /// What the rows pass that are aggregated.
     pub(crate) pred: &'a TypedPred,
-    /// The range.
+    /// The versions, from the first on and before the end.
     pub(crate) range: Piece,
 }
 
@@ -54,9 +56,10 @@ pub(crate) fn range_runs<R: AllocGlobal + Threads + Sync, L: Ledger, G: Gate>(
     let _legal = snapshot.has_break();
     let alloc = rt.alloc();
     let keep = passing_rows(alloc, snapshot, asked.plan.table, asked.pred, steps)?;
+    let kept = KeptRows::new(&keep, steps);
     if workers != 1 {
-        let scan = Scan::new(alloc, snapshot, asked.plan, &keep, asked.range.to);
+        let scan = DividedScan::new(alloc, snapshot, asked.plan, &kept, asked.range.to);
         return scan.runs_in_pieces(rt, asked.range.from, workers, gate);
     }
-    piece_runs(alloc, snapshot, &asked.plan, asked.range, &keep, steps)
+    piece_runs(alloc, snapshot, &asked.plan, asked.range, &kept, steps)
 }

@@ -1,4 +1,5 @@
-//! Rows of one table that are asked for.
+//! Rows of one table that are asked for: those of a set that are valid at a moment, each with the
+//! items in order. An item that the table has not got is refused.
 ghost use Rattle.std.specs.Prelude.{◌≡◌, ℕ, ◌+◌, ◌*◌, ◌<◌, ◌≤◌, ◌++◌, ◌&&◌, [], IfOk, OnOk, Some, length, map};
 ghost use Rattle.tl_types.specs.Entries.{commits_of};
 ghost use Rattle.tl_types.specs.History.{database_of, rows_of};
@@ -25,19 +26,19 @@ use tl_types::{NoMemory, Steps};
 /// What is asked of rows of a table: some items, of the rows that are valid at a moment where one
 /// is given.
 #[derive(Clone, Copy)]
-pub(crate) struct Asked<'a> {
-    /// The store.
+pub(crate) struct AskedFields<'a> {
+    /// The store that keeps the rows.
     pub(crate) store: &'a Store,
-    /// The table's number.
+    /// The table's number, from 0.
     pub(crate) table: u16,
-    /// The items in order.
+    /// What is shown of each row, in order.
     pub(crate) items: &'a [TypedItem],
-    /// The moment of valid time.
+    /// The moment of valid time at which the rows hold, where one is given.
     pub(crate) valid_at: Option<i64>,
 }
 
 // Whether a row is valid at the moment, where one is given. It takes at most one step.
-fn is_valid_at<L: Ledger>(asked: Asked<'_>, row: u32, steps: &mut Steps<L>) -> bool
+fn is_valid_at<L: Ledger>(asked: AskedFields<'_>, row: u32, steps: &mut Steps<L>) -> bool
     requires row { row < length (rows_of (database_of asked.store.now) asked.table) }
     requires moment { HasMoment (database_of asked.store.now) asked.table asked.valid_at }
     ensures value { (r : plain.Row)
@@ -58,7 +59,7 @@ fn is_valid_at<L: Ledger>(asked: Asked<'_>, row: u32, steps: &mut Steps<L>) -> b
 // for each item and one more. The error is out of memory.
 fn add_row<L: Ledger>(
     rows: &mut RowsWriter,
-    asked: Asked<'_>,
+    asked: AskedFields<'_>,
     row: u32,
     steps: &mut Steps<L>,
 ) -> Result<(), NoMemory>
@@ -85,7 +86,7 @@ fn add_row<L: Ledger>(
 /// each item. The error is out of memory.
 pub(crate) fn fields_of_set<L: Ledger>(
     alloc: Global,
-    asked: Asked<'_>,
+    asked: AskedFields<'_>,
     set: &RowSet,
     steps: &mut Steps<L>,
 ) -> Result<AnswerRows, NoMemory>
@@ -116,7 +117,7 @@ pub(crate) fn fields_of_set<L: Ledger>(
 pub(crate) fn select_fields<L: Ledger>(
     alloc: Global,
     snapshot: &Snapshot,
-    asked: Asked<'_>,
+    asked: AskedFields<'_>,
     pred: &TypedPred,
     version: u32,
     steps: &mut Steps<L>,

@@ -1,4 +1,5 @@
-//! Sets of rows of one table.
+//! Sets of rows of one table: the meet of two, and the rows that are visible at a version and pass
+//! a predicate. Sets of tables of different lengths are refused.
 ghost use Rattle.std.specs.Prelude.{◌≡◌, ℕ, ◌+◌, ◌*◌, ◌<◌, ◌≤◌, ◌&&◌, IfOk, length, map};
 ghost use Rattle.tl_types.specs.Entries.{commits_of};
 ghost use Rattle.tl_types.specs.History.{database_of, rows_of, is_visible};

@@ -1,4 +1,5 @@
-//! Pairs of rows, as the rows of an answer.
+//! Pairs of rows, as the rows of an answer: the cells of the left row, then those of the right one,
+//! then from when to when the pair holds. Both rows are there.
 ghost use Rattle.std.specs.Prelude.{◌≡◌, ◌+◌, ◌*◌, ◌<◌, ◌≤◌, ◌++◌, ◌∷◌, [], IfOk, OnOk, Some, length, map};
 ghost use Rattle.tl_types.specs.Entries.{commits_of};
 ghost use Rattle.tl_types.specs.History.{database_of, rows_of};

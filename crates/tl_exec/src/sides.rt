@@ -1,10 +1,12 @@
-//! The rows of one side of a join.
+//! The rows of one side of a join that are visible where a piece begins, of those that are kept. A
+//! version that is not there is refused.
 ghost use Rattle.std.specs.Prelude.{◌≡◌, ◌+◌, ◌*◌, ◌<◌, ◌≤◌, IfOk, length};
 ghost use Rattle.tl_types.specs.Entries.{commits_of};
 ghost use Rattle.tl_types.specs.History.{database_of, rows_of};
 ghost use Rattle.tl_query.specs.declared.typed_queries.TypedPred.{TypedPred as Pred};
 ghost use Rattle.tl_travel.specs.Bounds.{events_after_mark, begun_words, map_digits};
-ghost use Rattle.tl_join.specs.Pieces.{passing, starting};
+ghost use Rattle.tl_join.specs.Pieces.{starting};
+ghost use Rattle.tl_query.specs.Passing.{passing};
 
 use crate::sets::meet;
 use std::alloc::Global;

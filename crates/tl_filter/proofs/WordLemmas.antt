@@ -6,7 +6,11 @@ use Rattle.std.proofs.lemmas.Bool.{cases_lt, cases_eq}
 use Rattle.std.proofs.lemmas.List.{get_or-set_same, get_or-set_other}
 use Rattle.std.proofs.lemmas.Bool.Decides.{nat_tests}
 use Rattle.std.proofs.lemmas.Nat.Bits.{bit_at_and, bit_at_or, bit_at_not, bit_at-lt, bit_at-zero, bit_at_ones, bit_at_ones_above}
+use Rattle.std.proofs.lemmas.Simd.{get_or-zip2, length-zip2}
+use lib.Lanes.{zip2}
 use Rattle.tl_lanes.specs.Masks.{is_bit}
+use Rattle.tl_lanes.specs.Words.{and_not}
+use Rattle.tl_filter.specs.Words.{AreJoined, AreLeft}
 
 -- a word of two others, bit by bit
 pub bit_of_and : (a b k : ℕ) → is_bit (bit_and a b) k ≡ (is_bit a k && is_bit b k)
@@ -72,7 +76,25 @@ each_more P words i v there so_far here j below = by_place (cases_eq j i) where
       let e : get_or (set words i v) j 0 ≡ get_or words j 0 = get_or-set_other words i j v 0 other in
       subst (P j) (sym e) (so_far j (omega arith))
 
--- those behind are as they were
-pub kept_more : (old words : List ℕ) (i v : ℕ) → ((j : ℕ) → i ≤ j → get_or words j 0 ≡ get_or old j 0)
-    → (j : ℕ) → i + 1 ≤ j → get_or (set words i v) j 0 ≡ get_or old j 0
-kept_more old words i v kept j behind = get_or-set_other words i j v 0 (λ e. absurd (omega arith)) ∙ kept j (omega arith)
+-- WORDS OF TWO LISTS
+
+-- what a kernel leaves of words
+pub left_is : (base done left : List ℕ) → length base ≡ length done → ((i : ℕ) → get_or done i 0 < 2 ^ 64) → left ≡ zip2 and_not base done → AreLeft base done left
+left_is base done left same fit is = record {
+  long = ap length is ∙ length-zip2 and_not base done same ∙ same;
+  each = λ i below k small.
+      ap (λ words. is_bit (get_or words i 0) k) is
+      ∙ ap (λ w. is_bit w k) (get_or-zip2 and_not base done i 0 0 0 (omega arith) below)
+      ∙ bit_of_and (get_or base i 0) (bit_not w64 (get_or done i 0)) k
+      ∙ ap (λ b. is_bit (get_or base i 0) k && b) (bit_of_not (get_or done i 0) k (fit i) small);
+}
+
+-- what a kernel adds to words
+pub joined_is : (one two new : List ℕ) → length one ≡ length two → new ≡ zip2 bit_or one two → AreJoined one two new
+joined_is one two new same is = record {
+  long = ap length is ∙ length-zip2 bit_or one two same;
+  each = λ i below k small.
+      ap (λ words. is_bit (get_or words i 0) k) is
+      ∙ ap (λ w. is_bit w k) (get_or-zip2 bit_or one two i 0 0 0 below (omega arith))
+      ∙ bit_of_or (get_or one i 0) (get_or two i 0) k;
+}

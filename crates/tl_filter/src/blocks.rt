@@ -1,4 +1,5 @@
-//! Blocks of words of one table, worked out together.
+//! Blocks of words of one table, worked out together: a test is prepared once for a block. A list
+//! of tests is asked only of the rows that no list before it let pass.
 ghost use Rattle.std.specs.Prelude.{◌≡◌, ℕ, ◌+◌, ◌*◌, ◌-◌, ◌^◌, ◌/◌, ◌%◌, ◌<◌, ◌≤◌, Bool, ◌&&◌, ◌||◌, false, IsTrue, List, length, map, slice_index, slice_index_or, sum_by};
 ghost use Rattle.std.specs.List.{All, list_any};
 ghost use Rattle.tl_types.specs.Plain as plain;

@@ -1,4 +1,5 @@
-//! Which rows of a whole table or of a set of them pass.
+//! Which rows of a whole table or of a set of them pass a predicate, block by block. It takes no
+//! memory.
 ghost use Rattle.std.specs.Prelude.{◌≡◌, ℕ, ◌+◌, ◌*◌, ◌<◌, ◌≤◌, ◌&&◌, length};
 ghost use Rattle.tl_types.specs.Entries.{commits_of};
 ghost use Rattle.tl_types.specs.History.{database_of, rows_of};

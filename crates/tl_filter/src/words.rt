@@ -1,4 +1,5 @@
-//! Words of a mask, 64 rows each.
+//! Words of masks, 64 rows each: those of all rows or of a set, and what tests leave of them. A
+//! test is not asked of a word that has no bit left.
 ghost use Rattle.std.specs.Prelude.{◌≡◌, ℕ, ◌+◌, ◌*◌, ◌-◌, ◌^◌, ◌/◌, ◌%◌, ◌<◌, ◌≤◌, nat_lt, length, slice_index};
 ghost use Rattle.tl_lanes.specs.Masks.{is_bit, words_for};
 ghost use Rattle.tl_bits.specs.Sets.{is_member};
@@ -6,6 +7,7 @@ ghost use Rattle.tl_filter.specs.Words.{IsNarrowed, AreNarrowed, AreOfAll, AreLe
 
 use std::sync::ledger::Ledger;
 use tl_bits::RowSet;
+use tl_lanes::{and_not_into, or_into};
 use tl_store::ReadyTest;
 use tl_types::Steps;
 
@@ -54,9 +56,8 @@ pub(crate) fn leave(left: &mut [u64], base: &[u64], done: &[u64])
     requires base { length base.now ≡ length done.now }
     ensures { AreLeft base.now done.now left.new }
 {
-    for i in 0..done.len() {
-        left[i] = base[i] & !done[i];
-    }
+    left.copy_from_slice(base);
+    and_not_into(left, done);
 }
 
 // Leaves of word `i` the bits whose rows pass the test, which is not looked at where none is set.
@@ -88,13 +89,12 @@ pub(crate) fn narrow<L: Ledger>(
 }
 
 /// Adds to each word the bits of another.
+#[tactic(auto, using(crate::proofs::WordLemmas::joined_is))]
 pub(crate) fn join(words: &mut [u64], more: &[u64])
     requires { length words.old ≡ length more.now }
     ensures { AreJoined words.old more.now words.new }
 {
-    for i in 0..more.len() {
-        words[i] |= more[i];
-    }
+    or_into(words, more);
 }
 
 /// Puts the words into a set, from word `first` on.

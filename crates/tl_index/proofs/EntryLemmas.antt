@@ -200,18 +200,15 @@ in-append db (entry.Commit d ∷ es) fs = in-append db es fs
 in-append db (entry.Mark t v ∷ es) fs = ap (λ xs. checkpoint_at db t v ∷ xs) (in-append db es fs)
 in-append db (entry.Break d ∷ es) fs = in-append db es fs
 
-abbrev put_mark : List (List Checkpoint) → Checkpoint → List (List Checkpoint)
+abbrev pub put_mark : List (List Checkpoint) → Checkpoint → List (List Checkpoint)
 put_mark marks mark = with_mark mark marks
+
+pub marks_with : (db : plain.Database) (es fs : List Entry) → fold put_mark (marks_in db es) (checkpoints_in db fs) ≡ marks_in db (es ++ fs)
+marks_with db es fs = sym (ap (fold put_mark []) (in-append db es fs) ∙ fold-append put_mark [] (checkpoints_in db es) (checkpoints_in db fs))
 
 marks_with_commit : (db : plain.Database) (c : Commit) (es : List Entry) → db.version < open_end → fits standard_limits db c ≡ true → HaveKnownMarks db es → marks_in db es ≡ marks_in (after_commit db c) (es ++ commit_entry c ∷ [])
 marks_with_commit db c es l f k =
-    sym (ap (fold put_mark []) (in-append (after_commit db c) es (commit_entry c ∷ []) ∙ append-nil (checkpoints_in (after_commit db c) es) ∙ checkpoints_later db c es l f k))
-
-marks_with_break : (db : plain.Database) (c : Commit) (es : List Entry) → marks_in db es ≡ marks_in db (es ++ break_entry c ∷ [])
-marks_with_break db c es = sym (ap (fold put_mark []) (in-append db es (break_entry c ∷ []) ∙ append-nil (checkpoints_in db es)))
-
-marks_with_mark : (db : plain.Database) (t v : ℕ) (es : List Entry) → with_mark (checkpoint_at db t v) (marks_in db es) ≡ marks_in db (es ++ mark_entry t v ∷ [])
-marks_with_mark db t v es = sym (ap (fold put_mark []) (in-append db es (mark_entry t v ∷ [])) ∙ fold-append put_mark [] (checkpoints_in db es) (checkpoint_at db t v ∷ []))
+    ap (fold put_mark []) (sym (checkpoints_later db c es l f k)) ∙ marks_with (after_commit db c) es (commit_entry c ∷ [])
 
 marks_later : (db : plain.Database) (c : Commit) (es : List Entry) → HaveKnownMarks db es → HaveKnownMarks (after_commit db c) es
 marks_later db c [] k = tt
@@ -310,7 +307,7 @@ kept_marked commits log timelines marks table version checkpoint kept t v h is f
         timelines_are = kept.timelines_are;
         marks_known = subst (HaveKnownMarks db) (sym last) (known_on db es (mark_entry table version ∷ []) kept.marks_known (t, v, tt));
         marks_are =
-            ap (with_mark checkpoint) kept.marks_are ∙ ap (λ x. with_mark x (marks_in db es)) is ∙ marks_with_mark db table version es
+            ap (with_mark checkpoint) kept.marks_are ∙ ap (λ x. with_mark x (marks_in db es)) is ∙ marks_with db es (mark_entry table version ∷ [])
             ∙ sym (ap (marks_in db) last);
       },
       last,
@@ -333,7 +330,7 @@ kept_broken entries commits store log log2 broken timelines timelines2 marks mar
         few = kept.few;
         timelines_are = kept.timelines_are;
         marks_known = subst (HaveKnownMarks (database_of commits)) (sym last) (known_on (database_of commits) entries (break_entry c ∷ []) (subst (HaveKnownMarks (database_of commits)) same kept.marks_known) tt);
-        marks_are = kept.marks_are ∙ ap (marks_in (database_of commits)) same ∙ marks_with_break (database_of commits) c entries ∙ sym (ap (marks_in (database_of commits)) last);
+        marks_are = kept.marks_are ∙ ap (marks_in (database_of commits)) same ∙ marks_with (database_of commits) entries (break_entry c ∷ []) ∙ sym (ap (marks_in (database_of commits)) last);
       },
       last,
     ) where

@@ -10,3 +10,4 @@ pub mod LapseLemmas
 pub mod ValidLemmas
 pub mod NearestLemmas
 pub mod BuildLemmas
+pub mod StrictLemmas

@@ -13,11 +13,11 @@ use Rattle.tl_ckpt.specs.Marks.{marks_for, mark_put, mark_put_at, with_mark, lat
 use Rattle.tl_index.specs.Snapshots.{checkpoints_in, marks_in, HaveKnownMarks}
 
 -- the checkpoint of a table at a version is of that table and version
-its_table : (n v : ℕ) (o : Option plain.Table) → (checkpoint_of n v o).table ≡ n
+pub its_table : (n v : ℕ) (o : Option plain.Table) → (checkpoint_of n v o).table ≡ n
 its_table n v None = refl
 its_table n v (Some t) = refl
 
-its_version : (n v : ℕ) (o : Option plain.Table) → (checkpoint_of n v o).version ≡ v
+pub its_version : (n v : ℕ) (o : Option plain.Table) → (checkpoint_of n v o).version ≡ v
 its_version n v None = refl
 its_version n v (Some t) = refl
 

@@ -11,6 +11,7 @@ use Rattle.tl_ckpt.specs.Marks.{marks_for, mark_put, mark_put_at, with_mark, lat
 use Rattle.tl_types.specs.Legality.{database_behind}
 use Rattle.tl_index.specs.Snapshots.{checkpoints_in, marks_of, version_or_none, mark_before}
 use Rattle.tl_index.specs.Nearest.{IsNearest}
+use Rattle.tl_index.proofs.Marking.{its_table, its_version}
 
 -- MARKS BY TABLE
 
@@ -30,7 +31,7 @@ for_another (suc at) zero mark (l ∷ lists) apart = refl
 for_another (suc at) (suc table) mark [] apart = for_another at table mark [] (λ e. apart (ap suc e))
 for_another (suc at) (suc table) mark (l ∷ lists) apart = for_another at table mark lists (λ e. apart (ap suc e))
 
-for_put_at : (at table : ℕ) (mark : Checkpoint) (lists : List (List Checkpoint)) → marks_for (mark_put_at at mark lists) table ≡ cond (nat_eq at table) (mark_put mark (marks_for lists table)) (marks_for lists table)
+pub for_put_at : (at table : ℕ) (mark : Checkpoint) (lists : List (List Checkpoint)) → marks_for (mark_put_at at mark lists) table ≡ cond (nat_eq at table) (mark_put mark (marks_for lists table)) (marks_for lists table)
 for_put_at at table mark lists = by_test (nat_eq at table) refl where
   by_test : (b : Bool) → nat_eq at table ≡ b → marks_for (mark_put_at at mark lists) table ≡ cond b (mark_put mark (marks_for lists table)) (marks_for lists table)
   by_test true e = let same = eqb-true at table e in ap (λ n. marks_for (mark_put_at n mark lists) table) same ∙ for_its_own table mark lists
@@ -39,10 +40,6 @@ for_put_at at table mark lists = by_test (nat_eq at table) refl where
     differ e f = absurd (cc)
 
 -- OF ALL ENTRIES
-
-its_names : (n v : ℕ) (o : Option plain.Table) → ((checkpoint_of n v o).table ≡ n) × ((checkpoint_of n v o).version ≡ v)
-its_names n v None = (refl, refl)
-its_names n v (Some t) = (refl, refl)
 
 abbrev folded : plain.Database → List Entry → List (List Checkpoint) → List (List Checkpoint)
 folded db es lists = fold (λ marks mark. with_mark mark marks) lists (checkpoints_in db es)
@@ -64,9 +61,9 @@ folded_of db (entry.Commit c ∷ es) lists table all = folded_of db es lists tab
 folded_of db (entry.Break c ∷ es) lists table all = folded_of db es lists table all
 folded_of db (entry.Mark t v ∷ es) lists table all =
     let mark = checkpoint_at db t v in
-    let names = its_names t v (slice_get db.tables t) in
+    let at = slice_get db.tables t in
     folded_of db es (with_mark mark lists) table
-    (subst (AreOf db table) (sym (for_put_at mark.table table mark lists)) (by_test (nat_eq mark.table table) mark (marks_for lists table) refl names.0 names.1 refl all)) where
+    (subst (AreOf db table) (sym (for_put_at mark.table table mark lists)) (by_test (nat_eq mark.table table) mark (marks_for lists table) refl (its_table t v at) (its_version t v at) refl all)) where
       by_test : (b : Bool) (mark : Checkpoint) (marks : List Checkpoint) → nat_eq mark.table table ≡ b → mark.table ≡ t → mark.version ≡ v → mark ≡ checkpoint_at db t v → AreOf db table marks → AreOf db table (cond b (mark_put mark marks) marks)
       by_test true mark marks e f g is all =
           let same : t ≡ table = sym f ∙ eqb-true mark.table table e in

@@ -26,6 +26,10 @@ pub record HasTimeline (table : TableOf) (events : List Event) (ends : List Vers
   pub events_are : events ≡ events_of (rows_in table) table.db.version
   pub ends_are : ends ≡ ends_of (rows_in table) table.db.version
 
+-- the ends of its versions
+abbrev pub ends_in : TableOf → List VersionEnd
+ends_in table = ends_of (rows_in table) table.db.version
+
 -- the most steps that the search for a version takes
 abbrev pub search_steps : TableOf → ℕ
-search_steps table = binary_digits (length (ends_of (rows_in table) table.db.version) + 1)
+search_steps table = binary_digits (length (ends_in table) + 1)

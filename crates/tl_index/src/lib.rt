@@ -5,7 +5,8 @@
 //! after it. What a snapshot keeps is of that one list, and the contracts speak of the list alone.
 //!
 //! From what it keeps it tells which rows of a table stand at a version, and the events of their
-//! valid time: it begins at the nearest mark and walks along the events behind it.
+//! valid time: it begins at the nearest mark and walks along the events behind it. `timed` gives a
+//! table with its timeline to those who walk by themselves.
 #![tactic(auto)]
 
 mod changes;
@@ -18,3 +19,4 @@ mod valid_times;
 mod walks;
 
 pub use snapshots::Snapshot;
+pub use tables::TimedTable;

@@ -22,8 +22,8 @@ use tl_ckpt::{Checkpoint, Choice, ValidEvents};
 use tl_types::{NoMemory, Steps, ValidEvent};
 
 impl Snapshot {
-    // The table with its timeline.
-    fn timed(&self, table: u16) -> TimedTable<'_>
+    /// The table with a number, from 0, with its timeline.
+    pub fn timed(&self, table: u16) -> TimedTable<'_>
         requires { table < length (database_of (commits_of self.now)).tables }
         ensures { result ≡ record { db = database_of (commits_of self.now); number = table } }
     {

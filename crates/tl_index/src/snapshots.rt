@@ -6,7 +6,7 @@ ghost use Rattle.tl_types.specs.Events.{events_of, place_of};
 ghost use Rattle.tl_events.specs.Timeline.{ends_of};
 ghost use Rattle.tl_types.specs.WellFormed.{AreWellFormed, BeginInOrder};
 ghost use Rattle.tl_types.specs.Marks.{due, last_mark, events_since_mark};
-ghost use Rattle.tl_ckpt.specs.Marks.{marks_for};
+ghost use Rattle.tl_ckpt.specs.Marks.{marks_for, ClimbStrictly};
 ghost use Rattle.tl_types.specs.Limits.{standard_limits};
 ghost use Rattle.tl_types.specs.Legality.{are_legal, has_mark};
 ghost use Rattle.tl_types.specs.Checkpoints.{checkpoint_at};
@@ -156,9 +156,11 @@ impl Snapshot {
         })
     }
 
-    /// The checkpoints of the marks, each that of its table at its version.
+    /// The checkpoints of the marks, each that of its table at its version. Of a table no two have
+    /// one version.
     pub fn marks(&self) -> &Marks
-        ensures { result.now ≡ marks_of self.now }
+        ensures marks { result.now ≡ marks_of self.now }
+        ensures strict { (table : ℕ) → ClimbStrictly (marks_for (marks_of self.now) table) }
     {
         self.marks.get()
     }

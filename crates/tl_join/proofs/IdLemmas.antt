@@ -12,9 +12,9 @@ use Rattle.tl_types.specs.Walks.{events_between}
 use Rattle.tl_types.specs.WellFormed.{BeginInOrder}
 use Rattle.tl_types.proofs.EventLemmas.{events_before, between_more}
 use Rattle.tl_query.specs.declared.typed_queries.TypedPred.{TypedPred}
-use Rattle.tl_query.specs.Passing.{passes}
+use Rattle.tl_query.specs.Passing.{passes, passing}
 use Rattle.tl_bits.specs.Sets.{is_member, members}
-use Rattle.tl_join.specs.Pieces.{is_there, passing, starting}
+use Rattle.tl_join.specs.Pieces.{is_there, starting}
 use Rattle.tl_join.specs.There.{members_from, opened_row, opened_in, ids_there}
 
 pub ids_true : (test : plain.Row → Bool) (n : ℕ) (r : plain.Row) (rows : List plain.Row) → test r ≡ true → ids_from n test (r ∷ rows) ≡ n ∷ ids_from (n + 1) test rows

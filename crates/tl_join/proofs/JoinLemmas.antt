@@ -16,24 +16,25 @@ use Rattle.tl_sweep.specs.declared.entries.Entry.{Entry}
 use Rattle.tl_sweep.specs.Sweep.{Rises, AreOne, grid}
 use Rattle.tl_join.specs.declared.sides.Side.{Side}
 use Rattle.tl_keys.specs.Keys.{KeyNumbers, AreApart}
-use Rattle.tl_join.specs.Pieces.{is_in_piece, entries_in, passing, starting, pairs_in}
-use Rattle.tl_join.specs.Sides.{IsSide, IsEntryOf, ids_in, rows_in, last_in}
+use Rattle.tl_join.specs.Pieces.{is_in_piece, entries_in, starting, pairs_in}
+use Rattle.tl_query.specs.Passing.{passing}
+use Rattle.tl_join.specs.Sides.{IsSide, IsEntryOf, ids_in, side_rows, last_in}
 use Rattle.tl_join.specs.There.{ids_there}
 use Rattle.tl_join.proofs.IdLemmas.{ids_are}
 use Rattle.tl_join.proofs.EntryLemmas.{AreEntries, IsKnown, code_by, entries_are, entries_rise, entries_one}
 use Rattle.tl_keys.proofs.KeyLemmas.{numbers_agree}
 use Rattle.tl_join.proofs.LawLemmas.{Agree, law_of_piece}
-use Rattle.tl_join.proofs.PieceLemmas.{part_in_order}
+use Rattle.tl_query.proofs.PairOrder.{part_in_order}
 
 -- the entries are those of the rows of one side, for a walk
 pub record Ready (plan : JoinPlan) (a b p q : ℕ) (from : plan.from ≡ pos a) (to : plan.to ≡ pos b) (pred : TypedPred) (side : Side) (keys : KeyNumbers) (es : List Entry) : Type 0 where
-  pub entries : AreEntries plan a b p q from to pred side.column keys 0 (rows_in side) es
+  pub entries : AreEntries plan a b p q from to pred side.column keys 0 (side_rows side) es
   pub rise : Rises es
   pub one : AreOne es
 
-pub ready : (plan : JoinPlan) (a b p q : ℕ) (from : plan.from ≡ pos a) (to : plan.to ≡ pos b) (pred : TypedPred) (side : Side) (keys : KeyNumbers) (es : List Entry) → a ≤ p → p < q → q ≤ b → q ≤ last_in side + 1 → IsSide side → side.start.now ≡ starting p pred (rows_in side) → side.keep.now ≡ passing pred (rows_in side) → AreApart keys → ids_in es ≡ ids_there (rows_in side) (last_in side) p q side.start.now side.keep.now → AllByRecursion (IsEntryOf side plan keys) es → Ready plan a b p q from to pred side keys es
+pub ready : (plan : JoinPlan) (a b p q : ℕ) (from : plan.from ≡ pos a) (to : plan.to ≡ pos b) (pred : TypedPred) (side : Side) (keys : KeyNumbers) (es : List Entry) → a ≤ p → p < q → q ≤ b → q ≤ last_in side + 1 → IsSide side → side.start.now ≡ starting p pred (side_rows side) → side.keep.now ≡ passing pred (side_rows side) → AreApart keys → ids_in es ≡ ids_there (side_rows side) (last_in side) p q side.start.now side.keep.now → AllByRecursion (IsEntryOf side plan keys) es → Ready plan a b p q from to pred side keys es
 ready plan a b p q from to pred side keys es after some inside within is start keep apart ids all =
-    let rows = rows_in side in
+    let rows = side_rows side in
     let entries = entries_are plan a b p q from to pred side.column keys after some inside apart (last_in side) rows rows 0 es is.formed (λ k. let e : 0 + k ≡ k = omega arith in ap (slice_get rows) e) (ids ∙ ids_are pred rows p is.order (last_in side) q side.start.now side.keep.now some within start keep) all in
     record {
       entries = entries;
@@ -79,7 +80,7 @@ pub passing_long : (pred : TypedPred) (rows : List plain.Row) (set : List Bool) 
 passing_long pred rows set is = ap length is ∙ length-map rows _
 
 -- a side's rows are those of its table
-rows_are : (db : plain.Database) (side : Side) (table : ℕ) → database_of side.store.now ≡ db → side.table ≡ table → rows_in side ≡ rows_of db table
+rows_are : (db : plain.Database) (side : Side) (table : ℕ) → database_of side.store.now ≡ db → side.table ≡ table → side_rows side ≡ rows_of db table
 rows_are db side table s t = ap (λ d. rows_of d side.table) s ∙ ap (rows_of db) t
 
 before_is : (x : ℤ) (a p : ℕ) → x ≡ pos a → x ≤ℤ pos p → a ≤ p
@@ -93,7 +94,7 @@ module _ (db : plain.Database) (plan : JoinPlan) (piece : Piece) (a b : ℕ) (fr
   ReadySide pred side es = Ready plan a b piece.from piece.to from to pred side keys es
 
   -- the entries of a side of the plan
-  pub side_ready : (pred : TypedPred) (side : Side) (es got : List Entry) (table : ℕ) (start keep : List Bool) → database_of side.store.now ≡ db → side.table ≡ table → side.start.now ≡ start → side.keep.now ≡ keep → piece.to ≤ db.version + 1 → IsSide side → start ≡ starting piece.from pred (rows_of db table) → keep ≡ passing pred (rows_of db table) → got ≡ es → ids_in es ≡ ids_there (rows_in side) (last_in side) piece.from piece.to side.start.now side.keep.now → AllByRecursion (IsEntryOf side plan keys) es → ReadySide pred side got
+  pub side_ready : (pred : TypedPred) (side : Side) (es got : List Entry) (table : ℕ) (start keep : List Bool) → database_of side.store.now ≡ db → side.table ≡ table → side.start.now ≡ start → side.keep.now ≡ keep → piece.to ≤ db.version + 1 → IsSide side → start ≡ starting piece.from pred (rows_of db table) → keep ≡ passing pred (rows_of db table) → got ≡ es → ids_in es ≡ ids_there (side_rows side) (last_in side) piece.from piece.to side.start.now side.keep.now → AllByRecursion (IsEntryOf side plan keys) es → ReadySide pred side got
   side_ready pred side es got table start keep store number starts keeps within is start_is keep_is same ids all =
       let rows = rows_are db side table store number in
       let version : last_in side ≡ db.version = ap (λ (d : plain.Database). d.version) store in
@@ -103,9 +104,9 @@ module _ (db : plain.Database) (plan : JoinPlan) (piece : Piece) (a b : ℕ) (fr
   pub pairs_found : (left_pred right_pred : TypedPred) (left right : Side) (les res : List Entry) (pairs : List Pair) → database_of left.store.now ≡ db → left.table ≡ plan.left → left.column ≡ plan.left_on → database_of right.store.now ≡ db → right.table ≡ plan.right → right.column ≡ plan.right_on → ReadySide left_pred left les → ReadySide right_pred right res → pairs ≡ in_order pair_before (grid (pos piece.from) les res) → pairs ≡ pairs_in db plan piece left_pred right_pred a b
   pairs_found left_pred right_pred left right les res pairs left_store left_table left_column right_store right_table right_column left_ready right_ready is =
       let part : ℕ → ℕ → List plain.Row → List plain.Row → List Pair = (λ left_on. λ right_on. λ lefts. λ rights. filter (is_in_piece piece.from piece.to) (in_order pair_before (pairs_of left_pred right_pred left_on right_on (span.System a b) lefts rights))) in
-      part_found plan a b piece.from piece.to from to (before_is plan.from a piece.from from first) piece.some (behind_is plan.to b piece.to to last) left_pred right_pred keys apart left.column right.column (rows_in left) (rows_in right) les res pairs left_ready.entries right_ready.entries is
-      ∙ ap (λ n. part n right.column (rows_in left) (rows_in right)) left_column
-      ∙ ap (λ n. part plan.left_on n (rows_in left) (rows_in right)) right_column
-      ∙ ap (λ rows. part plan.left_on plan.right_on rows (rows_in right)) (rows_are db left plan.left left_store left_table)
+      part_found plan a b piece.from piece.to from to (before_is plan.from a piece.from from first) piece.some (behind_is plan.to b piece.to to last) left_pred right_pred keys apart left.column right.column (side_rows left) (side_rows right) les res pairs left_ready.entries right_ready.entries is
+      ∙ ap (λ n. part n right.column (side_rows left) (side_rows right)) left_column
+      ∙ ap (λ n. part plan.left_on n (side_rows left) (side_rows right)) right_column
+      ∙ ap (λ rows. part plan.left_on plan.right_on rows (side_rows right)) (rows_are db left plan.left left_store left_table)
       ∙ ap (λ rows. part plan.left_on plan.right_on (rows_of db plan.left) rows) (rows_are db right plan.right right_store right_table)
       ∙ pairs_in_is db plan piece left_pred right_pred a b

@@ -3,6 +3,5 @@ pub mod IdLemmas
 pub mod JoinLemmas
 pub mod LawLemmas
 pub mod PartLemmas
-pub mod PieceLemmas
 pub mod SideLemmas
 pub mod ThereLemmas

@@ -16,35 +16,16 @@ use Rattle.tl_query.specs.declared.typed_queries.Span.TheVariants as span
 use Rattle.tl_query.specs.declared.typed_queries.TypedPred.{TypedPred}
 use Rattle.tl_query.specs.Joins.{joined_pairs, match_rows, pair_of, pairs_of}
 use Rattle.tl_query.specs.Ordered.{in_order, inserted, pair_before}
-use Rattle.tl_query.proofs.PairOrder.{pair_order, pair_total, same_order}
-use Rattle.tl_query.proofs.Sorting.{Ascends, NoneBefore}
+use Rattle.tl_query.proofs.PairOrder.{pair_order, pair_total, part_in_order, same_order}
+use Rattle.tl_query.proofs.Sorting.{Ascends, NoneBefore, ascends_inserted}
 use Rattle.tl_join.specs.Pieces.{is_in_piece, pairs_in}
-use Rattle.tl_join.proofs.PieceLemmas.{part_in_order}
 
 -- LISTS IN ORDER ASCEND
 
 module _ {X : Type 0} (lt : X → X → Bool) (o : IsStrictWeakOrder lt) where
-  none_inserted : (w x : X) (ys : List X) → lt x w ≡ false → NoneBefore lt w ys → NoneBefore lt w (inserted lt x ys)
-  none_inserted w x [] h none = (h, tt)
-  none_inserted w x (y ∷ ys) h none = by_test (lt y x) (none_inserted w x ys h none.1) where
-    by_test : (b : Bool) → NoneBefore lt w (inserted lt x ys) → NoneBefore lt w (cond b (y ∷ inserted lt x ys) (x ∷ y ∷ ys))
-    by_test true later = (none.0, later)
-    by_test false later = (h, none)
-
-  none_lower : (x y : X) (ys : List X) → lt y x ≡ false → NoneBefore lt y ys → NoneBefore lt x ys
-  none_lower x y [] h none = tt
-  none_lower x y (z ∷ ys) h none = (o.chain z y x none.0 h, none_lower x y ys h none.1)
-
-  ascends_inserted : (x : X) (ys : List X) → Ascends lt ys → Ascends lt (inserted lt x ys)
-  ascends_inserted x [] up = (tt, tt)
-  ascends_inserted x (y ∷ ys) up = by_test (lt y x) refl (ascends_inserted x ys up.1) where
-    by_test : (b : Bool) → lt y x ≡ b → Ascends lt (inserted lt x ys) → Ascends lt (cond b (y ∷ inserted lt x ys) (x ∷ y ∷ ys))
-    by_test true e later = (none_inserted y x ys (o.one_way y x e) up.0, later)
-    by_test false e later = ((e, none_lower x y ys e up.0), up)
-
   all_in_order : (us vs : List X) → Ascends lt us → Ascends lt (fold (λ ws x. inserted lt x ws) us vs)
   all_in_order us [] up = up
-  all_in_order us (v ∷ vs) up = all_in_order (inserted lt v us) vs (ascends_inserted v us up)
+  all_in_order us (v ∷ vs) up = all_in_order (inserted lt v us) vs (ascends_inserted lt o v us up)
 
 pairs_ascend : (ps : List Pair) → Ascends pair_before (in_order pair_before ps)
 pairs_ascend ps = subst (λ lt. Ascends lt (in_order lt ps)) same_order (all_in_order (λ p q. is_lt (pair_order p q)) (ranks_by pair_total (λ p. p)) [] ps tt)
@@ -141,3 +122,5 @@ unfolding pairs_in joined_pairs
 whole_range db plan left_pred right_pred a b piece e f =
     let pairs = in_order pair_before (pairs_of left_pred right_pred plan.left_on plan.right_on (span.System a b) (rows_of db plan.left) (rows_of db plan.right)) in
     ap (λ n. filter (is_in_piece n piece.to) pairs) e ∙ ap (λ n. filter (is_in_piece a n) pairs) f ∙ pairs_all_in left_pred right_pred plan.left_on plan.right_on a b (rows_of db plan.left) (rows_of db plan.right)
+
+pub ruleset laws_of_pieces = (pieces_join, whole_range)

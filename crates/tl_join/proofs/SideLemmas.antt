@@ -13,7 +13,7 @@ use Rattle.tl_bits.specs.Sets.{is_member, members}
 use Rattle.tl_sweep.specs.declared.entries.Entry.{Entry}
 use Rattle.tl_join.specs.declared.sides.Side.{Side}
 use Rattle.tl_keys.specs.Keys.{KeyNumbers, KeepsNumbers, number_at}
-use Rattle.tl_join.specs.Sides.{IsOfRow, IsEntryOf, ids_in, rows_in}
+use Rattle.tl_join.specs.Sides.{IsOfRow, IsEntryOf, ids_in, side_rows}
 use Rattle.tl_join.specs.There.{members_from, opened_row, opened_in, ids_there}
 
 -- BOUNDS
@@ -89,7 +89,7 @@ of_row_later column plan old new (Some row) e keeps h = (h.0, h.1, by_cell (slic
 
 pub entries_later : (side : Side) (plan : JoinPlan) (old new : KeyNumbers) (es : List Entry) → KeepsNumbers old new → AllByRecursion (IsEntryOf side plan old) es → AllByRecursion (IsEntryOf side plan new) es
 entries_later side plan old new [] keeps h = tt
-entries_later side plan old new (e ∷ es) keeps h = (of_row_later side.column plan old new (slice_get (rows_in side) e.id) e keeps h.0, entries_later side plan old new es keeps h.1)
+entries_later side plan old new (e ∷ es) keeps h = (of_row_later side.column plan old new (slice_get (side_rows side) e.id) e keeps h.0, entries_later side plan old new es keeps h.1)
 
 all_push : {X : Type 0} (P : X → Type 0) (xs : List X) (x : X) → AllByRecursion P xs → P x → AllByRecursion P (xs ++ x ∷ [])
 all_push P [] x h p = (p, tt)

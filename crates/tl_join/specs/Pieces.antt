@@ -8,7 +8,7 @@ use Rattle.tl_query.specs.declared.typed_queries.JoinPlan.{JoinPlan}
 use Rattle.tl_query.specs.declared.typed_queries.Span.TheVariants as span
 use Rattle.tl_query.specs.declared.typed_queries.TypedPred.{TypedPred}
 use Rattle.tl_query.specs.Joins.{joined_pairs}
-use Rattle.tl_query.specs.Passing.{passes}
+use Rattle.tl_query.specs.Passing.{passes, passing}
 use Rattle.tl_sweep.specs.declared.entries.Entry.{Entry}
 use Rattle.tl_types.specs.declared.runs.Piece.{Piece}
 
@@ -34,10 +34,6 @@ entry_in a b from to pred code r =
 -- the rows that pass and are there in the piece, in order of id
 abbrev pub entries_in : ℕ → ℕ → ℕ → ℕ → TypedPred → (plain.Row → ℕ) → List plain.Row → List Entry
 entries_in a b from to pred code rows = filter_map (entry_in a b from to pred code) (with_ids rows)
-
--- which rows pass
-abbrev pub passing : TypedPred → List plain.Row → List Bool
-passing pred rows = map (passes pred) rows
 
 -- which rows stand at a version and pass
 abbrev pub starting : ℕ → TypedPred → List plain.Row → List Bool

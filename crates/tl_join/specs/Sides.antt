@@ -13,8 +13,8 @@ use Rattle.tl_join.specs.declared.sides.Side.{Side}
 use Rattle.tl_keys.specs.Keys.{KeyNumbers, number_at}
 
 -- the rows of the side's table
-abbrev pub rows_in : Side → List plain.Row
-rows_in side = rows_of (database_of side.store.now) side.table
+abbrev pub side_rows : Side → List plain.Row
+side_rows side = rows_of (database_of side.store.now) side.table
 
 -- the last version that the side's store has
 abbrev pub last_in : Side → ℕ
@@ -25,12 +25,12 @@ last_in side = (database_of side.store.now).version
 pub record IsSide (side : Side) : Type 0 where
   pub table : side.table < length (database_of side.store.now).tables
   pub column : side.column < length (columns_of (database_of side.store.now) side.table)
-  pub events : side.events.now ≡ events_of (rows_in side) (last_in side)
-  pub ends : side.ends.now ≡ ends_of (rows_in side) (last_in side)
-  pub formed : AreWellFormed (last_in side) (rows_in side)
-  pub order : BeginInOrder 0 (rows_in side)
-  pub start : length side.start.now ≡ length (rows_in side)
-  pub keep : length side.keep.now ≡ length (rows_in side)
+  pub events : side.events.now ≡ events_of (side_rows side) (last_in side)
+  pub ends : side.ends.now ≡ ends_of (side_rows side) (last_in side)
+  pub formed : AreWellFormed (last_in side) (side_rows side)
+  pub order : BeginInOrder 0 (side_rows side)
+  pub start : length side.start.now ≡ length (side_rows side)
+  pub keep : length side.keep.now ≡ length (side_rows side)
 
 -- the entry has of the row what its versions and the plan's range have in common, and the number
 -- of its key
@@ -42,7 +42,7 @@ IsOfRow column plan keys (Some row) e =
 
 -- the entry is of the side's row with its id
 abbrev pub IsEntryOf : Side → JoinPlan → KeyNumbers → Entry → Type 0
-IsEntryOf side plan keys e = IsOfRow side.column plan keys (slice_get (rows_in side) e.id) e
+IsEntryOf side plan keys e = IsOfRow side.column plan keys (slice_get (side_rows side) e.id) e
 
 -- the ids of the entries
 abbrev pub ids_in : List Entry → List ℕ

@@ -37,8 +37,8 @@ there_bound rows last from to start =
     + words_for (length start) + 2 * binary_digits (length (ends_of rows last) + 1)
 
 -- what a side may take for the versions from `from` on and before `to`: five steps for each event
--- of a version behind `from`, four for each row of the start set, two for each begun 64 of rows, and
--- two searches
+-- of a version behind `from`, four for each row of the start set, two for each begun 64 of rows,
+-- and two searches
 abbrev pub side_bound : List plain.Row → ℕ → ℕ → ℕ → List Bool → ℕ
 side_bound rows last from to start =
     5 * (place_of rows (to - 1) - place_of rows from) + 4 * length (members start)

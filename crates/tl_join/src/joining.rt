@@ -1,4 +1,6 @@
-//! Joins over a piece of the versions.
+//! Joins over a piece of the versions: the pairs that begin in it, in order. A pair that begins in
+//! an earlier piece is left out, so the pairs of pieces that follow on each other are those of the
+//! whole.
 ghost use Rattle.std.specs.Prelude.{◌≡◌, ◌+◌, ◌<◌, ◌≤◌, ◌≤ℤ◌, ℕ, pos, length, IfOk};
 ghost use Rattle.tl_types.specs.Entries.{commits_of};
 ghost use Rattle.tl_types.specs.History.{database_of, rows_of};

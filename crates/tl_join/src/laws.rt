@@ -1,4 +1,5 @@
-//! What holds of the pairs of pieces, said in the contract of a function that does nothing.
+//! What holds of the pairs of pieces, said in the contract of a function that does nothing: those
+//! of pieces that follow on each other are those of both, and those of the whole range are all.
 ghost use Rattle.std.specs.Prelude.{◌≡◌, ℕ, ◌++◌};
 ghost use Rattle.tl_types.specs.declared.runs.Piece.{Piece};
 ghost use Rattle.tl_types.specs.Plain as plain;
@@ -11,7 +12,7 @@ ghost use Rattle.tl_join.specs.Pieces.{pairs_in};
 /// Carries a law in its contract, and does nothing: the pairs of two pieces of which the second
 /// begins where the first ends, put behind each other, are those of both; and the pairs of the
 /// piece that is the whole range are all pairs of the join.
-#[tactic(auto, using(crate::proofs::PartLemmas::pieces_join, crate::proofs::PartLemmas::whole_range))]
+#[tactic(auto, using(crate::proofs::PartLemmas::laws_of_pieces))]
 pub fn pieces_follow()
     ensures both { (db : plain.Database) (plan : JoinPlan) (left_pred right_pred : TypedPred)
         (a b : ℕ) (first second both : Piece) → first.from ≡ both.from → first.to ≡ second.from

@@ -1,11 +1,12 @@
-//! One side of a join over a piece of versions.
+//! One side of a join over a piece of versions: the rows that are there, each as an entry with what
+//! its versions and the plan's range have in common, and the number of its key.
 ghost use Rattle.std.specs.Prelude.{◌≡◌, ◌+◌, ◌-◌, ◌*◌, ◌<◌, ◌≤◌, ◌^◌, All, length, IfOk, OnOk};
 ghost use Rattle.std.specs.List.{AllByRecursion};
 ghost use Rattle.tl_types.specs.Entries.{commits_of};
 ghost use Rattle.tl_types.specs.History.{database_of, rows_of};
 ghost use Rattle.tl_store.specs.Reading.{columns_of};
 ghost use Rattle.tl_keys.specs.Keys.{AreApart, KeepsNumbers};
-ghost use Rattle.tl_join.specs.Sides.{IsSide, IsEntryOf, ids_in, rows_in, last_in};
+ghost use Rattle.tl_join.specs.Sides.{IsSide, IsEntryOf, ids_in, side_rows, last_in};
 ghost use Rattle.tl_join.specs.There.{ids_there, side_bound, there_bound};
 
 use crate::there::{add_opened, start_ids};
@@ -24,7 +25,7 @@ use tl_types::{NoMemory, Piece, Steps};
 /// that stand at the piece's first version, and the rows that may stand in a pair.
 #[derive(Clone, Copy)]
 pub(crate) struct Side<'a> {
-    /// The store.
+    /// The store that has the rows.
     pub store: &'a Store,
     /// The table's number.
     pub table: u16,
@@ -82,9 +83,9 @@ fn there_ids<L: Ledger>(
 ) -> Result<Vec<u32>, NoMemory>
     requires side { IsSide side.now }
     requires versions { piece.to ≤ last_in side.now + 1 }
-    ensures ids { IfOk result (λ ids. ids.items ≡ ids_there (rows_in side.now) (last_in side.now)
+    ensures ids { IfOk result (λ ids. ids.items ≡ ids_there (side_rows side.now) (last_in side.now)
         piece.from piece.to side.now.start.now side.now.keep.now) }
-    ensures steps { steps.new ≤ steps.old + there_bound (rows_in side.now) (last_in side.now)
+    ensures steps { steps.new ≤ steps.old + there_bound (side_rows side.now) (last_in side.now)
         piece.from piece.to side.now.start.now }
 {
     let first = side.ends.end_of(piece.from, steps);
@@ -104,7 +105,7 @@ fn entry_of<'a, L: Ledger>(
     steps: &mut Steps<L>,
 ) -> Result<Entry, NoMemory>
     requires side { IsSide side.now }
-    requires row { id < length (rows_in side.now) }
+    requires row { id < length (side_rows side.now) }
     requires apart { AreApart keys.old }
     requires room { keys.old.count + 1 < 2 ^ 32 }
     ensures id { IfOk result (λ entry. entry.id ≡ id) }
@@ -135,7 +136,7 @@ fn entries_of<'a, L: Ledger>(
     steps: &mut Steps<L>,
 ) -> Result<Vec<Entry>, NoMemory>
     requires side { IsSide side.now }
-    requires rows { All (λ id. id < length (rows_in side.now)) ids.now }
+    requires rows { All (λ id. id < length (side_rows side.now)) ids.now }
     requires apart { AreApart keys.old }
     requires room { keys.old.count + length ids.now + 1 < 2 ^ 32 }
     ensures ids { IfOk result (λ entries. ids_in entries.items ≡ ids.now) }
@@ -168,14 +169,14 @@ pub(crate) fn side_entries<'a, L: Ledger>(
     requires apart { AreApart keys.old }
     requires room { keys.old.count ≤ 50331648 }
     ensures ids { IfOk result (λ entries. ids_in entries.items
-        ≡ ids_there (rows_in side.now) (last_in side.now) piece.from piece.to
+        ≡ ids_there (side_rows side.now) (last_in side.now) piece.from piece.to
         side.now.start.now side.now.keep.now) }
     ensures entries { IfOk result
         (λ entries. AllByRecursion (IsEntryOf side.now plan.now keys.new) entries.items) }
     ensures apart { OnOk result (AreApart keys.new) }
     ensures kept { OnOk result (KeepsNumbers keys.old keys.new) }
     ensures count { OnOk result (keys.new.count ≤ keys.old.count + 50331648) }
-    ensures steps { steps.new ≤ steps.old + side_bound (rows_in side.now) (last_in side.now)
+    ensures steps { steps.new ≤ steps.old + side_bound (side_rows side.now) (last_in side.now)
         piece.from piece.to side.now.start.now }
 {
     let _rows = side.store.rows(side.table);

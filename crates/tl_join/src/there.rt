@@ -1,4 +1,5 @@
-//! The rows of one side that are there in a piece.
+//! The rows of one side that are there in a piece: those of the start set, and those of the kept
+//! ones that begin behind its first version. No other row of the table is looked at.
 ghost use Rattle.std.specs.Prelude.{◌≡◌, ◌+◌, ◌-◌, ◌*◌, ◌<◌, ◌≤◌, ◌++◌, All, length, IfOk, OnOk};
 ghost use Rattle.std.specs.List.{filter_map};
 ghost use Rattle.std.specs.Option.{option_to_list};

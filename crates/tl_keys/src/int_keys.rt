@@ -1,4 +1,5 @@
-//! Numbers for keys that are whole numbers.
+//! Numbers for keys that are whole numbers: by a table of hashes, and for the least keys by their
+//! place in a list. It keeps that both tell one number, and takes no key that has one already.
 ghost use Rattle.std.specs.Prelude.{◌≡◌, ℕ, ℤ, suc, ◌+◌, ◌-◌, ◌^◌, ◌<◌, List, [], Some, None, if◌then◌else◌, OnOk, OnErr, IfOk};
 ghost use Rattle.std.specs.Ordering.{int_eq};
 ghost use Rattle.tl_keys.specs.Keys.{int_number};

@@ -1,4 +1,5 @@
-//! Numbers for the keys of columns.
+//! Numbers for the keys of columns, from 0 on in the order of their first turns. It keeps that
+//! different keys have different numbers; there are fewer than 2^32 - 1 of them.
 ghost use Rattle.std.specs.Prelude.{◌≡◌, ◌+◌, ◌<◌, ◌≤◌, ◌^◌, Some, None, IfOk, OnOk, OnErr};
 ghost use Rattle.tl_store.specs.Reading.{cell_shown};
 ghost use Rattle.tl_types.specs.declared.cells.Cell.TheVariants as cell;

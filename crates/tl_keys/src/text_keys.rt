@@ -1,4 +1,5 @@
-//! Numbers for keys that are texts.
+//! Numbers for keys that are texts, which are lent and compared byte by byte. It takes no key that
+//! has a number already.
 ghost use Rattle.std.specs.Prelude.{◌≡◌, ℕ, List, [], Some, None, if◌then◌else◌, OnOk, OnErr, IfOk, IfSome};
 ghost use Rattle.std.specs.Borrow.{Bor};
 ghost use Rattle.tl_types.specs.Names.{same_bytes};

@@ -17,7 +17,7 @@ use Rattle.tl_query.specs.Passing.{compare_cells}
 use Rattle.tl_query.specs.Aggregates.{has_value}
 use Rattle.tl_plain.specs.declared.keyed_rows.KeyedRow.{KeyedRow}
 use Rattle.tl_plain.specs.Keyed.{keyed, keyed_rows, row_with_id, row_with_key, key_before, has_key, AreByKey}
-use Rattle.tl_plain.proofs.CellLemmas.{cell_total, cell_ranks, same_order, cell_level, cell_symm, cell_equal}
+use Rattle.tl_query.proofs.CellOrder.{cell_total, cell_ranks, same_order, cell_level, cell_symm, cell_equal}
 use Rattle.tl_plain.proofs.Searching.{filter_found, is_level, splits_below, splits_level, found_between}
 
 -- WHAT A STABLE SORT BY KEY LEAVES

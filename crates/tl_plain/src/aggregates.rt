@@ -1,4 +1,5 @@
-//! Answers to queries for aggregates over time.
+//! Answers to queries for aggregates over time: the runs over all rows that pass, or those of each
+//! value of a column. Of a group the runs without a row are left out.
 ghost use Rattle.std.specs.Prelude.{◌≡◌, ◌++◌, ◌<◌, ◌^◌, ◌==◌, ℕ, List, not, length, map, IfOk, OnOk};
 ghost use Rattle.std.specs.List.{filter, flat_map};
 ghost use Rattle.std.specs.List.Sorted.{IsSortedBy};

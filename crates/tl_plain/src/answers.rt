@@ -1,4 +1,5 @@
-//! What a query is answered with.
+//! The answer to a query over the tables: each kind of query has a slow function of its own, and
+//! the answer is the definition's. Nothing is refused but for memory.
 ghost use Rattle.std.specs.Prelude.{◌≡◌, ◌<◌, ◌^◌, IfOk, length};
 ghost use Rattle.tl_types.specs.History.{rows_of};
 ghost use Rattle.tl_query.specs.Answers.{answer_of};

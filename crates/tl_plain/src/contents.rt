@@ -1,4 +1,6 @@
-//! One table.
+//! One table: its schema, its floor and its rows, and what a change or a floor makes of it. A
+//! change that closes a row which has ended does not fit, nor does a floor that is not greater than
+//! before.
 ghost use Rattle.std.specs.Prelude.{◌≡◌, ◌<◌, ◌^◌, IsTrue, OnOk, OnErr, Some, length};
 ghost use Rattle.tl_types.specs.History.{fits_table, fits_floor, table_after, new_table, with_floor, has_name};
 ghost use Rattle.tl_types.specs.Limits.{standard_limits};

@@ -1,4 +1,5 @@
-//! Aggregates of the rows that are there at a moment.
+//! Aggregates of the rows that are there at a moment: how many, and of the numbers that they have
+//! in a column the sum, the average, the least and the greatest.
 ghost use Rattle.std.specs.Prelude.{◌≡◌, ◌<◌, ◌≤◌, ◌^◌, None, Some, length, IfOk, if◌then◌else◌};
 ghost use Rattle.std.specs.List.{fold};
 ghost use Rattle.std.specs.Int.{int_min, int_max};

@@ -1,4 +1,5 @@
-//! All tables.
+//! All tables after some commits, with the stamps of the moments that these state: whether a commit
+//! fits, and what it makes of them.
 ghost use Rattle.std.specs.Prelude.{◌≡◌, ◌+◌, ◌<◌, ◌≤◌, ◌^◌, ◌++◌, IsTrue, OnOk, OnErr, Some, length, slice_get};
 ghost use Rattle.std.specs.List.{list_any};
 ghost use Rattle.tl_types.specs.History.{fits, fits_body, fits_floor, after_commit, after_body, stamps_of, nothing, has_name, rows_of};

@@ -1,4 +1,5 @@
-//! Fields of an answer.
+//! Fields of an answer: those of a row by the items of a query, of a run, and of a pair of rows.
+//! What a row lacks is an empty field.
 ghost use Rattle.std.specs.Prelude.{◌≡◌, ◌++◌, IfOk, OnOk, map};
 ghost use Rattle.tl_types.specs.History.{cell_at};
 ghost use Rattle.tl_query.specs.Fields.{cell_field, moment_field, from_field, to_field, column_field, item_field, row_fields};

@@ -1,4 +1,5 @@
-//! Answers to queries for the pairs of rows that hold at one time.
+//! Answers to queries for the pairs of rows that hold at one time: the rows of both sides that pass
+//! and have equal cells, each pair with the moments that both have in common.
 ghost use Rattle.std.specs.Prelude.{◌≡◌, ◌++◌, ◌<◌, ◌^◌, ℕ, length, map, IfOk, OnOk};
 ghost use Rattle.std.specs.List.{filter_map};
 ghost use Rattle.tl_types.specs.History.{with_ids, cell_at};
@@ -34,9 +35,9 @@ pub(crate) struct Side<'a> {
 /// What is joined: two sides, and the range of time.
 #[derive(Clone, Copy)]
 pub(crate) struct Sides<'a> {
-    /// The left side.
+    /// The side whose ids come first in a pair.
     pub left: Side<'a>,
-    /// The right side.
+    /// The side whose ids come second.
     pub right: Side<'a>,
     /// The range of time.
     pub span: Span,

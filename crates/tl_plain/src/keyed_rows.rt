@@ -19,19 +19,19 @@ pub(crate) struct KeyedRow<'a> {
     pub key: &'a Cell,
     /// The row's id.
     pub id: u32,
-    /// The row.
+    /// The row itself, open or ended.
     pub row: &'a Row,
 }
 
 /// Whether two cells are the same.
-#[tactic(auto, using(crate::proofs::CellLemmas::same_cells))]
+#[tactic(auto, using(tl_query::proofs::CellOrder::same_cells))]
 pub(crate) fn same_cell(first: &Cell, second: &Cell) -> bool
     ensures { result ≡ same_cell first.now second.now }
 {
     *first == *second
 }
 
-#[tactic(auto, using(crate::proofs::CellLemmas::cells_before))]
+#[tactic(auto, using(tl_query::proofs::CellOrder::cells_before))]
 fn is_before(row: &KeyedRow, key: &Cell) -> bool
     ensures { result ≡ cell_before row.now.key.now key.now }
 {

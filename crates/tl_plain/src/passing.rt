@@ -1,4 +1,5 @@
-//! Whether a row passes a predicate.
+//! Whether a row passes a predicate: all tests of one of its lists, or there is no list. Texts have
+//! no order, and cells of two kinds never compare.
 ghost use Rattle.std.specs.Prelude.{◌≡◌, IfOk, map};
 ghost use Rattle.std.specs.List.{filter, list_any};
 ghost use Rattle.tl_query.specs.Passing.{compare_numbers, compare_texts, compare_cells, passes_test, passes_all, passes};

@@ -1,4 +1,5 @@
-//! Rows.
+//! Rows, and what the change of a version makes of them: the closed ones end and the opened ones
+//! begin. A row has ended once, so only current ones may be closed.
 ghost use Rattle.std.specs.Prelude.{◌≡◌, ◌<◌, ◌++◌, IfOk, OnOk, OnErr, length, map, All};
 ghost use Rattle.std.specs.List.{list_all};
 ghost use Rattle.tl_types.specs.History.{new_row, row_after, with_ids, is_open, is_open_at, is_visible};

@@ -1,4 +1,5 @@
-//! Rows that are asked for.
+//! The rows that are asked for: those that stand at a version, are valid at a moment where there is
+//! one, and pass, in order of id.
 ghost use Rattle.std.specs.Prelude.{◌≡◌, IfOk, map};
 ghost use Rattle.std.specs.List.{filter};
 ghost use Rattle.tl_types.specs.History.{is_within};

@@ -1,4 +1,5 @@
-//! Moments that were stated.
+//! The moments that commits state, each with its version. A moment that is not greater than the
+//! last one is no later one.
 ghost use Rattle.std.specs.Prelude.{◌≡◌};
 ghost use Rattle.tl_types.specs.History.{is_later, last_moment};
 

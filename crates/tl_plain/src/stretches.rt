@@ -1,4 +1,5 @@
-//! The maximal runs of an aggregate over time.
+//! The maximal runs of an aggregate over the moments of a range: worked out moment by moment, and a
+//! run goes on as long as the value stays the same.
 ghost use Rattle.std.specs.Prelude.{◌≡◌, ◌<◌, ◌^◌, length, IfOk};
 ghost use Rattle.tl_query.specs.Aggregates.{span_start, span_end, runs_in};
 ghost use Rattle.tl_plain.specs.Choosing.{lent, there_at};

@@ -1,4 +1,5 @@
-//! When rows hold in the time of a range.
+//! When rows hold in the time of a range: over versions while they stand, over valid time within
+//! their valid periods.
 ghost use Rattle.std.specs.Prelude.{◌≡◌, ◌<ℤ◌, ◌≤ℤ◌, None, All, if◌then◌else◌};
 ghost use Rattle.tl_types.specs.History.{is_visible};
 ghost use Rattle.tl_query.specs.Joins.{times_of};

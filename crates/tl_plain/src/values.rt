@@ -1,4 +1,5 @@
-//! The values of a column, in order.
+//! The values of a column in rows, in order, each once, as a sort and a `dedup` leave them. A row
+//! without a cell there has none.
 ghost use Rattle.std.specs.Prelude.{◌≡◌, IfOk, map};
 ghost use Rattle.std.specs.List.{filter_map};
 ghost use Rattle.std.specs.Option.{option_map};

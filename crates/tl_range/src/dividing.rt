@@ -1,4 +1,5 @@
-//! A range of versions, divided at some of the versions in it.
+//! A range of versions, divided at some of the versions in it. The pieces follow on each other and
+//! cover the range; no more pieces are made than there are gaps between the bounds.
 ghost use Rattle.std.specs.Prelude.{◌≡◌, ◌+◌, ◌-◌, ◌<◌, ◌≤◌, ◌∷◌, ◌++◌, [], length, drop, IfOk, OnOk, Some, slice_get, slice_index_or};
 ghost use Rattle.tl_ckpt.specs.Marks.{marks_for};
 ghost use Rattle.tl_range.specs.Dividing.{inside, bounds_of, pushed, last_pushed, Ascend, Follow, BeginInside};

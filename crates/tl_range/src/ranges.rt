@@ -1,4 +1,5 @@
-//! The pieces of a range of versions.
+//! The pieces of a range of versions, for so many workers: as many as these and the marks inside
+//! the range allow. Each begins at a mark or where the range does; an empty range is refused.
 ghost use Rattle.std.specs.Prelude.{◌≡◌, ◌<◌, ◌≤◌, IfOk};
 ghost use Rattle.tl_ckpt.specs.Marks.{marks_for};
 ghost use Rattle.tl_range.specs.Dividing.{AreDivided};

@@ -1,4 +1,5 @@
-//! Work over pieces, each in a thread of its own.
+//! Work over pieces, each in a thread of its own. What comes out stands in the order of the pieces;
+//! where memory runs out in one of them, nothing comes out.
 ghost use Rattle.std.specs.Prelude.{◌≡◌, ℕ, ◌<◌, ◌≤◌, ◌^◌, length, map, IfOk, Ok, Some, slice_get};
 ghost use Rattle.tl_types.specs.declared.runs.Piece.{Piece as PlainPiece};
 

@@ -3,4 +3,5 @@ pub mod OrderLemmas
 pub mod HeapLemmas
 pub mod PileLemmas
 pub mod StandingLemmas
+pub mod TellLemmas
 pub mod TouchLemmas

@@ -1,3 +1,4 @@
 pub mod Heaps
 pub mod Standing
+pub mod Telling
 pub mod Touching

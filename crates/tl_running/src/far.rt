@@ -1,4 +1,5 @@
-//! Whole numbers in no order.
+//! Whole numbers in no order: a list with room that was taken before, of which any number is taken
+//! out at once. It keeps no order, and tells nothing of the greatest.
 ghost use Rattle.std.specs.Prelude.{◌≡◌, ℕ, ℤ, ◌<◌, ◌≤◌, max, Some, length, slice_get, OnOk};
 ghost use Rattle.tl_running.specs.Heaps.{JoinsHeap, none_in};
 

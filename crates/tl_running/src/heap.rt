@@ -1,4 +1,5 @@
-//! Heaps of whole numbers.
+//! Heaps of whole numbers. Each keeps that its first number is the greatest, and takes no memory
+//! for a number for which room was made.
 ghost use Rattle.std.specs.Prelude.{◌≡◌, ◌+◌, ◌<◌, ◌≤◌, length, IfSome, IfNone, OnSome, OnOk};
 ghost use Rattle.tl_running.specs.Heaps.{IsTop, JoinsHeap, none_in};
 

@@ -1,4 +1,5 @@
-//! Multisets of whole numbers that tell their greatest.
+//! Multisets of whole numbers that tell their greatest. Equal numbers are kept as often as they
+//! came; one that is not there cannot be taken out.
 ghost use Rattle.std.specs.Prelude.{◌≡◌, ℤ, ◌+◌, ◌<◌, ◌≤◌, true, false, length, IfSome, IfNone, OnOk};
 ghost use Rattle.tl_bits.specs.Bags.{times, AddsOne, IsGreatest};
 ghost use Rattle.tl_running.specs.Heaps.{count_in, IsTop, JoinsHeap, AreBelow, SettleTo};

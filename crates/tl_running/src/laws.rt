@@ -1,5 +1,5 @@
-//! What holds of a running aggregate whose rows come and go, said in the contracts of functions that
-//! do nothing.
+//! What holds of a running aggregate whose rows come and go, said in the contracts of functions
+//! that do nothing.
 ghost use Rattle.std.specs.Prelude.{◌≡◌, ℕ, ◌<◌, ◌-◌, ◌^◌, Option, List, length};
 ghost use Rattle.tl_types.specs.Plain as plain;
 ghost use Rattle.tl_running.specs.Standing.{Kept, number_in, IsShort, StandsFor, Inserts, HasRoom, CanLeave, Enters};

@@ -1,4 +1,5 @@
-//! Piles of whole numbers, each of which tells its greatest.
+//! Piles of whole numbers, each of which tells its greatest: a heap of some, and the others in no
+//! order. It keeps that none of the others is above a bound, which the greatest reaches.
 ghost use Rattle.std.specs.Prelude.{◌≡◌, ℤ, ◌≤ℤ◌, ◌<ℤ◌, ◌+◌, ◌<◌, ◌≤◌, true, false, length, IfSome, IfNone, OnOk};
 ghost use Rattle.tl_running.specs.Heaps.{IsTop, JoinsHeap, none_in, count_in, AreUpTo, Reaches, IsPile, FillsPile, IsGreaterAt, IsGreatestAt, MovesNear, MendsPile, IsLower};
 

@@ -1,4 +1,6 @@
-//! An aggregate that is kept while rows come and go.
+//! An aggregate that is kept while rows come and go: how many they are, the sum of their numbers,
+//! and for a least or greatest number all of them. A row that is not there cannot go, and no more
+//! than 2^32 - 1 rows can be there.
 ghost use Rattle.std.specs.Prelude.{◌≡◌, ◌+◌, ◌-◌, ◌<◌, ◌^◌, ℕ, ℤ, pos, neg_ℤ, ◌+ℤ◌, ◌-ℤ◌, ◌≤ℤ◌, true, false, Option, List, [], length, OnOk};
 ghost use Rattle.std.specs.List.{count_by};
 ghost use Rattle.std.specs.Ordering.{int_eq};
@@ -324,11 +326,25 @@ impl Running {
         Ok(())
     }
 
+    /// For how many rows this stands.
+    pub fn count(&self) -> u32
+        ensures { result ≡ self.now.count }
+    {
+        self.count
+    }
+
     /// Puts a number of rows that was counted elsewhere. The sum and the numbers stay.
     pub fn set_count(&mut self, count: u32)
         ensures { self.new ≡ counting self.old count }
     {
         self.count = count;
+    }
+
+    /// The sum of the numbers of the rows for which this stands.
+    pub fn sum(&self) -> i128
+        ensures { result ≡ self.now.sum }
+    {
+        self.sum
     }
 
     /// Puts a number of rows and a sum that were made elsewhere. The numbers by size stay.
@@ -337,20 +353,6 @@ impl Running {
     {
         self.count = count;
         self.sum = sum;
-    }
-
-    /// The sum of the numbers.
-    pub fn sum(&self) -> i128
-        ensures { result ≡ self.now.sum }
-    {
-        self.sum
-    }
-
-    /// How many rows there are.
-    pub fn count(&self) -> u32
-        ensures { result ≡ self.now.count }
-    {
-        self.count
     }
 
     /// The value of the aggregate over the rows for which this stands.

@@ -1,4 +1,5 @@
-//! Runs of a group, which may have gaps between them.
+//! Runs of a group, which may have gaps between them. Two that touch and have one value are put
+//! together; a gap is never closed.
 ghost use Rattle.std.specs.Prelude.{◌≡◌, OnOk};
 ghost use Rattle.tl_types.specs.Runs.{same_field};
 ghost use Rattle.tl_running.specs.Touching.{goes_on_as, add_touching, last_goes_on};

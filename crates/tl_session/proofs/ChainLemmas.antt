@@ -121,7 +121,7 @@ ran_front x z w jobs rest ran access replies out = record {
 
 -- JOBS ONE BY ONE
 
-own_split : (s : ℕ) (xs ys : List Job) → own_jobs s (xs ++ ys) ≡ own_jobs s xs ++ own_jobs s ys
+pub own_split : (s : ℕ) (xs ys : List Job) → own_jobs s (xs ++ ys) ≡ own_jobs s xs ++ own_jobs s ys
 own_split s = filter-append (λ (j : Job). j.session == s)
 
 -- the jobs so far, and the next one
@@ -129,11 +129,15 @@ pub taken_next : (s i : ℕ) (lent : List LentJob) (job : LentJob) → Some job 
 taken_next s i lent job at =
     ap (λ l. own_jobs s (map job_of l)) (take_next lent i job (sym at)) ∙ ap (own_jobs s) (map-append job_of (take i lent) (job ∷ [])) ∙ own_split s (map job_of (take i lent)) (map job_of (job ∷ []))
 
+-- the next one is the session's own
+pub own_next : (s i : ℕ) (lent : List LentJob) (d : LentJob) → i < length lent → (slice_index_or lent i d).session ≡ s → own_jobs s (map job_of (take (i + 1) lent)) ≡ own_jobs s (map job_of (take i lent)) ++ job_of (slice_index_or lent i d) ∷ []
+own_next s i lent d inside own =
+    let job = slice_index_or lent i d in
+    taken_next s i lent job (sym (slice_get-get_or lent i d inside)) ∙ ap (λ l. own_jobs s (map job_of (take i lent)) ++ l) (own_same s (job_of job) [] (grind (arith, nat_tests)))
+
 pub ran_next : (s i : ℕ) (lent : List LentJob) (d : LentJob) (x y z : plain.Session) → i < length lent → (slice_index_or lent i d).session ≡ y.access.author → y.access.author ≡ s → RanAll (own_jobs s (map job_of (take i lent))) x y → (reply : Reply) → Replied (job_of (slice_index_or lent i d)) reply y z → RanAll (own_jobs s (map job_of (take (i + 1) lent))) x z
 ran_next s i lent d x y z inside own author ran reply answered =
-    let job = slice_index_or lent i d in
-    let e : job.session ≡ s = own ∙ author in
-    subst (λ l. RanAll l x z) (sym (taken_next s i lent job (sym (slice_get-get_or lent i d inside)) ∙ ap (λ l. own_jobs s (map job_of (take i lent)) ++ l) (own_same s (job_of job) [] (grind (arith, nat_tests))))) (ran_more x y z (own_jobs s (map job_of (take i lent))) (job_of job) reply ran answered)
+    subst (λ l. RanAll l x z) (sym (own_next s i lent d inside (own ∙ author))) (ran_more x y z (own_jobs s (map job_of (take i lent))) (job_of (slice_index_or lent i d)) reply ran answered)
 
 -- memory ran out behind the first so many jobs
 ran_out_at : (s i : ℕ) (lent : List LentJob) (x z w : plain.Session) → RanAll (own_jobs s (map job_of (take i lent))) x z → w ≡ record z { ran_out = true } → Ran (own_jobs s (map job_of lent)) x w
@@ -144,3 +148,8 @@ ran_out_at s i lent x z w ran is =
 pub ran_stop : (s i : ℕ) (lent : List LentJob) (d : LentJob) (x y z w : plain.Session) → i < length lent → (slice_index_or lent i d).session ≡ y.access.author → y.access.author ≡ s → RanAll (own_jobs s (map job_of (take i lent))) x y → Stops (job_of (slice_index_or lent i d)) y z → w ≡ record z { ran_out = true } → Ran (own_jobs s (map job_of lent)) x w
 ran_stop s i lent d x y z w inside own author ran (inl silent) is = ran_out_at s i lent x z w (ran_silent x y z (own_jobs s (map job_of (take i lent))) ran silent) is
 ran_stop s i lent d x y z w inside own author ran (inr (reply, replied)) is = ran_out_at s (i + 1) lent x z w (ran_next s i lent d x y z inside own author ran reply replied) is
+
+-- memory ran out before the first job
+pub ran_nothing : (jobs : List Job) (x w : plain.Session) → w ≡ record x { ran_out = true } → Ran jobs x w
+ran_nothing jobs x w is =
+    ran_front x x w [] jobs (ran_none x) (ap (λ (v : plain.Session). v.access) is) (ap (λ (v : plain.Session). v.replies) is) (ap (λ (v : plain.Session). v.ran_out) is)

@@ -1,4 +1,5 @@
 pub mod AuthorLemmas
+pub mod BlockLemmas
 pub mod ChainLemmas
 pub mod CountingLemmas
 pub mod SharedLemmas
@@ -15,6 +16,7 @@ pub mod ReadingLemmas
 pub mod ReplyLemmas
 pub mod SessionLemmas
 pub mod StatementLemmas
+pub mod TendedLemmas
 pub mod TendingLemmas
 pub mod TranscriptLemmas
 pub mod Worked

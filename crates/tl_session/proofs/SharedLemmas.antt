@@ -12,14 +12,17 @@ use Rattle.std.specs.declared.alloc.Global.{Global}
 use Rattle.tl_session.specs.declared.jobs.LentJob.{LentJob}
 use Rattle.tl_session.specs.Jobs.{Job, job_of}
 use Rattle.tl_session.specs.Plain as plain
-use Rattle.tl_session.specs.Phases.{Runs, AllRan, TakesTurns, RunsPhase, RunsFronts, own_jobs, replies_of, parts_of, amounts_of, AllSeenIn, IsFresh, AllFresh, NoneRanOut, HaveReplies, KeepAll}
+use Rattle.tl_session.specs.Phases.{Runs, AllRan, AllTendOn, TakesTurns, RunsPhase, RunsFronts, own_jobs, replies_of, parts_of, amounts_of, AllSeenIn, IsFresh, AllFresh, NoneRanOut, HaveReplies, KeepAll}
+use Rattle.tl_session.specs.Tending.{WasTended, WereTended}
+use Rattle.tl_session.specs.Transcript.{Each}
 use Rattle.tl_session.specs.Turns.{Turn, meant, of_session}
 use Rattle.tl_session.specs.Promises.{Chain, tally, weight}
 use Rattle.tl_session.specs.Written.{jobs_of}
 use Rattle.tl_session.proofs.EntryLemmas.{begins_itself}
 use Rattle.tl_session.proofs.ChainLemmas.{chain_to}
 use Rattle.tl_session.proofs.PhaseLemmas.{Together, put_together, from_on, tally_from, are_below}
-use Rattle.tl_session.proofs.SessionLemmas.{own_other}
+use Rattle.tl_session.proofs.SessionLemmas.{each_of_sessions, own_other}
+use Rattle.tl_session.proofs.TendedLemmas.{each_reply, each_turn, were_later}
 
 -- ONE SESSION MORE, AND ONE LESS
 
@@ -220,6 +223,22 @@ module _ (jobs : List Job) (old new : plain.SharedAccess) (xs ys : List plain.Se
         taken = takes;
       }
 
+  tended_by : (k : ℕ) → NoneRanOut ys → AllTendOn k xs ys → (s : ℕ) (o : Where s) → Each (λ t. WasTended k new.seen t.reply) (turns_by s o)
+  tended_by k none tends s (inl within) =
+      let x = slice_index_or xs s some in
+      let y = slice_index_or ys s some in
+      let inside : s < length ys = omega (arith, within, same) in
+      let were : WereTended k y.access.seen y.replies = tends s some within (subst (WereTended k x.access.seen) (sym (fresh s some within).0.replies_are) tt) (none s some inside) in
+      each_turn k new.seen (ran s some within).turns (subst (WereTended k new.seen) (replies_by s (inl within) within) (were_later k y.access.seen new.seen y.replies (seen_at new.seen ys s some inside took.seen) were))
+  tended_by k none tends s (inr above) = tt
+
+  -- and behind each commit of rows its table was tended
+  pub phase_tended : (k : ℕ) (replies : List Reply) → NoneRanOut ys → ((turns : List Turn) → jobs_of turns ≡ jobs → HaveReplies ys turns → replies ≡ replies_of turns) → AllTendOn k xs ys → WereTended k new.seen replies
+  phase_tended k replies none told tends =
+      let these = all_together.2 (λ s. whole_by none s (cases_lt s (length xs))) in
+      let each = each_of_sessions (λ t. WasTended k new.seen t.reply) all_together.0 (λ s. subst (Each (λ t. WasTended k new.seen t.reply)) (sym (all_together.1 s)) (tended_by k none tends s (cases_lt s (length xs)))) in
+      subst (WereTended k new.seen) (sym (told all_together.0 these have_replies)) (each_reply k new.seen all_together.0 each)
+
 -- THE WHOLE OF A PHASE
 
 -- no session could be made
@@ -265,12 +284,15 @@ taken_back x y ys ws vs zs lent kept back table parts count later seen amount = 
   amount = amount ∙ ap (λ n. x.amount + n) (ap amounts_of back ∙ kept.amounts ∙ ap amounts_of lent);
 }
 
-phase_ends : (jobs : List Job) (x y : plain.SharedAccess) (xs ys : List plain.Session) (result : Result (Vec Reply Global) AllocError) → Took x y ys → AllFresh x.seen xs → length ys ≡ length xs → All (λ (j : Job). j.session < length xs) jobs → AllRan jobs xs ys → OnOk result (NoneRanOut ys) → ((turns : List Turn) → jobs_of turns ≡ jobs → HaveReplies ys turns → IfOk result (λ r. r.items ≡ replies_of turns)) → Runs jobs x y result
-phase_ends jobs x y xs ys (Ok r) took fresh same below ran none told = phase_runs jobs x y xs ys took fresh same below ran r.items none told
-phase_ends jobs x y xs ys (Err e) took fresh same below ran none told = fronts_run jobs x y xs ys took fresh same below ran
+phase_ends : (k : ℕ) (jobs : List Job) (x y : plain.SharedAccess) (xs ys : List plain.Session) (result : Result (Vec Reply Global) AllocError) → Took x y ys → AllFresh x.seen xs → length ys ≡ length xs → All (λ (j : Job). j.session < length xs) jobs → AllRan jobs xs ys → OnOk result (NoneRanOut ys) → ((turns : List Turn) → jobs_of turns ≡ jobs → HaveReplies ys turns → IfOk result (λ r. r.items ≡ replies_of turns)) → AllTendOn k xs ys
+    → Runs jobs x y result × IfOk result (λ r. WereTended k y.seen r.items)
+phase_ends k jobs x y xs ys (Ok r) took fresh same below ran none told tends =
+    (phase_runs jobs x y xs ys took fresh same below ran r.items none told, phase_tended jobs x y xs ys took fresh same below ran k r.items none told tends)
+phase_ends k jobs x y xs ys (Err e) took fresh same below ran none told tends = (fronts_run jobs x y xs ys took fresh same below ran, tt)
 
 -- sessions were made, ran, handed their replies out and were taken in
-pub phase_done : (lent : List LentJob) (x z y : plain.SharedAccess) (xs ys ws vs zs : List plain.Session) (result : Result (Vec Reply Global) AllocError) → x ≡ z → AllFresh x.seen xs → length xs ≡ x.count → length ys ≡ length xs → All (λ (j : LentJob). j.session < z.count) lent → AllRan (map job_of lent) xs ys → ws ≡ ys → KeepAll ws vs → zs ≡ vs → OnOk result (NoneRanOut ws) → ((turns : List Turn) → jobs_of turns ≡ map job_of lent → HaveReplies ws turns → IfOk result (λ r. r.items ≡ replies_of turns)) → y.table ≡ x.table → y.parts ≡ x.parts → y.count ≡ x.count → IsPrefix x.seen y.seen → AllSeenIn y.seen zs → y.amount ≡ x.amount + amounts_of zs → Runs (map job_of lent) z y result
-phase_done lent x z y xs ys ws vs zs result seen_as fresh long same below ran handed kept back none told table parts count later seen amount =
+pub phase_done : (k : ℕ) (lent : List LentJob) (x z y : plain.SharedAccess) (xs ys ws vs zs : List plain.Session) (result : Result (Vec Reply Global) AllocError) → x ≡ z → AllFresh x.seen xs → length xs ≡ x.count → length ys ≡ length xs → All (λ (j : LentJob). j.session < z.count) lent → AllRan (map job_of lent) xs ys → ws ≡ ys → KeepAll ws vs → zs ≡ vs → OnOk result (NoneRanOut ws) → ((turns : List Turn) → jobs_of turns ≡ map job_of lent → HaveReplies ws turns → IfOk result (λ r. r.items ≡ replies_of turns)) → y.table ≡ x.table → y.parts ≡ x.parts → y.count ≡ x.count → IsPrefix x.seen y.seen → AllSeenIn y.seen zs → y.amount ≡ x.amount + amounts_of zs → AllTendOn k xs ys
+    → Runs (map job_of lent) z y result × IfOk result (λ r. WereTended k y.seen r.items)
+phase_done k lent x z y xs ys ws vs zs result seen_as fresh long same below ran handed kept back none told table parts count later seen amount tends =
     let number : z.count ≡ length xs = sym (long ∙ ap (λ (v : plain.SharedAccess). v.count) seen_as) in
-    subst (λ v. Runs (map job_of lent) v y result) seen_as (phase_ends (map job_of lent) x y xs ys result (taken_back x y ys ws vs zs handed kept back table parts count later seen amount) fresh same (subst (λ n. All (λ (j : Job). j.session < n) (map job_of lent)) number (below_lent z.count lent below)) ran (subst (λ l. OnOk result (NoneRanOut l)) handed none) (λ turns are held. told turns are (subst (λ l. HaveReplies l turns) (sym handed) held)))
+    subst (λ v. Runs (map job_of lent) v y result × IfOk result (λ r. WereTended k y.seen r.items)) seen_as (phase_ends k (map job_of lent) x y xs ys result (taken_back x y ys ws vs zs handed kept back table parts count later seen amount) fresh same (subst (λ n. All (λ (j : Job). j.session < n) (map job_of lent)) number (below_lent z.count lent below)) ran (subst (λ l. OnOk result (NoneRanOut l)) handed none) (λ turns are held. told turns are (subst (λ l. HaveReplies l turns) (sym handed) held)) tends)

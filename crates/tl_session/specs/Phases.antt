@@ -9,6 +9,7 @@ use Rattle.tl_session.specs.declared.replies.Reply.{Reply}
 use Rattle.tl_session.specs.Jobs.{Job}
 use Rattle.tl_session.specs.Plain as plain
 use Rattle.tl_session.specs.Statements.{IsSame}
+use Rattle.tl_session.specs.Tending.{WereTended}
 use Rattle.tl_session.specs.Turns.{Turn, meant, of_session}
 use Rattle.tl_session.specs.Promises.{Chain, Chains, tally, whole_tally, weight}
 use Rattle.tl_session.specs.Written.{jobs_of}
@@ -33,6 +34,13 @@ pub record Ran (jobs : List Job) (old new : plain.Session) : Type 0 where
   pub chain : Chain meant old.access.seen turns new.access.seen
   pub amount : new.access.amount ≡ old.access.amount + tally weight turns
 
+-- the session went on tending: where the tables of all its replies were tended by k, they are so of
+-- all that it has now, unless memory ran out
+abbrev pub TendsOn : ℕ → plain.Session → plain.Session → Type 0
+TendsOn k old new =
+    WereTended k old.access.seen old.replies → new.ran_out ≡ false
+    → WereTended k new.access.seen new.replies
+
 -- the author of each session is the session's place in the list
 abbrev pub AreNumbered : List plain.Session → Type 0
 AreNumbered sessions =
@@ -44,6 +52,12 @@ abbrev pub AllRan : List Job → List plain.Session → List plain.Session → T
 AllRan jobs old new =
     (i : ℕ) (d : plain.Session) → i < length old
     → Ran (own_jobs i jobs) (slice_index_or old i d) (slice_index_or new i d)
+
+-- each session went on tending
+abbrev pub AllTendOn : ℕ → List plain.Session → List plain.Session → Type 0
+AllTendOn k old new =
+    (i : ℕ) (d : plain.Session) → i < length old
+    → TendsOn k (slice_index_or old i d) (slice_index_or new i d)
 
 -- the sum of the parts of the sessions' shares
 abbrev pub parts_of : List plain.Session → ℕ
@@ -129,7 +143,8 @@ pub record TakesTurns (turns : List Turn) (old new : plain.SharedAccess) : Type 
   pub amount : new.amount ≡ old.amount + tally weight turns
 
 -- all jobs were answered, and these are the replies in the order of the jobs
-pub record RunsPhase (jobs : List Job) (replies : List Reply) (old new : plain.SharedAccess) : Type 0 where
+pub record RunsPhase (jobs : List Job) (replies : List Reply) (old new : plain.SharedAccess)
+    : Type 0 where
   pub turns : List Turn
   pub these : jobs_of turns ≡ jobs
   pub told : replies_of turns ≡ replies
@@ -143,7 +158,8 @@ pub record RunsFronts (jobs : List Job) (old new : plain.SharedAccess) : Type 0 
   pub taken : TakesTurns turns old new
 
 -- what a phase with these jobs did: all were answered, or memory ran out
-abbrev pub Runs : List Job → plain.SharedAccess → plain.SharedAccess → Result (Vec Reply Global) AllocError → Type 0
+abbrev pub Runs : List Job → plain.SharedAccess → plain.SharedAccess
+    → Result (Vec Reply Global) AllocError → Type 0
 Runs jobs old new (Ok replies) = RunsPhase jobs replies.items old new
 Runs jobs old new (Err e) = RunsFronts jobs old new
 

@@ -1,6 +1,6 @@
 -- What a job is over a list of commits: a batch that reads well, a query with its answer, or the
 -- first fault. What a batch becomes is settled after it.
-use Rattle.std.specs.Prelude.{IsTrue, ◌≡◌, ◌≢◌, ◌⊎◌, ℕ, List, [], length, Option, Some, None, Result, Ok, Err}
+use Rattle.std.specs.Prelude.{IsTrue, ◌≡◌, ◌≢◌, ◌⊎◌, ℕ, List, [], length, map, Option, Some, None, Result, Ok, Err}
 use Rattle.tl_types.specs.declared.commits.Commit.{Commit}
 use Rattle.tl_types.specs.declared.batches.Batch.{Batch}
 use Rattle.tl_types.specs.declared.batches.Batch.TheVariants as batch
@@ -17,6 +17,7 @@ use Rattle.tl_csv.specs.declared.faults.CsvFault.TheVariants as csv_fault
 use Rattle.tl_csv.specs.declared.needs.BatchKind.{BatchKind}
 use Rattle.tl_csv.specs.declared.needs.BatchKind.TheVariants.{PutKind, RemoveKind}
 use Rattle.tl_csv.specs.Answers.{answer_text}
+use Rattle.tl_csv.specs.LentBlocks.{block_at}
 use Rattle.tl_csv.specs.Block.{batch_of}
 use Rattle.tl_query.specs.declared.faults.TextFault.{TextFault}
 use Rattle.tl_query.specs.declared.faults.TextFault.TheVariants as text_fault
@@ -34,7 +35,8 @@ use Rattle.tl_session.specs.declared.replies.Refusal.{Refusal}
 use Rattle.tl_session.specs.declared.replies.Refusal.TheVariants as refusal
 use Rattle.tl_session.specs.declared.readings.JobReading.{JobReading}
 use Rattle.tl_session.specs.declared.readings.JobReading.TheVariants as reading
-use Rattle.tl_session.specs.Jobs.{Job}
+use Rattle.tl_session.specs.declared.jobs.LentJob.{LentJob}
+use Rattle.tl_session.specs.Jobs.{Job, job_of}
 
 -- a new table, or the fault of its form
 abbrev pub create_reading : Result plain.Schema CheckFault → JobReading
@@ -71,6 +73,14 @@ query_reading commits (Ok typed) =
 abbrev pub block_of : Option (List ℕ) → List ℕ
 block_of None = []
 block_of (Some block) = block
+
+-- the block at the place is the job's
+abbrev pub HasBlockAt : LentJob → List (List ℕ) → ℕ → Type 0
+HasBlockAt job blocks place = block_at blocks place ≡ block_of (job_of job).block
+
+-- the blocks of the jobs, in order
+abbrev pub blocks_of : List Job → List (List ℕ)
+blocks_of jobs = map (λ job. block_of job.block) jobs
 
 -- what a statement is over the commits, with these bytes as its block
 abbrev pub statement_reading : List Commit → Statement → List ℕ → JobReading

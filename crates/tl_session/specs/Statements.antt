@@ -33,7 +33,8 @@ pub record SeesMore (old new : plain.Access) : Type 0 where
   pub amount : new.amount ≡ old.amount
 
 -- the reading is the job's over the commits that have been seen, and the version is their number
-pub record IsLook (job : Job) (version : ℕ) (reading : JobReading) (now : plain.Access) : Type 0 where
+pub record IsLook (job : Job) (version : ℕ) (reading : JobReading) (now : plain.Access)
+    : Type 0 where
   pub version_is : version ≡ length (commits_of now.seen)
   pub reads : Reads (commits_of now.seen) job reading
 
@@ -48,7 +49,8 @@ pub record Settles (batch : Batch) (version : ℕ) (answer : ReplyBody)
   pub broken : has_break old.seen ≡ true → answer ≡ body.BrokenJournal
   pub amount : new.amount ≡ old.amount + body_weight answer
   pub later : IsPrefix old.seen new.seen
-  pub names : NamesTable (table_of (database_of (commits_of old.seen)) batch) version answer new.seen
+  pub names : NamesTable (table_of (database_of (commits_of old.seen)) batch) version answer
+      new.seen
 
 -- the version and the body with which the engine's answer to a batch is told, unless memory ran out
 abbrev pub outcome_of : Result ℕ CommitFault → Option Settled

@@ -1,6 +1,7 @@
 -- The table of a batch of rows, and what is seen of its marks after its commit.
-use Rattle.std.specs.Prelude.{◌≡◌, ◌⊎◌, ℕ, ◌≤◌, ◌<◌, ◌-◌, true, false, List, length, Option, Some, None, IfSome, slice_get}
+use Rattle.std.specs.Prelude.{◌≡◌, ◌⊎◌, ℕ, ◌≤◌, ◌<◌, ◌-◌, true, false, List, [], ◌∷◌, length, Option, Some, None, IfSome, slice_get}
 use Rattle.std.specs.Option.{option_map}
+use mathlib.Core.List.{IsPrefix}
 use Rattle.tl_types.specs.declared.batches.Batch.{Batch}
 use Rattle.tl_types.specs.declared.batches.Batch.TheVariants as batch
 use Rattle.tl_types.specs.declared.commits.Body.TheVariants as made
@@ -16,6 +17,7 @@ use Rattle.tl_session.specs.declared.readings.JobReading.{JobReading}
 use Rattle.tl_session.specs.declared.readings.JobReading.TheVariants as reading
 use Rattle.tl_session.specs.declared.replies.ReplyBody.{ReplyBody}
 use Rattle.tl_session.specs.declared.replies.ReplyBody.TheVariants as body
+use Rattle.tl_session.specs.declared.replies.Reply.{Reply}
 
 -- the number of the table that a batch of rows names
 abbrev pub table_of : plain.Database → Batch → Option ℕ
@@ -62,3 +64,15 @@ HasTended k version answer now =
     answer ≡ body.Done → (c : Commit) (change : plain.Change)
     → slice_get (commits_of now) (version - 1) ≡ Some c → c.body ≡ made.Change change
     → IsTended k change.table version now
+
+-- this held once the reply was given, when what was seen began these entries and had its commit
+pub record WasTended (k : ℕ) (seen : List Entry) (reply : Reply) : Type 0 where
+  pub mid : List Entry
+  pub begins : IsPrefix mid seen
+  pub there : reply.body ≡ body.Done → reply.version ≤ length (commits_of mid)
+  pub tended : HasTended k reply.version reply.body mid
+
+-- it held of each of the replies
+abbrev pub WereTended : ℕ → List Entry → List Reply → Type 0
+WereTended k seen [] = Unit {0}
+WereTended k seen (reply ∷ replies) = WasTended k seen reply × WereTended k seen replies

@@ -20,9 +20,9 @@ use tl_types::{Batch, NoMemory};
 
 /// A pass and a share, with which an engine is closed, or further sessions are made.
 pub struct AccessParts<J: Named> {
-    /// The pass.
+    /// The pass of the engine's head, with what was seen by it.
     pub pass: Pass<Snapshot>,
-    /// The share.
+    /// The share of the engine's ledger, with what it counts.
     pub share: Share<J>,
 }
 

@@ -1,18 +1,22 @@
-//! The crew of a session's statements.
+//! The crew of a session's statements: what they are read and answered with, from the first job of
+//! a session in a phase to its last.
 
 use crate::paces::Pace;
 use tl_csv::{AnswerWriter, BlockReader};
 
 /// What the statements of a session are answered with: the pace, the gate that the pieces of the
-/// work of a query pass, the reader of blocks, and the writer of answers.
+/// work of a query pass, the reader of the session's blocks, at which of these the job is that is
+/// answered, and the writer of answers.
 #[derive(Drop)]
 pub(crate) struct Crew<'a, 'b, G> {
     /// How many workers share the work of a query, and when a mark is due.
     pub(crate) pace: &'a Pace,
     /// What the pieces of the work of a query pass.
     pub(crate) gate: &'a G,
-    /// What reads their blocks.
+    /// What reads the blocks of the session's jobs, one for each job, in order.
     pub(crate) reader: BlockReader<'b>,
+    /// The place of the job among these.
+    pub(crate) place: usize,
     /// What writes their answers.
     pub(crate) writer: AnswerWriter,
 }

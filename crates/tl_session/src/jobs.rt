@@ -1,4 +1,7 @@
-//! What a session is asked to do.
+//! What a session is asked to do: a job, which borrows its text and its block from the script.
+ghost use Rattle.std.specs.Prelude.{◌≡◌};
+ghost use Rattle.tl_session.specs.Jobs.{job_of};
+ghost use Rattle.tl_session.specs.Reading.{block_of};
 
 /// One statement of a session.
 #[derive(Clone, Copy, Drop)]
@@ -11,4 +14,16 @@ pub struct LentJob<'a> {
     pub text: &'a str,
     /// The bytes of its block, where it has one.
     pub block: Option<&'a [u8]>,
+}
+
+impl<'a> LentJob<'a> {
+    /// The bytes of its block, none where it has none.
+    pub(crate) fn block_bytes(&self) -> &'a [u8]
+        ensures { result.now ≡ block_of (job_of self.now).block }
+    {
+        match self.block {
+            Some(block) => block,
+            None => &[],
+        }
+    }
 }

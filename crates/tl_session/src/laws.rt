@@ -1,5 +1,6 @@
-//! The laws of what sessions are answered with. Each function's contract is its law; calling it
-//! does nothing.
+//! The laws of what sessions are answered with: from what each session says by its replies to the
+//! transcript of them all, and to the play where nobody is at once. Each function's contract is its
+//! law; calling it does nothing.
 ghost use Rattle.std.specs.Prelude.{◌≡◌, ◌+◌, ◌++◌, ◌∷◌, [], ℕ, IsTrue, List, None, false, map};
 ghost use mathlib.Core.List.{IsPrefix};
 ghost use Rattle.tl_types.specs.declared.commits.Commit.{Commit};

@@ -1,4 +1,5 @@
-//! How the statements of sessions are done.
+//! How the statements of sessions are done: by how many workers, from 1 to 64, and with how many
+//! events a mark is due.
 ghost use Rattle.std.specs.Prelude.{◌≡◌, ◌<◌, ◌≤◌};
 
 use std::marker::Model;

@@ -1,10 +1,11 @@
-//! Phases: sessions are made of what they share, answer the jobs of a phase, and are taken in
-//! again.
+//! Phases: sessions are made of what they share, answer the jobs of a phase at once, and are taken
+//! in again, so that pass and share have all that they saw and counted, also where memory ran out.
 ghost use Rattle.std.specs.Prelude.{◌≡◌, ◌+◌, ◌<◌, All, List, false, length, map, IfOk, OnOk, OnErr};
 ghost use mathlib.Core.List.{IsPrefix};
 ghost use Rattle.tl_types.specs.Limits.{standard_limits};
 ghost use Rattle.tl_session.specs.Jobs.{job_of};
 ghost use Rattle.tl_session.specs.Phases.{Runs, AllFresh, AllSeenIn, HaveReplies, KeepAll, LosesReply, NoneRanOut, TakesLast, amounts_of, parts_of, replies_of};
+ghost use Rattle.tl_session.specs.Tending.{WereTended};
 ghost use Rattle.tl_session.specs.Turns.{Turn};
 ghost use Rattle.tl_session.specs.Written.{jobs_of};
 
@@ -222,6 +223,8 @@ fn hand_out<J: Named>(
 /// what the shared pass has seen; afterwards that pass has seen what each of them saw, and the
 /// shared share counts their commits and breaks, also where memory ran out.
 ///
+/// Behind each commit of rows its table was tended, by the pace's number of events.
+///
 /// The error is `NoMemory`: each session answered some of the first of its jobs.
 pub fn run_phase<
     D: Disk + Send,
@@ -238,7 +241,9 @@ pub fn run_phase<
 ) -> Result<Vec<Reply>, NoMemory>
     requires standard { J.limits ≡ standard_limits }
     requires sessions { All (λ job. job.session < shared.old.count) jobs.now }
-    ensures { Runs (map job_of jobs.now) shared.old shared.new result }
+    ensures runs { Runs (map job_of jobs.now) shared.old shared.new result }
+    ensures tended { IfOk result
+        (λ replies. WereTended pace.now.every shared.new.seen replies.items) }
 {
     let alloc = rt.alloc();
     let SharedAccess { pass, share, count } = shared;

@@ -1,4 +1,6 @@
 //! What a job is over the commits of a snapshot: a batch, an answered query, or the first fault.
+//! The block of the job is the one at the crew's place among those of its reader, which stays as it
+//! is.
 ghost use Rattle.std.specs.Prelude.{◌≡◌, ◌≢◌, ◌<◌, ◌≤◌, IfOk, OnOk, length, Some};
 ghost use Rattle.tl_types.specs.Entries.{commits_of};
 ghost use Rattle.tl_types.specs.History.{database_of};
@@ -11,6 +13,7 @@ ghost use Rattle.tl_query.specs.Parsed.{IsNewTable, IsParsed, IsQuery};
 ghost use Rattle.tl_query.specs.TypedFor.{IsTypedFor};
 ghost use Rattle.tl_query.specs.declared.check_faults.CheckFault.TheVariants as check_fault;
 ghost use Rattle.tl_query.specs.declared.faults.TextFault.TheVariants as text_fault;
+ghost use Rattle.tl_csv.specs.LentBlocks.{block_at};
 ghost use Rattle.tl_csv.specs.declared.faults.CsvFault.TheVariants as csv_fault;
 ghost use Rattle.tl_session.specs.declared.readings.JobReading.TheVariants as reading;
 ghost use Rattle.tl_session.specs.Reading.{IsReading, IsFaultTold, DoesMatch, IsKnown, create_reading, load_reading, query_reading, statement_reading, text_of_answer};
@@ -77,17 +80,18 @@ fn csv_refusal(fault: CsvFault) -> Result<Refusal, NoMemory>
     }
 }
 
-// What a block is that is read as rows or as removals for the table with a name.
+// What the block at a place is that is read as rows or as removals for the table with a name.
 fn load(
     alloc: Global,
     store: &Store,
     name: &Name,
     kind: BatchKind,
-    block: &[u8],
     reader: &mut BlockReader<'_>,
+    place: usize,
 ) -> Result<JobReading, NoMemory>
-    ensures reads { IfOk result
-        (λ read. read ≡ load_reading store.now name.now.text kind block.now) }
+    ensures reads { IfOk result (λ read.
+        read ≡ load_reading store.now name.now.text kind (block_at reader.old.blocks place)) }
+    ensures same { reader.new.blocks ≡ reader.old.blocks }
     ensures told { IfOk result IsFaultTold }
     ensures matching { IfOk result (DoesMatch (database_of store.now)) }
     ensures known { IfOk result (IsKnown (database_of store.now)) }
@@ -98,7 +102,7 @@ fn load(
     };
     let schema = store.schema(number);
     let limits = Limits::standard();
-    match reader.read_batch(alloc, block, schema, kind, &limits) {
+    match reader.read_batch(alloc, place, schema, kind, &limits) {
         Ok(batch) => Ok(JobReading::Loads(batch)),
         Err(fault) => Ok(JobReading::Fault(csv_refusal(fault)?)),
     }
@@ -153,6 +157,7 @@ fn ask<R: AllocGlobal + Threads + Sync, G: Gate>(
         (checked (length (commits_of snapshot.now)) (database_of (commits_of snapshot.now))
         query.now)) }
     ensures told { IfOk result IsFaultTold }
+    ensures same { crew.new.reader.blocks ≡ crew.old.reader.blocks }
 {
     let typed = match check(rt.alloc(), query, snapshot.store()) {
         Ok(typed) => typed,
@@ -190,23 +195,23 @@ fn read_statement<R: AllocGlobal + Threads + Sync, G: Gate>(
     rt: &R,
     snapshot: &Snapshot,
     statement: &Statement,
-    block: &[u8],
     crew: &mut Crew<'_, '_, G>,
 ) -> Result<JobReading, NoMemory>
     requires parsed { IsParsed statement.now }
-    ensures reads { IfOk result (λ read. read ≡ statement_reading
-        (commits_of snapshot.now) statement.now block.now) }
+    ensures reads { IfOk result (λ read. read ≡ statement_reading (commits_of snapshot.now)
+        statement.now (block_at crew.old.reader.blocks crew.old.place)) }
     ensures told { IfOk result IsFaultTold }
     ensures matching { IfOk result (DoesMatch (database_of (commits_of snapshot.now))) }
     ensures known { IfOk result (IsKnown (database_of (commits_of snapshot.now))) }
+    ensures same { crew.new.reader.blocks ≡ crew.old.reader.blocks }
 {
     let alloc = rt.alloc();
     let store = snapshot.store();
-    let reader = &mut crew.reader;
+    let (reader, place) = (&mut crew.reader, crew.place);
     match statement {
         Statement::Create(form) => create(alloc, form),
-        Statement::Put(name) => load(alloc, store, name, BatchKind::PutKind, block, reader),
-        Statement::Remove(name) => load(alloc, store, name, BatchKind::RemoveKind, block, reader),
+        Statement::Put(name) => load(alloc, store, name, BatchKind::PutKind, reader, place),
+        Statement::Remove(name) => load(alloc, store, name, BatchKind::RemoveKind, reader, place),
         Statement::Ask(query) => ask(rt, snapshot, query, crew),
         Statement::Moment(stamp) => Ok(state(stamp.value)),
         Statement::Forget { table, floor } => forget(table, floor.value),
@@ -225,25 +230,25 @@ fn text_refusal(fault: TextFault) -> Result<Refusal, NoMemory>
 }
 
 /// What a job is over the commits of a snapshot: its text is parsed; a new table or a query is
-/// checked, and a query answered; a batch finds its table, and its block is read. The version that
-/// a query or a fault names is the number of the commits. The block is empty where there is none.
+/// checked, and a query answered; a batch finds its table, and its block is read, which is the one
+/// at the crew's place. The version that a query or a fault names is the number of the commits.
 /// A batch of rows matches the schema of its table, which is there. The work of a query may be
 /// shared by the crew's workers, and its pieces pass the crew's gate. The error is `NoMemory`.
 pub(crate) fn read_job<R: AllocGlobal + Threads + Sync, G: Gate>(
     rt: &R,
     snapshot: &Snapshot,
     text: &str,
-    block: &[u8],
     crew: &mut Crew<'_, '_, G>,
 ) -> Result<JobReading, NoMemory>
-    ensures reads { IfOk result
-        (λ read. IsReading (commits_of snapshot.now) text.now block.now read) }
+    ensures reads { IfOk result (λ read. IsReading (commits_of snapshot.now) text.now
+        (block_at crew.old.reader.blocks crew.old.place) read) }
     ensures told { IfOk result IsFaultTold }
     ensures matching { IfOk result (DoesMatch (database_of (commits_of snapshot.now))) }
     ensures known { IfOk result (IsKnown (database_of (commits_of snapshot.now))) }
+    ensures same { crew.new.reader.blocks ≡ crew.old.reader.blocks }
 {
     match parse(rt.alloc(), text) {
-        Ok(statement) => read_statement(rt, snapshot, &statement, block, crew),
+        Ok(statement) => read_statement(rt, snapshot, &statement, crew),
         Err(fault) => Ok(JobReading::Fault(text_refusal(fault)?)),
     }
 }

@@ -1,4 +1,5 @@
-//! What a statement is answered with, and how the answer is spelled.
+//! What a statement is answered with, and how the answer is spelled: a line with the session's name
+//! and a version, behind which a query's rows come as CSV.
 ghost use Rattle.std.specs.Prelude.{◌≡◌, ◌++◌, IfOk, OnOk};
 ghost use Rattle.std.specs.String.{string_bytes};
 ghost use Rattle.tl_session.specs.Replies.{text_fault_words, check_fault_words, csv_fault_words, batch_fault_words, refusal_words, version_words, reply_bytes};
@@ -50,7 +51,8 @@ pub enum ReplyBody {
 pub struct Reply {
     /// The number of the statement's line, from 1.
     pub line: u64,
-    /// The version.
+    /// The version, a number of commits: with its own one where a batch is done, and else of those
+    /// over which the statement is answered.
     pub version: u32,
     /// What the statement is answered with.
     pub body: ReplyBody,

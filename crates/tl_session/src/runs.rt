@@ -1,14 +1,16 @@
-//! Sessions answer their jobs, all sessions at once.
-ghost use Rattle.std.specs.Prelude.{◌≡◌, ◌<◌, ◌≤◌, length, map};
+//! Sessions answer their jobs, all sessions at once: each its own ones in order, by one crew, until
+//! memory runs out.
+ghost use Rattle.std.specs.Prelude.{◌≡◌, ◌<◌, ◌≤◌, IfOk, length, map};
 ghost use Rattle.tl_types.specs.Limits.{standard_limits};
 ghost use Rattle.tl_session.specs.Jobs.{job_of};
-ghost use Rattle.tl_session.specs.Phases.{AllRan, AreNumbered, Ran, own_jobs};
+ghost use Rattle.tl_session.specs.Phases.{AllRan, AllTendOn, AreNumbered, Ran, TendsOn, own_jobs};
+ghost use Rattle.tl_session.specs.Reading.{blocks_of};
 
 use crate::crews::Crew;
 use crate::jobs::LentJob;
 use crate::paces::Pace;
 use crate::sessions::Session;
-use crate::statements::{run_job, run_statement};
+use crate::statements::run_job;
 use std::alloc::Global;
 use std::sync::Wait;
 use std::thread;
@@ -18,64 +20,35 @@ use tl_device::{Disk, Gate};
 use tl_engine::{Engine, Named};
 use tl_types::NoMemory;
 
-// The blocks of a session's jobs, in order.
+// The blocks of a session's own ones of these jobs, in order; of a job without one no bytes.
 fn own_blocks<'a>(
     alloc: Global,
     author: u32,
     jobs: &[LentJob<'a>],
-) -> Result<Vec<&'a [u8]>, NoMemory> {
+) -> Result<Vec<&'a [u8]>, NoMemory>
+    ensures { IfOk result (λ blocks. map (λ b. b.now) blocks.items
+        ≡ blocks_of (own_jobs author (map job_of jobs.now))) }
+{
     let mut blocks = Vec::new(alloc);
     for job in jobs {
         if job.session == author {
-            if let Some(block) = job.block {
-                blocks.push(block)?;
-            }
+            blocks.push(job.block_bytes())?;
         }
     }
     Ok(blocks)
 }
 
-// A reader for the blocks of a session's jobs.
+// A reader for the blocks of a session's own ones of these jobs.
 fn reader_for<'a>(
     alloc: Global,
     author: u32,
     jobs: &[LentJob<'a>],
-) -> Result<BlockReader<'a>, NoMemory> {
+) -> Result<BlockReader<'a>, NoMemory>
+    ensures { IfOk result
+        (λ reader. reader.blocks ≡ blocks_of (own_jobs author (map job_of jobs.now))) }
+{
     let blocks = own_blocks(alloc, author, jobs)?;
     BlockReader::over(alloc, blocks.as_slice())
-}
-
-// The same, or, without memory for it, a reader that was made for no block.
-fn reader_of<'a>(alloc: Global, author: u32, jobs: &[LentJob<'a>]) -> BlockReader<'a> {
-    match reader_for(alloc, author, jobs) {
-        Ok(blocks) => blocks,
-        Err(_) => BlockReader::new(alloc),
-    }
-}
-
-// A session answers its own ones of these jobs, in order, until memory runs out, each by itself.
-fn run_apart<D: Disk, J: Named, G: Gate, R: AllocGlobal + Threads + Wait + Sync>(
-    rt: &R,
-    engine: &Engine<D, J>,
-    session: &mut Session<J>,
-    jobs: &[LentJob],
-    pace: &Pace,
-    gate: &G,
-)
-    requires standard { J.limits ≡ standard_limits }
-    ensures { Ran (own_jobs session.old.access.author (map job_of jobs.now))
-        session.old session.new }
-{
-    for next in jobs {
-        if next.session != session.access.author() {
-            continue;
-        }
-        let (workers, k) = (pace.workers(), pace.every());
-        let Ok(()) = run_statement(rt, engine, session, next, workers, k, gate) else {
-            session.ran_out = true;
-            return;
-        };
-    }
 }
 
 // A session answers its own ones of these jobs, in order, until memory runs out, by one crew.
@@ -88,13 +61,19 @@ fn run_jobs<D: Disk, J: Named, G: Gate, R: AllocGlobal + Threads + Wait + Sync>(
     crew: &mut Crew<'_, '_, G>,
 )
     requires standard { J.limits ≡ standard_limits }
-    ensures { Ran (own_jobs session.old.access.author (map job_of jobs.now))
+    requires blocks { crew.old.reader.blocks
+        ≡ blocks_of (own_jobs session.old.access.author (map job_of jobs.now)) }
+    ensures ran { Ran (own_jobs session.old.access.author (map job_of jobs.now))
         session.old session.new }
+    ensures tends { TendsOn k session.old session.new }
 {
+    let mut place = 0;
     for job in jobs {
         if job.session != session.access.author() {
             continue;
         }
+        crew.place = place;
+        place += 1;
         let Ok(()) = run_job(rt, engine, session, job, k, crew) else {
             session.ran_out = true;
             return;
@@ -102,9 +81,9 @@ fn run_jobs<D: Disk, J: Named, G: Gate, R: AllocGlobal + Threads + Wait + Sync>(
     }
 }
 
-/// A session answers its own ones of these jobs, in order, until memory runs out. Where there are
-/// several, those of their blocks that may stand in one text are read by one reader, and their
-/// answers written by one writer.
+/// A session answers its own ones of these jobs, in order, until memory runs out. Those of their
+/// blocks that may stand in one text are read by one reader, and their answers written by one
+/// writer.
 pub(crate) fn run_session<'a, D: Disk, J: Named, G: Gate, R: AllocGlobal + Threads + Wait + Sync>(
     rt: &R,
     engine: &Engine<D, J>,
@@ -114,18 +93,19 @@ pub(crate) fn run_session<'a, D: Disk, J: Named, G: Gate, R: AllocGlobal + Threa
     gate: &'a G,
 )
     requires standard { J.limits ≡ standard_limits }
-    ensures { Ran (own_jobs session.old.access.author (map job_of jobs.now))
+    ensures ran { Ran (own_jobs session.old.access.author (map job_of jobs.now))
         session.old session.new }
+    ensures tends { TendsOn pace.now.every session.old session.new }
 {
-    if jobs.len() < 2 {
-        run_apart(rt, engine, session, jobs, pace, gate);
+    let Ok(reader) = reader_for(rt.alloc(), session.access.author(), jobs) else {
+        session.ran_out = true;
         return;
-    }
-    let reader = reader_of(rt.alloc(), session.access.author(), jobs);
+    };
     let mut crew = Crew {
         pace,
         gate,
         reader,
+        place: 0,
         writer: AnswerWriter::new(),
     };
     run_jobs(rt, engine, session, jobs, pace.every(), &mut crew);
@@ -171,6 +151,7 @@ pub fn run_all<
     requires numbered { AreNumbered sessions.old.items }
     ensures count { length sessions.new.items ≡ length sessions.old.items }
     ensures each { AllRan (map job_of jobs.now) sessions.old.items sessions.new.items }
+    ensures tends { AllTendOn k sessions.old.items sessions.new.items }
 {
     if sessions.is_empty() {
         return;
@@ -180,7 +161,8 @@ pub fn run_all<
     let run = |_: usize, session: &mut Session<J>|
         requires { J.limits ≡ standard_limits }
         ensures { Ran (own_jobs session.entry.now.access.author (map job_of jobs.entry.now))
-            session.entry.now session.exit.now }
+            session.entry.now session.exit.now
+            × TendsOn k session.entry.now session.exit.now }
     { run_session(rt, engine, session, jobs, &pace, gate) };
     thread::for_each_mut(rt, sessions.as_mut_slice(), threads, &run);
 }

@@ -1,4 +1,5 @@
-//! A session.
+//! A session: its access to the engine and its replies so far. It has one reply for each commit and
+//! each break of its own; where memory ran out it says so.
 ghost use Rattle.std.specs.Prelude.{◌≡◌, ◌<◌, [], false};
 
 use crate::access::{Access, AccessParts};

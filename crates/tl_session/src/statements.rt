@@ -1,4 +1,6 @@
-//! A session answers one job.
+//! A session answers one job: one look at the head, a commit where the job is a batch, one reply,
+//! and then the table that changed is tended. Room for the reply comes first, so that no commit is
+//! without one; only want of memory leaves a job without a reply.
 ghost use Rattle.std.specs.Prelude.{◌≡◌, ◌≢◌, ◌<◌, ◌≤◌, Err, length, IfSome, IfOk, OnOk, OnErr, IsTrue};
 ghost use Rattle.tl_types.specs.Entries.{commits_of};
 ghost use Rattle.tl_types.specs.History.{database_of};
@@ -7,7 +9,7 @@ ghost use Rattle.tl_batch.specs.Made.{batch_matches};
 ghost use Rattle.tl_engine.specs.Saying.{names_table};
 ghost use Rattle.tl_engine.specs.declared.faults.TendFault.TheVariants as tend_fault;
 ghost use Rattle.tl_session.specs.Jobs.{job_of};
-ghost use Rattle.tl_session.specs.Reading.{block_of, DoesMatch, IsKnown};
+ghost use Rattle.tl_session.specs.Reading.{DoesMatch, HasBlockAt, IsKnown};
 ghost use Rattle.tl_session.specs.Statements.{AnswersJob, IsLook, SeesMore, Settles, Stops, Tells, outcome_of};
 ghost use Rattle.tl_session.specs.Tending.{table_of, reading_table, if_done, IsThere, NamesTable, IsTended};
 
@@ -18,7 +20,7 @@ use crate::paces::Pace;
 use crate::readings::{JobReading, read_job};
 use crate::replies::{Refusal, Reply, ReplyBody};
 use crate::sessions::Session;
-use std::alloc::AllocError;
+use std::alloc::{AllocError, Global};
 use std::sync::Wait;
 use std::thread::Threads;
 use tl_csv::{AnswerWriter, BlockReader};
@@ -88,16 +90,6 @@ fn if_done(body: &ReplyBody, table: Option<u16>) -> Option<u16>
     }
 }
 
-// The block of a job; it is empty where there is none.
-fn block_of<'a>(job: &LentJob<'a>) -> &'a [u8]
-    ensures { result.now ≡ block_of (job_of job.now).block }
-{
-    match job.block {
-        Some(block) => block,
-        None => &[],
-    }
-}
-
 // Looks at the engine's head, once, and what the job is over what has then been seen.
 fn look_at<D: Disk, J: Named, G: Gate, R: AllocGlobal + Threads + Wait + Sync>(
     rt: &R,
@@ -108,6 +100,7 @@ fn look_at<D: Disk, J: Named, G: Gate, R: AllocGlobal + Threads + Wait + Sync>(
     crew: &mut Crew<'_, '_, G>,
 ) -> Result<Look, NoMemory>
     requires admitted { admission.author ≡ access.old.author }
+    requires block { HasBlockAt job.now crew.old.reader.blocks crew.old.place }
     ensures sees { SeesMore access.old access.new }
     ensures look { IfOk result (λ l. IsLook (job_of job.now) l.version l.reading access.new) }
     ensures known { IfOk result
@@ -116,11 +109,11 @@ fn look_at<D: Disk, J: Named, G: Gate, R: AllocGlobal + Threads + Wait + Sync>(
         (λ l. DoesMatch (database_of (commits_of access.new.seen)) l.reading) }
     ensures table { IfOk result
         (λ l. l.table ≡ reading_table (database_of (commits_of access.new.seen)) l.reading) }
+    ensures same { crew.new.reader.blocks ≡ crew.old.reader.blocks }
 {
     let snapshot = access.look(rt, engine, admission)?;
     let version = snapshot.store().versions();
-    let block = block_of(job);
-    let reading = read_job(rt, &snapshot, job.text, block, crew)?;
+    let reading = read_job(rt, &snapshot, job.text, crew)?;
     let table = reading_table(snapshot.store(), &reading);
     Ok(Look {
         version,
@@ -178,11 +171,13 @@ fn answer<D: Disk, J: Named, G: Gate, R: AllocGlobal + Threads + Wait + Sync>(
     requires standard { J.limits ≡ standard_limits }
     requires own { job.now.session ≡ access.old.author }
     requires admitted { admission.author ≡ access.old.author }
+    requires block { HasBlockAt job.now crew.old.reader.blocks crew.old.place }
     ensures ok { IfOk result
         (λ s. Tells (job_of job.now) s.version s.body access.old access.new) }
     ensures names { IfOk result (λ s. NamesTable s.table s.version s.body access.new.seen) }
     ensures known { IfOk result (λ s. IsThere s.table access.new.seen) }
     ensures err { OnErr result (SeesMore access.old access.new) }
+    ensures same { crew.new.reader.blocks ≡ crew.old.reader.blocks }
 {
     let Look {
         version,
@@ -210,6 +205,13 @@ fn answer<D: Disk, J: Named, G: Gate, R: AllocGlobal + Threads + Wait + Sync>(
             table: None,
         }),
     }
+}
+
+// A reader for the block of one job. The error is `NoMemory`.
+fn reader_of<'a>(alloc: Global, job: &LentJob<'a>) -> Result<BlockReader<'a>, NoMemory>
+    ensures { IfOk result (λ reader. HasBlockAt job.now reader.blocks 0) }
+{
+    BlockReader::over(alloc, &[job.block_bytes()])
 }
 
 // Whether memory did not run out while a table was tended.
@@ -243,7 +245,7 @@ fn tend<D: Disk, J: Named, R: AllocGlobal + Wait>(
 }
 
 /// A session answers a job of its own, as `run_statement` does with the crew's workers; its block
-/// is read by the crew's reader of blocks.
+/// is the one at the crew's place.
 pub(crate) fn run_job<D: Disk, J: Named, G: Gate, R: AllocGlobal + Threads + Wait + Sync>(
     rt: &R,
     engine: &Engine<D, J>,
@@ -254,8 +256,10 @@ pub(crate) fn run_job<D: Disk, J: Named, G: Gate, R: AllocGlobal + Threads + Wai
 ) -> Result<(), NoMemory>
     requires standard { J.limits ≡ standard_limits }
     requires own { job.now.session ≡ session.old.access.author }
+    requires block { HasBlockAt job.now crew.old.reader.blocks crew.old.place }
     ensures ok { OnOk result (AnswersJob k (job_of job.now) session.old session.new) }
     ensures err { OnErr result (Stops (job_of job.now) session.old session.new) }
+    ensures same { crew.new.reader.blocks ≡ crew.old.reader.blocks }
 {
     let admission = Admission::at(crew.gate, session.access.author());
     session.replies.reserve(1)?;
@@ -299,10 +303,12 @@ pub fn run_statement<D: Disk, J: Named, G: Gate, R: AllocGlobal + Threads + Wait
     ensures err { OnErr result (Stops (job_of job.now) session.old session.new) }
 {
     let pace = Pace::new(workers, k);
+    let reader = reader_of(rt.alloc(), job)?;
     let mut crew = Crew {
         pace: &pace,
         gate,
-        reader: BlockReader::new(rt.alloc()),
+        reader,
+        place: 0,
         writer: AnswerWriter::new(),
     };
     run_job(rt, engine, session, job, k, &mut crew)

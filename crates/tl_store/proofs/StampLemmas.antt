@@ -1,5 +1,5 @@
 -- The last of the stamps, and the first one of a greater moment.
-use Rattle.std.proofs.Common.{◌≡◌, ℕ, zero, suc, ◌+◌, ◌-◌, ◌<◌, ◌≤◌, ◌<ℤ◌, ℤ, Bool, true, false, cond, int_lt, List, [], ◌∷◌, length, drop, get_or, Option, Some, None, IfSome, refl, sym, ap, subst, ◌∙◌, arith, slice_get}
+use Rattle.std.proofs.Common.{◌≡◌, ℕ, zero, suc, ◌+◌, ◌-◌, ◌<◌, ◌<ℤ◌, ℤ, true, false, cond, int_lt, List, [], ◌∷◌, length, drop, get_or, Option, Some, None, refl, sym, ap, ◌∙◌, arith, slice_get}
 use Rattle.std.specs.Option.{option_map}
 use Rattle.std.proofs.lemmas.Option.{slice_get_read}
 use Rattle.std.proofs.lemmas.Int.{ints}
@@ -74,23 +74,14 @@ version_there last (x ∷ stamps) (suc k) s h e = version_there (Some x) stamps 
 
 -- AS THE CODE HAS IT
 
-pub nothing_past : (moment : ℤ) (stamps : List plain.Stamp) (k : ℕ) → length stamps ≤ k → IfSome (slice_get stamps k) (λ s. int_lt moment s.moment ≡ true)
-nothing_past moment [] k h = tt
-nothing_past moment (x ∷ stamps) zero h = absurd (omega arith)
-nothing_past moment (x ∷ stamps) (suc k) h = nothing_past moment stamps k (omega arith)
-
 pub read_stamp : (list stamps : List plain.Stamp) (k : ℕ) (s : plain.Stamp) → list ≡ stamps → k < length stamps → s ≡ get_or list k s → slice_get stamps k ≡ Some s
 read_stamp list stamps k s is h read =
     slice_get_read stamps (length stamps) k s refl h (read ∙ ap (λ l. get_or l k s) is)
 
-pub read_greater : (moment : ℤ) (list stamps : List plain.Stamp) (k : ℕ) (s : plain.Stamp) (there : ℤ) → list ≡ stamps → k < length stamps → s ≡ get_or list k s → there ≡ s.moment → int_lt moment there ≡ true → IfSome (slice_get stamps k) (λ s. int_lt moment s.moment ≡ true)
-read_greater moment list stamps k s there is h read at t = rw (read_stamp list stamps k s is h read, ← at) t
-
 pub read_passed : (now : ℕ) (moment : ℤ) (list stamps : List plain.Stamp) (k : ℕ) (s : plain.Stamp) (there : ℤ) → Rise None stamps → list ≡ stamps → k < length stamps → s ≡ get_or list k s → there ≡ s.moment → int_lt moment there ≡ false → version_at_moment now stamps moment ≡ version_at_moment now (drop (k + 1) stamps) moment
 read_passed now moment list stamps k s there rise is h read at t = passed now moment None stamps k s rise (read_stamp list stamps k s is h read) (ap (int_lt moment) (sym at) ∙ t)
 
-pub read_first : (now : ℕ) (moment : ℤ) (list stamps : List plain.Stamp) (k : ℕ) (s : plain.Stamp) → Rise None stamps → list ≡ stamps → k < length stamps → s ≡ get_or list k s → IfSome (slice_get stamps k) (λ s. int_lt moment s.moment ≡ true) → (0 < s.version) × (version_at_moment now (drop k stamps) moment ≡ s.version - 1)
-read_first now moment list stamps k s rise is h read back =
+pub read_first : (now : ℕ) (moment : ℤ) (list stamps : List plain.Stamp) (k : ℕ) (s : plain.Stamp) (there : ℤ) → Rise None stamps → list ≡ stamps → k < length stamps → s ≡ get_or list k s → there ≡ s.moment → int_lt moment there ≡ true → (0 < s.version) × (version_at_moment now (drop k stamps) moment ≡ s.version - 1)
+read_first now moment list stamps k s there rise is h read at t =
     let here = read_stamp list stamps k s is h read in
-    let t : int_lt moment s.moment ≡ true = subst (λ (o : Option plain.Stamp). IfSome o (λ (s : plain.Stamp). int_lt moment s.moment ≡ true)) here back in
-    (version_there None stamps k s rise here, first_there now moment stamps k s here t)
+    (version_there None stamps k s rise here, first_there now moment stamps k s here (ap (int_lt moment) (sym at) ∙ t))

@@ -1,5 +1,7 @@
-//! The moments that were stated.
-ghost use Rattle.std.specs.Prelude.{◌≡◌, ℕ, ◌+◌, ◌≤◌, ◌<◌, ◌++◌, ◌∷◌, [], None, IsTrue, IfOk, IfSome, int_lt, length, drop, slice_get};
+//! The moments that were stated, each with its version, and the search among them for the version
+//! at a moment. They are kept in the order in which they came; that they rise is a fact of the
+//! store that has them.
+ghost use Rattle.std.specs.Prelude.{◌≡◌, ◌++◌, ◌∷◌, [], None, IfOk};
 ghost use Rattle.tl_types.specs.Plain as plain;
 ghost use Rattle.tl_types.specs.History.{last_moment, is_later, version_at_moment};
 ghost use Rattle.tl_types.specs.WellFormed.{Rise};
@@ -93,40 +95,28 @@ impl Stamps {
         }
     }
 
-    // The place of the first stamp of a greater moment; the number of stamps where there is none.
-    fn first_after(&self, moment: i64) -> u64
+    /// The version at a moment, with so many commits: one less than the least version of a stamp of
+    /// a greater moment, or the last version where there is none. With n stamps it looks at no more
+    /// of them than n has binary digits.
+    pub fn version_at(&self, now: u32, moment: i64) -> u32
         requires { Rise None self.now }
-        ensures within { result ≤ length self.now }
-        ensures front { (now : ℕ) → version_at_moment now self.now moment
-            ≡ version_at_moment now (drop result self.now) moment }
-        ensures back { IfSome (slice_get self.now result) (λ s. IsTrue (int_lt moment s.moment)) }
+        ensures { result ≡ version_at_moment now self.now moment }
     {
         let mut low = 0;
         let mut high = self.list.len();
+        let mut found = now;
         'halving: while low < high {
             let middle = low + (high - low) / 2;
-            let there = self.list.at(middle).moment();
+            let stamp = self.list.at(middle);
+            let there = stamp.moment();
             if moment < there {
+                found = stamp.version() - 1;
                 high = middle;
             } else {
                 low = middle + 1;
             }
         }
-        low
-    }
-
-    /// The version at a moment, with so many commits: one less than the least version of a stamp of
-    /// a greater moment, or the last version where there is none.
-    pub fn version_at(&self, now: u32, moment: i64) -> u32
-        requires { Rise None self.now }
-        ensures { result ≡ version_at_moment now self.now moment }
-    {
-        let first = self.first_after(moment);
-        if first == self.list.len() {
-            return now;
-        }
-        let version = self.list.at(first).version();
-        version - 1
+        found
     }
 
     /// The stamps followed by one more. It takes this one over.

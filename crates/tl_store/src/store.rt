@@ -386,8 +386,15 @@ impl Store {
         self.tables[table as usize].get().ints_from(row, column)
     }
 
-    /// The cells of a row of a table, each as a value of its own. The error is `NoMemory`.
-    pub fn row_cells(&self, alloc: Global, table: u16, row: u32) -> Result<Seq<Cell>, NoMemory>
+    /// The cells of a row of a table, each as a value of its own. It ticks once for each column. The
+    /// error is `NoMemory`.
+    pub fn row_cells<L: Ledger>(
+        &self,
+        alloc: Global,
+        table: u16,
+        row: u32,
+        steps: &mut Steps<L>,
+    ) -> Result<Seq<Cell>, NoMemory>
         requires { row < length (rows_of (database_of self.now) table) }
         ensures value { IfOk result
             (λ cells. Some cells
@@ -395,7 +402,10 @@ impl Store {
         ensures each { IfOk result
             (λ cells. (column : ℕ)
             → slice_get cells column ≡ cell_of (database_of self.now) table row column) }
+        ensures ticks { steps.new ≡ steps.old + length (columns_of (database_of self.now) table) }
     {
+        let columns = self.schema(table).columns().len();
+        steps.tick_many(columns as u64);
         let cells = self.tables[table as usize].get().row_cells(alloc, row)?;
         Ok(Seq::from_vec(cells))
     }

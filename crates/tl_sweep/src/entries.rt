@@ -1,4 +1,5 @@
-//! A row as a walk takes it.
+//! A row as a walk takes it: its id, the number of its key, and the moments at which it holds;
+//! whether it holds at a moment, and the pair that two such rows make.
 ghost use Rattle.std.specs.Prelude.{◌≡◌};
 ghost use Rattle.tl_sweep.specs.Sweep.{pair_at, stands_at};
 

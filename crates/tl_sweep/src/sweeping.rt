@@ -1,4 +1,5 @@
-//! The walk over two sides.
+//! The walk over two sides, in order of the moments at which rows begin: each row meets those of
+//! the other side that wait in its key's chain. It gives the pairs in order, and refuses none.
 ghost use Rattle.std.specs.Prelude.{◌≡◌, ◌+◌, ◌<◌, ◌≤◌, ◌⊎◌, ◌++◌, [], false, List, length, take, drop, reverse, replicate, IfOk, OnOk, IsTrue};
 ghost use Rattle.std.specs.List.{AllByRecursion};
 ghost use Rattle.tl_query.specs.Ordered.{in_order, pair_before};

@@ -1,7 +1,7 @@
 //! Words of masks against plain tests of each cell, at lengths about whole words and chunks.
 ghost use Rattle.std.specs.Prelude.{◌≡◌, ◌<◌, ◌≤◌, length};
 
-use crate::worked::commits;
+use crate::worked::{commits, store_of};
 use std::alloc::Global;
 use std::marker::Brand;
 use std::sync::ledger::{Blank, Ledger};
@@ -9,7 +9,7 @@ use std::test::Fail;
 use tl_column::{IntColumn, TextColumn};
 use tl_query::TypedTest;
 use tl_store::{CellRef, Store};
-use tl_types::{Cell, Cmp, Commit, Limits, NoMemory, Steps, Text};
+use tl_types::{Cell, Cmp, Commit, NoMemory, Steps, Text};
 
 const LENGTHS: [u32; 8] = [0, 1, 7, 8, 63, 64, 65, 1000];
 
@@ -202,18 +202,6 @@ fn rows_pass<L: Ledger>(alloc: Global, blank: Blank, store: &Store) -> bool
         && text_agrees(alloc, store, Cmp::Eq, "dev", &mut steps)
         && text_agrees(alloc, store, Cmp::Ne, "moon", &mut steps)
         && text_agrees(alloc, store, Cmp::Lt, "sea", &mut steps)
-}
-
-// The store of these commits, where each fits those before it.
-fn store_of(alloc: Global, commits: &[Commit]) -> Option<Store> {
-    let mut store = Store::empty(alloc);
-    for commit in commits {
-        if !store.fits(commit, &Limits::standard()) {
-            return None;
-        }
-        store = store.apply(alloc, commit).ok()?;
-    }
-    Some(store)
 }
 
 fn rows_are_told(alloc: Global, commits: &[Commit]) -> bool {

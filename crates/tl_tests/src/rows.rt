@@ -32,7 +32,7 @@ fn write_copies(rows: &mut RowsWriter, first: &Field, second: &Field) -> Result<
 }
 
 // Whether the text of rows is this one, and so many are rows.
-fn rows_are(alloc: Global, rows: AnswerRows, count: usize, text: &str) -> bool {
+pub(crate) fn rows_are(alloc: Global, rows: AnswerRows, count: usize, text: &str) -> bool {
     match answer_bytes(alloc, &rows) {
         Ok(bytes) => rows.len() == count && bytes.as_slice() == text.as_bytes(),
         Err(_) => false,

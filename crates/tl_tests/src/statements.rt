@@ -24,7 +24,7 @@ fn is_printed(alloc: Global, text: &str, wanted: &str) -> bool {
 }
 
 // Texts, and what they are printed as.
-const CASES: [(&str, &str); 5] = [
+const CASES: [(&str, &str); 9] = [
     (
         "CREATE  TABLE emp(id INT , dept TEXT)KEY id VALID;",
         "CREATE TABLE emp (id INT, dept TEXT) KEY id VALID",
@@ -41,6 +41,16 @@ const CASES: [(&str, &str); 5] = [
     (
         "JOIN l WHERE k>=1 WITH r ON k=k OVER SYSTEM ALL",
         "JOIN l WHERE k >= 1 WITH r ON k = k OVER SYSTEM ALL",
+    ),
+    ("MOMENT  -01 ;", "MOMENT -1"),
+    ("FORGET BEFORE  BEFORE 03", "FORGET BEFORE BEFORE 3"),
+    (
+        "SELECT MOMENT FROM q AS OF  MOMENT -7",
+        "SELECT MOMENT FROM q AS OF MOMENT -7",
+    ),
+    (
+        "COUNT FROM c OVER VALID 0 TO 9 AS OF MOMENT 1000;",
+        "COUNT FROM c OVER VALID 0 TO 9 AS OF MOMENT 1000",
     ),
 ];
 

@@ -1,5 +1,5 @@
 //! Values and their copies.
-use crate::worked::{change, create, opened};
+use crate::worked::{change, create, floored, opened, stated};
 use std::alloc::Global;
 use std::test::Fail;
 use tl_types::{Bytes, Commit, Entry, Line, Opened, Period, has_break};
@@ -33,6 +33,8 @@ fn copies_are_equal(rt: HostRuntime) -> Result<(), Fail> {
     assert!(rt; row_is_copied(&opened(alloc, -1, "ops", 9, period)?));
     assert!(rt; break_is_copied(create(alloc, "emp", true)?));
     assert!(rt; break_is_copied(change(alloc, Some(1), Vec::new(alloc))?));
+    assert!(rt; break_is_copied(stated(-1)));
+    assert!(rt; break_is_copied(floored(3)));
     Ok(())
 }
 

@@ -1,11 +1,13 @@
 //! The worked history: a table of employees, of whom one gets more pay, and the other leaves and
-//! comes back.
+//! comes back. The same with moments and a floor behind it, and a history of valid time; and the
+//! store of a history.
 ghost use Rattle.std.specs.Prelude.{◌≤◌, ◌<◌, ◌^◌, length};
 
 use std::alloc::Global;
 use std::test::Fail;
+use tl_store::Store;
 use tl_types::{
-    Body, Cell, Change, Column, ColumnKind, Commit, NoMemory, Opened, Period, Schema, Seq,
+    Body, Cell, Change, Column, ColumnKind, Commit, Limits, NoMemory, Opened, Period, Schema, Seq,
     SmallSeq, Text,
 };
 
@@ -98,4 +100,53 @@ pub(crate) fn commits(alloc: Global) -> Result<Vec<Commit>, Fail> {
     commits.push(change(alloc, Some(1), Vec::new(alloc))?)?;
     commits.push(put(alloc, None, opened(alloc, 2, "dev", 50, None)?)?)?;
     Ok(commits)
+}
+
+// A commit that states a moment.
+pub(crate) fn stated(moment: i64) -> Commit {
+    Commit {
+        author: 5,
+        body: Body::Moment { moment },
+    }
+}
+
+// A commit that sets the floor of the first table.
+pub(crate) fn floored(floor: u32) -> Commit {
+    Commit {
+        author: 5,
+        body: Body::Forget { table: 0, floor },
+    }
+}
+
+// The worked history, moments at the versions 6 and 8 with a row between them, and a floor.
+pub(crate) fn timed_commits(alloc: Global) -> Result<Vec<Commit>, Fail> {
+    let mut commits = commits(alloc)?;
+    commits.push(stated(1000))?;
+    commits.push(put(alloc, None, opened(alloc, 3, "dev", 70, None)?)?)?;
+    commits.push(stated(2000))?;
+    commits.push(floored(3))?;
+    Ok(commits)
+}
+
+// A table with valid time, and two rows whose periods overlap, one a version.
+pub(crate) fn valid_commits(alloc: Global) -> Result<Vec<Commit>, Fail> {
+    let first = opened(alloc, 1, "ops", 100, Some(Period::new(0, 10)))?;
+    let second = opened(alloc, 2, "dev", 50, Some(Period::new(5, 20)))?;
+    let mut commits = Vec::new(alloc);
+    commits.push(create(alloc, "emp", true)?)?;
+    commits.push(put(alloc, None, first)?)?;
+    commits.push(put(alloc, None, second)?)?;
+    Ok(commits)
+}
+
+// The store of these commits, where each fits those before it.
+pub(crate) fn store_of(alloc: Global, commits: &[Commit]) -> Option<Store> {
+    let mut store = Store::empty(alloc);
+    for commit in commits {
+        if !store.fits(commit, &Limits::standard()) {
+            return None;
+        }
+        store = store.apply(alloc, commit).ok()?;
+    }
+    Some(store)
 }

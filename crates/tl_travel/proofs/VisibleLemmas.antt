@@ -28,3 +28,5 @@ pub within_bound : (rows : List plain.Row) (from to before after words digits : 
 within_bound rows from to before after words digits h =
     let e = length-drop (place_of rows from) (events_of rows to) in
     omega arith
+
+pub ruleset visible_at = (visible_members, within_bound)

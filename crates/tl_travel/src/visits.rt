@@ -1,4 +1,5 @@
-//! The rows that are visible at a version.
+//! The rows that are visible at a version: the set of the nearest mark before it, and the events
+//! behind that. A version that is not there is refused.
 ghost use Rattle.std.specs.Prelude.{◌≡◌, ◌+◌, ◌*◌, ◌<◌, ◌≤◌, IfOk, length, map};
 ghost use Rattle.tl_types.specs.Entries.{commits_of};
 ghost use Rattle.tl_types.specs.History.{database_of, rows_of, visible_rows};
@@ -17,7 +18,7 @@ use tl_types::{NoMemory, Steps};
 /// the table. It is worked out from the mark that is nearest before the version: it takes at most a
 /// step for each event behind the mark and up to the version, one for each begun 64 of rows, and
 /// those of two searches for a version. The error is `NoMemory`.
-#[tactic(auto, using(crate::proofs::VisibleLemmas::visible_members, crate::proofs::VisibleLemmas::within_bound))]
+#[tactic(auto, using(crate::proofs::VisibleLemmas::visible_at))]
 pub fn visible<L: Ledger>(
     alloc: Global,
     snapshot: &Snapshot,

@@ -12,13 +12,13 @@ use Rattle.tl_types.specs.History.{with_ids, is_visible, cell_at}
 use Rattle.tl_types.specs.Plain as plain
 use Rattle.tl_query.specs.declared.typed_queries.JoinPlan.{JoinPlan}
 use Rattle.tl_query.specs.declared.typed_queries.TypedPred.{TypedPred}
-use Rattle.tl_query.specs.Passing.{passes}
+use Rattle.tl_query.specs.Passing.{passes, passing}
 use Rattle.tl_bits.specs.Sets.{is_member}
 use Rattle.tl_ckpt.specs.Valid as valid
 use Rattle.tl_sweep.specs.declared.entries.Entry.{Entry}
 use Rattle.tl_sweep.specs.Sweep.{AreSame, IsEntry, Rises, AreOne}
 use Rattle.tl_keys.specs.Keys.{KeyNumbers, number_at, AreApart}
-use Rattle.tl_valid_join.specs.Entries.{code_by, HasNumber, entry_between, entry_over, entry_of, entry_at, entry_in, entries_in, passing, IsKnown}
+use Rattle.tl_valid_join.specs.Entries.{code_by, HasNumber, entry_between, entry_over, entry_of, entry_at, entry_in, entries_in, IsKnown}
 use Rattle.tl_valid_join.proofs.EventLemmas.{begin_of, end_of, ends_from, ends_yes, ends_no, Stand, stand_head, stand_tail, stand_all, sum_ordered, each_ordered, BeginsPeriod, BeginsRow, Begins}
 
 -- LISTS WHERE SOME ITEMS GIVE SOMETHING

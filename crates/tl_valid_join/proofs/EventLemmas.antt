@@ -5,10 +5,10 @@ use Rattle.std.proofs.lemmas.List.Elements.{All-cons, All-nil}
 use Rattle.std.proofs.lemmas.List.Sums.{sum_by-cons}
 use Rattle.std.proofs.lemmas.Option.{slice_get_within}
 use Rattle.tl_types.specs.declared.events.ValidEvent.{ValidEvent}
-use Rattle.tl_types.specs.Checkpoints.{comes_before, inserted, ends_of, ends_of_rows, valid_events_in}
+use Rattle.tl_types.specs.Checkpoints.{comes_before, inserted, ends_of, ends_of_rows, valid_events_in, AreEventsOf}
 use Rattle.tl_types.specs.History.{is_visible}
+use Rattle.tl_types.proofs.EventCounts.{fold_many}
 use Rattle.tl_types.specs.Plain as plain
-use Rattle.tl_valid_join.specs.Entries.{AreEventsOf}
 
 -- EVENTS IN ORDER
 
@@ -46,17 +46,6 @@ module _ (Q : ValidEvent → Type 0) where
   pub each_ordered : (us vs : List ValidEvent) → AllByRecursion Q (fold (λ ordered event. inserted event ordered) us vs) → AllByRecursion Q us × AllByRecursion Q vs
   each_ordered us [] all = (all, tt)
   each_ordered us (v ∷ vs) all = let a = each_ordered (inserted v us) vs all in let b = each_inserted v us a.0 in (b.1, (b.0, a.1))
-
-long_inserted : (x : ValidEvent) (xs : List ValidEvent) → length (inserted x xs) ≡ suc (length xs)
-long_inserted x [] = refl
-long_inserted x (y ∷ ys) = by_test (comes_before y x) (long_inserted x ys) where
-  by_test : (b : Bool) → length (inserted x ys) ≡ suc (length ys) → length (cond b (y ∷ inserted x ys) (x ∷ y ∷ ys)) ≡ suc (length (y ∷ ys))
-  by_test true later = ap suc later
-  by_test false later = refl
-
-long_ordered : (us vs : List ValidEvent) → length (fold (λ ordered event. inserted event ordered) us vs) ≡ length us + length vs
-long_ordered us [] = omega arith
-long_ordered us (v ∷ vs) = long_ordered (inserted v us) vs ∙ (let a = long_inserted v us in omega (arith, a))
 
 -- THE ENDS OF THE PERIODS OF ROWS
 
@@ -118,7 +107,7 @@ ends_few v n (r ∷ rows) = by_test (is_visible v r) refl (ends_few v (n + 1) ro
 pub events_few : (rows : List plain.Row) (events list : List ValidEvent) → AreEventsOf rows events → list ≡ events → length list ≤ 2 * length rows
 events_few rows events list of is =
     let a : length list ≡ length (valid_events_in rows of.version) = ap length (is ∙ of.are) in
-    let b = long_ordered [] (ends_from of.version 0 rows) in
+    let b = fold_many [] (ends_from of.version 0 rows) in
     let c = ends_few of.version 0 rows in
     omega (arith, a, b, c)
 

@@ -4,7 +4,7 @@ use Rattle.std.specs.List.{filter_map, AllByRecursion}
 use Rattle.std.proofs.lemmas.Option.{slice_get_within}
 use Rattle.tl_types.specs.declared.events.ValidEvent.{ValidEvent}
 use Rattle.tl_types.specs.declared.runs.Pair.{Pair}
-use Rattle.tl_types.specs.Checkpoints.{valid_events_in}
+use Rattle.tl_types.specs.Checkpoints.{valid_events_in, AreEventsOf}
 use Rattle.tl_types.specs.History.{database_of, with_ids, rows_of, cell_at}
 use Rattle.tl_types.specs.Plain as plain
 use Rattle.tl_query.specs.declared.typed_queries.JoinPlan.{JoinPlan}
@@ -19,8 +19,9 @@ use Rattle.tl_sweep.specs.Sweep.{AreSame, IsEntry, Rises, AreOne, grid}
 use Rattle.tl_keys.specs.Keys.{KeyNumbers, KeepsNumbers, AreApart}
 use Rattle.tl_keys.proofs.KeyLemmas.{numbers_agree}
 use Rattle.tl_valid_join.specs.declared.sides.Side.{Side}
-use Rattle.tl_valid_join.specs.Entries.{code_by, HasNumber, entry_in, entries_in, passing, AreEventsOf, IsKnown}
-use Rattle.tl_valid_join.specs.Sides.{rows_in, AreEntries}
+use Rattle.tl_valid_join.specs.Entries.{code_by, HasNumber, entry_in, entries_in, IsKnown}
+use Rattle.tl_query.specs.Passing.{passing}
+use Rattle.tl_valid_join.specs.Sides.{side_rows, AreEntries}
 use Rattle.tl_valid_join.proofs.EventLemmas.{begins_valid}
 use Rattle.tl_valid_join.proofs.EntryLemmas.{entries_fit, entries_one, entries_rise, entries_same, rows_one, rows_known}
 use Rattle.tl_valid_join.proofs.GridLemmas.{Agree, pairs_made}
@@ -39,9 +40,9 @@ pub record Ready (keys : KeyNumbers) (es : List Entry) : Type 0 where
   pub rise : Rises es
   pub one : AreOne es
 
-ready : (side : Side) (plan : JoinPlan) (now keys : KeyNumbers) (events : List ValidEvent) (es got : List Entry) → AreEventsOf (rows_in side) events → AreApart keys → KeepsNumbers now keys → AreEntries side plan now events es → got ≡ es → Ready keys got
+ready : (side : Side) (plan : JoinPlan) (now keys : KeyNumbers) (events : List ValidEvent) (es got : List Entry) → AreEventsOf (side_rows side) events → AreApart keys → KeepsNumbers now keys → AreEntries side plan now events es → got ≡ es → Ready keys got
 ready side plan now keys events es got of apart keeps all same =
-    let rows = rows_in side in
+    let rows = side_rows side in
     let w = all keys keeps in
     let is : got ≡ filter_map _ (valid_events_in rows of.version) = same ∙ w.0 ∙ ap (filter_map _) of.are in
     let known = subst (AllByRecursion (IsKnown plan rows side.column side.keep.now keys)) of.are w.1 in
@@ -52,10 +53,10 @@ ready side plan now keys events es got of apart keeps all same =
     }
 
 -- a side's rows are those of its table
-rows_are : (db : plain.Database) (side : Side) (table : ℕ) → database_of side.store.now ≡ db → side.table ≡ table → rows_in side ≡ rows_of db table
+rows_are : (db : plain.Database) (side : Side) (table : ℕ) → database_of side.store.now ≡ db → side.table ≡ table → side_rows side ≡ rows_of db table
 rows_are db side table store number = ap (λ d. rows_of d side.table) store ∙ ap (rows_of db) number
 
-pub side_events : (db : plain.Database) (side : Side) (table : ℕ) (events : List ValidEvent) → database_of side.store.now ≡ db → side.table ≡ table → AreEventsOf (rows_of db table) events → AreEventsOf (rows_in side) events
+pub side_events : (db : plain.Database) (side : Side) (table : ℕ) (events : List ValidEvent) → database_of side.store.now ≡ db → side.table ≡ table → AreEventsOf (rows_of db table) events → AreEventsOf (side_rows side) events
 side_events db side table events store number of = subst (λ rows. AreEventsOf rows events) (sym (rows_are db side table store number)) of
 
 pub side_ready : (db : plain.Database) (side : Side) (plan : JoinPlan) (now keys : KeyNumbers) (events : List ValidEvent) (es got : List Entry) (table : ℕ) → database_of side.store.now ≡ db → side.table ≡ table → AreEventsOf (rows_of db table) events → AreApart keys → KeepsNumbers now keys → AreEntries side plan now events es → got ≡ es → Ready keys got
@@ -69,10 +70,10 @@ pub record AreOfRows (plan : JoinPlan) (version : ℕ) (pred : TypedPred) (colum
   pub one : AreOne (entries_in plan version pred column keys rows)
   pub known : AllByRecursion (λ (r : ℕ × plain.Row). is_some (entry_in plan version pred column keys r) ≡ true → HasNumber keys column (Some r.1)) (with_ids rows)
 
-of_version : (side : Side) (plan : JoinPlan) (version : ℕ) (pred : TypedPred) (now keys : KeyNumbers) (events : List ValidEvent) (es got : List Entry) → KeepsNumbers now keys → AreEntries side plan now events es → got ≡ es → side.keep.now ≡ passing pred (rows_in side) → events ≡ valid_events_in (rows_in side) version
-    → AreOfRows plan version pred side.column keys (rows_in side) got
+of_version : (side : Side) (plan : JoinPlan) (version : ℕ) (pred : TypedPred) (now keys : KeyNumbers) (events : List ValidEvent) (es got : List Entry) → KeepsNumbers now keys → AreEntries side plan now events es → got ≡ es → side.keep.now ≡ passing pred (side_rows side) → events ≡ valid_events_in (side_rows side) version
+    → AreOfRows plan version pred side.column keys (side_rows side) got
 of_version side plan version pred now keys events es got keeps all same keep_is events_are =
-    let rows = rows_in side in
+    let rows = side_rows side in
     let w = all keys keeps in
     let is : got ≡ filter_map _ (valid_events_in rows version) = same ∙ w.0 ∙ ap (filter_map _) events_are in
     record {

@@ -1,9 +1,8 @@
 -- What rows and events of valid time have of a join's range.
-use Rattle.std.specs.Prelude.{◌≡◌, ℕ, ℤ, Bool, true, ◌&&◌, int_lt, List, map, Option, Some, None, is_some, slice_get, if◌then◌else◌}
+use Rattle.std.specs.Prelude.{◌≡◌, ℕ, ℤ, Bool, true, ◌&&◌, int_lt, List, Option, Some, None, is_some, slice_get, if◌then◌else◌}
 use Rattle.std.specs.Int.{int_min, int_max}
 use Rattle.std.specs.List.{filter_map}
 use Rattle.tl_types.specs.declared.events.ValidEvent.{ValidEvent}
-use Rattle.tl_types.specs.Checkpoints.{valid_events_in}
 use Rattle.tl_types.specs.History.{with_ids, is_visible, cell_at}
 use Rattle.tl_types.specs.Plain as plain
 use Rattle.tl_query.specs.declared.typed_queries.JoinPlan.{JoinPlan}
@@ -71,15 +70,6 @@ entry_in plan version pred column keys r =
 abbrev pub entries_in : JoinPlan → ℕ → TypedPred → ℕ → KeyNumbers → List plain.Row → List Entry
 entries_in plan version pred column keys rows =
     filter_map (entry_in plan version pred column keys) (with_ids rows)
-
--- which rows pass
-abbrev pub passing : TypedPred → List plain.Row → List Bool
-passing pred rows = map (passes pred) rows
-
--- the events are those of the rows at some version
-pub record AreEventsOf (rows : List plain.Row) (events : List ValidEvent) : Type 0 where
-  pub version : ℕ
-  pub are : events ≡ valid_events_in rows version
 
 -- where the event has an entry, the key of its row has a number
 abbrev pub IsKnown : JoinPlan → List plain.Row → ℕ → List Bool → KeyNumbers → ValidEvent → Type 0

@@ -12,28 +12,28 @@ use Rattle.tl_valid_join.specs.declared.sides.Side.{Side}
 use Rattle.tl_valid_join.specs.Entries.{entry_at, IsKnown, IsOfRow}
 
 -- the rows of the side's table
-abbrev pub rows_in : Side → List plain.Row
-rows_in side = rows_of (database_of side.store.now) side.table
+abbrev pub side_rows : Side → List plain.Row
+side_rows side = rows_of (database_of side.store.now) side.table
 
 -- the rows of the side's table have periods, its column is there, and its set has so many rows
 pub record IsSide (side : Side) : Type 0 where
   pub periods : IsTrue (has_periods (database_of side.store.now) side.table)
   pub column : side.column < length (columns_of (database_of side.store.now) side.table)
-  pub keep : length side.keep.now ≡ length (rows_in side)
+  pub keep : length side.keep.now ≡ length (side_rows side)
 
 -- what the event has of the plan's range
 abbrev pub entry_by : Side → JoinPlan → KeyNumbers → ValidEvent → Option Entry
 entry_by side plan keys event =
-    entry_at plan (rows_in side) side.column side.keep.now keys event
+    entry_at plan (side_rows side) side.column side.keep.now keys event
 
 -- where the event has an entry, its key has a number
 abbrev pub IsKnownBy : Side → JoinPlan → KeyNumbers → ValidEvent → Type 0
-IsKnownBy side plan keys event = IsKnown plan (rows_in side) side.column side.keep.now keys event
+IsKnownBy side plan keys event = IsKnown plan (side_rows side) side.column side.keep.now keys event
 
 -- whatever keys get numbers later, this is the entry of the side's row with an id
 abbrev pub IsRowEntry : Side → JoinPlan → KeyNumbers → ℕ → Option Entry → Type 0
 IsRowEntry side plan keys id entry =
-    IsOfRow plan side.column keys id (slice_get (rows_in side) id) entry
+    IsOfRow plan side.column keys id (slice_get (side_rows side) id) entry
 
 -- whatever keys get numbers later, this is the event's entry
 abbrev pub IsEventEntry : Side → JoinPlan → KeyNumbers → ValidEvent → Option Entry → Type 0

@@ -1,6 +1,7 @@
-//! Joins over a range of valid time.
+//! Joins over a range of valid time: the entries of both sides, and the pairs that a walk over them
+//! finds, in order. Keys have one number for both sides.
 ghost use Rattle.std.specs.Prelude.{◌≡◌, ℕ, ◌+◌, ◌*◌, ◌<◌, ◌≤◌, IsTrue, length, map, IfOk};
-ghost use Rattle.tl_types.specs.Checkpoints.{valid_events_in};
+ghost use Rattle.tl_types.specs.Checkpoints.{valid_events_in, AreEventsOf};
 ghost use Rattle.tl_types.specs.Entries.{commits_of};
 ghost use Rattle.tl_types.specs.History.{database_of, rows_of};
 ghost use Rattle.tl_query.specs.Joins.{joined_pairs};
@@ -8,7 +9,6 @@ ghost use Rattle.tl_query.specs.Passing.{passes};
 ghost use Rattle.tl_query.specs.declared.typed_queries.Span.TheVariants as span;
 ghost use Rattle.tl_query.specs.declared.typed_queries.TypedPred.{TypedPred};
 ghost use Rattle.tl_store.specs.Reading.{columns_of, has_periods};
-ghost use Rattle.tl_valid_join.specs.Entries.{AreEventsOf};
 
 use crate::sides::{side_entries, side_of};
 use std::alloc::Global;

@@ -1,13 +1,15 @@
-//! One side of a join over valid time.
+//! One side of a join over valid time: an entry for each event that begins the period of a row that
+//! passes, unless the plan's range has no moment of it.
 ghost use Rattle.std.specs.Prelude.{◌≡◌, ◌+◌, ◌*◌, ◌<◌, ◌≤◌, ◌^◌, ◌++◌, All, IsTrue, Some, length, IfOk, OnOk};
 ghost use Rattle.std.specs.Option.{option_to_list};
 ghost use Rattle.tl_types.specs.declared.events.ValidEvent.{ValidEvent};
+ghost use Rattle.tl_types.specs.Checkpoints.{AreEventsOf};
 ghost use Rattle.tl_types.specs.Entries.{commits_of};
 ghost use Rattle.tl_types.specs.History.{database_of, rows_of};
 ghost use Rattle.tl_store.specs.Reading.{cell_of, columns_of, has_periods};
 ghost use Rattle.tl_keys.specs.Keys.{AreApart, KeepsNumbers, number_at};
-ghost use Rattle.tl_valid_join.specs.Entries.{AreEventsOf, begins_kept};
-ghost use Rattle.tl_valid_join.specs.Sides.{IsSide, IsRowEntry, IsEventEntry, AreEntries, rows_in};
+ghost use Rattle.tl_valid_join.specs.Entries.{begins_kept};
+ghost use Rattle.tl_valid_join.specs.Sides.{IsSide, IsRowEntry, IsEventEntry, AreEntries, side_rows};
 
 use std::alloc::Global;
 use std::sync::ledger::Ledger;
@@ -24,7 +26,7 @@ use tl_types::{NoMemory, Steps, ValidEvent};
 /// in a pair.
 #[derive(Clone, Copy)]
 pub(crate) struct Side<'a> {
-    /// The store.
+    /// The store that has the rows.
     pub store: &'a Store,
     /// The table's number.
     pub table: u16,
@@ -80,7 +82,7 @@ fn key_number<'a, L: Ledger>(
     steps: &mut Steps<L>,
 ) -> Result<u32, NoMemory>
     requires side { IsSide side.now }
-    requires row { id < length (rows_in side.now) }
+    requires row { id < length (side_rows side.now) }
     requires apart { AreApart keys.old }
     requires room { keys.old.count + 1 < 2 ^ 32 }
     ensures number { IfOk result (λ n. number_at keys.new
@@ -105,7 +107,7 @@ fn row_entry<'a, L: Ledger>(
     steps: &mut Steps<L>,
 ) -> Result<Option<Entry>, NoMemory>
     requires side { IsSide side.now }
-    requires row { id < length (rows_in side.now) }
+    requires row { id < length (side_rows side.now) }
     requires apart { AreApart keys.old }
     requires room { keys.old.count + 1 < 2 ^ 32 }
     ensures entry { IfOk result (IsRowEntry side.now plan.now keys.new id) }
@@ -140,7 +142,7 @@ fn event_entry<'a, L: Ledger>(
     steps: &mut Steps<L>,
 ) -> Result<Option<Entry>, NoMemory>
     requires side { IsSide side.now }
-    requires row { event.row < length (rows_in side.now) }
+    requires row { event.row < length (side_rows side.now) }
     requires apart { AreApart keys.old }
     requires room { keys.old.count + 1 < 2 ^ 32 }
     ensures entry { IfOk result (IsEventEntry side.now plan.now keys.new event) }
@@ -181,7 +183,7 @@ fn entries_of<'a, L: Ledger>(
     steps: &mut Steps<L>,
 ) -> Result<Vec<Entry>, NoMemory>
     requires side { IsSide side.now }
-    requires rows { All (λ (e : ValidEvent). e.row < length (rows_in side.now)) events.now }
+    requires rows { All (λ (e : ValidEvent). e.row < length (side_rows side.now)) events.now }
     requires apart { AreApart keys.old }
     requires room { keys.old.count + length events.now + 1 < 2 ^ 32 }
     ensures entries { IfOk result
@@ -211,7 +213,7 @@ pub(crate) fn side_entries<'a, L: Ledger>(
     steps: &mut Steps<L>,
 ) -> Result<Vec<Entry>, NoMemory>
     requires side { IsSide side.now }
-    requires events { AreEventsOf (rows_in side.now) events.now }
+    requires events { AreEventsOf (side_rows side.now) events.now }
     requires apart { AreApart keys.old }
     requires room { keys.old.count ≤ 33554432 }
     ensures entries { IfOk result

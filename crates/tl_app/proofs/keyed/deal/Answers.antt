@@ -1,7 +1,7 @@
 use Rattle.std.proofs.Common.{sym, arith, refl, slice_set, length}
 use Rattle.std.proofs.lemmas.Option.{slice_get_read}
-use Rattle.tl_types.specs.History.{database_of, rows_of}
 use Rattle.tl_store.specs.Reading.{cell_shown}
+use Rattle.tl_app.specs.Groups.{column_rows}
 use Rattle.tl_app.proofs.DealLemmas.{deal_step}
 use Rattle.tl_app.proofs.keyed.deal.Goals as goal
 
@@ -14,7 +14,7 @@ returns-clause-dealt g c = λ done dealt.
     let count = c.requires.count in
     let below = c.in_ok-number.ensures.apart.below (cell_shown c.cell-key.result) number c.in_ok-number.ensures.number in
     let enough = c.in_ok-reach_number.ensures.enough (omega arith) in
-    deal_step (rows_of (database_of c.args.by.now.store.now) c.args.by.now.table) c.args.by.now.column c.args.keys.now c.number.new.self c.args.event (cell_shown c.cell-key.result) number
+    deal_step (column_rows c.args.by.now) c.args.by.now.column c.args.keys.now c.number.new.self c.args.event (cell_shown c.cell-key.result) number
     (sym c.cell-key.ensures.value) c.in_ok-number.ensures.number c.in_ok-number.ensures.apart c.in_ok-number.ensures.kept c.in_ok-number.ensures.count
     c.args.groups.now.items reached (slice_set reached number c.put_event.new.group) c.index_mut.result.now c.put_event.new.group done
     (λ l. c.in_ok-reach_number.ensures.more (omega (arith, l))) (λ l. c.in_ok-reach_number.ensures.same (omega (arith, l)))

@@ -1,8 +1,7 @@
 use Rattle.std.proofs.Common.{pos, false, take, sym, subst, arith}
 use Rattle.std.proofs.lemmas.List.{take_more}
 use Rattle.tl_types.specs.declared.events.ValidEvent.{ValidEvent}
-use Rattle.tl_types.specs.History.{database_of, rows_of}
-use Rattle.tl_app.specs.Groups.{AreDealt}
+use Rattle.tl_app.specs.Groups.{column_rows, AreDealt}
 use Rattle.tl_app.proofs.keyed.dealt.Goals as goal
 
 abbrev nothing : ValidEvent
@@ -12,7 +11,7 @@ pub loop-event-preserved : goal.loop-event-preserved
 loop-event-preserved g c =
     let steps = c.deal.ensures.steps in
     let before = c.loop-event.invariant.steps in record {
-      dealt = subst (AreDealt (rows_of (database_of c.args.by.now.store.now) c.args.by.now.table) c.args.by.now.column c.deal.new.keys c.deal.new.groups.items) (sym (take_more c.args.events.now c.loop-event.event-index nothing c.loop-event-test.true))
+      dealt = subst (AreDealt (column_rows c.args.by.now) c.args.by.now.column c.deal.new.keys c.deal.new.groups.items) (sym (take_more c.args.events.now c.loop-event.event-index nothing c.loop-event-test.true))
           (c.in_ok-deal.ensures.dealt (take c.loop-event.event-index c.args.events.now) c.loop-event.invariant.dealt);
       steps = omega arith;
     }

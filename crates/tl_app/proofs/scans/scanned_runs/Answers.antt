@@ -5,21 +5,21 @@ use Rattle.tl_types.proofs.RunLemmas.{none_made, more_made}
 use Rattle.tl_query.specs.Aggregates.{aggregate_of}
 use Rattle.tl_running.specs.Standing.{Suits}
 use Rattle.tl_app.specs.Opening.{open_rows}
-use Rattle.tl_app.specs.Scans.{rows_in, next_of, IsCut, value_at}
-use Rattle.tl_app.proofs.CutLemmas.{cut_is, next_after, cut_until, count_less, less_true, less_false, made_all}
+use Rattle.tl_app.specs.Scans.{plan_rows, next_of, IsCut, open_value, Tells}
+use Rattle.tl_app.proofs.CutLemmas.{cut_is, next_after, cut_until, count_less, less_true, less_false, made_all, add_all}
 use Rattle.tl_app.proofs.HoldLemmas.{holds_none}
-use Rattle.tl_app.proofs.TellLemmas.{has_told, add_all}
+use Rattle.tl_running.proofs.TellLemmas.{has_told}
 use Rattle.std.specs.List.{AllByRecursion}
 use Rattle.std.specs.Prelude.{◌==◌, not}
 use Rattle.tl_types.specs.Runs.{stretch_of}
-use Rattle.tl_app.specs.Telling.{has_rows, Tells}
+use Rattle.tl_running.specs.Telling.{has_rows}
 use Rattle.tl_app.proofs.scans.scanned_runs.Goals as goal
 
 pub moments-init : goal.moments-init
 moments-init g c = record {
   made = none_made _ _ _ _ _ refl c.in_ok-runs.ensures.items;
-  holds = holds_none (rows_in c.args.scan.now.store.now c.args.scan.now.plan.now) c.args.scan.now.plan.now c.none-running.result c.none-running.ensures.kind (c.none-running.ensures.stands c.args.scan.now.plan.now.column);
-  tells = subst (AllByRecursion (Tells (rows_in c.args.scan.now.store.now c.args.scan.now.plan.now) c.args.scan.now.plan.now c.args.scan.now.events.now)) (sym c.in_ok-runs.ensures.items) tt;
+  holds = holds_none (plan_rows c.args.scan.now.store.now c.args.scan.now.plan.now) c.args.scan.now.plan.now c.none-running.result c.none-running.ensures.kind (c.none-running.ensures.stands c.args.scan.now.plan.now.column);
+  tells = subst (AllByRecursion (Tells (plan_rows c.args.scan.now.store.now c.args.scan.now.plan.now) c.args.scan.now.plan.now c.args.scan.now.events.now)) (sym c.in_ok-runs.ensures.items) tt;
   within = omega arith;
   front = λ k d l. absurd (omega arith);
   steps = omega arith;
@@ -42,7 +42,7 @@ pub moments-preserved : goal.moments-preserved
 moments-preserved g c =
     let events = c.args.scan.now.events.now in
     let plan = c.args.scan.now.plan.now in
-    let rows = rows_in c.args.scan.now.store.now plan in
+    let rows = plan_rows c.args.scan.now.store.now plan in
     let i = c.in_ok-i.i in
     let at = to_z w64 c.moments.at-bits in
     let to = to_z w64 (of_z w64 c.args.to) in
@@ -57,7 +57,7 @@ moments-preserved g c =
     let next = next_of (slice_get events i) to in
     let after = next_after at to events i cut more in
     let here = cut_is at events i cut in
-    let value : ℤ → _ = value_at rows plan events in
+    let value : ℤ → _ = open_value rows plan events in
     let kept : (m : ℤ) → at ≤ℤ m → m <ℤ next → value m ≡ value at = λ m l r. ap (λ done. aggregate_of plan.kind plan.column (open_rows rows done)) (cut_is m events i (cut_until at to m events i c.requires.events.order cut l r) ∙ sym here) in
     let suits = subst (λ k. Suits k plan.column (open_rows rows (take i events))) (sym holds.kind) holds.suits in
     let value_is : c.value.result ≡ value at = c.value.ensures plan.column (open_rows rows (take i events)) holds.stands suits

@@ -23,9 +23,10 @@ returns-clause-steps g c =
     let to = c.args.piece.to in
     let stand = length-map rows (is_visible from) in
     let long : length (start_set rows keep from) ≡ length rows = both_length (standing rows from) keep (stand ∙ sym c.requires.scan.kept) ∙ stand in
+    let start_is : c.in_ok-start.start ≡ start_set rows keep from = c.in_ok-start.ensures.set ∙ ap (λ k. start_set rows k from) c.rows-rows.ensures in
     piece_steps c.args.steps.now c.start_set.new.steps c.aggregate.new.steps (events_after_mark entries table from)
     (events_inside db table from to) (place_of rows (to - 1) - place_of rows from) (size (start_set rows keep from)) (size c.in_ok-start.start)
     (begun_words db table) (words_for (length c.in_ok-start.start)) (map_digits db table) (map_digits db table)
     c.start_set.ensures.steps c.aggregate.ensures.steps
-    (sym (length-drop (place_of rows from) (events_of rows (to - 1)))) (ap size c.in_ok-start.ensures.set)
-    (ap (λ s. words_for (length s)) c.in_ok-start.ensures.set ∙ ap words_for long) refl
+    (sym (length-drop (place_of rows from) (events_of rows (to - 1)))) (ap size start_is)
+    (ap (λ s. words_for (length s)) start_is ∙ ap words_for long) refl

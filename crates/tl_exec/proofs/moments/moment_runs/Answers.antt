@@ -8,7 +8,8 @@ use Rattle.tl_types.specs.History.{database_of, rows_of, visible_rows}
 use Rattle.tl_index.specs.Snapshots.{mark_before}
 use Rattle.tl_travel.specs.Bounds.{events_after_mark, begun_words, map_digits}
 use Rattle.tl_filter.specs.Selecting.{tests_in}
-use Rattle.tl_exec.proofs.MomentLemmas.{events_few, moment_steps, same_moments}
+use Rattle.tl_types.proofs.EventCounts.{events_few}
+use Rattle.tl_exec.proofs.MomentLemmas.{moment_steps, same_moments}
 use Rattle.tl_exec.proofs.moments.moment_runs.Goals as goal
 
 pub returns-clause-steps : goal.returns-clause-steps

@@ -1,12 +1,12 @@
 use Rattle.std.proofs.Common.{arith, length, ◌-◌, ap, sym, subst, All, ◌<◌}
 use Rattle.tl_types.specs.declared.events.Event.{Event}
 use Rattle.tl_types.proofs.EventLemmas.{place_grows, events_within}
-use Rattle.tl_join.specs.Sides.{rows_in, last_in}
+use Rattle.tl_join.specs.Sides.{side_rows, last_in}
 use Rattle.tl_join.proofs.sides.there_ids.Goals as goal
 
 pub add_opened-requires-clause-order : goal.add_opened-requires-clause-order
 add_opened-requires-clause-order g c =
-    let rows = rows_in c.args.side.now in
+    let rows = side_rows c.args.side.now in
     let last = last_in c.args.side.now in
     let some = c.args.piece.some in
     let inside = c.requires.versions in
@@ -17,7 +17,7 @@ add_opened-requires-clause-order g c =
 
 pub add_opened-requires-clause-inside : goal.add_opened-requires-clause-inside
 add_opened-requires-clause-inside g c =
-    let rows = rows_in c.args.side.now in
+    let rows = side_rows c.args.side.now in
     let last = last_in c.args.side.now in
     let inside = c.requires.versions in
     let last_is = c.end_of-last.ensures.history rows last c.requires.side.ends (omega (arith, inside)) in
@@ -27,7 +27,7 @@ add_opened-requires-clause-inside g c =
 
 pub add_opened-requires-clause-rows : goal.add_opened-requires-clause-rows
 add_opened-requires-clause-rows g c =
-    let rows = rows_in c.args.side.now in
+    let rows = side_rows c.args.side.now in
     let last = last_in c.args.side.now in
     let all = events_within rows last in
     let of_events = subst (λ events. All (λ (e : Event). e.row < length rows) events) (sym c.requires.side.events) all in

@@ -4,7 +4,7 @@ use Rattle.std.proofs.lemmas.List.Filters.{dedup_is}
 use Rattle.tl_types.specs.declared.cells.Cell.{Cell}
 use Rattle.tl_types.specs.contracts.cells.CellPartialEq.TheImpl as same
 use Rattle.tl_query.specs.Ordered.{with_value}
-use Rattle.tl_plain.proofs.CellLemmas.{eq_is}
+use Rattle.tl_query.proofs.CellOrder.{eq_is}
 use Rattle.tl_plain.proofs.ValueLemmas.{values_left}
 use Rattle.tl_plain.proofs.values.values_of.Goals as goal
 

@@ -1,4 +1,5 @@
 use Rattle.std.proofs.Common.{Ok, Err, sym}
+use Rattle.tl_csv.specs.LentBlocks.{block_at}
 use Rattle.tl_types.specs.History.{database_of}
 use Rattle.tl_types.proofs.FoundTables.{table_found}
 use Rattle.tl_session.proofs.ReadingLemmas.{lent_load, batch_fits, batch_known}
@@ -9,7 +10,7 @@ schema-schema-requires c = (table_found (database_of c.args.store.now) c.args.na
 
 pub returns-in-Ok-clause-reads : goal.returns-in-Ok-clause-reads
 returns-in-Ok-clause-reads c =
-    sym (lent_load c.args.store.now c.args.name.now.text c.args.kind c.args.block.now c.in-Some.number c.schema-schema.result.now c.standard-limits.result (Ok c.in-Ok.batch) c.standard-limits.ensures (rw c.as_str.ensures.bytes at (sym c.in-Some.ensures)) c.schema-schema.ensures.value c.in-Ok.ensures.batch)
+    sym (lent_load c.args.store.now c.args.name.now.text c.args.kind (block_at c.args.reader.now.blocks c.args.place) c.in-Some.number c.schema-schema.result.now c.standard-limits.result (Ok c.in-Ok.batch) c.standard-limits.ensures (rw c.as_str.ensures.bytes at (sym c.in-Some.ensures)) c.schema-schema.ensures.value c.in-Ok.ensures.batch)
 
 pub returns-in-Ok-clause-matching : goal.returns-in-Ok-clause-matching
 returns-in-Ok-clause-matching c =
@@ -21,5 +22,5 @@ returns-in-Ok-clause-known c =
 
 pub returns-in_ok-csv_refusal-in-Err-clause-reads : goal.returns-in_ok-csv_refusal-in-Err-clause-reads
 returns-in_ok-csv_refusal-in-Err-clause-reads c =
-    let none = lent_load c.args.store.now c.args.name.now.text c.args.kind c.args.block.now c.in-Some.number c.schema-schema.result.now c.standard-limits.result (Err c.in-Err.fault) c.standard-limits.ensures (rw c.as_str.ensures.bytes at (sym c.in-Some.ensures)) c.schema-schema.ensures.value (c.in-Err.ensures.fault c.in_ok-csv_refusal-in-Err.ensures.told) in
+    let none = lent_load c.args.store.now c.args.name.now.text c.args.kind (block_at c.args.reader.now.blocks c.args.place) c.in-Some.number c.schema-schema.result.now c.standard-limits.result (Err c.in-Err.fault) c.standard-limits.ensures (rw c.as_str.ensures.bytes at (sym c.in-Some.ensures)) c.schema-schema.ensures.value (c.in-Err.ensures.fault c.in_ok-csv_refusal-in-Err.ensures.told) in
     rw c.in_ok-csv_refusal-in-Err.ensures.why (sym none)

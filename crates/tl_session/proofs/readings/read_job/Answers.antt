@@ -1,4 +1,5 @@
 use Rattle.std.proofs.Common.{◌≡◌, ℕ, List, IfOk, Result, Ok, Err, inr}
+use Rattle.tl_csv.specs.LentBlocks.{block_at}
 use Rattle.tl_types.specs.Entries.{commits_of}
 use Rattle.tl_types.specs.declared.commits.Commit.{Commit}
 use Rattle.tl_query.specs.declared.ast.Statement.{Statement}
@@ -13,4 +14,4 @@ spelled commits text block s (Ok read) spells is = inr (s, spells, is)
 spelled commits text block s (Err e) spells is = tt
 
 pub returns-in-Ok-clause-reads : goal.returns-in-Ok-clause-reads
-returns-in-Ok-clause-reads g c = spelled (commits_of c.args.snapshot.now) c.args.text.now c.args.block.now c.in-Ok.statement c.read_statement.result c.in-Ok.ensures.found c.read_statement.ensures.reads
+returns-in-Ok-clause-reads g c = spelled (commits_of c.args.snapshot.now) c.args.text.now (block_at c.args.crew.now.reader.blocks c.args.crew.now.place) c.in-Ok.statement c.read_statement.result c.in-Ok.ensures.found c.read_statement.ensures.reads

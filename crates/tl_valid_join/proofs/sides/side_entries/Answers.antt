@@ -1,15 +1,15 @@
 use Rattle.std.proofs.Common.{arith, ◌∙◌, subst}
-use Rattle.tl_valid_join.specs.Sides.{rows_in, AreEntries}
+use Rattle.tl_valid_join.specs.Sides.{side_rows, AreEntries}
 use Rattle.tl_valid_join.proofs.EventLemmas.{events_few, rows_within}
 use Rattle.tl_valid_join.proofs.sides.side_entries.Goals as goal
 
 pub entries_of-requires-clause-rows : goal.entries_of-requires-clause-rows
 entries_of-requires-clause-rows g c =
-    rows_within (rows_in c.args.side.now) c.args.events.now c.deref.result.now c.requires.events (c.deref.ensures.value ∙ c.in_ok-list.ensures)
+    rows_within (side_rows c.args.side.now) c.args.events.now c.deref.result.now c.requires.events (c.deref.ensures.value ∙ c.in_ok-list.ensures)
 
 pub entries_of-requires-clause-room : goal.entries_of-requires-clause-room
 entries_of-requires-clause-room g c =
-    let few = events_few (rows_in c.args.side.now) c.args.events.now c.deref.result.now c.requires.events (c.deref.ensures.value ∙ c.in_ok-list.ensures) in
+    let few = events_few (side_rows c.args.side.now) c.args.events.now c.deref.result.now c.requires.events (c.deref.ensures.value ∙ c.in_ok-list.ensures) in
     let rows = c.rows-rows.ensures.few in
     let number = c.rows-rows.ensures.number in
     omega (arith, few, rows, number, c.requires.room)
@@ -20,7 +20,7 @@ returns-clause-entries g c =
 
 pub returns-clause-count : goal.returns-clause-count
 returns-clause-count g c =
-    let few = events_few (rows_in c.args.side.now) c.args.events.now c.deref.result.now c.requires.events (c.deref.ensures.value ∙ c.in_ok-list.ensures) in
+    let few = events_few (side_rows c.args.side.now) c.args.events.now c.deref.result.now c.requires.events (c.deref.ensures.value ∙ c.in_ok-list.ensures) in
     let rows = c.rows-rows.ensures.few in
     let number = c.rows-rows.ensures.number in
     omega (arith, few, rows, number, c.in_ok-entries.ensures.count)

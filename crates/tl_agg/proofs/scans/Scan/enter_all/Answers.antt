@@ -1,6 +1,6 @@
 use Rattle.std.proofs.Common.{◌+◌, ap, arith, sym, ◌∙◌, subst, length}
 use Rattle.tl_agg.specs.Kept.{below}
-use Rattle.tl_agg.specs.Tables.{rows_in}
+use Rattle.tl_index.specs.Tables.{rows_in}
 use Rattle.tl_agg.specs.Scans.{ScanOf, IsScan, IsReady, TakesEvent}
 use Rattle.tl_agg.proofs.StartLemmas.{size_none, next_size, size_below}
 use Rattle.tl_agg.proofs.StepLemmas.{start_ready, start_taken, start_ends, first_since}

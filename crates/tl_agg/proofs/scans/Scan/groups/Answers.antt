@@ -2,7 +2,7 @@ use Rattle.std.proofs.Common.{ap, arith, ◌∙◌, subst}
 use Rattle.std.specs.Prelude.{is_some}
 use Rattle.tl_events.specs.Timeline.{IsSplit}
 use Rattle.tl_events.proofs.FollowLemmas.{split_follow}
-use Rattle.tl_agg.specs.Tables.{rows_in, ends_in}
+use Rattle.tl_index.specs.Tables.{rows_in, ends_in}
 use Rattle.tl_agg.specs.Scans.{ScanOf, IsScan}
 use Rattle.tl_agg.proofs.PieceLemmas.{start_tracks, start_within, start_stands}
 use Rattle.tl_agg.proofs.scans.Scan.groups.Goals as goal

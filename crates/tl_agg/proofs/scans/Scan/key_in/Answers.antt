@@ -1,7 +1,8 @@
 use Rattle.std.proofs.Common.{length, ap, arith, rules, w64, SFits, subst, refl, Some, ◌∙◌}
 use Rattle.std.proofs.lemmas.Int.{to_z-of_z}
 use Rattle.tl_types.specs.declared.cells.Cell.TheVariants as cell
-use Rattle.tl_agg.specs.Tables.{rows_in, HasKey}
+use Rattle.tl_agg.specs.Columns.{HasKey}
+use Rattle.tl_index.specs.Tables.{rows_in}
 use Rattle.tl_agg.specs.Scans.{ScanOf}
 use Rattle.tl_agg.proofs.NumberLemmas.{column_long}
 use Rattle.tl_agg.proofs.TallyLemmas.{keys_are, key_told}

@@ -1,6 +1,6 @@
 use Rattle.std.proofs.Common.{rules, w64, SFits, ap, arith, subst, length, ◌∙◌}
 use Rattle.std.proofs.lemmas.Int.{to_z-of_z}
-use Rattle.tl_agg.specs.Tables.{rows_in}
+use Rattle.tl_index.specs.Tables.{rows_in}
 use Rattle.tl_agg.specs.Groups.{Shifts}
 use Rattle.tl_agg.specs.Scans.{ScanOf}
 use Rattle.tl_agg.proofs.StepLemmas.{can_take, takes_shifted}

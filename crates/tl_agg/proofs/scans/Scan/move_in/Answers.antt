@@ -1,7 +1,7 @@
 use Rattle.std.proofs.Common.{rules, w64, SFits, ap, arith, subst, length}
 use Rattle.std.proofs.lemmas.Int.{to_z-of_z}
 use Rattle.tl_store.specs.Reading.{cell_shown}
-use Rattle.tl_agg.specs.Tables.{rows_in}
+use Rattle.tl_index.specs.Tables.{rows_in}
 use Rattle.tl_agg.specs.Scans.{ScanOf, IsScan, HasPlace, MovesAt}
 use Rattle.tl_agg.proofs.StepLemmas.{ready_numbered, can_take_in, takes_in}
 use Rattle.tl_agg.proofs.scans.Scan.move_in.Goals as goal

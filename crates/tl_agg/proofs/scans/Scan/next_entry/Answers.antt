@@ -1,6 +1,6 @@
 use Rattle.std.proofs.Common.{◌≡◌, Some, ap, arith, subst, slice_get}
 use Rattle.std.proofs.lemmas.Option.{slice_get_within}
-use Rattle.tl_agg.specs.Tables.{TableOf, rows_in, ends_in}
+use Rattle.tl_index.specs.Tables.{TableOf, rows_in, ends_in}
 use Rattle.tl_agg.specs.Scans.{ScanOf}
 use Rattle.tl_agg.proofs.StepLemmas.{next_some, next_later}
 use Rattle.tl_agg.proofs.scans.Scan.next_entry.Goals as goal

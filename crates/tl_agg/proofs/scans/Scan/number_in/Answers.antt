@@ -1,6 +1,7 @@
 use Rattle.std.proofs.Common.{length, ap, arith, rules, w64, SFits, subst}
 use Rattle.std.proofs.lemmas.Int.{to_z-of_z}
-use Rattle.tl_agg.specs.Tables.{rows_in, TellsNumber}
+use Rattle.tl_index.specs.Tables.{rows_in}
+use Rattle.tl_running.specs.Telling.{TellsNumber}
 use Rattle.tl_agg.specs.Scans.{ScanOf}
 use Rattle.tl_agg.proofs.NumberLemmas.{column_tells, column_long}
 use Rattle.tl_agg.proofs.scans.Scan.number_in.Goals as goal

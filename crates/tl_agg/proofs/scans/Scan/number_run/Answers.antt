@@ -1,7 +1,7 @@
 use Rattle.std.proofs.Common.{◌≡◌, ◌+◌, Some, ap, arith, sym, ◌∙◌, subst, slice_get}
 use Rattle.std.proofs.lemmas.Option.{slice_get-get_or}
 use Rattle.tl_types.specs.WellFormed.{AreWellFormed}
-use Rattle.tl_agg.specs.Tables.{rows_in}
+use Rattle.tl_index.specs.Tables.{rows_in}
 use Rattle.tl_agg.specs.Scans.{ScanOf, AllTrack, set_after}
 use Rattle.tl_agg.proofs.StepLemmas.{run_ready, run_taken}
 use Rattle.tl_agg.proofs.scans.Scan.number_run.Goals as goal
@@ -11,13 +11,13 @@ fold_all-requires-clause-ready g c =
     let formed = subst (λ (s : ScanOf). AreWellFormed s.table.db.version (rows_in s.table)) c.self.view_is c.rows.ensures.formed in
     let t = c.loop-packed-test.true in
     let is : slice_get c.args.events.now c.loop-packed.packed-index ≡ Some c.event.result = slice_get-get_or c.args.events.now c.loop-packed.packed-index c.packed-item.result (omega arith) ∙ ap Some (sym c.packed-item.is ∙ sym c.event.ensures) in
-    run_ready c.args.self.now c.args.at c.args.place c.loop-packed.packed-index c.args.events.now c.event.result c.loop-packed.groups formed c.requires.events is c.loop-packed.invariant.tracks
+    run_ready c.args.self.now c.args.at c.args.place c.loop-packed.packed-index c.args.events.now c.event.result c.loop-packed.groups formed c.requires.run.are is c.loop-packed.invariant.tracks
 
 pub loop-packed-init : goal.loop-packed-init
 loop-packed-init g c =
     let s : c.args.place + 0 ≡ c.args.place = omega arith in record {
-      tracks = subst (λ n. AllTrack c.args.self.now (set_after c.args.self.now.table n) c.args.at c.args.groups.now) (sym s) c.requires.tracks;
-      since = c.requires.since;
+      tracks = subst (λ n. AllTrack c.args.self.now (set_after c.args.self.now.table n) c.args.at c.args.groups.now) (sym s) c.requires.run.tracks;
+      since = c.requires.run.since;
       steps = omega arith;
     }
 
@@ -28,7 +28,7 @@ loop-packed-preserved g c =
     let is : slice_get c.args.events.now c.loop-packed.packed-index ≡ Some c.event.result = slice_get-get_or c.args.events.now c.loop-packed.packed-index c.packed-item.result (omega arith) ∙ ap Some (sym c.packed-item.is ∙ sym c.event.ensures) in
     let s = c.loop-packed.invariant.steps in
     let u = c.fold_all.ensures.steps in record {
-      tracks = run_taken c.args.self.now c.args.at c.args.place c.loop-packed.packed-index c.args.events.now c.event.result c.loop-packed.groups c.fold_all.new.groups formed c.requires.events is c.loop-packed.invariant.tracks c.in_ok-fold_all.ensures.takes;
+      tracks = run_taken c.args.self.now c.args.at c.args.place c.loop-packed.packed-index c.args.events.now c.event.result c.loop-packed.groups c.fold_all.new.groups formed c.requires.run.are is c.loop-packed.invariant.tracks c.in_ok-fold_all.ensures.takes;
       since = c.in_ok-fold_all.ensures.since;
       steps = omega arith;
     }

@@ -1,6 +1,6 @@
 use Rattle.std.proofs.Common.{◌-◌, ap, sym, ◌∙◌, subst, arith}
 use Rattle.tl_types.specs.Walks.{standing}
-use Rattle.tl_agg.specs.Tables.{rows_in}
+use Rattle.tl_index.specs.Tables.{rows_in}
 use Rattle.tl_agg.specs.Groups.{IsAdvanced}
 use Rattle.tl_agg.specs.Scans.{ScanOf, IsScan, AreAllAdvanced}
 use Rattle.tl_agg.proofs.PieceLemmas.{piece_runs}

@@ -2,7 +2,7 @@ use Rattle.std.proofs.Common.{◌≡◌, Some, refl, rules, w64, SFits, subst, s
 use Rattle.std.proofs.lemmas.Int.{to_z-of_z}
 use Rattle.tl_bits.specs.Sets.{is_member}
 use Rattle.tl_agg.specs.Scans.{ScanOf}
-use Rattle.tl_agg.specs.Tables.{rows_in}
+use Rattle.tl_index.specs.Tables.{rows_in}
 use Rattle.tl_agg.specs.Tallies.{tally_moved}
 use Rattle.tl_agg.proofs.NumberLemmas.{column_tells}
 use Rattle.tl_agg.proofs.TallyLemmas.{tallies_kept}

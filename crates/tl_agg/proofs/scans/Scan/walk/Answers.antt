@@ -1,7 +1,7 @@
 use Rattle.std.proofs.Common.{◌-◌, arith, subst}
 use Rattle.tl_types.specs.WellFormed.{AreWellFormed}
 use Rattle.tl_types.proofs.EventLemmas.{place_grows}
-use Rattle.tl_agg.specs.Tables.{rows_in}
+use Rattle.tl_index.specs.Tables.{rows_in}
 use Rattle.tl_agg.specs.Scans.{ScanOf}
 use Rattle.tl_agg.proofs.StepLemmas.{events_many, version_begins, version_ends, piece_ends}
 use Rattle.tl_agg.proofs.scans.Scan.walk.Goals as goal

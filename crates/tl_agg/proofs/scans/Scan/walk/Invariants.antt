@@ -2,7 +2,7 @@ use Rattle.std.proofs.Common.{◌≡◌, ◌+◌, ◌-◌, ◌*◌, ◌≤◌, �
 use Rattle.tl_types.specs.Events.{place_of}
 use Rattle.tl_types.specs.Walks.{standing}
 use Rattle.tl_events.specs.Timeline.{Follow}
-use Rattle.tl_agg.specs.Tables.{rows_in, ends_in}
+use Rattle.tl_index.specs.Tables.{rows_in, ends_in}
 use Rattle.tl_agg.specs.Scans.{AllTrack}
 use Rattle.tl_agg.proofs.scans.Scan.walk.Given as goal
 

@@ -10,7 +10,7 @@ use Rattle.tl_index.proofs.snapshots.Snapshot.has_mark.Goals as goal
 pub returns-in-None : goal.returns-in-None
 returns-in-None c =
     sym (has_mark_is (database_behind c.args.self.now) c.args.self.now c.args.table c.args.version
-    ∙ ap (λ ms. list_any (is_at c.args.version) (marks_for ms c.args.table)) (sym c.marks.ensures)
+    ∙ ap (λ ms. list_any (is_at c.args.version) (marks_for ms c.args.table)) (sym c.marks.ensures.marks)
     ∙ none_near c.args.version (marks_for c.marks.result.now c.args.table) c.in-None.ensures.none)
 
 pub returns-in-Some : goal.returns-in-Some
@@ -18,5 +18,5 @@ returns-in-Some c =
     let ms = marks_for c.marks.result.now c.args.table in
     ap (λ v. nat_eq v c.args.version) c.version.ensures
     ∙ sym (has_mark_is (database_behind c.args.self.now) c.args.self.now c.args.table c.args.version
-    ∙ ap (λ ms. list_any (is_at c.args.version) (marks_for ms c.args.table)) (sym c.marks.ensures)
+    ∙ ap (λ ms. list_any (is_at c.args.version) (marks_for ms c.args.table)) (sym c.marks.ensures.marks)
     ∙ nearest_at c.args.version ms c.in-Some.mark.now c.nearest.ensures.climb c.in-Some.ensures.found)

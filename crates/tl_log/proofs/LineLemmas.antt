@@ -1,12 +1,16 @@
 -- The lines of commits, one after the other, and the name of a table.
 use Rattle.std.proofs.Common.{◌≡◌, ℕ, zero, suc, ◌+◌, ◌-◌, ◌≤◌, ◌<◌, arith, List, [], ◌∷◌, ◌++◌, length, drop, Option, Some, None, ap, sym, ◌∙◌, slice_get, refl}
-use Rattle.std.specs.Prelude.{option_map}
+use Rattle.std.specs.Prelude.{option_map, codes, ℤ}
+use Rattle.std.specs.Fmt.{decimal, signed_decimal}
 use Rattle.std.proofs.lemmas.List.{append_assoc, append-nil}
 use Rattle.std.proofs.Math.ListN.{drop_of_length-le}
 use Rattle.std.proofs.lemmas.Option.{slice_get_past}
 use Rattle.tl_types.specs.declared.commits.Commit.{Commit}
+use Rattle.tl_types.specs.declared.commits.Body.{Body}
+use Rattle.tl_types.specs.declared.commits.Body.TheVariants as body
+use Rattle.tl_types.specs.History.{closed_by, opened_by}
 use Rattle.tl_types.specs.Plain as plain
-use Rattle.tl_log.specs.Listing.{name_of, name_at, commit_line, lines_from}
+use Rattle.tl_log.specs.Listing.{name_of, name_at, deed_words, commit_line, lines_from}
 
 -- the name of a table that is there
 named : (found : Option plain.Table) (schema : plain.Schema)
@@ -22,6 +26,23 @@ name_there db table schema h = named (slice_get db.tables table) schema h
 -- past the last table there is none
 pub name_missing : (db : plain.Database) (table : ℕ) → length db.tables ≤ table → [] ≡ name_at db table
 name_missing db table h = rw (slice_get_past db.tables table h) refl
+
+-- the words of each kind of commit, from the numbers of rows that it closes and opens
+pub words_of_create : (b : Body) (schema : plain.Schema) (closed opened : ℕ) → b ≡ body.Create schema → closed ≡ length (closed_by b) → opened ≡ length (opened_by b)
+    → codes "create," ++ (decimal closed ++ (codes "," ++ (decimal opened ++ codes ",,\n"))) ≡ deed_words b
+words_of_create b schema closed opened is c o = rw (c, o, is) refl
+
+pub words_of_change : (b : Body) (change : plain.Change) (closed opened : ℕ) → b ≡ body.Change change → closed ≡ length (closed_by b) → opened ≡ length (opened_by b)
+    → codes "change," ++ (decimal closed ++ (codes "," ++ (decimal opened ++ codes ",,\n"))) ≡ deed_words b
+words_of_change b change closed opened is c o = rw (c, o, is) refl
+
+pub words_of_moment : (b : Body) (moment : ℤ) (closed opened : ℕ) → b ≡ body.Moment moment → closed ≡ length (closed_by b) → opened ≡ length (opened_by b)
+    → codes "moment," ++ (decimal closed ++ (codes "," ++ (decimal opened ++ (codes "," ++ (signed_decimal moment ++ codes ",\n"))))) ≡ deed_words b
+words_of_moment b moment closed opened is c o = rw (c, o, is) refl
+
+pub words_of_forget : (b : Body) (number floor closed opened : ℕ) → b ≡ body.Forget number floor → closed ≡ length (closed_by b) → opened ≡ length (opened_by b)
+    → codes "forget," ++ (decimal closed ++ (codes "," ++ (decimal opened ++ (codes ",," ++ (decimal floor ++ codes "\n"))))) ≡ deed_words b
+words_of_forget b number floor closed opened is c o = rw (c, o, is) refl
 
 -- what stands from a place on is the item there and then what stands behind it
 pub parted : {X : Type 0} (xs : List X) (n : ℕ) (x : X) → Some x ≡ slice_get xs n

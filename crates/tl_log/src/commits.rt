@@ -113,9 +113,9 @@ fn put_commits<L: Ledger>(
 
 /// The listing of the commits of a store, in order: a line of names, and then a line a commit with
 /// its version, the number of the session that made it, its table, one of the words `create`,
-/// `change`, `moment` and `forget`, how many rows it closes and opens, its moment in the user's unit
-/// and its floor, a version. A moment has no table, and all but it no moment; all but a forget have
-/// no floor: these fields are empty. The error is `NoMemory`.
+/// `change`, `moment` and `forget`, how many rows it closes and opens, its moment in the user's
+/// unit, and its floor, a version. The table is empty where it is a moment, the moment where it is
+/// none, and the floor where it is no forget. The error is `NoMemory`.
 pub fn log_bytes(alloc: Global, store: &Store) -> Result<Bytes, NoMemory>
     ensures { IfOk result (λ bytes. bytes ≡ log_text store.now) }
 {

@@ -1,5 +1,5 @@
-//! The whole of a source, read to its end in pieces of 64 KB. Its bytes are kept as they came, and a
-//! source that fails is told with its count of faults.
+//! The whole of a source, read to its end in pieces of 64 KB. Its bytes are kept as they came, and
+//! a source that fails is told with its count of faults.
 ghost use Rattle.std.specs.Prelude.{◌≡◌, ◌<◌, ℕ, List, length, Some, IfOk, IfErr, OnOk, vec_len};
 ghost use Rattle.tl_log.specs.Taking.{CountsRead, Takes};
 

@@ -98,12 +98,12 @@ fn list_bytes<K: Sink>(alloc: Global, listing: Listing, image: Vec<u8>, sink: &m
 /// Lists the journal whose bytes the source has left. The source is read to its end, the journal
 /// is opened in memory, and the listing is written to the sink; nothing else is written anywhere.
 ///
-/// The listing is CSV. Of commits: a line of names, and a line a commit with its version, the number
-/// of its session, its table, what it does (`create`, `change`, `moment` or `forget`), how many rows
-/// it closes and opens, its moment and its floor. Of tables: a line of names, and a line a column
-/// with its table, its name, what it holds, whether it is the key, and of its table how many rows
-/// are current, how many it has, its last version, whether its rows have a valid period, and its
-/// floor.
+/// The listing is CSV. Of commits: a line of names, and a line a commit with its version, the
+/// number of its session, its table, what it does (`create`, `change`, `moment` or `forget`), how
+/// many rows it closes and opens, its moment and its floor. Of tables: a line of names, and a line
+/// a column with its table, its name, what it holds, whether it is the key, and of its table how
+/// many rows are current, how many it has, its last version, whether its rows have a valid period,
+/// and its floor.
 ///
 /// `Refused`: the bytes are too few for a journal, or damaged; the line that says so is written.
 /// `SourceFault`: only where the source's count of faults rose in this call; it is that count, and

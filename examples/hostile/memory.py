@@ -1,5 +1,5 @@
 #!/usr/bin/env python3
-"""Refuses memory to the program: each allocation of three runs in turn, alone and with all behind it, by the library
+"""Refuses memory to the program: each allocation of four runs in turn, alone and with all behind it, by the library
 that refuse.c makes. Each run has to give the usual result; or status 1, and then the replies of its first phases, whole,
 and a journal that opens and has at least the commits that were answered. `memory.py PROGRAM`; it prints a row for each
 run, `name, tried, wrong`, and says what was wrong."""
@@ -25,6 +25,13 @@ WORKED = [
     ("a> JOIN emp WITH emp ON id = id OVER SYSTEM 2 TO 6\na> SELECT id FORM emp\n",
      "a @5 rows 4\n2,3,1,ops,100,1,ops,100\n2,4,2,dev,50,2,dev,50\n3,6,1,ops,150,1,ops,150\n5,6,2,dev,50,2,dev,50\n"
      "a @5 ! Unexpected 10\n"),
+]
+TOLD = [
+    ("a> CREATE TABLE emp (id INT, pay INT) KEY id\na> PUT emp\nid,pay\n1,100\n2,50\n\\.\n", "a @1 ok\na @2 ok\n"),
+    ("a> MOMENT 1000\n", "a @3 ok\n"),
+    ("a> PUT emp\nid,pay\n1,150\n\\.\na> FORGET emp BEFORE 2\n", "a @4 ok\na @5 ok\n"),
+    ("a> SELECT id FROM emp AS OF MOMENT 999\na> SELECT id FROM emp AS OF 1\na> MOMENT 1000\na> FORGET emp BEFORE 6\n",
+     "a @5 rows 2\n1\n2\na @5 ! Forgotten 25 2\na @5 ! MomentFalls 1000\na @5 ! FloorAhead 5\n"),
 ]
 SAMPLE = [(None, "sample @1 ok\n"), (None, "sample @2 ok\n"), (None, "sample @2 rows 2\n0,2,\n2,3,9806\n"),
           (None, "sample @2 rows 2\n0,2,\n2,3,19564\n"), (None, "sample @2 rows 2\n4,2,3,19564\n6,2,3,9806\n")]
@@ -95,6 +102,7 @@ def main():
         runs = {
             "init": lambda refusal: initialise(library, refusal),
             "the worked script": lambda refusal: trial(["run"], WORKED, library, refusal),
+            "moments and floors": lambda refusal: trial(["run"], TOLD, library, refusal),
             "sample 2 7": lambda refusal: trial(["sample", "2", "7"], SAMPLE, library, refusal),
         }
         for name, attempt in runs.items():

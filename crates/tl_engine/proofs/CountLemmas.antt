@@ -1,11 +1,11 @@
 -- A list of entries with one entry more.
-use Rattle.std.proofs.Common.{◌≡◌, ◌≤◌, ℕ, ◌+◌, List, [], ◌∷◌, ◌++◌, refl, sym, ap, ◌∙◌, arith, append_assoc}
+use Rattle.std.proofs.Common.{◌≡◌, ℕ, ◌+◌, List, [], ◌∷◌, ◌++◌, refl, sym, ap, ◌∙◌, arith, append_assoc}
 use mathlib.Core.List.{IsPrefix}
 use Rattle.tl_types.specs.declared.commits.Commit.{Commit}
 use Rattle.tl_types.specs.declared.commits.Entry.{Entry}
 use Rattle.tl_types.specs.declared.commits.Entry.TheVariants as entry
 use Rattle.tl_index.specs.Snapshots.{commit_entry, break_entry}
-use Rattle.tl_engine.specs.Counting.{news, Continues, SeesCounted}
+use Rattle.tl_engine.specs.Counting.{news, Continues}
 
 pub begins_on : (a b c : List Entry) → IsPrefix a b → IsPrefix b c → IsPrefix a c
 begins_on a b c p q = (p.0 ++ q.0, sym (append_assoc a p.0 q.0) ∙ (ap (λ z. z ++ q.0) p.1 ∙ q.1))
@@ -28,10 +28,3 @@ continues_with_commit first_entries written new total more c = continues first_e
 
 pub continues_with_break : (first_entries written new : List Entry) (total more : ℕ) (c : Commit) → new ≡ written ++ break_entry c ∷ [] → more ≡ total + 1 → Continues first_entries written total → Continues first_entries new more
 continues_with_break first_entries written new total more c = continues first_entries written new total more (break_entry c) refl
-
--- who has seen all that is written has seen what its share counts
-pub sees_counted : (first_entries written seen : List Entry) (total parts amount : ℕ) → Continues first_entries written total → seen ≡ written → amount ≤ total → (parts ≡ 65536 → amount ≡ total) → SeesCounted first_entries seen parts amount
-sees_counted first_entries written seen total parts amount goes is own all = record {
-  own = omega (arith, goes.counted, ap news is, own);
-  all = λ whole. omega (arith, goes.counted, ap news is, all whole);
-}

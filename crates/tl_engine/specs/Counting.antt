@@ -1,5 +1,5 @@
 -- How many commits and breaks a list of entries has.
-use Rattle.std.specs.Prelude.{◌≡◌, ℕ, ◌+◌, ◌≤◌, List, [], ◌∷◌}
+use Rattle.std.specs.Prelude.{◌≡◌, ℕ, ◌+◌, List, [], ◌∷◌}
 use mathlib.Core.List.{IsPrefix}
 use Rattle.tl_types.specs.declared.commits.Entry.{Entry}
 use Rattle.tl_types.specs.declared.commits.Entry.TheVariants as entry
@@ -15,9 +15,3 @@ news (entry.Break c ∷ rest) = 1 + news rest
 pub record Continues (first_entries list : List Entry) (count : ℕ) : Type 0 where
   pub begins : IsPrefix first_entries list
   pub counted : news first_entries + count ≡ news list
-
--- past the first entries, what is seen has as many commits and breaks as a share with so many parts
--- counts, or more; and no more where the share has all parts
-pub record SeesCounted (first_entries seen : List Entry) (parts amount : ℕ) : Type 0 where
-  pub own : news first_entries + amount ≤ news seen
-  pub all : parts ≡ 65536 → news first_entries + amount ≡ news seen

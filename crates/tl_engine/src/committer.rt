@@ -11,7 +11,6 @@ ghost use Rattle.tl_types.specs.Legality.{are_legal, has_mark};
 ghost use Rattle.tl_batch.specs.Made.{batch_matches};
 ghost use Rattle.tl_index.specs.Snapshots.{mark_entry};
 ghost use Rattle.tl_engine.specs.Calls.{MarkTakesEffect, TakesEffect};
-ghost use Rattle.tl_engine.specs.Counting.{SeesCounted};
 ghost use Rattle.tl_engine.specs.Saying.{CommitSays, becomes, names_table};
 ghost use Rattle.tl_engine.specs.Tending.{IsCheckpoint, MarkSays};
 ghost use Rattle.tl_engine.specs.Writing.{shown_at, shown_by};
@@ -221,15 +220,12 @@ impl<D: Disk, J: Named> Committer<D, J> {
             self.old self.new pass.old.seen pass.new.seen result }
         ensures legal { IsTrue (are_legal pass.new.seen) }
         ensures parts { share.new.parts ≡ share.old.parts }
-        ensures counted { SeesCounted J.first_entries pass.new.seen share.new.parts
-            share.new.amount }
         ensures says { CommitSays (becomes J.limits offer.author offer.batch) J.first_count
             pass.old.seen pass.new.seen share.old.amount share.new.amount result }
     {
         let alloc = rt.alloc();
         let Committer { history, publisher } = self;
         publisher.show(head, pass);
-        publisher.book.audit(share);
         let _legal = history.has_break();
         let Offer { author, batch } = offer;
         let draft = history.draft(alloc, author, batch)?;

@@ -7,7 +7,7 @@ ghost use Rattle.tl_types.specs.History.{database_of};
 ghost use Rattle.tl_batch.specs.Made.{batch_matches};
 ghost use Rattle.tl_types.specs.Legality.{are_legal};
 ghost use Rattle.tl_journal.specs.Stands.{DiskStandsFor};
-ghost use Rattle.tl_engine.specs.Counting.{SeesCounted, news};
+ghost use Rattle.tl_engine.specs.Counting.{news};
 ghost use Rattle.tl_engine.specs.Saying.{CommitSays, becomes, names_table};
 ghost use Rattle.tl_engine.specs.Standing.{IsCount, ImageStandsForEntries};
 ghost use Rattle.tl_engine.specs.Tending.{IsCheckpoint, MarkSays, TendSays};
@@ -67,9 +67,8 @@ impl<D: Disk, J: Named> Engine<D, J> {
     }
 
     /// Commits a batch of an author over all that is written, and answers the version that it
-    /// makes: the number of the commits with it. It takes the lock. In every answer the pass has
-    /// then seen all that is written, which is legal: so, past the opening, at least the commits
-    /// and breaks that the share counts, and just these where the share has all parts.
+    /// makes: the number of the commits with it. It takes the lock. In every answer but `NoMemory`
+    /// the pass has then seen all that is written, which is legal.
     ///
     /// Rows that the batch puts match the schema of the table that it names, which is among those
     /// of what the pass has seen. The faults are tried in this order. `Broken`: there is a break.
@@ -93,8 +92,6 @@ impl<D: Disk, J: Named> Engine<D, J> {
         ensures own { pass.new.table ≡ J.table }
         ensures legal { IsTrue (are_legal pass.new.seen) }
         ensures parts { share.new.parts ≡ share.old.parts }
-        ensures counted { SeesCounted J.first_entries pass.new.seen share.new.parts
-            share.new.amount }
         ensures says { CommitSays (becomes J.limits author batch) J.first_count
             pass.old.seen pass.new.seen share.old.amount share.new.amount result }
     {

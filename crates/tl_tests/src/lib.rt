@@ -32,8 +32,6 @@ mod statements;
 #[cfg(test)]
 mod tables;
 #[cfg(test)]
-mod valid_runs;
-#[cfg(test)]
 mod values;
 #[cfg(test)]
 mod worked;

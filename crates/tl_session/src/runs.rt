@@ -162,7 +162,7 @@ pub fn run_all<
         requires { J.limits ≡ standard_limits }
         ensures { Ran (own_jobs session.entry.now.access.author (map job_of jobs.entry.now))
             session.entry.now session.exit.now
-            × TendsOn k session.entry.now session.exit.now }
+            × TendsOn pace.every session.entry.now session.exit.now }
     { run_session(rt, engine, session, jobs, &pace, gate) };
     thread::for_each_mut(rt, sessions.as_mut_slice(), threads, &run);
 }

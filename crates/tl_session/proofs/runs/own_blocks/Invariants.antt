@@ -1,0 +1,9 @@
+use Rattle.std.proofs.Common.{◌≡◌, map, take}
+use Rattle.tl_session.specs.Jobs.{job_of}
+use Rattle.tl_session.specs.Phases.{own_jobs}
+use Rattle.tl_session.specs.Reading.{blocks_of}
+use Rattle.tl_session.proofs.runs.own_blocks.Given as goal
+
+-- the blocks of the jobs so far
+abbrev pub invariant-loop-job : goal.invariant-loop-job
+invariant-loop-job l = map (λ b. b.now) l.blocks.items ≡ blocks_of (own_jobs l.author (map job_of (take l.job-index l.jobs)))

@@ -9,7 +9,7 @@ use Rattle.tl_types.specs.Resolving.{find_table}
 use Rattle.tl_types.proofs.FoundTables.{IsFound, schema_found}
 use Rattle.tl_batch.specs.Made.{batch_matches, rows_fit_found}
 use Rattle.tl_batch.proofs.CommitLemmas.{found_now}
-use Rattle.tl_tests_top.proofs.offers.may_commit.Goals as goal
+use Rattle.tl_tests_top.proofs.limits.may_commit.Goals as goal
 
 rows_found : (db : plain.Database) (name : List ℕ) (number : ℕ) (schema : plain.Schema) (opens lines : List plain.Opened) (all : Bool) (found : IsFound db name number) → schema ≡ found.table.schema → opens ≡ lines → all ≡ list_all (matches schema) opens → OnTrue all (IsTrue (rows_fit_found lines (find_table name db.tables)))
 rows_found db name number schema opens lines true found of_table same is =

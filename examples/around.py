@@ -364,11 +364,11 @@ def refused_folder():
 
 
 def a_long_load_goes_on():
-    """A load of 1,500 batches that is killed three times goes on each time, and leaves no row out and none twice."""
+    """A load of 300 batches that is killed three times goes on each time, and leaves no row out and none twice."""
     with tempfile.TemporaryDirectory(dir=JOURNALS) as room:
         make_journal(room, "a> CREATE TABLE t (k INT, x INT) KEY k\n")
         with open(f"{room}/rows.csv", "w") as rows:
-            rows.write("k,x\n" + "".join(f"{key},{key % 7}\n" for key in range(3000)))
+            rows.write("k,x\n" + "".join(f"{key},{key % 7}\n" for key in range(600)))
         words = ["bash", f"{HERE}/long_load.sh", "rows.csv", "t", "2"]
         for turn in range(40):
             loader = subprocess.Popen(words, cwd=room, stdout=subprocess.DEVNULL, stderr=subprocess.DEVNULL,
@@ -380,10 +380,10 @@ def a_long_load_goes_on():
                 os.killpg(loader.pid, signal.SIGKILL)
                 loader.wait()
         printed = run(["run"], "a> SELECT k, x FROM t\n", room)[1]
-        wanted = "".join(f"{key},{key % 7}\n" for key in range(3000))
+        wanted = "".join(f"{key},{key % 7}\n" for key in range(600))
         judge("a long load", loader.returncode == 0 and printed.partition("\n")[2] == wanted, (loader.returncode, printed[:200]))
         printed = run(["run"], "a> COUNT FROM t OVER SYSTEM ALL\n", room)[1]
-        judge("a long load puts each batch once", printed.split("\n")[0].endswith("rows 1501"), printed[:200])
+        judge("a long load puts each batch once", printed.split("\n")[0].endswith("rows 301"), printed[:200])
 
 
 def a_long_load_names_what_is_refused():

@@ -96,4 +96,5 @@ abbrev pub affected_among : plain.Schema → List BatchLine → List (Cell × Li
     → Option plain.Row → Bool
 affected_among schema lines covers None = false
 affected_among schema lines covers (Some row) =
-    is_open row && (is_keyed (slice_get row.cells schema.key) covers && is_affected schema lines row)
+    is_open row
+    && (is_keyed (slice_get row.cells schema.key) covers && is_affected schema lines row)

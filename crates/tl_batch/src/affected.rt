@@ -1,4 +1,6 @@
-//! The open rows of a table with valid time that lines affect.
+//! The open rows of a table with valid time that lines affect: of each key that a line has, those
+//! whose period has a moment of such a line. A stretch that stands alone is compared in a loop of
+//! its own; nothing but memory is refused.
 ghost use Rattle.std.specs.Prelude.{◌≡◌, ◌<◌, ◌&&◌, ◌||◌, ℕ, ℤ, List, [], ◌∷◌, Option, true, All, OnOk, IfOk, length, slice_get};
 ghost use Rattle.std.specs.List.{list_any};
 ghost use Rattle.tl_types.specs.Plain as plain;

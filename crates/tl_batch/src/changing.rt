@@ -1,4 +1,5 @@
-//! What lines make of the rows of a table with valid time.
+//! What lines make of the rows of a table with valid time: the ids that they close, and the rows
+//! that they open. A removal of which a line affects no row is refused by that line's number.
 ghost use Rattle.std.specs.Prelude.{◌≡◌, ◌+◌, ◌<◌, ◌^◌, ◌++◌, List, true, IfOk, IsTrue, length};
 ghost use Rattle.std.specs.List.{list_all};
 ghost use Rattle.tl_types.specs.History.{matches};

@@ -1,4 +1,5 @@
-//! The moments that the lines of one key cover.
+//! The moments that the lines of one key cover, lent as the one stretch, the list or the tree that
+//! they are kept as. It answers whether a period is affected, and changes nothing.
 ghost use Rattle.std.specs.Prelude.{◌≡◌, ℤ, true, List, Option, [], ◌∷◌, IfSome, option_map};
 ghost use Rattle.std.specs.List.{list_any};
 ghost use Rattle.tl_types.specs.Plain as plain;

@@ -1,4 +1,5 @@
-//! The first fault of lines that remove rows of a table with valid time.
+//! The first fault of lines that remove rows of a table with valid time: a line that affects no row
+//! that the lines before it left. It reads rows, and keeps none.
 ghost use Rattle.std.specs.Prelude.{◌≡◌, ◌+◌, ◌<◌, ◌^◌, ℤ, true, List, [], All, IfOk, length, map, slice_get};
 ghost use Rattle.std.specs.List.{list_any};
 ghost use Rattle.tl_types.specs.declared.cells.Cell.{Cell};

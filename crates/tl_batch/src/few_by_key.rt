@@ -1,4 +1,5 @@
-//! One or two ids of each key.
+//! One or two ids of each key, in a map for numbers and one for texts. A third id of a key is not
+//! taken, and says so; without memory all ids stay as they were.
 ghost use Rattle.std.specs.Prelude.{◌≡◌, ◌||◌, ◌&&◌, not, ◌==◌, ℕ, ℤ, List, false, is_some, OnOk, OnErr, IfOk};
 ghost use Rattle.std.specs.Ordering.{int_eq};
 ghost use Rattle.std.specs.Map.{lookup};

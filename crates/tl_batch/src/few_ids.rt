@@ -1,4 +1,4 @@
-//! One id, or two.
+//! One id, or two, without memory of their own. A third one is not taken.
 ghost use Rattle.std.specs.Prelude.{◌≡◌, ◌||◌, ◌&&◌, not, ◌==◌, ℕ, true, OnOk, IfSome};
 ghost use Rattle.tl_types.specs.History.{has_id};
 ghost use Rattle.tl_batch.specs.KeyIndex.{is_among_few, is_of};

@@ -1,4 +1,5 @@
-//! The moments that few periods cover, as stretches with something between neighbours.
+//! The moments that few periods cover, as stretches with something between neighbours, in a list
+//! that is gone through. A set that is full says so, and is then kept in another way.
 ghost use Rattle.std.specs.Prelude.{◌≡◌, ◌+◌, ◌<◌, ◌≤◌, ◌||◌, ◌++◌, ◌<ℤ◌, ℤ, true, List, Option, [], ◌∷◌, None, Some, IfOk, IfSome, IfNone, OnOk, length, nat_le, slice_get};
 ghost use Rattle.std.specs.List.{list_any};
 ghost use Rattle.tl_types.specs.Plain as plain;

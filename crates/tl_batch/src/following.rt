@@ -1,4 +1,5 @@
-//! How the ids by key of a table follow a change of it.
+//! How the ids by key of a table follow a change of it: those of the opened rows are added, and
+//! those of the closed rows taken away. Without memory all ids stay as they were.
 ghost use Rattle.std.specs.Prelude.{◌≡◌, ◌||◌, ◌&&◌, not, ◌+◌, ◌<◌, ◌≤◌, ◌^◌, ℕ, true, false, OnOk, OnErr, IfOk, All, length, slice_get};
 ghost use Rattle.tl_types.specs.declared.cells.Cell.{Cell};
 ghost use Rattle.tl_types.specs.History.{database_of, rows_of, has_id};
@@ -234,8 +235,8 @@ fn add_opened(
 }
 
 // Makes room for the keys of opened rows, of which the first has this id and so many take the place
-// of others. The key stands at a place among the cells. The error is `NoMemory`; no id changes, then
-// either.
+// of others. The key stands at a place among the cells. The error is `NoMemory`; no id changes,
+// then either.
 fn make_room(
     index: &mut KeyIndex,
     opens: &[Opened],

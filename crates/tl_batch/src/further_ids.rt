@@ -1,4 +1,5 @@
-//! The ids of a key beyond its first.
+//! The ids of a key beyond those that stand beside it: a set for each key, of which none stays
+//! empty. Without memory all ids stay as they were.
 ghost use Rattle.std.specs.Prelude.{◌≡◌, ◌||◌, ◌&&◌, not, ◌==◌, ℕ, [], true, false, OnOk, OnErr, IfOk, IfSome, IfNone, IsTrue, Some, is_some};
 ghost use Rattle.std.specs.Map.{lookup};
 ghost use Rattle.tl_types.specs.declared.cells.Cell.{Cell};

@@ -1,4 +1,5 @@
-//! Ids that are collected.
+//! Ids that are collected, in any order and maybe more than once, and handed out ascending and once
+//! each. It refuses nothing but memory.
 ghost use Rattle.std.specs.Prelude.{◌≡◌, ◌||◌, ◌==◌, ℕ, [], OnOk};
 ghost use Rattle.tl_types.specs.Facts.{AscendFrom};
 ghost use Rattle.tl_types.specs.History.{has_id};

@@ -1,4 +1,5 @@
-//! Sets of ids.
+//! Sets of ids: a few that ascend in a list, and the others in a tree. An id stands once, however
+//! often it is added.
 ghost use Rattle.std.specs.Prelude.{◌≡◌, ◌<◌, ◌||◌, ◌&&◌, not, true, false, ◌==◌, IsTrue, ℕ, ◌++◌, ◌∷◌, [], Some, OnOk, OnErr, IfSome, IfNone, length, slice_get};
 ghost use Rattle.tl_types.specs.Facts.{AscendFrom};
 ghost use Rattle.tl_types.specs.History.{has_id};

@@ -1,4 +1,5 @@
-//! Whether keys stand once each, by a flag for each small number.
+//! Whether keys stand once each, by a flag for each small number. Where a key is a text or a great
+//! number, it does not look, and says no more than that.
 ghost use Rattle.std.specs.Prelude.{◌≡◌, ◌<◌, ◌/◌, ℕ, pos, [], true, false, length, map, IfOk, IfSome};
 ghost use Rattle.tl_types.specs.declared.cells.Cell.TheVariants as cell;
 ghost use Rattle.tl_batch.specs.Flags.{has_flag};
@@ -55,8 +56,8 @@ fn set_flag(flags: &mut [u64], number: usize) -> bool
     word >> (number % WORD) & 1 == 0
 }
 
-// Sets the flags of keys, up to one whose flag is set or that has none, and says whether there is no
-// such key.
+// Sets the flags of keys, up to one whose flag is set or that has none, and says whether there is
+// no such key.
 fn set_flags(flags: &mut [u64], keys: &[&Cell]) -> bool
     ensures { result ≡ true → AreFresh [] (map (λ k. k.now) keys.now) }
 {

@@ -1,4 +1,5 @@
-//! The ids of the open rows of each key of a table.
+//! The ids of the open rows of each key of a table: of small keys in lists by their place, of
+//! others in maps. Without memory all ids stay as they were.
 ghost use Rattle.std.specs.Prelude.{◌≡◌, ◌||◌, ◌&&◌, not, ◌==◌, ℕ, true, false, OnOk, OnErr, IfOk, IfSome, IfNone, Some, None, is_some};
 ghost use Rattle.std.specs.Map.{lookup};
 ghost use Rattle.tl_types.specs.declared.cells.Cell.{Cell};

@@ -1,4 +1,5 @@
-//! Sets of keys that are lent.
+//! Sets of keys that are lent: numbers apart from texts. A key that stands already is not added,
+//! and says so.
 ghost use Rattle.std.specs.Prelude.{◌≡◌, ◌||◌, not, ℕ, ℤ, List, [], IfOk, OnOk};
 ghost use Rattle.std.specs.List.{list_any};
 ghost use Rattle.std.specs.Ordering.{int_eq};
@@ -12,8 +13,8 @@ use std::collections::HashSet;
 use std::marker::Model;
 use tl_types::{Cell, NoMemory, Text};
 
-/// A set of keys. Those that are numbers stand apart from the texts, which are lent. A contract sees
-/// a list of both.
+/// A set of keys. Those that are numbers stand apart from the texts, which are lent. A contract
+/// sees a list of both.
 #[derive(Drop)]
 pub(crate) struct KeySet<'a> {
     numbers: HashSet<i64>,

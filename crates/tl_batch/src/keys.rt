@@ -1,4 +1,6 @@
-//! The open rows of each key of a store.
+//! The open rows of each key of a store, table by table: they follow each commit, and resolve a
+//! batch to its commit or its first fault. Without memory they stand for the store before the
+//! commit.
 ghost use Rattle.std.specs.Prelude.{◌≡◌, ◌+◌, ◌<◌, ◌++◌, ◌∷◌, [], IsTrue, IfOk, IfErr, OnOk, OnErr, ◌⊎◌, Ok, Err};
 ghost use Rattle.tl_types.specs.declared.batches.BatchFault.TheVariants as fault;
 ghost use Rattle.tl_types.specs.declared.commits.Body.TheVariants as body;

@@ -1,4 +1,5 @@
-//! The moments that many periods cover, as stretches with something between neighbours.
+//! The moments that many periods cover, as stretches with something between neighbours, in a tree
+//! by their ends. It refuses nothing but memory.
 ghost use Rattle.std.specs.Prelude.{◌≡◌, ◌||◌, ◌++◌, ◌<ℤ◌, ℤ, true, List, Option, [], None, Some, IfOk, OnOk};
 ghost use Rattle.std.specs.List.{list_any};
 ghost use Rattle.tl_types.specs.Plain as plain;

@@ -1,4 +1,5 @@
-//! A table of a store, with the ids of its open rows by their keys.
+//! A table of a store, with the ids of its open rows by their keys: rows and periods are read from
+//! the one, and found by the other. It is lent, and changes nothing.
 ghost use Rattle.std.specs.Prelude.{◌≡◌, ◌<◌, ◌≤◌, ◌++◌, ℕ, true, Some, IfOk, OnOk, length, slice_get, option_map};
 ghost use Rattle.tl_types.specs.declared.cells.Cell.{Cell};
 ghost use Rattle.tl_types.specs.Plain as plain;

@@ -1,4 +1,5 @@
-//! The tables of a store, with the ids of their open rows by their keys.
+//! The tables of a store, with the ids of their open rows by their keys, each lent by its number.
+//! It changes nothing.
 ghost use Rattle.std.specs.Prelude.{◌≡◌, ◌<◌, ℕ, true, Some, length, slice_get};
 ghost use Rattle.tl_types.specs.History.{database_of};
 ghost use Rattle.tl_batch.specs.Standing.{StandFor, rows_match};

@@ -1,4 +1,5 @@
-//! What lines leave of a period.
+//! What lines leave of a period: parts in order, of which none is empty. It refuses nothing but
+//! memory.
 ghost use Rattle.std.specs.Prelude.{◌≡◌, ◌++◌, ◌<ℤ◌, IfOk, OnOk};
 ghost use Rattle.tl_batch.specs.Pieces.{part};
 

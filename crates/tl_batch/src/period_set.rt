@@ -1,4 +1,5 @@
-//! The moments that periods cover.
+//! The moments that periods cover: a list of stretches while these are few, and then a tree. Either
+//! keeps something between neighbours, and gives what is left of a period.
 ghost use Rattle.std.specs.Prelude.{◌≡◌, ◌||◌, ◌<ℤ◌, ℤ, true, List, Option, [], ◌∷◌, Some, IfOk, IfSome, OnOk};
 ghost use Rattle.std.specs.List.{list_any};
 ghost use Rattle.tl_types.specs.Plain as plain;

@@ -1,4 +1,5 @@
-//! The moments that the lines of each key cover.
+//! The moments that the lines of each key cover. A line's period is cut by what the lines of its
+//! key cover already, and then covered too; lines of other keys leave it whole.
 ghost use Rattle.std.specs.Prelude.{◌≡◌, ◌&&◌, ◌||◌, ◌<ℤ◌, if◌then◌else◌, ℤ, true, List, Option, [], ◌∷◌, Some, IfOk, OnOk, option_map};
 ghost use Rattle.std.specs.List.{list_any};
 ghost use Rattle.tl_types.specs.declared.cells.Cell.{Cell};

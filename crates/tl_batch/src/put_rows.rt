@@ -1,4 +1,5 @@
-//! The rows that a batch puts.
+//! The rows that a batch puts, lent or handed over: a commit takes over what was handed over, and
+//! copies what is lent.
 ghost use Rattle.std.specs.Prelude.{◌≡◌, IfOk};
 ghost use Rattle.tl_batch.specs.PutRows.{rows_put};
 

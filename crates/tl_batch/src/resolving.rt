@@ -1,4 +1,5 @@
-//! The commit that a batch becomes, or its first fault.
+//! The commit that a batch becomes over the tables of a store, or its first fault: for each kind of
+//! batch the tests in their order, and then the commit. What is refused changes nothing.
 ghost use Rattle.std.specs.Prelude.{◌≡◌, ◌+◌, ◌<◌, ◌^◌, Some, Ok, Err, ◌⊎◌, IsTrue, IfOk, IfErr, IfSome, false, true, nat_le, length, slice_get, option_map};
 ghost use Rattle.std.specs.List.{list_any, list_all};
 ghost use Rattle.tl_types.specs.declared.batches.Batch.TheVariants as batch;
@@ -68,9 +69,9 @@ pub(crate) fn resolve_create(
     })
 }
 
-/// The commit of this author that states a moment, or its first fault: `VersionsFull` where there are
-/// as many commits as the limits allow, `MomentFalls` where the moment is not greater than the last
-/// one.
+/// The commit of this author that states a moment, or its first fault: `VersionsFull` where there
+/// are as many commits as the limits allow, `MomentFalls` where the moment is not greater than the
+/// last one.
 pub(crate) fn resolve_moment(
     store: &Store,
     author: u32,
@@ -95,8 +96,8 @@ pub(crate) fn resolve_moment(
     })
 }
 
-// The commit of this author that sets the floor of the table with this number, at so many commits
-// and where this floor stands, or its first fault.
+// The commit of this author that raises the floor of the table with this number from `least` to
+// `floor`, where there are `now` commits, or its first fault.
 fn floor_set(
     author: u32,
     number: u16,
@@ -122,9 +123,9 @@ fn floor_set(
 }
 
 /// The commit of this author that sets the floor of the table with this name, or its first fault:
-/// `UnknownTable` where no table has the name, `VersionsFull` where there are as many commits as the
-/// limits allow, `FloorAhead` where the floor is greater than the number of commits, `FloorFalls`
-/// where it is not greater than that of the table.
+/// `UnknownTable` where no table has the name, `VersionsFull` where there are as many commits as
+/// the limits allow, `FloorAhead` where the floor is greater than the number of commits,
+/// `FloorFalls` where it is not greater than that of the table.
 pub(crate) fn resolve_floor(
     store: &Store,
     author: u32,

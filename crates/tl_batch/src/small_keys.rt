@@ -1,4 +1,5 @@
-//! The ids of each small key.
+//! The ids of each small key, in lists by the key's number. A key that is not small, and an id for
+//! which there is no place, are not taken, and say so; without memory all ids stay as they were.
 ghost use Rattle.std.specs.Prelude.{◌≡◌, ◌||◌, ◌&&◌, not, ◌==◌, ◌<◌, ◌+◌, ◌^◌, ℕ, ℤ, List, pos, [], true, false, length, OnOk, OnErr, IfOk, IfSome, IfNone};
 ghost use Rattle.tl_types.specs.declared.cells.Cell.{Cell};
 ghost use Rattle.tl_types.specs.declared.cells.Cell.TheVariants as cell;

@@ -1,4 +1,4 @@
-//! No id, one, or two.
+//! No id, one, or two, in eight bytes. A third one is not taken.
 ghost use Rattle.std.specs.Prelude.{◌≡◌, ◌||◌, ◌&&◌, not, ◌==◌, ℕ, true, false, OnOk, IfSome, IfNone};
 ghost use Rattle.tl_types.specs.History.{has_id};
 ghost use Rattle.tl_batch.specs.KeyIndex.{is_of_two, stands_for_id};

@@ -1,5 +1,5 @@
 //! Lines for a table without valid time: the first fault of their keys, and the rows that they
-//! close.
+//! close. A key that stands twice is refused, and so is the removal of a key that no open row has.
 ghost use Rattle.std.specs.Prelude.{◌≡◌, ◌+◌, ◌<◌, ◌^◌, ℕ, List, [], All, IsTrue, false, true, IfOk, Some, length, map, slice_get};
 ghost use Rattle.std.specs.List.{list_any};
 ghost use Rattle.tl_types.specs.Plain as plain;

@@ -1,4 +1,5 @@
-//! Multisets of whole numbers.
+//! Multisets of whole numbers, each number with how often it is there. The least and the greatest
+//! are at hand, and a number that is not there cannot be taken out.
 ghost use Rattle.std.specs.Prelude.{◌≡◌, ℕ, ◌+◌, ◌-◌, ◌<◌, ℤ, IfSome, IfNone, OnOk, OnErr, Some, None, if◌then◌else◌, nat_le, unwrap_or};
 ghost use Rattle.std.specs.BTreeMap.{get, Updates, IsUnchanged};
 ghost use Rattle.std.specs.Ordering.{int_cmp, int_eq};

@@ -1,4 +1,5 @@
-//! Sets of row ids below a number of rows.
+//! Sets of row ids below a number of rows, a bit a row in words of 64. Bits past the rows are 0,
+//! and each word that is looked at takes a step.
 ghost use Rattle.std.specs.Prelude.{◌≡◌, ℕ, ◌+◌, ◌-◌, ◌*◌, ◌/◌, ◌%◌, ◌^◌, ◌<◌, ◌≤◌, ◌==◌, ◌++◌, Bool, true, false, length, replicate, slice_set, slice_index, count_by, IfOk, IfSome, IfNone, if◌then◌else◌};
 ghost use Rattle.tl_lanes.specs.Masks.{words_for, is_bit, bit_of, bits_of, word_of};
 ghost use Rattle.tl_bits.specs.Sets.{is_member, IsFree, IsNext, IsFirstBit, IsNextBit};

@@ -1,4 +1,5 @@
-//! The checkpoint of a table at a version.
+//! The checkpoint of a table at a version: the place, the rows that stand there, and the ends of
+//! their valid periods. It keeps what it is made of, and looks at no table.
 ghost use Rattle.std.specs.Prelude.{◌≡◌, length};
 ghost use Rattle.tl_bits.specs.Sets.{members};
 
@@ -35,7 +36,9 @@ impl Model for Checkpoint {
 }
 
 impl Checkpoint {
-    /// A checkpoint of these parts.
+    /// The checkpoint of a table, by its number from 0, at a version: how many events there are up
+    /// to it, the rows that stand there as a set below the number of those begun, and the events
+    /// of valid time of those rows. The parts are taken as they are.
     pub fn new(
         table: u16,
         version: u32,
@@ -61,14 +64,14 @@ impl Checkpoint {
         }
     }
 
-    /// The number of the table.
+    /// The number of the table, from 0.
     pub fn table(&self) -> u16
         ensures { result ≡ self.now.table }
     {
         self.table
     }
 
-    /// The version.
+    /// The version at which the rows stand, a number of commits.
     pub fn version(&self) -> u32
         ensures { result ≡ self.now.version }
     {
@@ -90,7 +93,7 @@ impl Checkpoint {
         &self.rows
     }
 
-    /// The events of valid time of those rows.
+    /// The events of valid time of those rows, none where the table has no valid time.
     pub fn valid_events(&self) -> &ValidEvents
         ensures { result.now ≡ self.now.valid_events }
     {

@@ -1,4 +1,5 @@
-//! Rows that are chosen.
+//! Rows that are chosen: all of a table, or those of a set, whose words were read once, a step
+//! each. A row past the words is not chosen.
 ghost use Rattle.std.specs.Prelude.{◌≡◌, ℕ, ◌+◌, ◌≤◌, true, length, IfOk};
 ghost use Rattle.tl_lanes.specs.Masks.{bit_of, words_for};
 ghost use Rattle.tl_bits.specs.Sets.{is_member};

@@ -1,4 +1,6 @@
-//! Lists of events of valid time that are put together from runs.
+//! Lists of events of valid time that are put together from runs, of chosen rows alone. What is in
+//! an odd number of runs is there; the list is made piece by piece, so that what comes and goes
+//! meanwhile stays small.
 ghost use Rattle.std.specs.Prelude.{◌≡◌, ◌++◌, ◌∷◌, [], IfOk, OnOk};
 ghost use Rattle.tl_ckpt.specs.Choices.{chosen, masked};
 ghost use Rattle.tl_ckpt.specs.Valid.{Rises, merged};

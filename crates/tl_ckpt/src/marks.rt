@@ -1,4 +1,5 @@
-//! The checkpoints of a history.
+//! The checkpoints of a history's marks, by table and in order of version. The nearest one to a
+//! version is found by halving; a mark that comes last shares the others.
 ghost use Rattle.std.specs.Prelude.{◌≡◌, ◌+◌, ◌-◌, ◌<◌, ◌≤◌, ◌++◌, ◌∷◌, [], length, take, drop, None, Some, IfOk, IfSome, IfNone, slice_get, slice_index_or, replicate};
 ghost use Rattle.tl_ckpt.specs.Marks.{Climb, EachClimbs, ArePartedAt, marks_for, mark_put, mark_put_at, with_mark, nearest_in};
 

@@ -1,4 +1,5 @@
-//! Merges of events of valid time and changes.
+//! Merges of events of valid time and changes, both in order: an event that is among the changes
+//! goes, and a change that is not among the events comes.
 ghost use Rattle.std.specs.Prelude.{◌≡◌, ℕ, ◌≤◌, ◌<◌, ◌++◌, true, false, take, length, IfOk};
 ghost use Rattle.tl_ckpt.specs.Valid.{Rises, passed, left_of, merged, lead, stop, beyond};
 

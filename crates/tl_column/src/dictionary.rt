@@ -1,4 +1,6 @@
-//! Distinct texts by code.
+//! Distinct texts by code, a code being the place of its text. Beside the texts stand runs of
+//! codes in the order of their texts, few and each much longer than the next, in which a text is
+//! found.
 ghost use Rattle.std.specs.Prelude.{◌≡◌, ℕ, ◌+◌, ◌<◌, ◌≤◌, ◌^◌, ◌++◌, ◌∷◌, [], false, length, IfOk};
 ghost use Rattle.tl_column.specs.Dictionary.{text_of, contains_text, code_in, with_text};
 

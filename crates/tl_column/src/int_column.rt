@@ -1,4 +1,5 @@
-//! A column of whole numbers.
+//! A column of whole numbers, in chunks that further columns share. A row that is not there cannot
+//! be asked for.
 ghost use Rattle.std.specs.Prelude.{◌≡◌, ◌-◌, ◌%◌, ◌<◌, ◌++◌, [], pos, length, map, take, drop, slice_index_or, IfOk};
 ghost use Rattle.tl_lanes.specs.Masks.{passes, word_of, IsWordOf};
 ghost use Rattle.tl_column.specs.Masks.{lane_cmp};

@@ -1,4 +1,5 @@
-//! Words of masks over a column.
+//! Words of masks over a column: the 64 cells of a word, and what they are compared by. A word
+//! past the cells has none of them.
 ghost use Rattle.std.specs.Prelude.{◌≡◌, ◌*◌, ◌≤◌, length, take, drop};
 ghost use Rattle.tl_column.specs.Masks.{lane_cmp};
 

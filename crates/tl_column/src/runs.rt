@@ -1,4 +1,5 @@
-//! Runs: codes in the order of their texts.
+//! Runs: codes in the order of their texts. A text is found in a run by halving, and two runs
+//! become one by a merge.
 ghost use Rattle.std.specs.Prelude.{◌≡◌, ℕ, ◌+◌, ◌<◌, [], length, IfOk, IfSome, IsNone, MatchOption};
 ghost use Rattle.tl_shared.specs.Chunks.{flatten};
 ghost use Rattle.tl_column.specs.Dictionary.{text_of};

@@ -1,4 +1,6 @@
-//! A column of texts.
+//! A column of texts: a code for each cell, and a dictionary of the texts that the codes stand
+//! for. Hints beside it spare look-ups of texts that come often; a hint is tested before it
+//! counts.
 ghost use Rattle.std.specs.Prelude.{◌≡◌, ℕ, ◌+◌, ◌-◌, ◌%◌, ◌<◌, ◌≤◌, ◌^◌, ◌++◌, [], Some, false, length, map, take, drop, fold, slice_index_or, IfOk, IfSome, IsNone, ◌↔◌};
 ghost use Rattle.tl_lanes.specs.Masks.{word_of, IsWordOf};
 ghost use Rattle.tl_column.specs.Masks.{code_for, has_code, is_text};
@@ -49,7 +51,7 @@ impl TextColumn {
         }
     }
 
-    /// How many cells there are.
+    /// The number of cells, one a row.
     pub fn len(&self) -> u64
         ensures { result ≡ length self.now }
     {
@@ -169,7 +171,7 @@ impl TextColumn {
         *self.codes.at(row as u64)
     }
 
-    /// The text of a code.
+    /// The text that a code stands for.
     pub fn text_of(&self, code: u32) -> &str
         requires { code < length (dictionary_of self.now) }
         ensures text { result.now ≡ text_of (dictionary_of self.now) code }
@@ -196,8 +198,8 @@ const PLACES: usize = 512;
 // How many numbers of 32 bits share a place.
 const SHARE: usize = 8388608;
 
-// Makes the places where there are none. What stands there is tested before it is used, so any codes
-// are right, here and in `put_hint`.
+// Makes the places where there are none. What stands there is tested before it is used, so any
+// codes are right, here and in `put_hint`.
 fn make_hints(hints: &mut Vec<u32>) -> Result<(), NoMemory> {
     if hints.is_empty() {
         *hints = vec![in *hints.allocator(); 0; PLACES]?;

@@ -1,4 +1,5 @@
-//! A list of texts that grows at its end.
+//! A list of texts that grows at its end: the first ones in chunks that further lists share, and
+//! the fresh ones behind them until they are settled.
 ghost use Rattle.std.specs.Prelude.{◌≡◌, ◌<◌, ◌≤◌, ◌^◌, ◌++◌, ◌∷◌, [], length, IfOk};
 ghost use Rattle.tl_column.specs.Dictionary.{text_of};
 

@@ -1,4 +1,5 @@
-// What a disk in memory did, and how it is undone.
+//! What a disk in memory did, call by call, so that it can be undone: enough of each to tell what
+//! a crash may leave.
 
 /// A call of a disk in memory that may change what a crash leaves.
 #[derive(Clone, Copy)]

@@ -1,4 +1,5 @@
-// The calls of a form in memory: which are to fail, and how many did.
+//! The calls of a form in memory: which are to fail, by their numbers, and how many did. The count
+//! of faults never falls.
 ghost use Rattle.std.specs.Prelude.{◌≡◌};
 ghost use Rattle.std.specs.Bool.{OnTrue, OnFalse};
 ghost use Rattle.tl_device.specs.Known.{Rose};

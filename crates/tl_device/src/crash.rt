@@ -1,4 +1,5 @@
-// What a crash may leave of bytes in memory, built from the record of the calls.
+//! What a crash may leave of bytes in memory, built from the record of the calls: all since the
+//! last sync may be undone, and where a write wrote, any bytes may stand.
 ghost use Rattle.std.specs.Prelude.{◌≡◌, ℕ, ◌+◌, ◌++◌, List, length, take, drop, reverse, replicate, IfOk};
 ghost use Rattle.tl_device.specs.Replay.{undone};
 ghost use Rattle.tl_device.specs.Crash.{is_sync, synced_bytes, range_of, with_range, with_ranges};

@@ -1,4 +1,5 @@
-// What is kept.
+//! What is kept: a disk as its callers see it, by what a read gives and what a crash may leave now
+//! or may have left. A call fails only where the count of faults rose in it.
 ghost use Rattle.std.specs.Prelude.{◌≡◌, ℕ, ◌+◌, ◌^◌, ◌<◌, ◌≤◌, List, length, take, Some, IfOk, OnOk, OnErr, IfSome};
 ghost use Rattle.std.specs.declared.option.Option.{Option};
 ghost use Rattle.tl_device.specs.Known.{Rose};

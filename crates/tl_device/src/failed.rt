@@ -1,4 +1,4 @@
-// The two plain answers of the outside.
+//! The two plain answers of the outside: memory ran out, or the object failed.
 use std::alloc::AllocError;
 
 /// Memory ran out. It is the whole error of a call that can fail for nothing else.

@@ -1,4 +1,5 @@
-// A disk over std's file.
+//! A disk over std's file, which it opens and locks at its first call. It tells nothing of
+//! content; an error of the system is a fault that counts.
 ghost use Rattle.std.specs.Prelude.{◌≡◌, ◌^◌, ◌<◌, None};
 ghost use Rattle.tl_device.specs.Known.{Rose};
 

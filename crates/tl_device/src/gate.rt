@@ -1,4 +1,5 @@
-// Where statements and pieces of work pass before they start.
+//! Where statements and pieces of work pass before they start. A gate waits for nobody; a test may
+//! look at who passes.
 
 /// What is about to start.
 #[derive(Clone, Copy)]

@@ -1,4 +1,5 @@
-// Bytes in memory, a record of what changed them, and the room that was made for more.
+//! Bytes in memory, a record of what changed them, and the room that was made for more. A call
+//! that has its room takes no memory.
 ghost use Rattle.std.specs.Prelude.{◌≡◌, ◌+◌, ◌-◌, ◌^◌, ◌<◌, ◌≤◌, ◌++◌, length, take, drop, min, IfOk, OnOk, OnErr, vec_len, vec_capacity};
 ghost use Rattle.tl_device.specs.Disk.{Holds};
 ghost use Rattle.tl_device.specs.Crash.{crash_image};

@@ -1,4 +1,5 @@
-// The lock of a file.
+//! The lock of a file, which the system keeps for one open of it. It is taken or refused at once;
+//! nobody waits.
 use std::fs::File;
 use std::io;
 

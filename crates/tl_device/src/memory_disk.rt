@@ -1,4 +1,5 @@
-// A disk in memory with a list of the calls that are to fail.
+//! A disk in memory with a list of the calls that are to fail. It keeps the record from which
+//! follows what a crash may leave, torn writes and cuts included.
 ghost use Rattle.std.specs.Prelude.{◌≡◌, ◌+◌, ◌-◌, ◌^◌, ◌<◌, ◌≤◌, ◌++◌, length, take, drop, min, Some, IfOk, OnOk, OnErr, is_err};
 ghost use Rattle.tl_device.specs.Known.{Rose};
 ghost use Rattle.tl_device.specs.Crash.{crash_image, no_calls};

@@ -1,4 +1,5 @@
-// A sink in memory with a list of the calls that are to fail.
+//! A sink in memory with a list of the calls that are to fail. It keeps the bytes written; a call
+//! that fails writes none.
 ghost use Rattle.std.specs.Prelude.{◌≡◌, ◌-◌, ◌<◌, ◌≤◌, ◌++◌, [], length, max, Some, IfOk, OnOk, OnErr, is_err};
 ghost use Rattle.tl_device.specs.Known.{Rose};
 ghost use Rattle.tl_device.specs.Calls.{next_fails, after_call};

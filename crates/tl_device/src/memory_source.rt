@@ -1,4 +1,5 @@
-// A source in memory with a list of the calls that are to fail.
+//! A source in memory with a list of the calls that are to fail. It keeps the bytes left; a call
+//! that fails takes none.
 ghost use Rattle.std.specs.Prelude.{◌≡◌, ◌↔◌, ◌-◌, ◌^◌, ◌<◌, ◌++◌, [], length, take, drop, min, Some, IfOk, OnErr, is_err};
 ghost use Rattle.tl_device.specs.Known.{Rose};
 ghost use Rattle.tl_device.specs.Calls.{next_fails, after_call};

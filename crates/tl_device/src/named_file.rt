@@ -1,4 +1,5 @@
-// A file of std that is opened when it is first wanted, and reads and writes at a place in it.
+//! A file of std that is opened when it is first wanted, under its lock, and is read and written
+//! at a place in it. Where the lock is taken the file stays unopened.
 ghost use Rattle.std.specs.Prelude.{◌≡◌, ◌+◌, ◌^◌, ◌<◌, ◌≤◌, length, take, drop, true, IfOk, OnOk};
 ghost use Rattle.std.specs.Fs.{new_options, with_read, with_write, with_create};
 ghost use Rattle.std.specs.Io.KnownBytes.{Consumes, IsAtEnd};

@@ -1,4 +1,5 @@
-// A sink over std's writer.
+//! A sink over std's writer, flushed after each write. An error of the writer is a fault that
+//! counts, and so is a write that takes no byte.
 ghost use Rattle.std.specs.Prelude.{◌≡◌, ◌<◌, ◌≤◌, length, take, None, IfOk, OnOk, OnErr};
 ghost use Rattle.std.specs.Io.KnownBytes.{Appends};
 ghost use Rattle.tl_device.specs.Known.{Rose, AppendsPrefix};

@@ -1,4 +1,4 @@
-// A source over std's reader.
+//! A source over std's reader. An error of the reader is a fault that counts.
 ghost use Rattle.std.specs.Prelude.{◌≡◌, ◌≤◌, length, None, IfOk, OnOk, OnErr};
 ghost use Rattle.std.specs.Io.KnownBytes.{ReadConsumes};
 ghost use Rattle.tl_device.specs.Known.{Rose};

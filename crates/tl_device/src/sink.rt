@@ -1,4 +1,5 @@
-// Where bytes go.
+//! Where bytes go: a sink as its callers see it, by what was written and the room that is left. It
+//! writes no more than there is room for.
 ghost use Rattle.std.specs.Prelude.{◌≡◌, ℕ, ◌<◌, ◌≤◌, List, length, take, IfOk, OnOk, OnErr};
 ghost use Rattle.std.specs.declared.option.Option.{Option};
 ghost use Rattle.tl_device.specs.Known.{append_known, spend_room, HasRoom, Rose};

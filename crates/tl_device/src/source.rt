@@ -1,4 +1,5 @@
-// Where bytes come from.
+//! Where bytes come from: a source as its callers see it, by the bytes left. 0 bytes are the end
+//! of input, and a failed call takes none.
 ghost use Rattle.std.specs.Prelude.{◌≡◌, ◌↔◌, ℕ, ◌<◌, ◌≤◌, List, [], length, take, IfOk, OnOk, OnErr, IfSome};
 ghost use Rattle.std.specs.declared.option.Option.{Option};
 ghost use Rattle.tl_device.specs.Known.{prepend_known, Rose};

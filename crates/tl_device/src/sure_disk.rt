@@ -1,4 +1,5 @@
-// A disk in memory that never fails.
+//! A disk in memory that never fails. It keeps the record from which follows what a crash may
+//! leave.
 ghost use Rattle.std.specs.Prelude.{◌≡◌, ◌+◌, ◌-◌, ◌^◌, ◌<◌, ◌≤◌, ◌++◌, length, take, drop, min, Some, Ok, IfOk, OnOk, OnErr};
 ghost use Rattle.tl_device.specs.Kept.{fresh, after_write, after_cut, after_sync, with_room};
 ghost use Rattle.tl_device.specs.Replay.{Leaves, LeftSince, HasRoomFor, since_now, since_then, as_told, fewer_ready};

@@ -1,4 +1,4 @@
-// A sink in memory that never fails.
+//! A sink in memory that never fails: it takes each write whole, as far as room was made for it.
 ghost use Rattle.std.specs.Prelude.{◌≡◌, ◌-◌, ◌<◌, ◌≤◌, ◌++◌, [], length, max, Some, Ok, OnOk, OnErr};
 
 use crate::failed::{Failed, NoMemory};

@@ -1,4 +1,4 @@
-// A source in memory that never fails.
+//! A source in memory that never fails: each read takes as many bytes as are left and have room.
 ghost use Rattle.std.specs.Prelude.{◌≡◌, ℕ, ◌<◌, ◌++◌, List, length, take, drop, min, Some, Ok, IfOk};
 
 use crate::failed::Failed;

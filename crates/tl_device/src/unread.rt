@@ -1,4 +1,4 @@
-// Bytes in memory that are read in order.
+//! Bytes in memory that are read in order, with the place up to which they were read.
 ghost use Rattle.std.specs.Prelude.{◌≡◌, ℕ, ◌≤◌, ◌++◌, List, length, take, drop, min, vec_len};
 
 use std::marker::Model;

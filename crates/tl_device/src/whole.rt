@@ -1,4 +1,5 @@
-// Writing the whole of a text.
+//! Writing the whole of a text by as many writes as the sink wants. After a fault some prefix of
+//! it was written.
 ghost use Rattle.std.specs.Prelude.{◌≡◌, ℕ, ◌≤◌, length, take, OnOk, OnErr};
 ghost use Rattle.tl_device.specs.Known.{append_known, spend_room, HasRoom, Rose};
 

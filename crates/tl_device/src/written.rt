@@ -1,4 +1,5 @@
-// Bytes in memory that are appended to, and the room that was made for more.
+//! Bytes in memory that are appended to, and the room that was made for more. What has its room
+//! takes no memory.
 ghost use Rattle.std.specs.Prelude.{◌≡◌, ◌+◌, ◌-◌, ◌≤◌, ◌++◌, [], length, max, OnOk, OnErr, vec_len, vec_capacity};
 
 use crate::failed::NoMemory;

@@ -1,4 +1,5 @@
-//! Lists of events.
+//! Lists of the events of a table, 5 bytes each, in order of version. A longer list shares its
+//! chunks with the older one, and no event is seen without a step.
 ghost use Rattle.std.specs.Prelude.{◌≡◌, ℕ, suc, ◌+◌, ◌-◌, ◌%◌, ◌^◌, ◌<◌, ◌≤◌, List, [], ◌++◌, length, map, take, drop, min, IfOk, Some, slice_get};
 ghost use Rattle.std.specs.List.{range_with_len};
 ghost use Rattle.tl_types.specs.Plain as plain;
@@ -50,7 +51,7 @@ impl PackedEvent {
         }
     }
 
-    /// The event.
+    /// The event: the id of its row, and whether the row begins there or ends.
     pub fn event(&self) -> Event
         ensures { result ≡ self.now }
     {

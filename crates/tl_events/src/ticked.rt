@@ -1,4 +1,5 @@
-//! A shared list that is read in steps.
+//! A shared list that is read in steps: its items are seen through `at` and `run` alone, which
+//! take a step for each.
 ghost use Rattle.std.specs.Prelude.{◌≡◌, ◌+◌, ◌-◌, ◌%◌, ◌^◌, ◌<◌, ◌≤◌, ◌++◌, [], length, take, drop, min, slice_index_or, IfOk};
 
 use std::alloc::Global;

@@ -1,4 +1,5 @@
-//! Maps from versions to places among the events.
+//! Maps from versions to places among the events, with an entry for each version that has some. A
+//! version is found by halving, and each entry that is looked at takes a step.
 ghost use Rattle.std.specs.Prelude.{◌≡◌, ℕ, ◌+◌, ◌<◌, ◌≤◌, List, [], ◌∷◌, ◌++◌, length, IfOk, Some, slice_get};
 ghost use Rattle.tl_types.specs.Plain as plain;
 ghost use Rattle.tl_types.specs.Events.{place_of};
@@ -15,7 +16,7 @@ use tl_types::{NoMemory, Steps};
 /// Where the events of a version end.
 #[derive(Clone, Copy, Debug, PartialEq, Eq)]
 pub struct VersionEnd {
-    /// The version.
+    /// A version that has events, from 1.
     pub version: u32,
     /// How many events there are up to it.
     pub end: u32,

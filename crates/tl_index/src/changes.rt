@@ -1,4 +1,6 @@
-//! How the events of valid time of a table change from one version to a later one.
+//! How the events of valid time of a table change from one version to a later one: both ends of
+//! the period of each chosen row that stands at one of the two alone. Rows that came and went
+//! between them change nothing.
 ghost use Rattle.std.specs.Prelude.{◌≡◌, ℕ, ◌+◌, ◌*◌, ◌≤◌, ◌<◌, ◌++◌, IsTrue, length, drop, take, IfOk, OnOk, All, Some, option_map, slice_get};
 ghost use Rattle.std.specs.List.{flat_map};
 ghost use Rattle.tl_types.specs.Plain as plain;

@@ -1,4 +1,5 @@
-//! What a snapshot tells of a table at a version, from the nearest mark on.
+//! What a snapshot tells of a table at a version, from the nearest mark on, or from the first
+//! event where there is none. A version or a table that is not there cannot be asked for.
 ghost use Rattle.std.specs.Prelude.{◌≡◌, ◌+◌, ◌*◌, ◌<◌, ◌≤◌, IsTrue, length, IfOk, IfSome, IfNone};
 ghost use Rattle.tl_types.specs.Checkpoints.{checkpoint_at, valid_events_in};
 ghost use Rattle.tl_types.specs.Entries.{commits_of};
@@ -100,8 +101,8 @@ impl Snapshot {
     }
 
     /// The events of valid time of chosen rows of a table at a version, in order, as one list. The
-    /// rows of the table have valid periods, and the version is not after the snapshot's. It takes at
-    /// most as many steps as `valid_events`, whatever the choice. The error is `NoMemory`.
+    /// rows of the table have valid periods, and the version is not after the snapshot's. It takes
+    /// at most as many steps as `valid_events`, whatever the choice. The error is `NoMemory`.
     pub fn valid_list<L: Ledger>(
         &self,
         alloc: Global,

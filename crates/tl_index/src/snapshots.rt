@@ -1,4 +1,5 @@
-//! The snapshot.
+//! The snapshot, and the one after a further commit, mark or break. It keeps what is made of its
+//! entries beside them; nothing follows a break, and no mark comes twice.
 ghost use Rattle.std.specs.Prelude.{◌≡◌, ◌<◌, ◌≤◌, ◌++◌, ◌∷◌, ◌-◌, [], ℕ, false, length, IsTrue, IfOk};
 ghost use Rattle.tl_types.specs.Entries.{commits_of, has_break};
 ghost use Rattle.tl_types.specs.History.{database_of, fits, rows_of};

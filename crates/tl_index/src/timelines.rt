@@ -1,4 +1,5 @@
-//! What is kept of the events of a table.
+//! What is kept of the events of each table, and what it becomes with a commit. A table that the
+//! commit leaves as it is keeps its timeline, shared; moments and floors change none.
 ghost use Rattle.std.specs.Prelude.{◌≡◌, ◌==◌, if◌then◌else◌, ◌+◌, ◌^◌, ◌<◌, length, IfOk, IsTrue, [], ◌++◌, ◌∷◌, slice_index_or};
 ghost use Rattle.tl_events.specs.Timeline.{IsAfter};
 ghost use Rattle.tl_types.specs.History.{database_of, fits};

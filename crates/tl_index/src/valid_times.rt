@@ -1,4 +1,5 @@
-//! The events of valid time of a table at a version.
+//! The events of valid time of a table at a version, all of them or those of chosen rows: those of
+//! a mark with the changes since, or the changes from the first event on.
 ghost use Rattle.std.specs.Prelude.{◌≡◌, ◌+◌, ◌*◌, ◌≤◌, IsTrue, IfOk};
 ghost use Rattle.tl_types.specs.Checkpoints.{checkpoint_at, valid_events_in};
 ghost use Rattle.tl_types.specs.Events.{place_of};

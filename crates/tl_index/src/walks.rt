@@ -1,4 +1,5 @@
-//! The rows that stand at a version, by a walk along the events of their table.
+//! The rows that stand at a version, by a walk along the events of their table from a mark or from
+//! the first event. Each event takes a step.
 ghost use Rattle.std.specs.Prelude.{◌≡◌, ℕ, ◌+◌, ◌-◌, ◌<◌, ◌≤◌, List, length, take, drop, IfOk, All};
 ghost use Rattle.tl_types.specs.Events.{place_of};
 ghost use Rattle.tl_types.specs.Checkpoints.{checkpoint_at};

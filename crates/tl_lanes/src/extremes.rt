@@ -1,5 +1,5 @@
-//! Extremes of the values whose bit in a mask is set: whole words of the mask by lanes, the rest
-//! by a plain loop.
+//! The least and the greatest of the values whose bit in a mask is set: whole words of the mask by
+//! lanes, the rest by a plain loop. None where no bit is set.
 ghost use Rattle.std.specs.Prelude.{◌≡◌, ◌*◌, ◌/◌, ◌<◌, ◌≤◌, [], length, take, All, IfSome, IfNone, FitsSigned, if◌then◌else◌, true, false, int_lt, Contains};
 ghost use Rattle.std.specs.Int.{w64};
 ghost use Rattle.tl_lanes.specs.Masks.{words_for, picked, IsExtreme, IsUpTo};

@@ -1,4 +1,5 @@
-//! Sums of the values whose bit in a mask is set: whole vectors by lanes, the rest by a plain loop.
+//! Sums of the values whose bit in a mask is set: whole vectors by lanes, the rest by a plain
+//! loop. The sum has 128 bits, so that none of 64 can leave it.
 ghost use Rattle.std.specs.Prelude.{◌≡◌, ◌+◌, ◌*◌, ◌/◌, ◌^◌, ◌<◌, pos, neg_ℤ, ◌+ℤ◌, ◌≤ℤ◌, length, take, fold, slice_index_or, FitsSigned, if◌then◌else◌, ℕ};
 ghost use Rattle.std.specs.Int.{w64};
 ghost use Rattle.tl_lanes.specs.Masks.{words_for, is_bit, bit_of, picked};

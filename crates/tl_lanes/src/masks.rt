@@ -1,4 +1,5 @@
-//! Masks of values that pass a comparison.
+//! Masks of values that pass a comparison with a bound, a bit for each value in words of 64: whole
+//! words by lanes, the rest by a plain loop. Bits past the values are 0.
 ghost use Rattle.std.specs.Prelude.{◌≡◌, ℕ, ◌+◌, ◌*◌, ◌/◌, ◌<◌, ◌≤◌, ◌==◌, not, Bool, length, map, slice_index, slice_index_or, FitsSigned, pos};
 ghost use Rattle.std.specs.Int.{w64};
 ghost use Rattle.std.specs.Simd.Lanes.{mask_l};

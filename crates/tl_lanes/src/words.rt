@@ -1,4 +1,5 @@
-//! Words of 64 bits: one list into another bit by bit, and how many bits are set.
+//! Words of 64 bits: one list into another bit by bit, and how many bits are set. Whole vectors go
+//! by lanes, the rest by a plain loop.
 ghost use Rattle.std.specs.Prelude.{◌≡◌, ℕ, ◌+◌, ◌*◌, ◌/◌, ◌^◌, ◌<◌, ◌≤◌, length, take, drop, ◌++◌, sum_by, bit_and, bit_or, count_ones};
 ghost use Rattle.std.specs.Simd.Lanes.{zip2};
 ghost use Rattle.tl_lanes.specs.Words.{and_not};

@@ -39,7 +39,7 @@ pub enum Statement {
     Forget {
         /// The table's name.
         table: Name,
-        /// The version.
+        /// The version below which nothing is to be asked, and its byte offset.
         floor: Stamp,
     },
 }
@@ -107,7 +107,7 @@ pub struct SelectForm {
     pub all: bool,
     /// The items in order.
     pub items: Seq<Item>,
-    /// The table.
+    /// The table, by the name that stands behind FROM.
     pub table: Name,
     /// Which rows.
     pub pred: Pred,
@@ -122,7 +122,7 @@ pub struct SelectForm {
 pub struct ValidPoint {
     /// The byte offset of `VALID`.
     pub pos: u32,
-    /// The valid time.
+    /// The valid time that the rows have to hold at, in the user's unit.
     pub value: i64,
 }
 
@@ -137,13 +137,13 @@ pub struct Pred {
 /// A comparison of a column with a constant.
 #[derive(Drop)]
 pub struct Test {
-    /// The column.
+    /// The column that is compared, by name.
     pub column: Name,
-    /// The comparison.
+    /// How its cell has to stand to the constant.
     pub cmp: Cmp,
     /// The byte offset of the comparison.
     pub cmp_at: u32,
-    /// The constant.
+    /// The constant: a number, or a text.
     pub value: Cell,
     /// The byte offset of the constant.
     pub value_at: u32,
@@ -169,17 +169,17 @@ pub enum AggKind {
 /// range.
 #[derive(Drop)]
 pub struct AggForm {
-    /// The kind.
+    /// Which value of the rows is asked for.
     pub kind: AggKind,
     /// The column; none for a count.
     pub column: Option<Name>,
-    /// The table.
+    /// The table, by the name that stands behind FROM.
     pub table: Name,
     /// Which rows.
     pub pred: Pred,
     /// The column whose values separate the rows into groups.
     pub by: Option<Name>,
-    /// The range of time.
+    /// The range of time over which it is asked, of versions or of valid time.
     pub over: Over,
 }
 
@@ -199,7 +199,7 @@ pub struct JoinForm {
     pub left_on: Name,
     /// The column of the right table that has to be equal.
     pub right_on: Name,
-    /// The range of time.
+    /// The range of time over which it is asked, of versions or of valid time.
     pub over: Over,
 }
 
@@ -210,7 +210,7 @@ pub enum Over {
     SystemAll,
     /// The versions from the first up to before the second: `SYSTEM from TO to`.
     System {
-        /// The first version.
+        /// The first version of the range.
         from: Stamp,
         /// The version that ends the range.
         to: Stamp,

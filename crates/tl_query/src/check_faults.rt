@@ -1,4 +1,5 @@
-//! Why a query or a new table does not fit the tables.
+//! Why a query or a new table does not fit the tables, each with the byte offset in the statement
+//! where it shows. Of several, the one of least offset is told.
 ghost use Rattle.std.specs.Prelude.{◌≡◌};
 ghost use Rattle.tl_query.specs.declared.check_faults.CheckFault.TheVariants.{NoMemory};
 

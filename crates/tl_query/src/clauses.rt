@@ -1,4 +1,5 @@
-//! Reading the clauses of a query, from left to right.
+//! Reading the clauses of a query, from left to right: WHERE, ON, BY, OVER, VALID AT and AS OF. A
+//! clause takes its tokens whole, or tells the first that cannot stand there.
 ghost use Rattle.std.specs.Prelude.{◌<◌, Some, None, Ok};
 ghost use Rattle.tl_types.specs.declared.keywords.Keyword.TheVariants as words;
 ghost use Rattle.tl_query.specs.declared.terminals.Terminal.TheVariants as terminals;

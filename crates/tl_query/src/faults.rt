@@ -1,4 +1,5 @@
-//! What can be wrong with a text.
+//! What can be wrong with a text, each with its byte offset. Of several, the one of least offset
+//! is told, and at one offset the one that stands first here.
 
 /// The fault of a text. Offsets count bytes from the text's first, which is 0.
 #[derive(Clone, Copy, Debug, PartialEq, Eq)]

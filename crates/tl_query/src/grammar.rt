@@ -1,4 +1,5 @@
-//! Reading the tokens of a statement, from left to right.
+//! Reading the tokens of a statement, from left to right and with one token ahead: one function
+//! for each kind of statement, chosen by its first word.
 ghost use Rattle.std.specs.Prelude.{◌≡◌, ◌-◌, ◌<◌, Some, None, Ok, true, false};
 ghost use Rattle.tl_query.specs.Reading.{Gives, after, expect, column_at, columns_at, valid_at, create_at, put_at, remove_at, items_at, asked_at, parse_select, agg_at, join_at, moment_stated_at, forget_at, agg_or_soft_at, statement_at};
 

@@ -1,4 +1,5 @@
-//! The statement that a text spells, or its first fault.
+//! The statement that a text spells, or its first fault. The text is cut into tokens first, up to
+//! its first lexical fault, so that of both kinds of fault the earlier is told.
 ghost use Rattle.std.specs.Prelude.{◌≡◌, ◌⊎◌, IfOk, IfErr};
 ghost use Rattle.tl_query.specs.declared.faults.TextFault.TheVariants as faults;
 ghost use Rattle.tl_query.specs.Parsed.{IsParsed};

@@ -1,4 +1,5 @@
-//! Writing a statement as a text.
+//! Writing a statement as a text, which spells it again: one space between tokens, none after `(`
+//! and before `)` and `,`, numbers without leading zeros.
 ghost use Rattle.std.specs.Prelude.{◌≡◌, false, ◌≤◌, ◌++◌, ◌||◌, length, OnOk, IfOk, Some};
 ghost use Rattle.std.specs.Fmt.{signed_decimal};
 ghost use Rattle.tl_types.specs.declared.keywords.Keyword.TheVariants as words;

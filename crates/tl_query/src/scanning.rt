@@ -1,4 +1,5 @@
-//! Cutting a text into tokens.
+//! Cutting a text into tokens: words, numbers, texts and the longest symbols. It ends at the first
+//! byte that begins no token, a text that is not closed, or a number that is no i64.
 ghost use Rattle.std.specs.Prelude.{◌≡◌, ◌+◌, ◌-◌, ◌^◌, ◌<◌, ◌≤◌, length, min, IfOk, Some, None, Ok, Err, true, false, pos, neg_ℤ};
 ghost use Rattle.std.specs.List.{prefix_len};
 ghost use Rattle.std.specs.Str.{IsUtf8};
@@ -37,7 +38,7 @@ const MOST_TEXT_BYTES: usize = 65535;
 /// The token that some bytes begin with.
 #[derive(Drop)]
 pub(crate) struct Piece {
-    /// The token.
+    /// What stands there.
     pub token: Token,
     /// How many bytes it has.
     pub len: usize,

@@ -1,4 +1,5 @@
-//! Reading the token that comes first.
+//! Reading the token that comes first: as a keyword or symbol, a name, a number, a constant. What
+//! is not there takes nothing, and says at which offset.
 ghost use Rattle.std.specs.Prelude.{◌≡◌, ◌<◌, length, Some, None, Ok, Err, IfSome, MatchOption};
 ghost use Rattle.tl_query.specs.declared.terminals.Terminal.TheVariants as terminals;
 ghost use Rattle.tl_query.specs.Reading.{

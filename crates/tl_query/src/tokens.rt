@@ -1,4 +1,4 @@
-//! The tokens of a text.
+//! The tokens of a text, each with the byte offset at which it begins.
 use crate::terminals::Terminal;
 use tl_types::Text;
 
@@ -23,7 +23,7 @@ pub(crate) enum Token {
 /// A token and where it stands.
 #[derive(Drop)]
 pub(crate) struct Placed {
-    /// The token.
+    /// What stands there.
     pub token: Token,
     /// The byte offset of its first byte.
     pub at: u32,

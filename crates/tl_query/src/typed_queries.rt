@@ -1,4 +1,5 @@
-//! Checked queries, with tables and columns by number.
+//! Checked queries, with tables and columns by number: what `check` makes of a query over some
+//! tables, and what answers are given to. Versions are settled there; no moment is left.
 use crate::ast::AggKind;
 use tl_types::{Cell, Cmp, Seq};
 
@@ -7,16 +8,16 @@ use tl_types::{Cell, Cmp, Seq};
 pub struct TypedTest {
     /// The column's place in its schema, from 0.
     pub column: u8,
-    /// The comparison.
+    /// How the cell has to stand to the constant.
     pub cmp: Cmp,
-    /// The constant.
+    /// The constant, of its column's kind.
     pub value: Cell,
 }
 
 /// A row passes where it passes all tests of one of these lists, or where there is no list.
 #[derive(Drop)]
 pub struct TypedPred {
-    /// The lists of tests.
+    /// The lists: a row passes where all tests of one of them hold. No list passes each row.
     pub any: Seq<Seq<TypedTest>>,
 }
 
@@ -27,7 +28,7 @@ pub enum TypedItem {
     Column(u8),
     /// The first valid time.
     ValidFrom,
-    /// The end of the valid time.
+    /// The end of the range of valid time, which does not belong to it.
     ValidTo,
 }
 
@@ -36,14 +37,14 @@ pub enum TypedItem {
 pub enum Span {
     /// The versions from the first up to before the second.
     System {
-        /// The first version.
+        /// The first version of the range.
         from: u32,
         /// The version that ends the range.
         to: u32,
     },
     /// The valid times from the first up to before the second, at a version.
     Valid {
-        /// The version.
+        /// The version at which the rows are seen.
         version: u32,
         /// The first valid time.
         from: i64,
@@ -65,14 +66,14 @@ pub enum Typed {
         pred: TypedPred,
         /// The valid time at which rows have to be valid, where it is given.
         valid_at: Option<i64>,
-        /// The version.
+        /// The version at which the rows are seen.
         version: u32,
     },
     /// An aggregate over time.
     Agg {
         /// The table's number.
         table: u16,
-        /// The kind.
+        /// Which value of the rows is asked for.
         kind: AggKind,
         /// The column; none for a count.
         column: Option<u8>,
@@ -80,7 +81,7 @@ pub enum Typed {
         by: Option<u8>,
         /// Which rows.
         pred: TypedPred,
-        /// The range of time.
+        /// The range of versions, or of valid time at a version.
         span: Span,
     },
     /// A join over time.
@@ -97,7 +98,7 @@ pub enum Typed {
         left_on: u8,
         /// The column of the right table.
         right_on: u8,
-        /// The range of time.
+        /// The range of versions, or of valid time at a version.
         span: Span,
     },
 }
@@ -107,7 +108,7 @@ pub enum Typed {
 pub struct AggPlan {
     /// The table's number.
     pub table: u16,
-    /// The kind.
+    /// Which value of the rows is asked for.
     pub kind: AggKind,
     /// The column; none for a count.
     pub column: Option<u8>,

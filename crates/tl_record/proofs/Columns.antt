@@ -393,12 +393,12 @@ some_schema =
     let p : List ℕ × (ℕ × (List Column × ℕ)) = (w.0, (0, c.0)) in
     (schema_from p, schema_fits p (w.1.0, ((omega arith, omega arith), c.1)))
 
-pub schema_made : (bytes r1 r2 r3 name : List ℕ) (valid key : ℕ) (cs seen : List Column) → seen ≡ cs
+pub made : (bytes r1 r2 r3 name : List ℕ) (valid key : ℕ) (cs seen : List Column) → seen ≡ cs
     → name_at [] bytes ≡ Ok (name, r1) → byte_between 0 1 r1 ≡ Ok (valid, r2)
     → columns_and_key r2 ≡ Ok ((cs, key), r3)
     → schema_of (record { name = name; columns = seen; key = key; valid = valid == 1 })
     ≡ Some (record { name = name; columns = seen; key = key; valid = valid == 1 })
-schema_made bytes r1 r2 r3 name valid key cs seen same e f g =
+made bytes r1 r2 r3 name valid key cs seen same e f g =
     let n = ((name_reads [] (omega arith)).takes bytes r1 name e).0 in
     let v = ((byte_reads 0 1 (omega arith)).takes r1 r2 valid f).0 in
     let c = (columns_key_read.takes r2 r3 (cs, key) g).0 in

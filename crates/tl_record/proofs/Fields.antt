@@ -296,9 +296,9 @@ closes_read =
     let l = a.2 in
     (r.0, ((a.0, a.1, omega (arith, h, l)), l)))
 
-pub change_kept : (bytes rest ids : List ℕ) (table : ℕ) (rows : List plain.Opened)
+pub changed : (bytes rest ids : List ℕ) (table : ℕ) (rows : List plain.Opened)
     → closes_at bytes ≡ Ok (ids, rest) → length rows < 2 ^ 32
     → IsChange (record { table = table; closes = ids; opens = rows })
-change_kept bytes rest ids table rows e few =
+changed bytes rest ids table rows e few =
     let t = (closes_read.takes bytes rest ids e).0 in
     record { ascending = t.0; few_closes = t.2; few_opens = few }

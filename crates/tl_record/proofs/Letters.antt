@@ -75,3 +75,6 @@ new_name_is_text columns name h = by_test (is_new_name columns name) refl where
 pub new_name_short : (columns : List Column) (name : List ℕ) → is_new_name columns name ≡ true
     → length name ≤ 65535
 new_name_short columns name e = let s = (is_new columns name e).short in omega (arith, s)
+
+-- a new name is a text, and short
+pub ruleset new_names = (new_name_is_text, new_name_short)

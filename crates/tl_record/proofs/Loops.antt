@@ -94,12 +94,12 @@ pushed_stops e front item count i bytes total lt h so_far =
     (fails_before e (λ x. front ++ x ∷ []) (item bytes) h) so_far
 
 -- as many items are read as are said
-pub several_many : {A : Type 0} (item : Reader A) (n : ℕ) (bytes rest : List ℕ) (xs : List A)
+pub so_many : {A : Type 0} (item : Reader A) (n : ℕ) (bytes rest : List ℕ) (xs : List A)
     → several item n bytes ≡ Ok (xs, rest) → length xs ≡ n
 unfolding several
-several_many {A = A} item zero bytes rest xs e =
+so_many {A = A} item zero bytes rest xs e =
     ap (λ z. length z.0) (sym (same_value {X = List A × List ℕ} ([], bytes) (xs, rest) e))
-several_many {A = A} item (suc n) bytes rest xs e = by_item (several_many item n) (item bytes) e where
+so_many {A = A} item (suc n) bytes rest xs e = by_item (so_many item n) (item bytes) e where
   by_rest : ((b r : List ℕ) (ys : List A) → several item n b ≡ Ok (ys, r) → length ys ≡ n) → (x : A)
       → (b : List ℕ) (r : Result (List A × List ℕ) Fault) → several item n b ≡ r
       → mapped cons (after x r) ≡ Ok (xs, rest) → length xs ≡ suc n

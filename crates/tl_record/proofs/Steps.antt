@@ -69,3 +69,9 @@ signed_within lo hi d fits inside = by_half (nat_lt d 9223372036854775808) refl 
   by_half false t =
       let big : 9223372036854775808 ≤ d = grind (arith, nat_tests) in
       rw t (above lo inside.0 big, below hi inside.1 big)
+
+-- one byte of a number, and those behind it
+pub ruleset step = (first_small, front_le, still_some, still_small, joined_within)
+
+-- the same, where there may be no byte
+pub ruleset all = (between_none, between_some, first_small, front_le, still_some, still_small, joined_within)

@@ -13,6 +13,7 @@ use Rattle.tl_record.proofs.Parts.{same_value}
 use Rattle.tl_record.proofs.Fields.{bounded_reads, any_2_reads, any_4_reads, signed_reads, IsWithin}
 use Rattle.tl_record.proofs.Letters.{both}
 use Rattle.tl_record.proofs.Bounds.{inside, between_of}
+use Rattle.tl_record.proofs.Steps.{distances_ascend}
 
 module _ {A : Type 0} (read : List ℕ → Result (A × List ℕ) Fault) (s : A → List ℕ) (F : A → Type 0)
     (one : Reads read s F) (x : A) (rest : List ℕ)
@@ -175,3 +176,6 @@ unfolding signed_between
 eight_cut lo hi bytes rest d some low high few e =
     let t = (signed_reads lo hi some low high).takes bytes rest (at_distance d) (ap (mapped at_distance) e) in
     omega (arith, few, ap length t.1, length-append (signed_number (at_distance d)) rest)
+
+-- why no signed number is read from fewer than eight bytes
+pub ruleset cut = (eight_cut, distances_ascend)

@@ -1,4 +1,5 @@
-//! Changes of a record: closed ids, and opened rows.
+//! Changes of a record: closed ids, and opened rows. Ids that do not ascend are `Bad`; however
+//! great a count is, no more room is taken for it than the bytes can fill.
 ghost use Rattle.std.specs.Prelude.{◌<◌, ◌^◌, length, IfOk};
 ghost use Rattle.tl_record.specs.Reading.{
   Gives,
@@ -52,7 +53,7 @@ fn rows_of(alloc: Global, count: u32, bytes: &[u8]) -> Result<(Vec<Opened>, &[u8
     Ok((rows, rest))
 }
 
-#[tactic(auto, using(crate::proofs::Loops::several_many), unfolding(crate::specs::Reading::opens_at))]
+#[tactic(auto, using(crate::proofs::Loops::so_many), unfolding(crate::specs::Reading::opens_at))]
 fn opens(alloc: Global, bytes: &[u8]) -> Result<(Vec<Opened>, &[u8]), ReadError>
     ensures read { Gives (λ x. (x.0.items, x.1.now)) result (opens_at bytes.now) }
     ensures few { IfOk result (λ x. length x.0.items < 2 ^ 32) }
@@ -63,7 +64,7 @@ fn opens(alloc: Global, bytes: &[u8]) -> Result<(Vec<Opened>, &[u8]), ReadError>
 }
 
 /// A change, and what follows it.
-#[tactic(auto, using(crate::proofs::Fields::change_kept), unfolding(crate::specs::Reading::change_at))]
+#[tactic(auto, using(crate::proofs::Fields::changed), unfolding(crate::specs::Reading::change_at))]
 pub fn change(alloc: Global, bytes: &[u8]) -> Result<(Change, &[u8]), ReadError>
     ensures { Gives (λ x. (x.0, x.1.now)) result (change_at bytes.now) }
 {

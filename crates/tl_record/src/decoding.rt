@@ -1,4 +1,5 @@
-//! Commits from bytes.
+//! Commits from bytes: one record from an offset on, and where it ends. Bytes that are cut off are
+//! `Short`; a record that no commit is spelled as, such as one of an unknown kind, is `Bad`.
 ghost use Rattle.std.specs.Prelude.{◌≡◌, ◌≤◌, ◌+◌, List, ℕ, ◌++◌, length, drop, IfOk, IfErr, IsErrOf};
 ghost use Rattle.tl_types.specs.declared.commits.Commit.{Commit as CommitValue};
 ghost use Rattle.tl_record.specs.Spelling.{spelling, IsCommit};

@@ -1,4 +1,5 @@
-//! Commits as bytes.
+//! Commits as bytes: each has one spelling. Its memory is taken once, at the length of the record;
+//! nothing but memory is refused.
 ghost use Rattle.std.specs.Prelude.{◌≡◌, ◌+◌, ◌<◌, ◌++◌, ◌∷◌, [], IfOk, OnOk, IsTrue, length};
 ghost use Rattle.std.specs.List.{flat_map, list_all};
 ghost use Rattle.tl_types.specs.Names.{is_name};

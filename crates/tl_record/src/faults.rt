@@ -1,4 +1,5 @@
-//! Why bytes are no record.
+//! Why bytes are no record: they are cut off, or no commit is spelled so. Beside these stands that
+//! memory ran out.
 ghost use Rattle.std.specs.Prelude.{◌≡◌};
 ghost use Rattle.tl_record.specs.declared.faults.ReadError.TheVariants.{Memory};
 
@@ -40,8 +41,8 @@ pub enum ReadError {
     Fault(Fault),
 }
 
-/// An error as it is. The call is cold, which tells LLVM that what leads to it is rare: else it takes
-/// the way on which readers stand in each other for the rare one, and does not inline there.
+/// An error as it is. The call is cold, which tells LLVM that what leads to it is rare: else it
+/// takes the way on which readers stand in each other for the rare one, and does not inline there.
 #[cold]
 #[inline(never)]
 pub fn rare_error(error: ReadError) -> ReadError

@@ -1,4 +1,5 @@
-//! Numbers of a record, between bounds.
+//! Numbers of a record, between bounds, of one to eight bytes, the greatest first. A number beyond
+//! its bounds is `Bad`; bytes that can still become one between them are `Short`.
 ghost use Rattle.std.specs.Prelude.{◌≡◌, ◌≤◌, ◌<◌, ◌≤ℤ◌, length, IfOk};
 ghost use Rattle.tl_record.specs.Reading.{
   Gives,
@@ -76,7 +77,7 @@ fn weight(count: u8) -> u64
 }
 
 /// A number of `count` bytes, at most 8, from `lo` to `hi`, and what follows it.
-#[tactic(auto, using(crate::proofs::Steps::between_none, crate::proofs::Steps::between_some, crate::proofs::Steps::first_small, crate::proofs::Steps::front_le, crate::proofs::Steps::still_some, crate::proofs::Steps::still_small, crate::proofs::Steps::joined_within, crate::proofs::Bounds::weight_pos))]
+#[tactic(auto, using(crate::proofs::Steps::all, crate::proofs::Bounds::weight_pos))]
 pub fn between(count: u8, lo: u64, hi: u64, bytes: &[u8]) -> Result<(u64, &[u8]), ReadError>
     requires size { count ≤ 8 }
     requires some { lo ≤ hi }
@@ -201,7 +202,7 @@ fn turned_byte(lo: u8, hi: u8, bytes: &[u8]) -> Result<(u8, &[u8]), ReadError>
 
 const WEIGHT: u64 = 72057594037927936;
 
-#[tactic(auto, using(crate::proofs::Steps::first_small, crate::proofs::Steps::front_le, crate::proofs::Steps::still_some, crate::proofs::Steps::still_small, crate::proofs::Steps::joined_within), unfolding(crate::specs::Reading::turned_between))]
+#[tactic(auto, using(crate::proofs::Steps::step), unfolding(crate::specs::Reading::turned_between))]
 fn turned_between(lo: u64, hi: u64, bytes: &[u8]) -> Result<(u64, &[u8]), ReadError>
     requires { lo ≤ hi }
     ensures read { Gives (λ x. (x.0, x.1.now)) result (turned_between lo hi bytes.now) }
@@ -246,7 +247,7 @@ fn whole_signed(lo: i64, hi: i64, bytes: &[u8]) -> Result<(i64, &[u8]), ReadErro
 }
 
 // Why no signed number is read, where the bytes are fewer than 8.
-#[tactic(auto, using(crate::proofs::Whole::eight_cut, crate::proofs::Steps::distances_ascend), unfolding(crate::specs::Reading::signed_between))]
+#[tactic(auto, using(crate::proofs::Whole::cut), unfolding(crate::specs::Reading::signed_between))]
 #[cold]
 #[inline(never)]
 fn cut_signed(lo: i64, hi: i64, bytes: &[u8]) -> ReadError

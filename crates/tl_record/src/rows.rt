@@ -1,4 +1,6 @@
-//! Opened rows of a record: their cells, and their periods.
+//! Opened rows of a record: their cells, and their periods. A row of one to four cells is read by a
+//! function of its own, whose list of cells takes no memory; a row that is cut is `Short`, and one
+//! with another kind of cell, an empty period or no cell is `Bad`.
 ghost use Rattle.std.specs.Prelude.{◌≡◌, ◌≤◌, ◌+◌, ◌++◌, ◌∷◌, [], length, Ok, IfOk, IfSome, OnOk, vec_len, vec_capacity};
 ghost use Rattle.tl_record.specs.Reading.{
   Gives,
@@ -19,6 +21,17 @@ use crate::faults::{Fault, ReadError, rare_error};
 use crate::{numbers, texts};
 use std::alloc::Global;
 use tl_types::{Cell, NoMemory, Opened, Period, SmallSeq};
+
+// What was read. An error ends the function that asks: it comes by a cold call, so that LLVM takes
+// that for the rare way.
+macro_rules! read {
+    ($read:expr) => {
+        match $read {
+            Ok(read) => read,
+            Err(error) => return Err(rare_error(error)),
+        }
+    };
+}
 
 // A number as a cell, and what follows it.
 #[inline(always)]
@@ -108,7 +121,7 @@ fn push_cells<'a>(
 }
 
 // Reads so many cells, which take memory of their own; gives what follows them.
-#[tactic(auto, using(crate::proofs::Loops::several_many, crate::proofs::Loops::unstarted))]
+#[tactic(auto, using(crate::proofs::Loops::so_many, crate::proofs::Loops::unstarted))]
 fn cells_of(alloc: Global, count: u8, bytes: &[u8]) -> Result<(Vec<Cell>, &[u8]), ReadError>
     ensures read { Gives (λ x. (x.0.items, x.1.now)) result (several cell_at count bytes.now) }
     ensures within { IfOk result (λ x. length x.0.items ≡ count) }
@@ -231,20 +244,13 @@ fn push_row_of_one<'a>(
     ensures { Gives (λ rest. (rows.new.items, rest.now)) result
         (mapped (λ r. rows.old.items ++ r ∷ []) (row_of_cells 1 bytes.now)) }
 {
-    let (first, rest) = match cell(alloc, bytes) {
-        Ok((first, rest)) => (first, rest),
-        Err(error) => return Err(rare_error(error)),
+    let (first, rest) = read!(cell(alloc, bytes));
+    let (period, behind) = read!(period_and_room(rows, rest));
+    let Ok(cells) = list_of_one(alloc, first) else {
+        return Err(rare_error(ReadError::Memory));
     };
-    match period_and_room(rows, rest) {
-        Ok((period, behind)) => {
-            let Ok(cells) = list_of_one(alloc, first) else {
-                return Err(rare_error(ReadError::Memory));
-            };
-            rows.push_reserved(Opened::new(cells, period));
-            Ok(behind)
-        }
-        Err(error) => Err(rare_error(error)),
-    }
+    rows.push_reserved(Opened::new(cells, period));
+    Ok(behind)
 }
 
 // Reads the two cells of a row and its period, and puts the row behind the others; gives what
@@ -259,24 +265,14 @@ fn push_row_of_two<'a>(
     ensures { Gives (λ rest. (rows.new.items, rest.now)) result
         (mapped (λ r. rows.old.items ++ r ∷ []) (row_of_cells 2 bytes.now)) }
 {
-    let (first, rest) = match cell(alloc, bytes) {
-        Ok((first, rest)) => (first, rest),
-        Err(error) => return Err(rare_error(error)),
+    let (first, rest) = read!(cell(alloc, bytes));
+    let (second, rest) = read!(cell(alloc, rest));
+    let (period, behind) = read!(period_and_room(rows, rest));
+    let Ok(cells) = list_of_two(alloc, first, second) else {
+        return Err(rare_error(ReadError::Memory));
     };
-    let (second, rest) = match cell(alloc, rest) {
-        Ok((second, rest)) => (second, rest),
-        Err(error) => return Err(rare_error(error)),
-    };
-    match period_and_room(rows, rest) {
-        Ok((period, behind)) => {
-            let Ok(cells) = list_of_two(alloc, first, second) else {
-                return Err(rare_error(ReadError::Memory));
-            };
-            rows.push_reserved(Opened::new(cells, period));
-            Ok(behind)
-        }
-        Err(error) => Err(rare_error(error)),
-    }
+    rows.push_reserved(Opened::new(cells, period));
+    Ok(behind)
 }
 
 // Reads the three cells of a row and its period, and puts the row behind the others; gives what
@@ -291,28 +287,15 @@ fn push_row_of_three<'a>(
     ensures { Gives (λ rest. (rows.new.items, rest.now)) result
         (mapped (λ r. rows.old.items ++ r ∷ []) (row_of_cells 3 bytes.now)) }
 {
-    let (first, rest) = match cell(alloc, bytes) {
-        Ok((first, rest)) => (first, rest),
-        Err(error) => return Err(rare_error(error)),
+    let (first, rest) = read!(cell(alloc, bytes));
+    let (second, rest) = read!(cell(alloc, rest));
+    let (third, rest) = read!(cell(alloc, rest));
+    let (period, behind) = read!(period_and_room(rows, rest));
+    let Ok(cells) = list_of_three(alloc, first, second, third) else {
+        return Err(rare_error(ReadError::Memory));
     };
-    let (second, rest) = match cell(alloc, rest) {
-        Ok((second, rest)) => (second, rest),
-        Err(error) => return Err(rare_error(error)),
-    };
-    let (third, rest) = match cell(alloc, rest) {
-        Ok((third, rest)) => (third, rest),
-        Err(error) => return Err(rare_error(error)),
-    };
-    match period_and_room(rows, rest) {
-        Ok((period, behind)) => {
-            let Ok(cells) = list_of_three(alloc, first, second, third) else {
-                return Err(rare_error(ReadError::Memory));
-            };
-            rows.push_reserved(Opened::new(cells, period));
-            Ok(behind)
-        }
-        Err(error) => Err(rare_error(error)),
-    }
+    rows.push_reserved(Opened::new(cells, period));
+    Ok(behind)
 }
 
 // Reads the four cells of a row and its period, and puts the row behind the others; gives what
@@ -327,32 +310,16 @@ fn push_row_of_four<'a>(
     ensures { Gives (λ rest. (rows.new.items, rest.now)) result
         (mapped (λ r. rows.old.items ++ r ∷ []) (row_of_cells 4 bytes.now)) }
 {
-    let (first, rest) = match cell(alloc, bytes) {
-        Ok((first, rest)) => (first, rest),
-        Err(error) => return Err(rare_error(error)),
+    let (first, rest) = read!(cell(alloc, bytes));
+    let (second, rest) = read!(cell(alloc, rest));
+    let (third, rest) = read!(cell(alloc, rest));
+    let (fourth, rest) = read!(cell(alloc, rest));
+    let (period, behind) = read!(period_and_room(rows, rest));
+    let Ok(cells) = list_of_four(alloc, first, second, third, fourth) else {
+        return Err(rare_error(ReadError::Memory));
     };
-    let (second, rest) = match cell(alloc, rest) {
-        Ok((second, rest)) => (second, rest),
-        Err(error) => return Err(rare_error(error)),
-    };
-    let (third, rest) = match cell(alloc, rest) {
-        Ok((third, rest)) => (third, rest),
-        Err(error) => return Err(rare_error(error)),
-    };
-    let (fourth, rest) = match cell(alloc, rest) {
-        Ok((fourth, rest)) => (fourth, rest),
-        Err(error) => return Err(rare_error(error)),
-    };
-    match period_and_room(rows, rest) {
-        Ok((period, behind)) => {
-            let Ok(cells) = list_of_four(alloc, first, second, third, fourth) else {
-                return Err(rare_error(ReadError::Memory));
-            };
-            rows.push_reserved(Opened::new(cells, period));
-            Ok(behind)
-        }
-        Err(error) => Err(rare_error(error)),
-    }
+    rows.push_reserved(Opened::new(cells, period));
+    Ok(behind)
 }
 
 // Reads the cells of a row, so many, and its period, and puts the row behind the others; gives what

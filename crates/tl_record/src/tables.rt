@@ -1,4 +1,5 @@
-//! New tables of a record: their columns, and their schema.
+//! New tables of a record: their columns, and their schema. A name twice, a key that is no column,
+//! or more columns than sixteen is `Bad`.
 ghost use Rattle.std.specs.Prelude.{◌≡◌, []};
 ghost use Rattle.tl_record.specs.Reading.{
   Gives,
@@ -77,7 +78,7 @@ fn columns_and_key(alloc: Global, bytes: &[u8]) -> Result<((Vec<Column>, u8), &[
 }
 
 /// A new table's schema, and what follows it.
-#[tactic(auto, using(crate::proofs::Columns::schema_made), unfolding(crate::specs::Reading::schema_at))]
+#[tactic(auto, using(crate::proofs::Columns::made), unfolding(crate::specs::Reading::schema_at))]
 pub fn schema(alloc: Global, bytes: &[u8]) -> Result<(Schema, &[u8]), ReadError>
     ensures { Gives (λ x. (x.0, x.1.now)) result (schema_at bytes.now) }
 {

@@ -1,4 +1,5 @@
-//! Names and texts of a record.
+//! Names and texts of a record: a length, and bytes in UTF-8. A text that is cut is `Short` where
+//! it can still become one, and what is no text or no new name is `Bad`.
 ghost use Rattle.std.specs.Prelude.{◌≡◌, ◌≤◌, ◌++◌, length, replicate, IfOk};
 ghost use Rattle.std.specs.List.{list_all, list_any};
 ghost use Rattle.std.specs.Str.{is_utf8};
@@ -56,7 +57,7 @@ fn is_new_name(columns: &[Column], name: &str) -> bool
     is_name(name) && !has_name(columns, name)
 }
 
-#[tactic(auto, using(crate::proofs::Letters::new_name_is_text, crate::proofs::Letters::new_name_short))]
+#[tactic(auto, using(crate::proofs::Letters::new_names))]
 fn whole_name<'a>(
     alloc: Global,
     columns: &[Column],

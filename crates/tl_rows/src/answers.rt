@@ -1,4 +1,5 @@
-//! The rows of an answer.
+//! The rows of an answer, as lists of fields or as runs of an aggregate, which are kept as they
+//! are.
 ghost use Rattle.std.specs.Prelude.{◌≡◌, length, map};
 ghost use Rattle.tl_query.specs.Answers.{run_fields};
 ghost use Rattle.tl_rows.specs.Answers.{rows_lent};

@@ -1,4 +1,5 @@
-//! Rows that are lists of fields.
+//! Rows that are lists of fields: the fields of all rows one behind the other, and the place where
+//! each row ends. A row that is not there cannot be asked for.
 ghost use Rattle.std.specs.Prelude.{◌≡◌, ◌<◌, length, slice_index};
 ghost use Rattle.tl_rows.specs.Rows.{row_at, rows_cut, start_of, AreEnds};
 

@@ -1,4 +1,5 @@
-//! The fields of rows, lent.
+//! The fields of rows, lent: a number, a ratio, a text by its bytes, or one of the two that have
+//! no value.
 ghost use Rattle.std.specs.Prelude.{◌≡◌};
 ghost use Rattle.tl_rows.specs.Fields.{field_shown};
 
@@ -7,15 +8,15 @@ use tl_types::Field;
 /// One field of a row, lent.
 #[derive(Clone, Copy)]
 pub enum FieldRef<'a> {
-    /// A whole number.
+    /// A whole number of 128 bits.
     Number(i128),
     /// A text, as its bytes in UTF-8.
     Text(&'a [u8]),
     /// A sum over a count, not reduced.
     Ratio {
-        /// The sum.
+        /// The sum, a whole number of 128 bits.
         sum: i128,
-        /// The count.
+        /// How many numbers were added.
         count: u32,
     },
     /// The value over no row.

@@ -1,4 +1,5 @@
-//! Lists of fields, packed.
+//! Lists of fields, 16 bytes each, with their texts in one list of bytes and the numbers of more
+//! than 64 bits in another. A text of 2^32 bytes or more is refused as `NoMemory`.
 ghost use Rattle.std.specs.Prelude.{◌≡◌, ◌-◌, ℕ, List, ◌<◌, ◌≤◌, ◌^◌, ◌++◌, ◌∷◌, [], drop, length, take, IfOk, OnOk, OnErr, Some, slice_get};
 ghost use Rattle.tl_rows.specs.Fields.{field_shown};
 ghost use Rattle.tl_rows.specs.Packed.{field_in, GoesOn, IsWithin, StandsFor};

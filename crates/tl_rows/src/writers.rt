@@ -1,4 +1,5 @@
-//! Rows while they are written.
+//! Rows while they are written, field by field, each ended by a call. Only whole rows come out,
+//! and an error leaves what was there.
 ghost use Rattle.std.specs.Prelude.{◌≡◌, ◌++◌, ◌∷◌, [], IfOk, OnErr, OnOk};
 ghost use Rattle.tl_rows.specs.Fields.{field_shown};
 

@@ -1,4 +1,6 @@
-//! Chunks: parts of a list, each of which may be a part of further lists.
+//! Chunks: parts of a list, each of which may be a part of further lists. Who shares a chunk takes
+//! no copy of its items; a change copies a chunk that has further owners, and is made where the
+//! items stand in one that has not.
 ghost use Rattle.std.specs.Prelude.{◌≡◌, ◌+◌, ◌-◌, ◌%◌, ◌<◌, ◌≤◌, ◌^◌, ◌++◌, [], length, slice_set, All, IfOk, IfErr};
 ghost use Rattle.tl_shared.specs.Chunks.{piece_or_nil, set_within};
 

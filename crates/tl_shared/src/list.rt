@@ -1,4 +1,6 @@
-//! The list.
+//! Lists in chunks of one size, of which each but the last is full. A longer or changed list
+//! shares with the older one the chunks that both have, and a list that is taken over changes in
+//! place what has no other owner. Only want of memory, or 2^64 items, refuses a list.
 ghost use Rattle.std.specs.Prelude.{◌≡◌, ◌+◌, ◌-◌, ◌*◌, ◌/◌, ◌%◌, ◌<◌, ◌≤◌, ◌^◌, ◌++◌, [], length, take, drop, slice_index, slice_index_or, slice_set, All, IfOk};
 ghost use Rattle.tl_shared.specs.Chunks.{flatten, AreFull, IsChunked, piece_or_nil, set_each, set_within};
 

@@ -1,4 +1,5 @@
-//! Items of which a further value can be made.
+//! Items of which an equal value can be made: what a list that shares its parts asks of its items.
+//! Whole numbers are copied as one slice, and what is counted by owners gets one owner more.
 ghost use Rattle.std.specs.Prelude.{◌≡◌, ◌++◌, IfOk};
 
 use std::alloc::Global;

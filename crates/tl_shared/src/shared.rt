@@ -1,4 +1,5 @@
-//! A value with any number of owners.
+//! A value with any number of owners. A further owner takes no copy, and who takes the value over
+//! gets the value itself where it was the only owner, and else an equal one.
 ghost use Rattle.std.specs.Prelude.{◌≡◌, IfOk};
 
 use crate::shareable::Shareable;

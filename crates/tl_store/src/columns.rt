@@ -1,4 +1,5 @@
-//! The cells of a column.
+//! The cells of a column of a table, whole numbers or texts by the kind of the column. A cell of
+//! the other kind never comes: changes that fit have none.
 ghost use Rattle.std.specs.Prelude.{◌≡◌, ◌+◌, ◌-◌, ◌%◌, ◌<◌, ◌^◌, [], length, map, take, drop, All, IfOk};
 ghost use Rattle.tl_column.specs.Dictionary.{lent_texts};
 ghost use Rattle.tl_store.specs.Columns.{empty_column, column_length, cell_in, cells_in, number_at, text_at, longer, longer_from, HoldsKind};
@@ -15,9 +16,9 @@ use tl_types::{Cell, ColumnKind, NoMemory, Opened, Text};
 /// A column of a table, by what its cells are.
 #[derive(Drop)]
 pub(crate) enum ColumnData {
-    /// Whole numbers.
+    /// Signed whole numbers of 64 bits.
     Ints(IntColumn),
-    /// Texts.
+    /// Texts of at most 65,535 bytes each.
     Texts(TextColumn),
 }
 
@@ -55,7 +56,7 @@ impl ColumnData {
         }
     }
 
-    /// The cell of a row.
+    /// The cell of a row by its id, lent.
     pub fn cell(&self, row: u32) -> CellRef<'_>
         requires { row < column_length self.now }
         ensures value { cell_shown result ≡ cell_in row self.now }

@@ -1,9 +1,10 @@
-//! What is kept of a commit beside the rows of its table and the stamps.
+//! What is kept of a commit beside the rows of its table and the stamps: its author, its table,
+//! and which of the closed and opened rows are its own.
 use std::alloc::Global;
 use tl_shared::Shareable;
 use tl_types::NoMemory;
 
-/// What a commit did.
+/// What a commit did, but for the cells of the rows, which their table keeps.
 #[derive(Clone, Copy)]
 pub(crate) enum Deed {
     /// It made the table.
@@ -26,7 +27,7 @@ pub(crate) enum Deed {
     },
     /// It set the floor of its table.
     Forget {
-        /// The floor.
+        /// The floor, a version: the least one that may be asked of the table from then on.
         floor: u32,
     },
 }

@@ -1,4 +1,5 @@
-//! The valid periods of a table's rows.
+//! The valid periods of a table's rows, their two ends each in a column. A table without valid
+//! time has none.
 ghost use Rattle.std.specs.Prelude.{◌≡◌, ◌<◌, ◌++◌, Some, [], length, slice_get, IfOk};
 ghost use Rattle.std.specs.Option.{option_to_list};
 ghost use Rattle.tl_store.specs.Columns.{periods_of, periods_in, AreEnds};

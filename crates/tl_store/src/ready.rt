@@ -1,4 +1,5 @@
-//! A test of one column, made ready for scans.
+//! A test of one column, made ready for scans: a text is looked up once, and each word of the mask
+//! is then a comparison of numbers. No word is seen without a step.
 ghost use Rattle.std.specs.Prelude.{◌≡◌, ◌+◌, map, Some};
 ghost use Rattle.tl_query.specs.Passing.{cell_passes};
 ghost use Rattle.tl_column.specs.Dictionary.{dictionary_of};

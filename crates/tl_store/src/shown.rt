@@ -1,4 +1,5 @@
-//! What the readers of a store show.
+//! What the readers of a store show: a row's versions, a cell, a column of whole numbers. All is
+//! lent but for whole numbers, and a number of a column is not seen without a step.
 ghost use Rattle.std.specs.Prelude.{◌≡◌, ◌+◌, ◌<◌, pos, length, slice_index_or, IfOk};
 ghost use Rattle.tl_store.specs.Reading.{IsShort, cell_shown};
 

@@ -1,4 +1,5 @@
-//! The store.
+//! The store: its commits by their log, its tables by columns. It refuses no commit that fits, but
+//! for want of memory; whether one fits is asked first, by `fits`.
 ghost use Rattle.std.specs.Prelude.{◌≡◌, ℕ, ◌+◌, ◌-◌, ◌%◌, ◌<◌, ◌≤◌, ◌++◌, ◌∷◌, [], IsTrue, IfOk, IfSome, Some, length, map, take, drop, option_map, slice_get};
 ghost use Rattle.std.specs.List.{list_any, position_from};
 ghost use Rattle.tl_types.specs.declared.commits.Body.TheVariants as body;
@@ -386,8 +387,8 @@ impl Store {
         self.tables[table as usize].get().ints_from(row, column)
     }
 
-    /// The cells of a row of a table, each as a value of its own. It ticks once for each column. The
-    /// error is `NoMemory`.
+    /// The cells of a row of a table, each as a value of its own. It ticks once for each column.
+    /// The error is `NoMemory`.
     pub fn row_cells<L: Ledger>(
         &self,
         alloc: Global,

@@ -1,4 +1,6 @@
-//! One table, kept by columns.
+//! One table, kept by columns: its cells, the valid periods, the versions at which each row
+//! stands, and the closed ids in their order. A table after a change shares with the older one
+//! what the change leaves.
 ghost use Rattle.std.specs.Prelude.{◌≡◌, ◌+◌, ◌-◌, ◌%◌, ◌<◌, ◌≤◌, IsTrue, IfOk, Some, length, map, take, drop, slice_get, All, option_map, replicate};
 ghost use Rattle.std.specs.List.{list_all};
 ghost use Rattle.tl_types.specs.History.{fits_table, fits_floor, has_name, is_open_at, cell_at};
@@ -24,9 +26,9 @@ use tl_types::{
     Text, all_match,
 };
 
-/// A table: its schema and its floor, a column for each of the schema's, the valid periods of its rows where it
-/// has them, the versions from which and before which each row stands, and the ids of closed rows
-/// in the order in which commits closed them.
+/// A table: its schema and its floor, a column for each of the schema's, the valid periods of its
+/// rows where it has them, the versions from which and before which each row stands, and the ids of
+/// closed rows in the order in which commits closed them.
 #[derive(Drop)]
 pub(crate) struct TableData {
     schema: Arc<Schema>,
@@ -57,7 +59,7 @@ impl Model for TableData {
 }
 
 impl TableData {
-    /// A table without rows.
+    /// The table of a schema without rows, whose floor is 0.
     pub fn new(alloc: Global, schema: &Schema) -> Result<TableData, NoMemory>
         ensures { IfOk result (λ table. table ≡ kept_new schema.now) }
     {
@@ -72,7 +74,7 @@ impl TableData {
         })
     }
 
-    /// The schema.
+    /// The schema, which stays as the table was made with it.
     pub fn schema(&self) -> &Schema
         ensures { result.now ≡ self.now.schema }
     {
@@ -101,7 +103,7 @@ impl TableData {
         self.from.len() as u32
     }
 
-    /// How many rows were closed.
+    /// How many closed ids there are, each of a row that a commit closed.
     pub fn closed(&self) -> u64
         ensures { result ≡ length self.now.closed }
     {
@@ -240,7 +242,7 @@ impl TableData {
         self.periods.at(row)
     }
 
-    /// The cells of a row.
+    /// The cells of a row, one for each column, as values of their own.
     pub fn row_cells(&self, alloc: Global, row: u32) -> Result<Vec<Cell>, NoMemory>
         requires { row < length self.now.rows }
         ensures { IfOk result

@@ -1,4 +1,6 @@
-//! What a query answers.
+//! The answer to a query: rows of fields, in the order in which the query asks for them. A field
+//! is a number of up to 128 bits, a text, a ratio that is not reduced, empty, or an end of time
+//! without end.
 use crate::sequences::Seq;
 use crate::texts::Text;
 
@@ -11,9 +13,9 @@ pub enum Field {
     Text(Text),
     /// A sum over a count, not reduced.
     Ratio {
-        /// The sum.
+        /// The sum of the numbers of the rows.
         sum: i128,
-        /// The count.
+        /// How many rows there are, 1 or more.
         count: u32,
     },
     /// The value over no row.

@@ -1,4 +1,5 @@
-//! What a statement loads.
+//! What a statement loads, before it is clear what becomes of it, and the reasons why it becomes
+//! no commit, in the order in which they are tried. A batch keeps its lines as they came.
 use crate::cells::Cell;
 use crate::periods::Period;
 use crate::rows::Opened;
@@ -9,9 +10,9 @@ use crate::texts::Text;
 /// A line of a removal: a key, and the valid period to remove where the table has them.
 #[derive(Debug, Drop, PartialEq, Eq)]
 pub struct KeyLine {
-    /// The key.
+    /// The cell that the key column has.
     pub key: Cell,
-    /// The valid period.
+    /// The valid time that the line speaks of; there in a table with valid time alone.
     pub period: Option<Period>,
 }
 
@@ -45,7 +46,7 @@ pub enum Batch {
     Forget {
         /// The table's name.
         table: Text,
-        /// The version.
+        /// The version before which nothing may be asked of the table from then on.
         floor: i64,
     },
 }
@@ -79,7 +80,7 @@ pub enum BatchFault {
     NoMemory,
     /// The moment is not greater than that of the last statement of one.
     MomentFalls {
-        /// The moment of the last statement.
+        /// The moment that was stated last, in the user's unit.
         now: i64,
     },
     /// The version is greater than the number of commits.

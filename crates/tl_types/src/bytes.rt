@@ -1,4 +1,5 @@
-//! Bytes of any number: a block, a reply, a record of the journal.
+//! Bytes of any number: a block, a reply, a record of the journal. Contracts see them as a list of
+//! numbers below 256.
 ghost use Rattle.std.specs.Prelude.{◌≡◌, ◌==◌, ◌<◌, ◌^◌, length};
 
 use std::marker::Model;

@@ -1,4 +1,5 @@
-//! Cells, and what a column holds.
+//! Cells, whole numbers of 64 bits or texts, and what a column holds. Their order and their
+//! equality are derived: numbers by size, before texts, which go by their bytes.
 ghost use Rattle.std.specs.Prelude.{◌≡◌};
 
 use crate::NoMemory;

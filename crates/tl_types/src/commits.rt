@@ -1,4 +1,5 @@
-//! Commits, and the entries of a history.
+//! Commits, and the entries of a history. A change keeps that its closed ids ascend and that it
+//! has fewer than 2^32 of them and of opened rows, and refuses to be made otherwise.
 ghost use Rattle.std.specs.Prelude.{◌≡◌};
 ghost use Rattle.tl_types.specs.Plain as plain;
 ghost use Rattle.tl_types.specs.Facts.{IsChange};
@@ -151,7 +152,7 @@ pub enum Entry {
     Mark {
         /// The number of the table, from 0.
         table: u16,
-        /// The version.
+        /// The version of which the checkpoint is kept.
         version: u32,
     },
     /// The break that a device fault leaves, with the commit whose append failed.

@@ -16,7 +16,7 @@ pub struct Event {
 /// time, at one time ends before beginnings, and then by row.
 #[derive(Clone, Copy, Debug, PartialEq, Eq, PartialOrd, Ord)]
 pub struct ValidEvent {
-    /// The valid time.
+    /// The valid time at which the period begins or ends, in the user's unit.
     pub time: i64,
     /// Whether the period begins (an activation), or ends (an invalidation).
     pub opens: bool,

@@ -1,4 +1,5 @@
-//! The keywords of the language, and which words are names.
+//! The keywords of the language, how each is spelled, and which words are names: words of 1 to 64
+//! letters, digits and `_` that do not begin with a digit and are no keyword.
 ghost use Rattle.std.specs.Prelude.{◌≡◌};
 ghost use Rattle.std.specs.List.{list_all};
 ghost use Rattle.tl_types.specs.Names.{

@@ -1,4 +1,5 @@
-//! How much there may be of each thing.
+//! How much there may be of each thing: tables, rows, versions, lines, bytes. The program has the
+//! standard limits; tests have lower ones, and none has higher.
 ghost use Rattle.std.specs.Prelude.{◌≡◌};
 ghost use Rattle.tl_types.specs.Limits.{standard_limits};
 
@@ -26,7 +27,7 @@ pub struct Limits {
 }
 
 impl Limits {
-    /// The limits of the program.
+    /// The limits of the program: 64 tables, 16,777,216 rows of a table, 16,777,215 versions.
     pub fn standard() -> Limits
         ensures { result ≡ standard_limits }
     {

@@ -1,4 +1,4 @@
-//! Texts of any length: the text of a statement.
+//! Texts of any length: the text of a statement, where a `Text` ends at 65,535 bytes.
 ghost use Rattle.std.specs.Prelude.{◌≡◌, ◌<◌, length, IfOk, IsUtf8};
 
 use crate::NoMemory;

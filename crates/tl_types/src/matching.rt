@@ -1,4 +1,5 @@
-//! Whether rows are what the schema of a table says.
+//! Whether rows are what the schema of a table says: as many cells as columns, each of its
+//! column's kind, and a period exactly where the table has valid time.
 ghost use Rattle.std.specs.Prelude.{◌≡◌};
 ghost use Rattle.std.specs.List.{list_all};
 ghost use Rattle.tl_types.specs.History.{is_of_kind, match_columns, matches};

@@ -1,4 +1,5 @@
-//! Half-open periods of valid time.
+//! Half-open periods of valid time, in the user's unit. A period keeps that it begins before it
+//! ends, and cannot be made otherwise.
 ghost use Rattle.std.specs.Prelude.{◌≡◌, ◌<ℤ◌};
 
 use std::marker::Model;

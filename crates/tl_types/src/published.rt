@@ -1,4 +1,5 @@
-//! Values that are published: each stands for a list of entries.
+//! Values that are published, as a snapshot is: each stands for a list of entries, tells how many
+//! they are, and can be shared without being copied.
 ghost use Rattle.std.specs.Prelude.{◌≡◌, List, length, IfOk};
 ghost use Rattle.tl_types.specs.declared.commits.Entry.{Entry};
 

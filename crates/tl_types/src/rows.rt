@@ -1,4 +1,5 @@
-//! Rows as commits open them.
+//! Rows as commits open them: 1 to 16 cells, and a valid period where the table has valid time. A
+//! row keeps its number of cells; that they match a schema is asked where a commit is made.
 ghost use Rattle.std.specs.Prelude.{◌≡◌};
 ghost use Rattle.tl_types.specs.Plain as plain;
 ghost use Rattle.tl_types.specs.Facts.{IsOpened};

@@ -1,4 +1,6 @@
-//! Pieces of a version range, and what the operators give over them.
+//! Pieces of a version range, and what the operators give over them: runs of one value, and pairs
+//! of rows that hold together. A run more is put together with the last one where their values
+//! agree.
 ghost use Rattle.std.specs.Prelude.{◌≡◌, ◌<◌, OnOk};
 ghost use Rattle.tl_types.specs.Runs.{same_field, add_stretch, ends_with_value};
 
@@ -9,7 +11,7 @@ use crate::cells::Cell;
 /// The versions from `from` on and before `to`, where `from` is less than `to`.
 #[derive(Clone, Copy, Debug, PartialEq, Eq)]
 pub struct Piece {
-    /// The first version.
+    /// The first version of the piece.
     pub from: u32,
     /// The version after the last.
     pub to: u32,

@@ -1,4 +1,6 @@
-//! Columns, and the schema of a table.
+//! Columns, and the schema of a table. A schema keeps that its names are names, that no two
+//! columns share one, that there are 1 to 16 of them, and that the key is one; it refuses to be
+//! made otherwise.
 ghost use Rattle.std.specs.Prelude.{◌≡◌, ◌<◌, ◌≤◌, Some, None, length, IsTrue, true};
 ghost use Rattle.std.specs.List.{list_all, list_any};
 ghost use Rattle.tl_types.specs.Names.{is_name, same_bytes};
@@ -14,7 +16,7 @@ use std::marker::Model;
 /// A column's name, and what its cells are.
 #[derive(Debug, Drop, PartialEq, Eq)]
 pub struct Column {
-    /// The name.
+    /// The name, by which statements and the headers of blocks speak of the column.
     pub name: Text,
     /// What the cells are.
     pub kind: ColumnKind,

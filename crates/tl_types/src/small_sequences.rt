@@ -1,4 +1,5 @@
-//! A short list of items.
+//! A short list of items, which stand in the value itself while they are at most four. Contracts
+//! see the list.
 ghost use Rattle.std.specs.Prelude.{◌≡◌, List, [], ◌∷◌, ◌++◌, OnOk, OnErr, IfOk};
 ghost use Rattle.std.specs.List.{AllZip};
 ghost use Rattle.std.specs.Cmp.Lexicographic.{pointwise, lists_per, lists_equiv};

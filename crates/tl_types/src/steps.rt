@@ -1,4 +1,5 @@
-//! A counter of steps that costs nothing when the program runs.
+//! A counter of steps that costs nothing when the program runs: what looks at a row, a word or an
+//! event ticks, and contracts bound how often.
 ghost use Rattle.std.specs.Prelude.{◌≡◌, ◌+◌, ◌<◌};
 
 use std::marker::Model;

@@ -1,4 +1,5 @@
-//! Short texts: names, and the cells of TEXT columns.
+//! Short texts of at most 65,535 bytes: names, and the cells of TEXT columns. A text of at most 16
+//! bytes stands in its value. Bytes become a text exactly where they are UTF-8.
 ghost use Rattle.std.specs.Prelude.{◌≡◌, ◌≤◌, ◌<◌, length, true, false, IfOk, IfSome, IfNone, IsUtf8, Some, refl, nat_eq};
 ghost use Rattle.std.specs.Str.{is_utf8};
 ghost use Rattle.std.specs.Ordering.{nat_cmp};

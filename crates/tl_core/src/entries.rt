@@ -1,4 +1,5 @@
-//! Lists of entries: their commits, as a store and as a number, and their marks.
+//! Lists of entries: their commits, as a store and as a number, and their marks. What does not fit
+//! the entries before it is no entry of a legal list.
 ghost use Rattle.std.specs.Prelude.{◌≡◌, ◌≤◌, ◌++◌, ◌∷◌, [], IsTrue, IfOk, drop, length};
 ghost use Rattle.tl_types.specs.Entries.{commits_of};
 ghost use Rattle.tl_types.specs.Legality.{are_legal, is_mark, has_mark};

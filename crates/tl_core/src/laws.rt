@@ -1,4 +1,4 @@
-//! The law of the world, for every world and every list of steps.
+//! The law of the world, for every world and every list of steps. Nothing of it runs.
 ghost use Rattle.std.specs.Prelude.{List};
 ghost use Rattle.tl_core.specs.declared.steps.Step.{Step};
 ghost use Rattle.tl_core.specs.World.{World, IsLegal, after_steps};

@@ -1,4 +1,5 @@
-//! Which lists of entries are legal.
+//! Which lists of entries are legal: commits that fit in turn, marks of versions that are there,
+//! once each, and nothing behind a break.
 ghost use Rattle.std.specs.Prelude.{◌≡◌, IfOk};
 ghost use Rattle.tl_types.specs.Entries.{commits_of, has_break};
 ghost use Rattle.tl_types.specs.Legality.{are_legal, may_follow};

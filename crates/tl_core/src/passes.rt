@@ -1,4 +1,4 @@
-//! What a world knows of each pass.
+//! What a world knows of each pass: how many entries it has seen, and the mark that it builds.
 
 /// The build of a checkpoint.
 #[derive(Clone, Copy, Debug, PartialEq, Eq)]

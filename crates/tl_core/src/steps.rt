@@ -1,4 +1,4 @@
-//! The steps of a world.
+//! The steps of a world: reads, commits, breaks, and checkpoints that begin and end.
 ghost use Rattle.std.specs.Prelude.{◌≡◌};
 
 use tl_types::{Commit, NoMemory};

@@ -1,4 +1,5 @@
-//! The world.
+//! The world: the entries of a history, and what each pass has seen of them. A step that is not
+//! allowed changes nothing, and says so.
 ghost use Rattle.std.specs.Prelude.{◌≡◌, ◌≤◌, IsTrue, IfOk, OnOk, OnErr, length, replicate, slice_get, slice_set};
 ghost use Rattle.tl_types.specs.Entries.{commit_of, commits_of};
 ghost use Rattle.tl_types.specs.declared.commits.Entry.TheVariants as entry;

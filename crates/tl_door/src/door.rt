@@ -1,4 +1,5 @@
-//! The door.
+//! The door: tickets are drawn in order, and who has its turn takes the value, and gives it back or
+//! another. Its list of entries grows with each value that is another.
 ghost use Rattle.std.specs.Prelude.{◌≡◌, ◌++◌, ◌∷◌, [], length, true, IfOk};
 ghost use mathlib.Core.List.{IsPrefix};
 ghost use Rattle.tl_types.specs.declared.commits.Entry.{Entry};

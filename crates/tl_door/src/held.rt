@@ -1,4 +1,4 @@
-//! A value that a seat holds.
+//! A value that a seat holds from its turn until it gives it back; it is never copied.
 ghost use Rattle.std.specs.Prelude.{◌≡◌};
 
 use crate::door::Door;

@@ -1,4 +1,5 @@
-//! The rule of a door, and what each kind of step tells.
+//! The rule of a door, and what each kind of step tells: a ticket is drawn once, and the turn is
+//! passed on once the value is laid.
 ghost use Rattle.tl_door.specs.Rule.{KeepsTurns};
 ghost use Rattle.tl_door.specs.Views.{writer_view, copy_of, both_of, spent_view};
 ghost use Rattle.tl_door.specs.Moves.{Draws, Looks, PassesOn, Sees, Publishes, Learns};

@@ -1,4 +1,5 @@
-//! Seats of a door.
+//! Seats of a door: what each has seen, which only grows. A seat learns from another what that one
+//! has seen.
 ghost use Rattle.std.specs.Prelude.{◌≡◌, ◌⊎◌, false, true};
 ghost use mathlib.Core.List.{IsPrefix};
 ghost use Rattle.tl_door.specs.declared.views.Stage.TheVariants.{Idle};

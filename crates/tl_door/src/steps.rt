@@ -1,4 +1,5 @@
-//! The steps of a door, over seats of its table.
+//! The steps of a door, over seats of its table, each one step of the table that they share. A turn
+//! that has not come is waited for.
 ghost use Rattle.std.specs.Prelude.{◌≡◌, ◌++◌, ◌∷◌, [], length, true};
 ghost use mathlib.Core.List.{IsPrefix};
 ghost use Rattle.tl_types.specs.declared.commits.Entry.{Entry};

@@ -1,4 +1,5 @@
-//! What a seat knows.
+//! What a seat knows of a door: its ticket or its turn, and the entries that it has seen. No value
+//! of it is made.
 use tl_types::{Entry, Seq};
 
 /// Whether a seat has a ticket. No value of it is made.

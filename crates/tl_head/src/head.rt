@@ -1,4 +1,5 @@
-//! The head.
+//! The head: one published value. A reader takes the one that stands, and one writer publishes the
+//! next; neither sees less than it saw before.
 ghost use Rattle.std.specs.Prelude.{◌≡◌, ◌++◌, ◌∷◌, [], IfOk};
 ghost use Rattle.tl_types.specs.declared.commits.Entry.{Entry};
 ghost use mathlib.Core.List.{IsPrefix};

@@ -1,4 +1,5 @@
-//! What a reader has seen, and what the writer has written.
+//! What a reader has seen, and what the writer has written. A pass learns from another what that
+//! one has seen, and never sees less.
 ghost use Rattle.std.specs.Prelude.{◌≡◌, ◌⊎◌};
 ghost use mathlib.Core.List.{IsPrefix};
 

@@ -1,7 +1,7 @@
 -- The journal of a worked history, computed: a table of employees, two rows put, one of them
--- changed, the other removed, and put again.
+-- changed, the other removed, and put again; then a moment, and a floor.
 use Rattle.std.proofs.Common.{◌≡◌, ℕ, ◌+◌, List, [], ◌∷◌, ◌++◌, length, take, refl}
-use Rattle.std.specs.Prelude.{codes}
+use Rattle.std.specs.Prelude.{codes, pos}
 use Rattle.tl_types.specs.declared.commits.Commit.{Commit}
 use Rattle.tl_types.specs.declared.commits.Body.TheVariants as body
 use Rattle.tl_record.specs.Spelling.{spelling}
@@ -39,3 +39,16 @@ fifth_gate = refl
 
 last_gate : 16 + size_of history ≡ 220
 last_gate = refl
+
+-- the same with a moment and a floor behind it
+
+abbrev later : List Commit
+later =
+    history ++ record { author = 0; body = body.Moment (pos 1000) }
+    ∷ record { author = 0; body = body.Forget 0 3 } ∷ []
+
+with_both : length ((header ++ fronts later) ++ 0 ∷ []) ≡ 247
+with_both = refl
+
+behind_the_moment : 16 + size_of (take 6 later) ≡ 234
+behind_the_moment = refl

@@ -31,7 +31,8 @@ IsAtClosedGate opening = (tail : List ℕ) × (drop opening.at opening.image ≡
 
 -- what every opening keeps: a gate comes next, the bytes are the disk's where it tells them, and
 -- the disk's room is taken for a cut and a sync
-pub record IsOpening {D : Type 0} (reads : D → Option (List ℕ)) (ready : D → ℕ → ℕ → Type 0) (opening : plain.FoundCommits D) : Type 0 where
+pub record IsOpening {D : Type 0} (reads : D → Option (List ℕ)) (ready : D → ℕ → ℕ → Type 0)
+    (opening : plain.FoundCommits D) : Type 0 where
   pub within : opening.at < length opening.image
   pub told : IfSome (reads opening.disk) (λ b. opening.image ≡ b)
   pub room : ready opening.disk 0 2

@@ -1,4 +1,5 @@
-//! The calls of the disk with which a commit is appended.
+//! The calls of the disk with which a commit is appended: its body behind the closed gate, a sync,
+//! the gate opened, a sync. Where one fails, the later ones are left out.
 ghost use Rattle.std.specs.Prelude.{◌≡◌, ◌+◌, ◌^◌, ◌<◌, ◌≤◌, ◌++◌, ◌∷◌, [], ℕ, List, length, IfSome, OnOk, OnErr};
 ghost use Rattle.tl_types.specs.declared.commits.Commit.{Commit};
 ghost use Rattle.tl_device.specs.Known.{Rose};

@@ -1,4 +1,4 @@
-//! A journal that was opened with all its commits.
+//! A journal that was opened with all its commits, each with the offset of its gate.
 ghost use Rattle.std.specs.Prelude.{◌≡◌, ℕ, [], Err, IfOk, IfErr};
 ghost use Rattle.tl_journal.specs.Image.{ImageStandsOnlyFor, IsDamagedOnlyAt};
 ghost use Rattle.tl_journal.specs.Opening.{HasRead, IsAtClosedGate, commits_found, HaveGatesFrom};

@@ -1,4 +1,5 @@
-//! Making the journal of no commit.
+//! Making the journal of no commit: a disk of more than 17 bytes is refused, and stays as it is; of
+//! any other a crash leaves what it had, or at most 17 bytes.
 ghost use Rattle.std.specs.Prelude.{◌≡◌, ◌≤◌, ◌<◌, ℕ, List, length, Some, IfSome, IfErr, OnOk, OnErr, Err};
 ghost use Rattle.tl_device.specs.Known.{Rose};
 ghost use Rattle.tl_device.specs.Disk.{IsStored};

@@ -1,4 +1,5 @@
-//! Why a journal cannot be made, opened or appended to.
+//! Why a journal cannot be made, opened or appended to: each with what the disk said, or where the
+//! bytes are no journal.
 use thiserror::Error;
 
 /// Why a journal cannot be made or opened.

@@ -1,4 +1,5 @@
-//! The commits of a journal, handed out one by one while it is opened.
+//! The commits of a journal, handed out one by one while it is opened; the disk stays as it is
+//! until the last was handed out. An open gate that no record follows is refused, and so once more.
 ghost use Rattle.std.specs.Prelude.{◌≡◌, ◌+◌, ◌<◌, ◌++◌, ◌∷◌, [], ℕ, List, length, Ok, Err, Some, None, IfSome, IfOk, IfErr, OnErr};
 ghost use Rattle.tl_types.specs.declared.commits.Commit.{Commit as CommitValue};
 ghost use Rattle.tl_record.specs.Spelling.{spelling};

@@ -1,4 +1,5 @@
-//! A journal on a disk: made, opened, appended to.
+//! A journal on a disk: made, opened, appended to. What a crash leaves stands for each commit that
+//! was acknowledged; a journal whose disk failed in an append refuses all further ones.
 ghost use Rattle.std.specs.Prelude.{◌≡◌, ◌+◌, ◌^◌, ◌<◌, ◌≤◌, ◌++◌, ◌∷◌, [], ℕ, List, length, Some, None, Err, IfSome, IfOk, OnOk, OnErr, IfErr};
 ghost use Rattle.tl_types.specs.declared.commits.Commit.{Commit as CommitValue};
 ghost use Rattle.tl_device.specs.Known.{Rose};

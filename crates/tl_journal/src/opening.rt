@@ -1,4 +1,5 @@
-//! The begin of the opening of a journal.
+//! How the opening of a journal begins: the bytes are read and synced before they are judged. Bytes
+//! that begin no journal are refused.
 ghost use Rattle.std.specs.Prelude.{◌≡◌, ◌<◌, ℕ, List, Some, Err, IfSome, IfOk, IfErr, OnOk};
 ghost use Rattle.tl_device.specs.Disk.{IsStored};
 ghost use Rattle.tl_journal.specs.Image.{BeginsAsJournal, HasAnotherName};

@@ -1,4 +1,5 @@
-//! The calls with which a journal is opened that change nothing of the disk.
+//! The calls with which a journal is opened that change nothing of the disk: its length, its bytes,
+//! a sync, room. Each failure is told by the disk's count of faults.
 ghost use Rattle.std.specs.Prelude.{◌≡◌, ◌+◌, ◌≤◌, ◌<◌, ◌^◌, ℕ, List, length, Some, Err, IfSome, IfOk, OnOk, IfErr};
 ghost use Rattle.tl_journal.specs.Moments.{EachMoment, IsUntouched, LosesNothing, IsAsBefore, IsDurable};
 ghost use Rattle.tl_journal.specs.Answers.{CountsFaults, IsDevice, IsDeviceOrMemory};

@@ -1,4 +1,5 @@
-//! Records among the bytes of a journal.
+//! Records among the bytes of a journal: the next one behind an open gate, or none behind a closed
+//! one. An open gate without a whole record and a further byte is refused.
 ghost use Rattle.std.specs.Prelude.{◌≡◌, ◌≢◌, ◌+◌, ◌≤◌, ◌<◌, ◌∷◌, ℕ, List, length, take, drop, IfSome, IfOk, IfErr, Ok, Err, None, true, false};
 ghost use Rattle.tl_record.specs.Spelling.{spelling};
 ghost use Rattle.tl_record.specs.Decoding.{BeginsWith};

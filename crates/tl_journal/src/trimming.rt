@@ -1,4 +1,4 @@
-//! Cutting off what stands past the closed gate.
+//! Cutting off what stands past the closed gate, and syncing. No byte up to the gate changes.
 ghost use Rattle.std.specs.Prelude.{◌≡◌, ◌≤◌, ◌<◌, ℕ, List, length, take, Some, IfSome, OnOk, OnErr};
 ghost use Rattle.tl_device.specs.Known.{Rose};
 ghost use Rattle.tl_device.specs.Disk.{IsStored, MayCut};

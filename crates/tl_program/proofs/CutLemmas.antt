@@ -9,17 +9,18 @@ use Rattle.tl_session.specs.Turns.{Turn}
 use Rattle.tl_session.specs.Written.{jobs_of, transcript_bytes}
 use Rattle.tl_journal.specs.declared.faults.JournalFault.{JournalFault}
 use Rattle.tl_journal.specs.declared.faults.JournalFault.TheVariants as journal
-use Rattle.tl_program.specs.declared.statuses.Status.{Status}
-use Rattle.tl_program.specs.declared.statuses.Status.TheVariants as status
-use Rattle.tl_program.specs.declared.stops.Stop.{Stop}
-use Rattle.tl_program.specs.declared.stops.Stop.TheVariants as stop
-use Rattle.tl_program.specs.Status.{closing_line}
-use Rattle.tl_program.specs.Jobs.{phases_asked}
-use Rattle.tl_program.specs.Ending.{Closes, EndsFor, EndsRefused, Told, ClosesAfter, OpenedEnds, status_for, wanted_by}
+use Rattle.tl_command.specs.declared.statuses.Status.{Status}
+use Rattle.tl_command.specs.declared.statuses.Status.TheVariants as status
+use Rattle.tl_command.specs.declared.stops.Stop.{Stop}
+use Rattle.tl_command.specs.declared.stops.Stop.TheVariants as stop
+use Rattle.tl_command.specs.Status.{closing_line}
+use Rattle.tl_command.specs.Jobs.{phases_asked}
+use Rattle.tl_command.specs.Closing.{Closes, EndsFor, EndsRefused, ClosesAfter, status_for, wanted_by}
+use Rattle.tl_run.specs.Runs.{Told, OpenedEnds}
 use Rattle.tl_program.specs.Headline.{CutsReplies, CutsClosing, CutsClosed, CutsBySink, StopsInPhase, CutsByMemory, wanted_for}
-use Rattle.tl_program.specs.Outside.{Outside, streams_of, HoldsJournal}
-use Rattle.tl_program.specs.Stopping.{RunsAll, RunStops}
-use Rattle.tl_program.proofs.RunningLemmas.{written_more, written_none}
+use Rattle.tl_command.specs.Outside.{Outside, streams_of, HoldsJournal}
+use Rattle.tl_run.specs.Stopping.{RunsAll, RunStops}
+use Rattle.tl_run.proofs.RunningLemmas.{written_more, written_none}
 use Rattle.tl_program.proofs.TopLemmas.{told_script}
 
 -- THE CLOSING LINE

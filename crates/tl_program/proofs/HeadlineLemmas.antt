@@ -13,23 +13,24 @@ use Rattle.tl_session.specs.Written.{all_jobs, jobs_of, transcript_bytes}
 use Rattle.tl_journal.specs.Answers.{CountsFaults}
 use Rattle.tl_journal.specs.declared.faults.JournalFault.{JournalFault}
 use Rattle.tl_journal.specs.declared.faults.JournalFault.TheVariants as journal
-use Rattle.tl_program.specs.declared.statuses.Status.{Status}
-use Rattle.tl_program.specs.declared.statuses.Status.TheVariants as status
-use Rattle.tl_program.specs.declared.stops.Stop.{Stop}
-use Rattle.tl_program.specs.declared.stops.Stop.TheVariants as stop
+use Rattle.tl_command.specs.declared.statuses.Status.{Status}
+use Rattle.tl_command.specs.declared.statuses.Status.TheVariants as status
+use Rattle.tl_command.specs.declared.stops.Stop.{Stop}
+use Rattle.tl_command.specs.declared.stops.Stop.TheVariants as stop
 use Rattle.tl_program.specs.declared.commands.Command.{Command}
 use Rattle.tl_program.specs.declared.commands.Command.TheVariants as command
-use Rattle.tl_program.specs.Status.{closing_line}
-use Rattle.tl_program.specs.Commands.{put_text}
-use Rattle.tl_program.specs.Coming.{script_reads, block_reads}
-use Rattle.tl_program.specs.Jobs.{phases_asked}
-use Rattle.tl_program.specs.Sample.{puts_from, blocks_of, sample_reading}
-use Rattle.tl_program.specs.Ending.{SampleEnds, sink_alone, status_for, wanted_by, Writes, EndsFor, EndsRefused, Told, ClosesAfter, OpenedEnds, RunEnds, EndsBy}
+use Rattle.tl_command.specs.Status.{closing_line}
+use Rattle.tl_run.specs.Runs.{put_text, SampleEnds, sink_alone, Told, OpenedEnds, RunEnds}
+use Rattle.tl_command.specs.Coming.{script_reads, block_reads}
+use Rattle.tl_command.specs.Jobs.{phases_asked}
+use Rattle.tl_run.specs.Sample.{puts_from, blocks_of, sample_reading}
+use Rattle.tl_command.specs.Closing.{status_for, wanted_by, Writes, EndsFor, EndsRefused, ClosesAfter}
+use Rattle.tl_program.specs.Ending.{EndsBy}
 use Rattle.tl_program.specs.Headline.{PrintsPlay, PrintsTranscript, PrintsAll, PrintsBreak, PrintsToFault, PrintsClosed, RunTells, RunHeadline, HeadlineBy}
-use Rattle.tl_program.specs.Outside.{Outside, streams_of, HoldsJournal}
-use Rattle.tl_program.specs.Stopping.{RunsAll, RunStops}
+use Rattle.tl_command.specs.Outside.{Outside, streams_of, HoldsJournal}
+use Rattle.tl_run.specs.Stopping.{RunsAll, RunStops}
 use Rattle.tl_program.proofs.CutLemmas.{refused_sink, refused_memory, nothing_done, sink_cuts, memory_cuts}
-use Rattle.tl_program.proofs.RunningLemmas.{written_more}
+use Rattle.tl_run.proofs.RunningLemmas.{written_more}
 use Rattle.tl_program.proofs.TopLemmas.{told_script}
 
 -- what was written where the run ended as it was to: neither memory nor the sink ends a run so

@@ -7,21 +7,22 @@ use Rattle.tl_session.specs.Turns.{Turn}
 use Rattle.tl_journal.specs.Answers.{CountsFaults, IsTooLong}
 use Rattle.tl_journal.specs.declared.faults.JournalFault.{JournalFault}
 use Rattle.tl_journal.specs.declared.faults.JournalFault.TheVariants as journal
-use Rattle.tl_program.specs.declared.statuses.Status.{Status}
-use Rattle.tl_program.specs.declared.statuses.Status.TheVariants as status
+use Rattle.tl_command.specs.declared.statuses.Status.{Status}
+use Rattle.tl_command.specs.declared.statuses.Status.TheVariants as status
 use Rattle.tl_program.specs.declared.commands.Command.{Command}
 use Rattle.tl_program.specs.declared.commands.Command.TheVariants as command
-use Rattle.tl_program.specs.declared.stops.Stop.{Stop}
-use Rattle.tl_program.specs.declared.stops.Stop.TheVariants as stop
-use Rattle.tl_program.specs.Commands.{put_text}
-use Rattle.tl_program.specs.Status.{closing_line}
-use Rattle.tl_program.specs.Coming.{script_reads, block_reads}
-use Rattle.tl_program.specs.Sample.{sample_reading}
-use Rattle.tl_program.specs.Stopping.{RunStops}
-use Rattle.tl_program.specs.Ending.{wanted_by, Writes, Told, ClosesAfter, PhasesEnd, EndsFor, EndsRefused, NotMadeBy, InitEnds, RunEnds, sink_alone, SampleEnds, EndsBy}
+use Rattle.tl_command.specs.declared.stops.Stop.{Stop}
+use Rattle.tl_command.specs.declared.stops.Stop.TheVariants as stop
+use Rattle.tl_run.specs.Runs.{put_text, Told, PhasesEnd, RunEnds, sink_alone, SampleEnds}
+use Rattle.tl_command.specs.Status.{closing_line}
+use Rattle.tl_command.specs.Coming.{script_reads, block_reads}
+use Rattle.tl_run.specs.Sample.{sample_reading}
+use Rattle.tl_run.specs.Stopping.{RunStops}
+use Rattle.tl_command.specs.Closing.{wanted_by, Writes, ClosesAfter, EndsFor, EndsRefused, NotMadeBy, InitEnds}
+use Rattle.tl_program.specs.Ending.{EndsBy}
 use Rattle.tl_program.specs.Headline.{IsDoneOrNoMemory, StaysSure, IsHonest, RunCompletes, CompletesBy}
-use Rattle.tl_program.specs.Outside.{Outside, Streams, streams_of}
-use Rattle.tl_program.proofs.EndLemmas.{no_rise, no_break, only_memory}
+use Rattle.tl_command.specs.Outside.{Outside, Streams, streams_of}
+use Rattle.tl_run.proofs.EndLemmas.{no_rise, no_break, only_memory}
 
 -- COMPLETENESS
 

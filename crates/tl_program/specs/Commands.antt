@@ -134,7 +134,3 @@ uses_disk (Some command.Init) = true
 uses_disk (Some command.Run) = true
 uses_disk (Some (command.Load table)) = true
 uses_disk (Some (command.Sample lines start)) = false
-
--- the text of the statement that loads a table
-abbrev pub put_text : List ℕ → List ℕ
-put_text table = codes "PUT " ++ table

@@ -31,18 +31,19 @@ use Rattle.tl_journal.specs.Answers.{CountsFaults}
 use Rattle.tl_journal.specs.Image.{ImageStandsFor}
 use Rattle.tl_journal.specs.declared.faults.JournalFault.{JournalFault}
 use Rattle.tl_types.specs.Legality.{FitInTurn}
-use Rattle.tl_program.specs.declared.statuses.Status.{Status}
-use Rattle.tl_program.specs.declared.statuses.Status.TheVariants as status
+use Rattle.tl_command.specs.declared.statuses.Status.{Status}
+use Rattle.tl_command.specs.declared.statuses.Status.TheVariants as status
 use Rattle.tl_program.specs.declared.commands.Command.{Command}
 use Rattle.tl_program.specs.declared.commands.Command.TheVariants as command
-use Rattle.tl_program.specs.Status.{closing_line}
-use Rattle.tl_program.specs.Commands.{command_of, put_text}
-use Rattle.tl_program.specs.Coming.{script_reads, block_reads}
-use Rattle.tl_program.specs.Jobs.{phases_asked}
-use Rattle.tl_program.specs.Ending.{status_for, wanted_by, RefusedBy}
-use Rattle.tl_program.specs.Sample.{sample_reading}
-use Rattle.tl_program.specs.Outside.{Outside, IsUnread, KeepsJournal, HoldsJournal}
-use Rattle.tl_program.specs.Stopping.{AreFronts}
+use Rattle.tl_command.specs.Status.{closing_line}
+use Rattle.tl_program.specs.Commands.{command_of}
+use Rattle.tl_run.specs.Runs.{put_text}
+use Rattle.tl_command.specs.Coming.{script_reads, block_reads}
+use Rattle.tl_command.specs.Jobs.{phases_asked}
+use Rattle.tl_command.specs.Closing.{status_for, wanted_by, RefusedBy}
+use Rattle.tl_run.specs.Sample.{sample_reading}
+use Rattle.tl_command.specs.Outside.{Outside, IsUnread, KeepsJournal, HoldsJournal}
+use Rattle.tl_run.specs.Stopping.{AreFronts}
 
 -- COMPLETENESS
 

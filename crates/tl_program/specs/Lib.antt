@@ -1,12 +1,3 @@
-pub mod Coming
 pub mod Commands
 pub mod Ending
 pub mod Headline
-pub mod Jobs
-pub mod Outside
-pub mod Running
-pub mod Sample
-pub mod Status
-pub mod Stopping
-pub mod Finishing
-pub mod Writing

@@ -3,20 +3,10 @@
 //! each statement. The call `timeline` carries what is proved of it all.
 #![tactic(auto)]
 
-mod alone;
-mod closing;
 mod commands;
-mod no_source;
-mod opened;
-mod phases;
-mod running;
-mod samples;
-mod statuses;
-mod stops;
 mod top;
 mod words;
-mod writing;
 
-pub use statuses::Status;
-pub use top::{Ending, timeline};
+pub use tl_command::{Ending, Status};
+pub use top::timeline;
 pub use words::{EnvWords, Words, given_words, words_of};

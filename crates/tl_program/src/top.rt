@@ -1,51 +1,21 @@
 //! The top call: the whole of what the program does, by what its words ask for. It hands the disk
 //! back, and refuses words that are no command before anything is read.
-ghost use Rattle.std.specs.Prelude.{◌≡◌, ℕ, List, IfOk, false};
+ghost use Rattle.std.specs.Prelude.{◌≡◌, ℕ, List, false};
 ghost use Rattle.std.specs.declared.option.Option.{Option};
-ghost use Rattle.std.specs.String.{string_bytes};
-ghost use Rattle.tl_program.specs.Coming.{block_reads, script_reads};
-ghost use Rattle.tl_program.specs.Commands.{command_of, put_text, reads_source, texts_of, uses_disk};
-ghost use Rattle.tl_program.specs.Ending.{Ends, EndsBy, InitEnds, RunEnds, SampleEnds};
+ghost use Rattle.tl_command.specs.Closing.{InitEnds};
+ghost use Rattle.tl_command.specs.Outside.{outside, outside_from};
+ghost use Rattle.tl_program.specs.Commands.{command_of, reads_source, texts_of, uses_disk};
+ghost use Rattle.tl_program.specs.Ending.{Ends, EndsBy};
 ghost use Rattle.tl_program.specs.Headline.{Completes, Headline};
-ghost use Rattle.tl_program.specs.Outside.{outside, outside_from};
-ghost use Rattle.tl_program.specs.Running.{HasNotBegun};
-ghost use Rattle.tl_program.specs.Sample.{sample_reading};
 
-use crate::alone::empty_disk;
-use crate::closing::{close, close_run, end_refused};
 use crate::commands::{Command, Settings, settings_of};
-use crate::no_source::NoSource;
-use crate::opened::{Attached, Finished, run_opened};
-use crate::phases::{BlockPhase, Phases};
-use crate::samples::SamplePhases;
-use crate::statuses::Status;
 use std::alloc::Global;
-use std::marker::Brand;
-use std::snapshot::Snapshot;
 use std::sync::Wait;
 use std::thread::Threads;
-use tl_device::{Disk, Gate, Sink, Source, SureDisk};
-use tl_engine::Engine;
-use tl_journal::{InitRun, Journal, Refused};
-use tl_script::Script;
-use tl_session::Pace;
-use tl_types::{Limits, NoMemory};
-
-/// How a run ended, and the disk that it was given.
-#[derive(Drop)]
-pub struct Ending<D> {
-    /// How it ended, which is the exit status of the program.
-    pub status: Status,
-    /// The disk that was handed in, as the run left it.
-    pub disk: D,
-}
-
-// The text of the statement that loads a table.
-fn put_text(alloc: Global, table: &str) -> Result<String, NoMemory>
-    ensures { IfOk result (λ text. string_bytes text ≡ put_text table.now) }
-{
-    format!(in alloc; "PUT {table}")
-}
+use tl_command::{Ending, Status, close, end_refused};
+use tl_device::{Disk, Gate, Sink, Source};
+use tl_journal::{InitRun, Journal};
+use tl_run::{Paced, load, run_sample, run_script};
 
 // Makes an empty journal.
 fn init<K: Sink, D: Disk>(alloc: Global, sink: &mut K, disk: D) -> Ending<D>
@@ -64,131 +34,6 @@ fn init<K: Sink, D: Disk>(alloc: Global, sink: &mut K, disk: D) -> Ending<D>
             disk,
         },
     }
-}
-
-// What is run, and the pace of its statements.
-#[derive(Drop)]
-struct Paced<T> {
-    of: T,
-    pace: Pace,
-}
-
-// Runs phases over the journal on the disk.
-fn run<
-    R: AllocGlobal + Threads + Wait + Sync,
-    S: Source,
-    K: Sink,
-    D: Disk + Send,
-    P: Phases<S>,
-    G: Gate,
->(rt: &R, paced: Paced<P>, source: &mut S, sink: &mut K, disk: D, gate: &G) -> Ending<D>
-    requires { HasNotBegun (P.coming paced.of) }
-    ensures { RunEnds (P.coming paced.of).reads
-        (outside S.Source K.Sink D.Disk source.old sink.old disk)
-        (outside S.Source K.Sink D.Disk source.new sink.new result.disk) result.status }
-{
-    let alloc = rt.alloc();
-    let begun = Snapshot::of(&disk);
-    let Paced { of: phases, pace } = paced;
-    match Engine::<D, Brand>::attach(alloc, disk, &Limits::standard(), pace.every()) {
-        Err(Refused { fault, disk }) => Ending {
-            status: end_refused(alloc, sink, fault),
-            disk,
-        },
-        Ok(opening) => {
-            let attached = Attached {
-                opening,
-                begun,
-                pace,
-            };
-            let Finished { stop, broke, disk } = run_opened::<S, D, Brand, P, K, G, R>(
-                rt, attached, phases, source, sink, gate,
-            );
-            let faults = disk.faults();
-            Ending {
-                status: close_run(alloc, sink, stop, broke, faults),
-                disk,
-            }
-        }
-    }
-}
-
-// Runs the script that the source has.
-fn run_script<R: AllocGlobal + Threads + Wait + Sync, S: Source, K: Sink, D: Disk + Send, G: Gate>(
-    rt: &R,
-    pace: Pace,
-    source: &mut S,
-    sink: &mut K,
-    disk: D,
-    gate: &G,
-) -> Ending<D>
-    ensures { RunEnds script_reads
-        (outside S.Source K.Sink D.Disk source.old sink.old disk)
-        (outside S.Source K.Sink D.Disk source.new sink.new result.disk) result.status }
-{
-    let script = Script::new(rt.alloc(), &Limits::standard());
-    let paced = Paced { of: script, pace };
-    run::<R, S, K, D, Script, G>(rt, paced, source, sink, disk, gate)
-}
-
-// Loads the table of a name with what the source has.
-fn load<R: AllocGlobal + Threads + Wait + Sync, S: Source, K: Sink, D: Disk + Send, G: Gate>(
-    rt: &R,
-    table: Paced<&str>,
-    source: &mut S,
-    sink: &mut K,
-    disk: D,
-    gate: &G,
-) -> Ending<D>
-    ensures { RunEnds (block_reads (put_text table.entry.of.now))
-        (outside S.Source K.Sink D.Disk source.old sink.old disk)
-        (outside S.Source K.Sink D.Disk source.new sink.new result.disk) result.status }
-{
-    let Paced { of: name, pace } = table;
-    let Ok(text) = put_text(rt.alloc(), name) else {
-        return Ending {
-            status: Status::NoMemory,
-            disk,
-        };
-    };
-    let phase = BlockPhase {
-        text: text.as_str(),
-        given: false,
-    };
-    let paced = Paced { of: phase, pace };
-    run::<R, S, K, D, BlockPhase, G>(rt, paced, source, sink, disk, gate)
-}
-
-// Runs the sample of so many lines, whose generator begins with `start`, over a journal of its own
-// in memory.
-fn run_sample<R: AllocGlobal + Threads + Wait + Sync, K: Sink, G: Gate>(
-    rt: &R,
-    lines: u32,
-    start: u64,
-    pace: Pace,
-    sink: &mut K,
-    gate: &G,
-) -> Status
-    ensures { SampleEnds (sample_reading lines start) (K.written sink.old) (K.written sink.new)
-        (K.faults sink.old) (K.faults sink.new) result }
-{
-    let Ok(disk) = empty_disk(rt.alloc()) else {
-        return Status::NoMemory;
-    };
-    let paced = Paced {
-        of: SamplePhases::new(lines, start),
-        pace,
-    };
-    let mut source = NoSource;
-    let ending = run::<R, NoSource, K, SureDisk, SamplePhases, G>(
-        rt,
-        paced,
-        &mut source,
-        sink,
-        disk,
-        gate,
-    );
-    ending.status
 }
 
 // Does what the words ask for.

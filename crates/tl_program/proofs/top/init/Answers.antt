@@ -1,6 +1,6 @@
 use Rattle.std.proofs.Common.{◌∙◌, ap, Err, refl, inl, inr}
-use Rattle.tl_program.specs.Outside.{outside_from}
-use Rattle.tl_program.proofs.OpeningLemmas.{not_made}
+use Rattle.tl_command.specs.Outside.{outside_from}
+use Rattle.tl_command.proofs.OpeningLemmas.{not_made}
 use Rattle.tl_program.proofs.top.init.Goals as goal
 
 pub returns-in-Ok : goal.returns-in-Ok

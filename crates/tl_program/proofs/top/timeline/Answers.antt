@@ -4,7 +4,7 @@ use Rattle.tl_program.specs.declared.commands.Settings.{Settings}
 use Rattle.tl_program.specs.declared.commands.Command.{Command}
 use Rattle.tl_program.specs.Commands.{command_of, texts_of}
 use Rattle.tl_program.specs.Headline.{CompletesBy, HeadlineBy}
-use Rattle.tl_program.specs.Outside.{outside}
+use Rattle.tl_command.specs.Outside.{outside}
 use Rattle.tl_program.proofs.HeadlineLemmas.{command_tells, memory_tells}
 use Rattle.tl_program.proofs.TopLemmas.{command_completes, memory_completes}
 use Rattle.tl_program.proofs.top.timeline.Goals as goal

@@ -1,0 +1,5 @@
+pub mod ClosingLemmas
+pub mod ComingLemmas
+pub mod NamesLemmas
+pub mod OpeningLemmas
+pub mod ScriptComing

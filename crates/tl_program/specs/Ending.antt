@@ -25,9 +25,9 @@ use Rattle.tl_types.specs.Limits.{standard_limits}
 use Rattle.tl_device.specs.Known.{append_known, Rose}
 use Rattle.tl_device.specs.Disk.{Only}
 use Rattle.tl_script.specs.Script.{ScriptReading}
-use Rattle.tl_session.specs.Turns.{Turn, meant, all_turns}
+use Rattle.tl_jobs.specs.Turns.{Turn, meant, all_turns}
 use Rattle.tl_session.specs.Transcript.{Transcript}
-use Rattle.tl_session.specs.Play.{AreLone, IsPlay}
+use Rattle.tl_jobs.specs.Play.{AreLone, IsPlay}
 use Rattle.tl_journal.specs.Answers.{CountsFaults, IsTooShort, IsTooLong, IsDeviceOrMemory}
 use Rattle.tl_journal.specs.Image.{ImageStandsFor}
 use Rattle.tl_journal.specs.Moments.{IsShort, OldOr}

@@ -7,10 +7,10 @@ use Rattle.tl_script.specs.declared.phases.NextError.{NextError}
 use Rattle.tl_script.specs.declared.phases.NextError.TheVariants as next
 use Rattle.tl_script.specs.Script.{ScriptReading}
 use Rattle.tl_script.specs.Taking.{IsAtEnd}
-use Rattle.tl_session.specs.Jobs.{Job}
-use Rattle.tl_session.specs.Turns.{Turn, of_session}
+use Rattle.tl_jobs.specs.Jobs.{Job}
+use Rattle.tl_jobs.specs.Turns.{Turn, of_session}
 use Rattle.tl_session.specs.Phases.{own_jobs}
-use Rattle.tl_session.specs.Written.{jobs_of, turns_bytes, transcript_bytes}
+use Rattle.tl_jobs.specs.Written.{jobs_of, turns_bytes, transcript_bytes}
 use Rattle.tl_program.specs.declared.stops.Stop.{Stop}
 use Rattle.tl_program.specs.declared.stops.Stop.TheVariants as stop
 use Rattle.tl_program.specs.Jobs.{phases_asked}

@@ -4,9 +4,9 @@
 ghost use Rattle.std.specs.Prelude.{◌≡◌, ◌<◌, ◌≤◌, List, All, IfOk, length, map, option_map, true, Some, OnOk, ◌++◌};
 ghost use Rattle.tl_types.specs.declared.commits.Entry.{Entry};
 ghost use Rattle.tl_types.specs.Limits.{standard_limits};
-ghost use Rattle.tl_session.specs.Jobs.{job_of};
+ghost use Rattle.tl_jobs.specs.Jobs.{job_of};
 ghost use Rattle.tl_session.specs.Phases.{HaveRun};
-ghost use Rattle.tl_session.specs.Replies.{reply_bytes};
+ghost use Rattle.tl_jobs.specs.Replies.{reply_bytes};
 ghost use Rattle.tl_program.specs.Coming.{Coming};
 ghost use Rattle.tl_program.specs.Jobs.{asked};
 ghost use Rattle.tl_program.specs.Outside.{streams, Streams};

@@ -29,14 +29,15 @@ use Rattle.tl_engine.specs.Saying.{Adds, becomes, names_table}
 use Rattle.tl_engine.specs.Tending.{TendSays}
 use Rattle.tl_engine.proofs.CountLemmas.{begins_on}
 use Rattle.tl_engine.proofs.TendLemmas.{table_known, versions_more}
-use Rattle.tl_session.specs.declared.readings.JobReading.{JobReading}
-use Rattle.tl_session.specs.declared.readings.JobReading.TheVariants as reading
-use Rattle.tl_session.specs.declared.replies.ReplyBody.{ReplyBody}
-use Rattle.tl_session.specs.declared.replies.ReplyBody.TheVariants as body
-use Rattle.tl_session.specs.Jobs.{Job}
+use Rattle.tl_jobs.specs.declared.readings.JobReading.{JobReading}
+use Rattle.tl_jobs.specs.declared.readings.JobReading.TheVariants as reading
+use Rattle.tl_jobs.specs.declared.replies.ReplyBody.{ReplyBody}
+use Rattle.tl_jobs.specs.declared.replies.ReplyBody.TheVariants as body
+use Rattle.tl_jobs.specs.Jobs.{Job}
+use Rattle.tl_jobs.specs.Reading.{finds_table}
 use Rattle.tl_session.specs.Plain as plain
 use Rattle.tl_session.specs.Promises.{BodySays}
-use Rattle.tl_session.specs.Turns.{meant}
+use Rattle.tl_jobs.specs.Turns.{meant}
 use Rattle.tl_session.specs.Statements.{Tells}
 use Rattle.tl_session.specs.Tending.{table_of, reading_table, if_done, IsThere, NamesTable, IsTended, HasTended}
 use Rattle.tl_session.proofs.EntryLemmas.{placed}
@@ -111,6 +112,14 @@ of_resolved limits db a (batch.Forget name floor) = of_floor limits db a floor (
 some_number : (o : Option (ℕ × types.Table)) → is_some o ≡ true → (n : ℕ) × (option_map (λ (found : ℕ × types.Table). found.0) o ≡ Some n)
 some_number None h = absurd (cc)
 some_number (Some x) h = (x.0, refl)
+
+-- a batch of rows that finds its table names a table that is there
+pub table_named : (db : types.Database) (b : Batch) → finds_table db b ≡ true → names_table db b ≡ true
+table_named db (batch.Create schema) finds = refl
+table_named db (batch.Put name lines) finds = finds
+table_named db (batch.Remove name lines) finds = finds
+table_named db (batch.Moment moment) finds = refl
+table_named db (batch.Forget name floor) finds = refl
 
 -- a batch that names a table names it by its number also over less
 same_number : (old new : List Entry) (name : List ℕ) (n : ℕ) → IsPrefix old new → is_some (find_table name (database_of (commits_of old)).tables) ≡ true

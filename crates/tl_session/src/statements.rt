@@ -6,19 +6,13 @@ ghost use Rattle.tl_types.specs.Entries.{commits_of};
 ghost use Rattle.tl_types.specs.History.{database_of};
 ghost use Rattle.tl_types.specs.Limits.{standard_limits};
 ghost use Rattle.tl_batch.specs.Made.{batch_matches};
-ghost use Rattle.tl_engine.specs.Saying.{names_table};
 ghost use Rattle.tl_engine.specs.declared.faults.TendFault.TheVariants as tend_fault;
-ghost use Rattle.tl_session.specs.Jobs.{job_of};
-ghost use Rattle.tl_session.specs.Reading.{DoesMatch, HasBlockAt, IsKnown};
+ghost use Rattle.tl_jobs.specs.Jobs.{job_of};
+ghost use Rattle.tl_jobs.specs.Reading.{DoesMatch, HasBlockAt, IsKnown, finds_table};
 ghost use Rattle.tl_session.specs.Statements.{AnswersJob, IsLook, SeesMore, Settles, Stops, Tells, outcome_of};
 ghost use Rattle.tl_session.specs.Tending.{table_of, reading_table, if_done, IsThere, NamesTable, IsTended};
 
 use crate::access::{Access, Admission};
-use crate::crews::Crew;
-use crate::jobs::LentJob;
-use crate::paces::Pace;
-use crate::readings::{JobReading, read_job};
-use crate::replies::{Refusal, Reply, ReplyBody};
 use crate::sessions::Session;
 use std::alloc::{AllocError, Global};
 use std::sync::Wait;
@@ -26,6 +20,7 @@ use std::thread::Threads;
 use tl_csv::{AnswerWriter, BlockReader};
 use tl_device::{Disk, Gate};
 use tl_engine::{CommitFault, Engine, Named, TendFault, Tended};
+use tl_jobs::{Crew, JobReading, LentJob, Pace, Refusal, Reply, ReplyBody, read_job};
 use tl_store::Store;
 use tl_types::{Batch, NoMemory};
 
@@ -139,7 +134,7 @@ fn outcome_of(answer: Result<u32, CommitFault>) -> Option<Settled>
 }
 
 // Commits a batch of a session.
-#[tactic(auto, using(crate::proofs::StatementLemmas::settles_none))]
+#[tactic(auto, using(crate::proofs::StatementLemmas::settles_none, crate::proofs::TendingLemmas::table_named))]
 fn settle<D: Disk, J: Named, R: AllocGlobal + Wait>(
     rt: &R,
     engine: &Engine<D, J>,
@@ -147,7 +142,7 @@ fn settle<D: Disk, J: Named, R: AllocGlobal + Wait>(
     batch: Batch,
 ) -> Result<Settled, NoMemory>
     requires standard { J.limits ≡ standard_limits }
-    requires known { IsTrue (names_table (database_of (commits_of access.old.seen)) batch) }
+    requires known { IsTrue (finds_table (database_of (commits_of access.old.seen)) batch) }
     requires matching { IsTrue (batch_matches (database_of (commits_of access.old.seen)) batch) }
     ensures ok { IfOk result (λ s. Settles batch s.version s.body access.old access.new) }
     ensures err { OnErr result (SeesMore access.old access.new) }

@@ -4,9 +4,9 @@ use Rattle.tl_types.specs.Entries.{commits_of}
 use Rattle.tl_types.specs.declared.commits.Commit.{Commit}
 use Rattle.tl_query.specs.declared.ast.Statement.{Statement}
 use Rattle.tl_query.specs.Texts.{Spells}
-use Rattle.tl_session.specs.Reading.{IsReading, statement_reading}
-use Rattle.tl_session.specs.declared.readings.JobReading.{JobReading}
-use Rattle.tl_session.proofs.readings.read_job.Goals as goal
+use Rattle.tl_jobs.specs.Reading.{IsReading, statement_reading}
+use Rattle.tl_jobs.specs.declared.readings.JobReading.{JobReading}
+use Rattle.tl_jobs.proofs.readings.read_job.Goals as goal
 
 -- what is read of a statement is a reading of the text that spells it
 spelled : {E : Type 0} (commits : List Commit) (text block : List ℕ) (s : Statement) (r : Result JobReading E) → Spells text s → IfOk r (λ read. read ≡ statement_reading commits s block) → IfOk r (λ read. IsReading commits text block read)

@@ -1,12 +1,11 @@
 -- Jobs done one after the other, over a history without a break.
 use Rattle.std.specs.Prelude.{◌≡◌, ℕ, ◌+◌, List, [], ◌∷◌, ◌++◌, length}
 use Rattle.tl_types.specs.declared.commits.Commit.{Commit}
-use Rattle.tl_session.specs.declared.readings.JobReading.TheVariants.{Query}
-use Rattle.tl_session.specs.declared.replies.ReplyBody.{ReplyBody}
-use Rattle.tl_session.specs.declared.replies.ReplyBody.TheVariants as body
-use Rattle.tl_session.specs.Jobs.{Job}
-use Rattle.tl_session.specs.Turns.{Turn, Meaning, HasFault, Makes}
-use Rattle.tl_session.specs.Transcript.{Each}
+use Rattle.tl_jobs.specs.declared.readings.JobReading.TheVariants.{Query}
+use Rattle.tl_jobs.specs.declared.replies.ReplyBody.{ReplyBody}
+use Rattle.tl_jobs.specs.declared.replies.ReplyBody.TheVariants as body
+use Rattle.tl_jobs.specs.Jobs.{Job}
+use Rattle.tl_jobs.specs.Turns.{Turn, Meaning, HasFault, Makes, Each}
 
 -- the job is answered with this body at version v, over the commits so far, and those after it are
 -- there then: a query and a refusal name the number of the commits and change nothing, a batch that

@@ -2,7 +2,7 @@
 //! and a version, behind which a query's rows come as CSV.
 ghost use Rattle.std.specs.Prelude.{◌≡◌, ◌++◌, IfOk, OnOk};
 ghost use Rattle.std.specs.String.{string_bytes};
-ghost use Rattle.tl_session.specs.Replies.{text_fault_words, check_fault_words, csv_fault_words, batch_fault_words, refusal_words, version_words, reply_bytes};
+ghost use Rattle.tl_jobs.specs.Replies.{text_fault_words, check_fault_words, csv_fault_words, batch_fault_words, refusal_words, version_words, reply_bytes};
 
 use std::alloc::Global;
 use tl_csv::CsvFault;

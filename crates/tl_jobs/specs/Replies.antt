@@ -9,11 +9,11 @@ use Rattle.tl_query.specs.declared.check_faults.CheckFault.{CheckFault}
 use Rattle.tl_query.specs.declared.check_faults.CheckFault.TheVariants as check
 use Rattle.tl_csv.specs.declared.faults.CsvFault.{CsvFault}
 use Rattle.tl_csv.specs.declared.faults.CsvFault.TheVariants as csv
-use Rattle.tl_session.specs.declared.replies.Refusal.{Refusal}
-use Rattle.tl_session.specs.declared.replies.Refusal.TheVariants as refusal
-use Rattle.tl_session.specs.declared.replies.ReplyBody.{ReplyBody}
-use Rattle.tl_session.specs.declared.replies.ReplyBody.TheVariants as body
-use Rattle.tl_session.specs.declared.replies.Reply.{Reply}
+use Rattle.tl_jobs.specs.declared.replies.Refusal.{Refusal}
+use Rattle.tl_jobs.specs.declared.replies.Refusal.TheVariants as refusal
+use Rattle.tl_jobs.specs.declared.replies.ReplyBody.{ReplyBody}
+use Rattle.tl_jobs.specs.declared.replies.ReplyBody.TheVariants as body
+use Rattle.tl_jobs.specs.declared.replies.Reply.{Reply}
 
 -- THE WORDS OF FAULTS: the fault's name and, after one space each, its fields
 

@@ -14,7 +14,7 @@ pub struct Pace {
 
 impl Model for Pace {
     ghost use Rattle.std.specs.Prelude.{◌≡◌, ◌<◌, ◌≤◌};
-    ghost use Rattle.tl_session.specs.Plain as plain;
+    ghost use Rattle.tl_jobs.specs.Plain as plain;
 
     ghost Value = { plain.Pace };
 

@@ -12,7 +12,6 @@ use Rattle.tl_types.specs.History.{database_of, matches}
 use Rattle.tl_types.specs.Resolving.{find_table}
 use Rattle.tl_types.proofs.FoundTables.{table_found, schema_found, name_found}
 use Rattle.tl_batch.specs.Made.{batch_matches, rows_fit_found}
-use Rattle.tl_engine.specs.Saying.{names_table}
 use Rattle.tl_csv.specs.declared.faults.CsvFault.{CsvFault}
 use Rattle.tl_csv.specs.declared.needs.BatchKind.{BatchKind}
 use Rattle.tl_csv.specs.Block.{batch_of, IsBatchFor}
@@ -20,11 +19,11 @@ use Rattle.tl_query.specs.declared.ast.Statement.{Statement}
 use Rattle.tl_query.specs.declared.faults.TextFault.{TextFault}
 use Rattle.tl_query.specs.Texts.{Spells, IsFault, HasOneMeaning}
 use Rattle.tl_query.proofs.Deciding.{one_meaning}
-use Rattle.tl_session.specs.declared.replies.Refusal.TheVariants as refusal
-use Rattle.tl_session.specs.declared.readings.JobReading.{JobReading}
-use Rattle.tl_session.specs.declared.readings.JobReading.TheVariants as reading
-use Rattle.tl_session.specs.Jobs.{Job}
-use Rattle.tl_session.specs.Reading.{Reads, IsReading, HasOneReading, block_of, block_reading, load_into, load_reading, statement_reading}
+use Rattle.tl_jobs.specs.declared.replies.Refusal.TheVariants as refusal
+use Rattle.tl_jobs.specs.declared.readings.JobReading.{JobReading}
+use Rattle.tl_jobs.specs.declared.readings.JobReading.TheVariants as reading
+use Rattle.tl_jobs.specs.Jobs.{Job}
+use Rattle.tl_jobs.specs.Reading.{Reads, IsReading, HasOneReading, block_of, block_reading, load_into, load_reading, statement_reading, finds_table}
 
 -- ONE READING
 
@@ -74,8 +73,8 @@ batch_fits db name number schema limits kind (batch.Remove own keys) h e is = re
 batch_fits db name number schema limits kind (batch.Moment moment) h e is = refl
 batch_fits db name number schema limits kind (batch.Forget own floor) h e is = refl
 
--- and it names a table that is there
-pub batch_known : (db : plain.Database) (name : List ℕ) (number : ℕ) (schema : plain.Schema) (limits : Limits) (kind : BatchKind) (b : Batch) → option_map (λ found. found.0) (find_table name db.tables) ≡ Some number → Some schema ≡ option_map (λ u. u.schema) (slice_get db.tables number) → IsBatchFor limits schema kind b → names_table db b ≡ true
+-- and it finds its table
+pub batch_known : (db : plain.Database) (name : List ℕ) (number : ℕ) (schema : plain.Schema) (limits : Limits) (kind : BatchKind) (b : Batch) → option_map (λ found. found.0) (find_table name db.tables) ≡ Some number → Some schema ≡ option_map (λ u. u.schema) (slice_get db.tables number) → IsBatchFor limits schema kind b → finds_table db b ≡ true
 batch_known db name number schema limits kind (batch.Create made) h e is = absurd is
 batch_known db name number schema limits kind (batch.Put own rows) h e is = ap is_some (put_found db name own number schema h e is.1).1
 batch_known db name number schema limits kind (batch.Remove own keys) h e is = ap is_some (put_found db name own number schema h e is.1).1

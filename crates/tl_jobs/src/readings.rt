@@ -15,9 +15,9 @@ ghost use Rattle.tl_query.specs.declared.check_faults.CheckFault.TheVariants as 
 ghost use Rattle.tl_query.specs.declared.faults.TextFault.TheVariants as text_fault;
 ghost use Rattle.tl_csv.specs.LentBlocks.{block_at};
 ghost use Rattle.tl_csv.specs.declared.faults.CsvFault.TheVariants as csv_fault;
-ghost use Rattle.tl_session.specs.declared.readings.JobReading.TheVariants as reading;
-ghost use Rattle.tl_session.specs.Reading.{IsReading, IsFaultTold, DoesMatch, IsKnown, create_reading, load_reading, query_reading, statement_reading, text_of_answer};
-ghost use Rattle.tl_session.specs.declared.replies.Refusal.TheVariants as refusal;
+ghost use Rattle.tl_jobs.specs.declared.readings.JobReading.TheVariants as reading;
+ghost use Rattle.tl_jobs.specs.Reading.{IsReading, IsFaultTold, DoesMatch, IsKnown, create_reading, load_reading, query_reading, statement_reading, text_of_answer};
+ghost use Rattle.tl_jobs.specs.declared.replies.Refusal.TheVariants as refusal;
 
 use crate::crews::Crew;
 use crate::replies::{AnswerText, Refusal};
@@ -234,7 +234,7 @@ fn text_refusal(fault: TextFault) -> Result<Refusal, NoMemory>
 /// at the crew's place. The version that a query or a fault names is the number of the commits.
 /// A batch of rows matches the schema of its table, which is there. The work of a query may be
 /// shared by the crew's workers, and its pieces pass the crew's gate. The error is `NoMemory`.
-pub(crate) fn read_job<R: AllocGlobal + Threads + Sync, G: Gate>(
+pub fn read_job<R: AllocGlobal + Threads + Sync, G: Gate>(
     rt: &R,
     snapshot: &Snapshot,
     text: &str,

@@ -1,6 +1,6 @@
 -- What a session is asked to do.
 use Rattle.std.specs.Prelude.{ℕ, List, Option, option_map}
-use Rattle.tl_session.specs.declared.jobs.LentJob.{LentJob}
+use Rattle.tl_jobs.specs.declared.jobs.LentJob.{LentJob}
 
 -- a statement: its session's number, the line that it stands on, its text, and the bytes of its
 -- block where it has one

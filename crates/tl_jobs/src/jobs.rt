@@ -1,7 +1,7 @@
 //! What a session is asked to do: a job, which borrows its text and its block from the script.
 ghost use Rattle.std.specs.Prelude.{◌≡◌};
-ghost use Rattle.tl_session.specs.Jobs.{job_of};
-ghost use Rattle.tl_session.specs.Reading.{block_of};
+ghost use Rattle.tl_jobs.specs.Jobs.{job_of};
+ghost use Rattle.tl_jobs.specs.Reading.{block_of};
 
 /// One statement of a session.
 #[derive(Clone, Copy, Drop)]
@@ -18,7 +18,7 @@ pub struct LentJob<'a> {
 
 impl<'a> LentJob<'a> {
     /// The bytes of its block, none where it has none.
-    pub(crate) fn block_bytes(&self) -> &'a [u8]
+    pub fn block_bytes(&self) -> &'a [u8]
         ensures { result.now ≡ block_of (job_of self.now).block }
     {
         match self.block {

@@ -1,12 +1,11 @@
--- The bytes of a transcript and of a play, for the jobs of a script and the names of its sessions.
-use Rattle.std.specs.Prelude.{◌≡◌, ℕ, List, [], ◌∷◌, ◌++◌, map, get_or, Option}
+-- The bytes of turns and of a play, for the jobs of a script and the names of its sessions.
+use Rattle.std.specs.Prelude.{◌≡◌, ℕ, List, [], ◌∷◌, ◌++◌, map, get_or}
 use Rattle.std.specs.List.{flat_map}
 use Rattle.tl_types.specs.declared.commits.Commit.{Commit}
-use Rattle.tl_session.specs.Jobs.{Job}
-use Rattle.tl_session.specs.Replies.{reply_bytes}
-use Rattle.tl_session.specs.Turns.{Turn, all_turns, meant}
-use Rattle.tl_session.specs.Transcript.{Transcript}
-use Rattle.tl_session.specs.Play.{IsPlay}
+use Rattle.tl_jobs.specs.Jobs.{Job}
+use Rattle.tl_jobs.specs.Replies.{reply_bytes}
+use Rattle.tl_jobs.specs.Turns.{Turn, all_turns, meant}
+use Rattle.tl_jobs.specs.Play.{IsPlay}
 
 -- the bytes of a turn's reply, with the name that stands at the number of its session, if one does
 abbrev pub turn_bytes : List (List ℕ) → Turn → List ℕ
@@ -28,14 +27,6 @@ jobs_of turns = map (λ t. t.job) turns
 abbrev pub all_jobs : List (List Job) → List Job
 all_jobs [] = []
 all_jobs (phase ∷ phases) = phase ++ all_jobs phases
-
--- the bytes are those of turns of the phases' jobs, which make a transcript over the opening's
--- commits, all commits and this break, or none; the sessions have these names
-abbrev pub IsTranscript : List (List ℕ) → List (List Job) → List Commit → List Commit
-    → Option Commit → List ℕ → Type 0
-IsTranscript names phases opening all broke bytes =
-    (turns : List (List Turn)) × (map jobs_of turns ≡ phases)
-    × Transcript meant opening all broke turns × (bytes ≡ transcript_bytes names turns)
 
 -- the bytes are those of turns of the jobs, which were taken one after the other from the opening's
 -- commits to all commits, without a break; the sessions have these names

@@ -3,17 +3,17 @@ use Rattle.std.proofs.Common.{◌≡◌, inl, inr, ℕ, ◌+◌, List, [], ◌�
 use Rattle.tl_types.specs.declared.batches.Batch.{Batch}
 use Rattle.tl_types.specs.declared.batches.BatchFault.{BatchFault}
 use Rattle.tl_types.specs.declared.commits.Commit.{Commit}
-use Rattle.tl_session.specs.declared.readings.JobReading.{JobReading}
-use Rattle.tl_session.specs.declared.readings.JobReading.TheVariants as reading
-use Rattle.tl_session.specs.declared.replies.Refusal.TheVariants as refusal
-use Rattle.tl_session.specs.declared.replies.ReplyBody.{ReplyBody}
-use Rattle.tl_session.specs.declared.replies.ReplyBody.TheVariants as body
-use Rattle.tl_session.specs.Jobs.{Job}
-use Rattle.tl_session.specs.Turns.{Turn, meant, made}
-use Rattle.tl_session.specs.Reading.{Reads}
-use Rattle.tl_session.specs.Play.{Acts, IsPlay}
-use Rattle.tl_session.specs.Written.{IsPlayOf, jobs_of, turns_bytes}
-use Rattle.tl_session.proofs.ReadingLemmas.{one_reading, has_one_reading}
+use Rattle.tl_jobs.specs.declared.readings.JobReading.{JobReading}
+use Rattle.tl_jobs.specs.declared.readings.JobReading.TheVariants as reading
+use Rattle.tl_jobs.specs.declared.replies.Refusal.TheVariants as refusal
+use Rattle.tl_jobs.specs.declared.replies.ReplyBody.{ReplyBody}
+use Rattle.tl_jobs.specs.declared.replies.ReplyBody.TheVariants as body
+use Rattle.tl_jobs.specs.Jobs.{Job}
+use Rattle.tl_jobs.specs.Turns.{Turn, meant, made}
+use Rattle.tl_jobs.specs.Reading.{Reads}
+use Rattle.tl_jobs.specs.Play.{Acts, IsPlay}
+use Rattle.tl_jobs.specs.Written.{IsPlayOf, jobs_of, turns_bytes}
+use Rattle.tl_jobs.proofs.ReadingLemmas.{one_reading, has_one_reading}
 
 -- ONE JOB
 

@@ -1,6 +1,6 @@
 -- What a job is over a list of commits: a batch that reads well, a query with its answer, or the
 -- first fault. What a batch becomes is settled after it.
-use Rattle.std.specs.Prelude.{IsTrue, ◌≡◌, ◌≢◌, ◌⊎◌, ℕ, List, [], length, map, Option, Some, None, Result, Ok, Err}
+use Rattle.std.specs.Prelude.{IsTrue, ◌≡◌, ◌≢◌, ◌⊎◌, ℕ, Bool, true, is_some, List, [], length, map, Option, Some, None, Result, Ok, Err}
 use Rattle.tl_types.specs.declared.commits.Commit.{Commit}
 use Rattle.tl_types.specs.declared.batches.Batch.{Batch}
 use Rattle.tl_types.specs.declared.batches.Batch.TheVariants as batch
@@ -11,7 +11,6 @@ use Rattle.tl_types.specs.Plain as plain
 use Rattle.tl_types.specs.History.{database_of}
 use Rattle.tl_types.specs.Resolving.{find_table}
 use Rattle.tl_batch.specs.Made.{batch_matches}
-use Rattle.tl_engine.specs.Saying.{names_table}
 use Rattle.tl_csv.specs.declared.faults.CsvFault.{CsvFault}
 use Rattle.tl_csv.specs.declared.faults.CsvFault.TheVariants as csv_fault
 use Rattle.tl_csv.specs.declared.needs.BatchKind.{BatchKind}
@@ -30,13 +29,13 @@ use Rattle.tl_query.specs.Answers.{answer_of}
 use Rattle.tl_query.specs.Checking.{checked_create}
 use Rattle.tl_query.specs.CheckingQueries.{checked}
 use Rattle.tl_query.specs.Texts.{Spells, IsFault}
-use Rattle.tl_session.specs.declared.replies.AnswerText.{AnswerText}
-use Rattle.tl_session.specs.declared.replies.Refusal.{Refusal}
-use Rattle.tl_session.specs.declared.replies.Refusal.TheVariants as refusal
-use Rattle.tl_session.specs.declared.readings.JobReading.{JobReading}
-use Rattle.tl_session.specs.declared.readings.JobReading.TheVariants as reading
-use Rattle.tl_session.specs.declared.jobs.LentJob.{LentJob}
-use Rattle.tl_session.specs.Jobs.{Job, job_of}
+use Rattle.tl_jobs.specs.declared.replies.AnswerText.{AnswerText}
+use Rattle.tl_jobs.specs.declared.replies.Refusal.{Refusal}
+use Rattle.tl_jobs.specs.declared.replies.Refusal.TheVariants as refusal
+use Rattle.tl_jobs.specs.declared.readings.JobReading.{JobReading}
+use Rattle.tl_jobs.specs.declared.readings.JobReading.TheVariants as reading
+use Rattle.tl_jobs.specs.declared.jobs.LentJob.{LentJob}
+use Rattle.tl_jobs.specs.Jobs.{Job, job_of}
 
 -- a new table, or the fault of its form
 abbrev pub create_reading : Result plain.Schema CheckFault → JobReading
@@ -125,9 +124,17 @@ DoesMatch db (reading.Loads batch) = IsTrue (batch_matches db batch)
 DoesMatch db (reading.Query answer) = Unit {0}
 DoesMatch db (reading.Fault why) = Unit {0}
 
--- a reading that is a batch of rows: it names a table that is there
+-- a batch that puts or removes rows finds its table
+abbrev pub finds_table : plain.Database → Batch → Bool
+finds_table db (batch.Create schema) = true
+finds_table db (batch.Put name lines) = is_some (find_table name db.tables)
+finds_table db (batch.Remove name lines) = is_some (find_table name db.tables)
+finds_table db (batch.Moment moment) = true
+finds_table db (batch.Forget name floor) = true
+
+-- a reading that is a batch of rows: it finds its table
 abbrev pub IsKnown : plain.Database → JobReading → Type 0
-IsKnown db (reading.Loads batch) = IsTrue (names_table db batch)
+IsKnown db (reading.Loads batch) = IsTrue (finds_table db batch)
 IsKnown db (reading.Query answer) = Unit {0}
 IsKnown db (reading.Fault why) = Unit {0}
 

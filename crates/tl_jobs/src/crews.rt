@@ -8,15 +8,15 @@ use tl_csv::{AnswerWriter, BlockReader};
 /// work of a query pass, the reader of the session's blocks, at which of these the job is that is
 /// answered, and the writer of answers.
 #[derive(Drop)]
-pub(crate) struct Crew<'a, 'b, G> {
+pub struct Crew<'a, 'b, G> {
     /// How many workers share the work of a query, and when a mark is due.
-    pub(crate) pace: &'a Pace,
+    pub pace: &'a Pace,
     /// What the pieces of the work of a query pass.
-    pub(crate) gate: &'a G,
+    pub gate: &'a G,
     /// What reads the blocks of the session's jobs, one for each job, in order.
-    pub(crate) reader: BlockReader<'b>,
+    pub reader: BlockReader<'b>,
     /// The place of the job among these.
-    pub(crate) place: usize,
+    pub place: usize,
     /// What writes their answers.
-    pub(crate) writer: AnswerWriter,
+    pub writer: AnswerWriter,
 }

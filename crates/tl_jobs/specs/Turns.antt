@@ -9,13 +9,13 @@ use Rattle.tl_types.specs.declared.batches.BatchFault.{BatchFault}
 use Rattle.tl_types.specs.Limits.{standard_limits}
 use Rattle.tl_types.specs.History.{database_of}
 use Rattle.tl_types.specs.Resolving.{resolved}
-use Rattle.tl_session.specs.declared.replies.Refusal.{Refusal}
-use Rattle.tl_session.specs.declared.replies.Refusal.TheVariants as refusal
-use Rattle.tl_session.specs.declared.replies.Reply.{Reply}
-use Rattle.tl_session.specs.declared.readings.JobReading.{JobReading}
-use Rattle.tl_session.specs.declared.readings.JobReading.TheVariants.{Loads, Fault}
-use Rattle.tl_session.specs.Jobs.{Job}
-use Rattle.tl_session.specs.Reading.{Reads}
+use Rattle.tl_jobs.specs.declared.replies.Refusal.{Refusal}
+use Rattle.tl_jobs.specs.declared.replies.Refusal.TheVariants as refusal
+use Rattle.tl_jobs.specs.declared.replies.Reply.{Reply}
+use Rattle.tl_jobs.specs.declared.readings.JobReading.{JobReading}
+use Rattle.tl_jobs.specs.declared.readings.JobReading.TheVariants.{Loads, Fault}
+use Rattle.tl_jobs.specs.Jobs.{Job}
+use Rattle.tl_jobs.specs.Reading.{Reads}
 
 -- a job and its reply
 pub record Turn : Type 0 where
@@ -29,6 +29,16 @@ pub record Meaning : Type 1 where
 -- the meaning of the jobs of a script
 abbrev pub meant : Meaning
 meant = record { reads = Reads }
+
+-- P holds of each turn of a list
+abbrev pub Each : (Turn → Type 0) → List Turn → Type 0
+Each P [] = Unit {0}
+Each P (t ∷ ts) = P t × Each P ts
+
+-- P holds of each turn of all phases
+abbrev pub EachOfAll : (Turn → Type 0) → List (List Turn) → Type 0
+EachOfAll P [] = Unit {0}
+EachOfAll P (phase ∷ phases) = Each P phase × EachOfAll P phases
 
 -- the turns of the session s, in order
 abbrev pub of_session : ℕ → List Turn → List Turn

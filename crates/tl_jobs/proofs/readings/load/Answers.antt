@@ -2,8 +2,8 @@ use Rattle.std.proofs.Common.{Ok, Err, sym}
 use Rattle.tl_csv.specs.LentBlocks.{block_at}
 use Rattle.tl_types.specs.History.{database_of}
 use Rattle.tl_types.proofs.FoundTables.{table_found}
-use Rattle.tl_session.proofs.ReadingLemmas.{lent_load, batch_fits, batch_known}
-use Rattle.tl_session.proofs.readings.load.Goals as goal
+use Rattle.tl_jobs.proofs.ReadingLemmas.{lent_load, batch_fits, batch_known}
+use Rattle.tl_jobs.proofs.readings.load.Goals as goal
 
 pub schema-schema-requires : goal.schema-schema-requires
 schema-schema-requires c = (table_found (database_of c.args.store.now) c.args.name.now.text c.in-Some.number (rw c.as_str.ensures.bytes at (sym c.in-Some.ensures))).within

@@ -1,7 +1,7 @@
 -- The jobs of a script as the sessions that are asked to do them see them.
 use Rattle.std.specs.Prelude.{List, map}
 use Rattle.tl_script.specs.Script.{Job as ScriptJob}
-use Rattle.tl_session.specs.Jobs.{Job}
+use Rattle.tl_jobs.specs.Jobs.{Job}
 
 -- a job of a script, for its session
 abbrev pub asked : ScriptJob → Job

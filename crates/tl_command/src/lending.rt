@@ -2,11 +2,11 @@
 //! stand.
 ghost use Rattle.std.specs.Prelude.{◌≡◌, IfOk, map, option_map};
 ghost use Rattle.tl_command.specs.Jobs.{asked};
-ghost use Rattle.tl_session.specs.Jobs.{job_of};
+ghost use Rattle.tl_jobs.specs.Jobs.{job_of};
 
 use std::alloc::Global;
+use tl_jobs::LentJob;
 use tl_script::Job;
-use tl_session::LentJob;
 use tl_types::{Bytes, NoMemory};
 
 fn lent_block(block: &Option<Bytes>) -> Option<&[u8]>

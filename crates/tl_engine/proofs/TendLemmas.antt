@@ -29,44 +29,6 @@ use Rattle.tl_engine.specs.Standing.{IsHistory, DiskStandsForHistory}
 use Rattle.tl_engine.specs.Tending.{IsCheckpoint, AddsMark, MarkSays, HasRead, TendSays}
 use Rattle.tl_engine.proofs.CountLemmas.{begins_on, news_split}
 
--- ONE MARK MORE
-
--- all that was tried is the same
-tried_with_mark : (entries : List Entry) (t v : ℕ) → tried_commits (entries ++ mark_entry t v ∷ []) ≡ tried_commits entries
-tried_with_mark [] t v = refl
-tried_with_mark (entry.Commit d ∷ entries) t v = ap (λ cs. d ∷ cs) (tried_with_mark entries t v)
-tried_with_mark (entry.Mark table version ∷ entries) t v = tried_with_mark entries t v
-tried_with_mark (entry.Break d ∷ entries) t v = ap (λ cs. d ∷ cs) (tried_with_mark entries t v)
-
--- what a history keeps speaks of its commits and its break alone
-pub keeps_with_mark : {D : Type 0} (faults : D → ℕ) (keys : List IdsByKey) (old new : plain.History D) (t v : ℕ)
-    → new.entries ≡ old.entries ++ mark_entry t v ∷ [] → new.journal ≡ old.journal → new.first_count ≡ old.first_count → new.limits ≡ old.limits
-    → IsHistory faults keys old → IsHistory faults keys new
-keeps_with_mark faults keys old new t v more journal first limits kept =
-    let cs : commits_of new.entries ≡ commits_of old.entries = ap commits_of more ∙ commits_with_mark old.entries t v in
-    let b : has_break new.entries ≡ has_break old.entries = ap has_break more ∙ break_with_mark old.entries t v in
-    rw (limits) (record {
-      within = kept.within;
-      keeps_up = record {
-        keys_stand = λ w. rw cs (kept.keeps_up.keys_stand (sym b ∙ w));
-        unbroken = λ w. rw journal (kept.keeps_up.unbroken (sym b ∙ w));
-      };
-      count = rw (b, first, journal) kept.count;
-    })
-
-pub stands_with_mark : {D : Type 0} (reads : D → Option (List ℕ)) (may_leave : D → List ℕ → Type 0) (old new : plain.History D) (t v : ℕ)
-    → new.entries ≡ old.entries ++ mark_entry t v ∷ [] → new.journal ≡ old.journal
-    → DiskStandsForHistory reads may_leave old → DiskStandsForHistory reads may_leave new
-stands_with_mark reads may_leave old new t v more journal stands =
-    let cs : commits_of new.entries ≡ commits_of old.entries = ap commits_of more ∙ commits_with_mark old.entries t v in
-    let b : has_break new.entries ≡ has_break old.entries = ap has_break more ∙ break_with_mark old.entries t v in
-    let tried : tried_commits new.entries ≡ tried_commits old.entries = ap tried_commits more ∙ tried_with_mark old.entries t v in
-    record {
-      whole = λ w. rw (journal, cs) (stands.whole (sym b ∙ w));
-      leaves = λ image left. rw (cs, tried) (stands.leaves image (subst (λ (j : Rattle.tl_journal.specs.Plain.Journal _). may_leave j.disk image) journal left));
-      reads_as = rw (journal, cs, tried) stands.reads_as;
-    }
-
 -- WHAT A COMMITTER KEEPS
 
 pub committing_mark : {D : Type 0} (first_entries : List Entry) (count : ℕ) (limits : Limits) (written more : List Entry) (total next_total : ℕ) (old new : plain.History D) (t v : ℕ)
@@ -145,41 +107,6 @@ tend_says table k old list new read version t answer begins is read_is version_i
       by_answer (Err fault.NoMemory) s = begins_on old list new begins s
 
 -- THE TWO HALVES
-
-table_of : (table version : ℕ) (t : Option types.Table) → (checkpoint_of table version t).table ≡ table
-table_of table version None = refl
-table_of table version (Some t) = refl
-
-version_of : (table version : ℕ) (t : Option types.Table) → (checkpoint_of table version t).version ≡ version
-version_of table version None = refl
-version_of table version (Some t) = refl
-
--- table and version of a checkpoint at the version of these entries
-pub record IsBuilt (entries : List Entry) (table : ℕ) (checkpoint : Checkpoint) : Type 0 where
-  pub table_is : checkpoint.table ≡ table
-  pub version_is : checkpoint.version ≡ version_after entries
-  pub is : IsCheckpoint entries checkpoint
-
-pub is_built : (entries : List Entry) (table : ℕ) (checkpoint : Checkpoint) → table < length (database_behind entries).tables → checkpoint ≡ checkpoint_at (database_behind entries) table (length (commits_of entries)) → IsBuilt entries table checkpoint
-is_built entries table checkpoint there built =
-    let version = version_after entries in
-    let t : checkpoint.table ≡ table = ap (λ (c : Checkpoint). c.table) built ∙ table_of table version (slice_get (database_behind entries).tables table) in
-    let v : checkpoint.version ≡ version = ap (λ (c : Checkpoint). c.version) built ∙ version_of table version (slice_get (database_behind entries).tables table) in
-    record {
-      table_is = t;
-      version_is = v;
-      is = record {
-        there = subst (λ n. n < length (database_behind entries).tables) (sym t) there;
-        reached = omega (arith, v);
-        value_is = built ∙ ap (λ n. checkpoint_at (database_behind entries) n version) (sym t) ∙ ap (λ n. checkpoint_at (database_behind entries) checkpoint.table n) (sym v);
-      };
-    }
-
--- the version of a database is the number of its commits
-pub built_now : {E : Type 0} (entries : List Entry) (table : ℕ) (answer : Result Checkpoint E)
-    → IfOk answer (λ c. c ≡ checkpoint_at (database_behind entries) table (database_behind entries).version) → IfOk answer (λ c. c ≡ checkpoint_at (database_behind entries) table (length (commits_of entries)))
-built_now entries table (Ok c) is = is ∙ ap (checkpoint_at (database_behind entries) table) (version_behind entries)
-built_now entries table (Err e) is = tt
 
 -- the checkpoint that was built of what was read is that of what the pass had then seen
 pub checkpoint_seen : (old seen snapshot : List Entry) (table : ℕ) (checkpoint : Checkpoint) → IsPrefix old seen → snapshot ≡ seen → table < length (database_behind old).tables

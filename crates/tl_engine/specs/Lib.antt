@@ -1,15 +1,7 @@
-pub mod Answers
 pub mod Calls
-pub mod Committing
 pub mod Counting
-pub mod Fitting
 pub mod Heads
-pub mod Lists
 pub mod Naming
-pub mod Opening
 pub mod Plain
-pub mod Replaying
 pub mod Saying
-pub mod Standing
 pub mod Tending
-pub mod Writing

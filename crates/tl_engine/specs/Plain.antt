@@ -1,17 +1,7 @@
--- What contracts see of a history.
-use Rattle.std.specs.Prelude.{ℕ, List}
+-- What contracts see of an opening.
+use Rattle.std.specs.Prelude.{ℕ}
 use Rattle.atomic_table.specs.Seated.{TableId}
-use Rattle.tl_types.specs.declared.commits.Entry.{Entry}
-use Rattle.tl_types.specs.declared.limits.Limits.{Limits}
-use Rattle.tl_journal.specs.Plain as journal
-
--- the entries, the journal on its disk, the count of faults that the disk had when the journal was
--- opened, and the limits
-pub record History (D : Type 0) : Type 0 where
-  pub entries : List Entry
-  pub journal : journal.Journal D
-  pub first_count : ℕ
-  pub limits : Limits
+use Rattle.tl_history.specs.Plain.{History}
 
 -- a history that is to be an engine's, the table of its head, and the name and the parts of the
 -- ledger of its commits

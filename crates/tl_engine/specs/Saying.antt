@@ -19,10 +19,6 @@ abbrev pub becomes : Limits → ℕ → Batch → List Entry → Result Commit B
 becomes limits author batch entries =
     resolved limits (database_of (commits_of entries)) author batch
 
--- how many of the entries are commits
-abbrev pub version_after : List Entry → ℕ
-version_after entries = length (commits_of entries)
-
 -- what was seen begins a base without a break; over the base the batch becomes a commit; the base
 -- and the entry made of that commit are seen now
 pub record Adds (meaning : List Entry → Result Commit BatchFault) (of_commit : Commit → Entry)
@@ -56,3 +52,15 @@ CommitSays meaning first_count old new before after (Ok version) =
     × (after ≡ before + 1)
 CommitSays meaning first_count old new before after (Err f) =
     FailSays meaning first_count old new before after f
+
+-- what is published where a commit fails: its break, where the disk failed
+abbrev pub shown_at : CommitFault → List Entry → Option (List Entry)
+shown_at (fault.Broken version) broken = None
+shown_at (fault.Refused version refusal) broken = None
+shown_at fault.NoMemory broken = None
+shown_at (fault.Device version count) broken = Some broken
+
+-- what is published where a commit is answered so
+abbrev pub shown_by : Result ℕ CommitFault → List Entry → List Entry → Option (List Entry)
+shown_by (Ok version) next broken = Some next
+shown_by (Err f) next broken = shown_at f broken

@@ -13,13 +13,6 @@ use Rattle.tl_engine.specs.declared.faults.TendFault.{TendFault}
 use Rattle.tl_engine.specs.declared.faults.TendFault.TheVariants as fault
 use Rattle.tl_engine.specs.Saying.{version_after}
 
--- the table and the version are there, and this is the checkpoint of the one at the other
-pub record IsCheckpoint (entries : List Entry) (checkpoint : Checkpoint) : Type 0 where
-  pub there : checkpoint.table < length (database_behind entries).tables
-  pub reached : checkpoint.version ≤ version_after entries
-  pub value_is : checkpoint
-      ≡ checkpoint_at (database_behind entries) checkpoint.table checkpoint.version
-
 -- ONCE THE CHECKPOINT IS THERE
 
 -- the mark is the last entry that is seen now; before it there was neither a break nor that mark

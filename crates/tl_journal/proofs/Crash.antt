@@ -2,12 +2,13 @@
 use Rattle.std.proofs.Common.{◌≡◌, ◌≢◌, inl, inr, ℕ, ◌+◌, List, [], ◌∷◌, ◌++◌, length, get_or, take, drop, sym, refl, ◌∙◌, ap, subst, arith, append_assoc, length-append, take-append-drop}
 use mathlib.Core.Logic.{dite}
 use native.Mathlib.Decide.{ℕ_discrete}
-use Rattle.std.proofs.lemmas.List.{take_at, drop_at, drop_more, take_all, append-nil}
+use Rattle.std.proofs.lemmas.List.{take_at, drop_at, drop_more, take_all}
 use Rattle.tl_types.specs.declared.commits.Commit.{Commit}
 use Rattle.tl_record.specs.Spelling.{spelling, IsCommit}
 use Rattle.tl_device.specs.Disk.{Holds, Torn, Follows, Only}
-use Rattle.tl_journal.specs.Image.{header, OpenGates, Ends, BeforeOrAfter}
+use Rattle.tl_journal.specs.Image.{header, OpenGates, Ends, IsGroup, NoneOrAll}
 use Rattle.tl_journal.specs.Gates.{EndsGated}
+use Rattle.tl_journal.proofs.Grouped.{inner_of, opens_all}
 
 length_snoc : (front : List ℕ) (x : ℕ) → length (front ++ x ∷ []) ≡ length front + 1
 length_snoc front x = length-append front (x ∷ [])
@@ -46,15 +47,13 @@ torn_gate front r at c is torn =
 
 -- one commit more behind open gates
 pub opens_more : (cs : List Commit) (front : List ℕ) (c : Commit) (gate : ℕ) → gate ≢ 0 → IsCommit c → OpenGates cs front → OpenGates (cs ++ c ∷ []) (front ++ gate ∷ spelling c)
-opens_more [] front c gate is_open fits is = (gate, [], is_open, fits, ap (λ l. l ++ gate ∷ spelling c) is ∙ ap (λ l. gate ∷ l) (sym (append-nil (spelling c))), refl)
-opens_more (x ∷ cs) front c gate is_open fits o = let t = o.1 in
-    (o.0, t ++ gate ∷ spelling c, o.2, o.3, ap (λ l. l ++ gate ∷ spelling c) o.4 ∙ ap (λ l. o.0 ∷ l) (append_assoc (spelling x) t (gate ∷ spelling c)), opens_more cs t c gate is_open fits o.5)
+opens_more cs front c gate is_open fits o = opens_all cs (c ∷ []) front gate is_open fits o
 
--- whatever the gate is, the image stands for the commits with the new one or without
-pub gated : (cs : List Commit) (c : Commit) (front image : List ℕ) → IsCommit c → OpenGates cs front → EndsGated (header ++ front) (spelling c) image → BeforeOrAfter cs c image
-gated cs c front image fits o e = dite (ℕ_discrete e.0 0)
-    (λ shut. inl (front, o, (spelling c ++ 0 ∷ [], e.1 ∙ ap (λ g. (header ++ front) ++ g ∷ (spelling c ++ 0 ∷ [])) shut)))
-    (λ is_open. inr (front ++ e.0 ∷ spelling c, opens_more cs front c e.0 is_open fits o, ([], e.1 ∙ sym (append_assoc (header ++ front) (e.0 ∷ spelling c) (0 ∷ [])) ∙ ap (λ l. l ++ 0 ∷ []) (append_assoc header front (e.0 ∷ spelling c)))))
+-- whatever the gate is, the image stands for the commits with all of the group or without
+pub gated : (cs group : List Commit) (front image : List ℕ) → IsGroup group → OpenGates cs front → EndsGated (header ++ front) (inner_of group) image → NoneOrAll cs group image
+gated cs group front image is o e = dite (ℕ_discrete e.0 0)
+    (λ shut. inl (front, o, (inner_of group ++ 0 ∷ [], e.1 ∙ ap (λ g. (header ++ front) ++ g ∷ (inner_of group ++ 0 ∷ [])) shut)))
+    (λ is_open. inr (front ++ e.0 ∷ inner_of group, opens_all cs group front e.0 is_open is o, ([], e.1 ∙ sym (append_assoc (header ++ front) (e.0 ∷ inner_of group) (0 ∷ [])) ∙ ap (λ l. l ++ 0 ∷ []) (append_assoc header front (e.0 ∷ inner_of group)))))
 
 pub gate_leaves : (front r : List ℕ) (at : ℕ) (old new : List ℕ → Type 0) → at ≡ length front → Only (front ++ 0 ∷ (r ++ 0 ∷ [])) old → Follows (Torn at 1) old new → (c : List ℕ) → new c → EndsGated front r c
 gate_leaves front r at old new is only follows c left =
@@ -71,5 +70,5 @@ pub gate_at_start : (front r : List ℕ) → EndsGated front r (front ++ 0 ∷ (
 gate_at_start front r = (0, refl)
 
 -- with the old gate closed the image stands for the commits before
-pub before_or_after : (cs : List Commit) (front : List ℕ) (c : Commit) → OpenGates cs front → (image : List ℕ) → Ends (header ++ front) image → BeforeOrAfter cs c image
-before_or_after cs front c o image e = inl (front, o, e)
+pub none_yet : (cs group : List Commit) (front : List ℕ) → OpenGates cs front → (image : List ℕ) → Ends (header ++ front) image → NoneOrAll cs group image
+none_yet cs group front o image e = inl (front, o, e)

@@ -6,7 +6,7 @@ use Rattle.tl_types.specs.declared.commits.Commit.{Commit}
 use Rattle.tl_types.specs.declared.commits.Body.TheVariants as body
 use Rattle.tl_record.specs.Spelling.{spelling}
 use Rattle.tl_record.proofs.Examples.{employees, row, change}
-use Rattle.tl_journal.specs.Image.{header, size_of}
+use Rattle.tl_journal.specs.Image.{header, size_of, body_of}
 
 abbrev created : Commit
 created = record { author = 0; body = body.Create employees }
@@ -39,6 +39,17 @@ fifth_gate = refl
 
 last_gate : 16 + size_of history ≡ 220
 last_gate = refl
+
+-- the body of the whole history as a group, and of its first commit alone
+group_body : length (body_of history) ≡ 204
+group_body = refl
+
+one_body : body_of (take 1 history) ≡ spelling created ++ 0 ∷ []
+one_body = refl
+
+-- behind an open gate it is the history's journal
+group_image : header ++ 1 ∷ body_of history ≡ (header ++ fronts history) ++ 0 ∷ []
+group_image = refl
 
 -- the same with a moment and a floor behind it
 

@@ -2,6 +2,7 @@ pub mod Appended
 pub mod Crash
 pub mod Damage
 pub mod Examples
+pub mod Grouped
 pub mod Headed
 pub mod Listed
 pub mod Opened

@@ -28,13 +28,34 @@ Carries cs rest = (front : List ℕ) × OpenGates cs front × Ends front rest
 abbrev pub ImageStandsFor : List Commit → List ℕ → Type 0
 ImageStandsFor cs image = (front : List ℕ) × OpenGates cs front × Ends (header ++ front) image
 
--- the image of a journal of these commits, without this one or with it
+-- the image of a journal of these commits, without those of the group or with all of them
+abbrev pub NoneOrAll : List Commit → List Commit → List ℕ → Type 0
+NoneOrAll cs group image = ImageStandsFor cs image ⊎ ImageStandsFor (cs ++ group) image
+
+-- the same of a group of one commit
 abbrev pub BeforeOrAfter : List Commit → Commit → List ℕ → Type 0
 BeforeOrAfter cs c image = ImageStandsFor cs image ⊎ ImageStandsFor (cs ++ c ∷ []) image
 
 -- the record of a commit with a closed gate behind it, as an append writes it
 abbrev pub IsBodyOf : Commit → List ℕ → Type 0
 IsBodyOf c body = IsCommit c × (body ≡ spelling c ++ 0 ∷ [])
+
+-- one or more commits
+abbrev pub IsGroup : List Commit → Type 0
+IsGroup [] = ⊥
+IsGroup (c ∷ []) = IsCommit c
+IsGroup (c ∷ d ∷ cs) = IsCommit c × IsGroup (d ∷ cs)
+
+-- the records of a group, each with an open gate behind it, but for the last, which has a closed
+-- one
+abbrev pub body_of : List Commit → List ℕ
+body_of [] = []
+body_of (c ∷ []) = spelling c ++ 0 ∷ []
+body_of (c ∷ d ∷ cs) = spelling c ++ 1 ∷ body_of (d ∷ cs)
+
+-- the body of a group of one or more commits
+abbrev pub IsBodyOfAll : List Commit → List ℕ → Type 0
+IsBodyOfAll group body = IsGroup group × (body ≡ body_of group)
 
 -- how many bytes the open gates and records of these commits take
 abbrev pub size_of : List Commit → ℕ

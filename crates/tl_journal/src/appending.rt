@@ -1,10 +1,10 @@
-//! The calls of the disk with which a commit is appended: its body behind the closed gate, a sync,
-//! the gate opened, a sync. Where one fails, the later ones are left out.
+//! The calls of the disk with which a group of commits is appended: its body behind the closed
+//! gate, a sync, the gate opened, a sync. Where one fails, the later ones are left out.
 ghost use Rattle.std.specs.Prelude.{◌≡◌, ◌+◌, ◌^◌, ◌<◌, ◌≤◌, ◌++◌, ◌∷◌, [], ℕ, List, length, IfSome, OnOk, OnErr};
 ghost use Rattle.tl_types.specs.declared.commits.Commit.{Commit};
 ghost use Rattle.tl_device.specs.Known.{Rose};
 ghost use Rattle.tl_device.specs.Disk.{IsStored};
-ghost use Rattle.tl_journal.specs.Image.{Ends, BeforeOrAfter, IsBodyOf};
+ghost use Rattle.tl_journal.specs.Image.{Ends, NoneOrAll, IsBodyOfAll};
 ghost use Rattle.tl_journal.specs.Gates.{EndsGated};
 ghost use Rattle.tl_journal.specs.Stands.{DiskStandsFor};
 ghost use Rattle.tl_journal.specs.Moments.{EachMoment, TellsStill};
@@ -36,7 +36,7 @@ fn stage<D: Disk>(disk: &mut D, at: u64, body: &[u8]) -> Result<(), Failed>
     disk.sync()
 }
 
-// Opens the gate before the record, and syncs.
+// Opens the gate before the body, and syncs.
 fn open_gate<D: Disk>(disk: &mut D, at: u64) -> Result<(), Failed>
     requires at { IfSome (D.reads disk.old) (λ b. at ≤ length b) }
     requires ready { D.ready disk.old 1 2 }
@@ -61,7 +61,7 @@ fn open_gate<D: Disk>(disk: &mut D, at: u64) -> Result<(), Failed>
     Ok(())
 }
 
-// Appends the commit whose record stands in `body` with a closed gate behind it.
+// Appends the group of commits whose body this is.
 pub(crate) fn put<D: Disk>(disk: &mut D, gate: u64, body: &[u8]) -> Result<(), Failed>
     requires gate { (gate + 1 < 2 ^ 64)
         × IfSome (D.reads disk.old) (λ b. gate + 1 ≤ length b) }
@@ -72,16 +72,16 @@ pub(crate) fn put<D: Disk>(disk: &mut D, gate: u64, body: &[u8]) -> Result<(), F
     ensures written { (front : List ℕ) →
         IsStored D.reads D.may_leave disk.old (front ++ 0 ∷ []) → gate ≡ length front →
         OnOk result (IsStored D.reads D.may_leave disk.new (front ++ 1 ∷ body.now)) }
-    ensures stored { (cs : List Commit) (c : Commit) → IsBodyOf c body.now →
+    ensures stored { (cs group : List Commit) → IsBodyOfAll group body.now →
         DiskStandsFor D.reads D.may_leave disk.old cs gate →
-        OnOk result (DiskStandsFor D.reads D.may_leave disk.new (cs ++ c ∷ [])
+        OnOk result (DiskStandsFor D.reads D.may_leave disk.new (cs ++ group)
         (gate + length body.now)) }
-    ensures any_moment { (cs : List Commit) (c : Commit) → IsBodyOf c body.now →
+    ensures any_moment { (cs group : List Commit) → IsBodyOfAll group body.now →
         DiskStandsFor D.reads D.may_leave disk.old cs gate →
-        EachMoment D.moment D.left_since disk.old disk.new (BeforeOrAfter cs c) }
-    ensures now { (cs : List Commit) (c : Commit) → IsBodyOf c body.now →
+        EachMoment D.moment D.left_since disk.old disk.new (NoneOrAll cs group) }
+    ensures now { (cs group : List Commit) → IsBodyOfAll group body.now →
         DiskStandsFor D.reads D.may_leave disk.old cs gate →
-        (image : List ℕ) → D.may_leave disk.new image → BeforeOrAfter cs c image }
+        (image : List ℕ) → D.may_leave disk.new image → NoneOrAll cs group image }
     ensures tells { TellsStill D.reads disk.old disk.new }
     ensures sure { OnOk result (D.faults disk.new ≡ D.faults disk.old) }
     ensures rose { OnErr result (Rose (D.faults disk.old) (D.faults disk.new)) }

@@ -1,10 +1,11 @@
-//! A journal on a disk: made, opened, appended to. What a crash leaves stands for each commit that
-//! was acknowledged; a journal whose disk failed in an append refuses all further ones.
+//! A journal on a disk: made, opened, appended to, by one commit or by a group of commits at once.
+//! What a crash leaves stands for each commit that was acknowledged, and for all of a group or none
+//! of it; a journal whose disk failed in an append refuses all further ones.
 ghost use Rattle.std.specs.Prelude.{◌≡◌, ◌+◌, ◌^◌, ◌<◌, ◌≤◌, ◌++◌, ◌∷◌, [], ℕ, List, length, Some, None, Err, IfSome, IfOk, OnOk, OnErr, IfErr};
 ghost use Rattle.tl_types.specs.declared.commits.Commit.{Commit as CommitValue};
 ghost use Rattle.tl_device.specs.Known.{Rose};
 ghost use Rattle.tl_device.specs.Disk.{IsStored};
-ghost use Rattle.tl_journal.specs.Image.{ImageStandsFor, BeforeOrAfter, IsBodyOf, ImageStandsOnlyFor, IsDamagedOnlyAt};
+ghost use Rattle.tl_journal.specs.Image.{ImageStandsFor, NoneOrAll, BeforeOrAfter, IsBodyOf, IsBodyOfAll, ImageStandsOnlyFor, IsDamagedOnlyAt};
 ghost use Rattle.tl_journal.specs.Moments.{EachMoment, EachMomentBySync, IsUntouched, LosesNothing, IsAsBefore, IsDurable, IsAsBeforeOrDurable, TellsStill, IsShort, OldOr};
 ghost use Rattle.tl_journal.specs.Opening.{HasRead, commits_found, HaveGatesFrom};
 ghost use Rattle.tl_journal.specs.Stands.{JournalStandsFor, IsReady, SameOrTrimmed, empty_journal};
@@ -255,6 +256,48 @@ impl<D: Disk> Journal<D> {
         ensures reads { (cs : List CommitValue) (c : CommitValue) →
             JournalStandsFor D.reads D.may_leave self.old cs → IsBodyOf c body.now →
             (image : List ℕ) → D.reads self.new.disk ≡ Some image → BeforeOrAfter cs c image }
+        ensures tells { TellsStill D.reads self.old.disk self.new.disk }
+        ensures sure { OnOk result (D.faults self.new.disk ≡ D.faults self.old.disk) }
+        ensures whole { OnOk result ((self.old.broken ≡ None) × (self.new.broken ≡ None)) }
+        ensures spent { self.new.spare ≡ 0 }
+        ensures device { (faults : ℕ) → result ≡ Err (failure.Device faults) →
+            (faults ≡ D.faults self.new.disk) × (self.old.broken ≡ None)
+            × (self.new.broken ≡ Some faults)
+            × Rose (D.faults self.old.disk) (D.faults self.new.disk) }
+        ensures broken { (faults : ℕ) → result ≡ Err (failure.Broken faults) →
+            (self.old.broken ≡ Some faults) × (self.new ≡ record self.old { spare = 0 }) }
+        ensures from_broken { (faults : ℕ) → self.old.broken ≡ Some faults →
+            result ≡ Err (failure.Broken faults) }
+    {
+        self.append_all(body)
+    }
+
+    /// Appends a group of one or more commits, all of them or none. `body` has their records, each
+    /// with an open gate behind it, but for the last, which has a closed one; it is no longer than
+    /// the spare that `reserve` made. It writes the body behind the journal's closed gate, syncs,
+    /// writes 1 into that gate and syncs. It takes no memory, and leaves no spare.
+    ///
+    /// `Device`: the disk failed in this call. It then stands for the commits before, or for these
+    /// and all of the group, and the journal is broken. `Broken`: an earlier append answered
+    /// `Device`, with this count; nothing but the spare has changed.
+    pub fn append_all(&mut self, body: &Bytes) -> Result<(), AppendFault>
+        requires body { (group : List CommitValue) × IsBodyOfAll group body.now }
+        requires fits { length body.now ≤ self.old.spare }
+        ensures stored { (cs group : List CommitValue) →
+            JournalStandsFor D.reads D.may_leave self.old cs → IsBodyOfAll group body.now →
+            OnOk result (JournalStandsFor D.reads D.may_leave self.new (cs ++ group)) }
+        ensures written { (front : List ℕ) → self.old.gate ≡ length front →
+            IsStored D.reads D.may_leave self.old.disk (front ++ 0 ∷ []) →
+            OnOk result (IsStored D.reads D.may_leave self.new.disk (front ++ 1 ∷ body.now)) }
+        ensures any_moment { (cs group : List CommitValue) →
+            JournalStandsFor D.reads D.may_leave self.old cs → IsBodyOfAll group body.now →
+            EachMoment D.moment D.left_since self.old.disk self.new.disk (NoneOrAll cs group) }
+        ensures now { (cs group : List CommitValue) →
+            JournalStandsFor D.reads D.may_leave self.old cs → IsBodyOfAll group body.now →
+            (image : List ℕ) → D.may_leave self.new.disk image → NoneOrAll cs group image }
+        ensures reads { (cs group : List CommitValue) →
+            JournalStandsFor D.reads D.may_leave self.old cs → IsBodyOfAll group body.now →
+            (image : List ℕ) → D.reads self.new.disk ≡ Some image → NoneOrAll cs group image }
         ensures tells { TellsStill D.reads self.old.disk self.new.disk }
         ensures sure { OnOk result (D.faults self.new.disk ≡ D.faults self.old.disk) }
         ensures whole { OnOk result ((self.old.broken ≡ None) × (self.new.broken ≡ None)) }

@@ -5,8 +5,8 @@ use Rattle.tl_types.specs.declared.commits.Commit.{Commit}
 use Rattle.tl_device.specs.Known.{append_known, prepend_known, Rose}
 use Rattle.tl_script.specs.declared.jobs.ScriptFault.{ScriptFault}
 use Rattle.tl_script.specs.Script.{ScriptReading}
-use Rattle.tl_session.specs.Turns.{Turn}
-use Rattle.tl_session.specs.Written.{jobs_of, transcript_bytes}
+use Rattle.tl_jobs.specs.Turns.{Turn}
+use Rattle.tl_jobs.specs.Written.{jobs_of, transcript_bytes}
 use Rattle.tl_journal.specs.declared.faults.JournalFault.{JournalFault}
 use Rattle.tl_journal.specs.declared.faults.JournalFault.TheVariants as journal
 use Rattle.tl_command.specs.declared.statuses.Status.{Status}

@@ -6,10 +6,9 @@ use Rattle.tl_device.specs.Known.{append_known, prepend_known, Rose}
 use Rattle.tl_script.specs.declared.jobs.ScriptFault.{ScriptFault}
 use Rattle.tl_script.specs.Script.{ScriptReading, Job as ScriptJob}
 use Rattle.tl_script.specs.Taking.{IsAtEnd}
-use Rattle.tl_session.specs.Turns.{Turn, all_turns}
-use Rattle.tl_session.specs.Transcript.{Each}
-use Rattle.tl_session.specs.Play.{AreLone, AreOfOne, AreLonePhases}
-use Rattle.tl_session.specs.Written.{all_jobs, jobs_of, transcript_bytes}
+use Rattle.tl_jobs.specs.Turns.{Turn, all_turns, Each}
+use Rattle.tl_jobs.specs.Play.{AreLone, AreOfOne, AreLonePhases}
+use Rattle.tl_jobs.specs.Written.{all_jobs, jobs_of, transcript_bytes}
 use Rattle.tl_journal.specs.Answers.{CountsFaults}
 use Rattle.tl_journal.specs.declared.faults.JournalFault.{JournalFault}
 use Rattle.tl_journal.specs.declared.faults.JournalFault.TheVariants as journal

@@ -3,7 +3,7 @@ use Rattle.std.proofs.Common.{◌≡◌, ℕ, Bool, true, false, ◌≤◌, List
 use Rattle.std.specs.declared.option.Option.{Option}
 use Rattle.tl_device.specs.Known.{Rose}
 use Rattle.tl_script.specs.Script.{ScriptReading}
-use Rattle.tl_session.specs.Turns.{Turn}
+use Rattle.tl_jobs.specs.Turns.{Turn}
 use Rattle.tl_journal.specs.Answers.{CountsFaults, IsTooLong}
 use Rattle.tl_journal.specs.declared.faults.JournalFault.{JournalFault}
 use Rattle.tl_journal.specs.declared.faults.JournalFault.TheVariants as journal

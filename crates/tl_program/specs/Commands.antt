@@ -5,7 +5,7 @@ use Rattle.std.specs.List.{list_all}
 use Rattle.std.specs.Str.{is_utf8}
 use Rattle.std.specs.Str.Parse.{digits_value}
 use Rattle.tl_types.specs.Names.{same_bytes, is_name}
-use Rattle.tl_session.specs.Plain.{Pace}
+use Rattle.tl_jobs.specs.Plain.{Pace}
 use Rattle.tl_program.specs.declared.commands.Settings.{Settings}
 use Rattle.tl_program.specs.declared.commands.Command.{Command}
 use Rattle.tl_program.specs.declared.commands.Command.TheVariants as command

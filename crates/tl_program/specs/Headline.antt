@@ -22,11 +22,11 @@ use Rattle.tl_types.specs.Limits.{standard_limits}
 use Rattle.tl_device.specs.Known.{append_known, prepend_known, Rose}
 use Rattle.tl_script.specs.declared.jobs.ScriptFault.{ScriptFault}
 use Rattle.tl_script.specs.Script.{ScriptReading}
-use Rattle.tl_session.specs.Jobs.{Job}
-use Rattle.tl_session.specs.Play.{AreLonePhases}
-use Rattle.tl_session.specs.Transcript.{Transcript}
-use Rattle.tl_session.specs.Turns.{Turn, meant}
-use Rattle.tl_session.specs.Written.{IsTranscript, IsPlayOf, all_jobs, jobs_of, turns_bytes, transcript_bytes}
+use Rattle.tl_jobs.specs.Jobs.{Job}
+use Rattle.tl_jobs.specs.Play.{AreLonePhases}
+use Rattle.tl_session.specs.Transcript.{Transcript, IsTranscript}
+use Rattle.tl_jobs.specs.Turns.{Turn, meant}
+use Rattle.tl_jobs.specs.Written.{IsPlayOf, all_jobs, jobs_of, turns_bytes, transcript_bytes}
 use Rattle.tl_journal.specs.Answers.{CountsFaults}
 use Rattle.tl_journal.specs.Image.{ImageStandsFor}
 use Rattle.tl_journal.specs.declared.faults.JournalFault.{JournalFault}

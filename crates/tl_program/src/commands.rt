@@ -6,7 +6,7 @@ ghost use Rattle.std.specs.List.{list_all};
 ghost use Rattle.tl_program.specs.Commands.{spelled_number, within, set_by, workers_by, every_by, pace_of, either, options_of, nothing, with_pace, load_of, sample_of, init_settings, load_settings, sample_settings, settings_of, texts_of};
 
 use std::alloc::Global;
-use tl_session::Pace;
+use tl_jobs::Pace;
 use tl_types::{NoMemory, Text, is_name};
 
 /// What the words ask for.

@@ -7,13 +7,13 @@ use Rattle.tl_types.specs.Entries.{commits_of, has_break}
 use Rattle.tl_device.specs.Known.{Rose}
 use Rattle.tl_device.specs.declared.disk.Disk.{Ghosts as DiskGhosts}
 use Rattle.tl_script.specs.Script.{ScriptReading}
-use Rattle.tl_session.specs.Turns.{break_of}
+use Rattle.tl_jobs.specs.Turns.{break_of}
 use Rattle.tl_journal.specs.Answers.{CountsFaults, IsDeviceOrMemory}
 use Rattle.tl_journal.specs.Image.{ImageStandsFor}
 use Rattle.tl_journal.specs.Stands.{empty_journal}
 use Rattle.tl_journal.specs.declared.faults.JournalFault.{JournalFault}
 use Rattle.tl_journal.specs.declared.faults.JournalFault.TheVariants as journal
-use Rattle.tl_engine.specs.Standing.{IsCount}
+use Rattle.tl_history.specs.Standing.{IsCount}
 use Rattle.tl_command.specs.declared.statuses.Status.{Status}
 use Rattle.tl_command.specs.declared.stops.Stop.{Stop}
 use Rattle.tl_command.specs.Closing.{EndsFor, ClosesAfter}

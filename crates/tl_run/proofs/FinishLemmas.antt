@@ -6,12 +6,12 @@ use Rattle.tl_types.specs.declared.commits.Entry.{Entry}
 use Rattle.tl_types.specs.Entries.{commits_of, has_break}
 use Rattle.tl_device.specs.declared.disk.Disk.{Ghosts as DiskGhosts}
 use Rattle.tl_script.specs.Script.{ScriptReading}
-use Rattle.tl_session.specs.Turns.{break_of}
+use Rattle.tl_jobs.specs.Turns.{break_of}
 use Rattle.tl_session.specs.Phases.{HaveRun}
 use Rattle.tl_types.specs.Legality.{are_legal}
 use Rattle.tl_journal.specs.Stands.{DiskStandsFor}
 use Rattle.tl_engine.specs.Counting.{news}
-use Rattle.tl_engine.specs.Standing.{IsCount, ImageStandsForEntries}
+use Rattle.tl_history.specs.Standing.{IsCount, ImageStandsForEntries}
 use Rattle.tl_command.specs.declared.stops.Stop.{Stop}
 use Rattle.tl_run.specs.Runs.{Told}
 use Rattle.tl_run.specs.Finishing.{Finishes}

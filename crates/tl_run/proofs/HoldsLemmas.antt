@@ -6,11 +6,11 @@ use Rattle.tl_types.specs.declared.commits.Entry.{Entry}
 use Rattle.tl_types.specs.Entries.{commits_of, has_break}
 use Rattle.tl_device.specs.Disk.{Only}
 use Rattle.tl_device.specs.declared.disk.Disk.{Ghosts as DiskGhosts}
-use Rattle.tl_session.specs.Turns.{break_of}
+use Rattle.tl_jobs.specs.Turns.{break_of}
 use Rattle.tl_journal.specs.Image.{header, ImageStandsFor, BeforeOrAfter}
 use Rattle.tl_journal.specs.Stands.{DiskStandsFor}
 use Rattle.tl_types.specs.Legality.{are_legal}
-use Rattle.tl_engine.specs.Standing.{IsCount, ImageStandsForEntries}
+use Rattle.tl_history.specs.Standing.{IsCount, ImageStandsForEntries}
 use Rattle.tl_command.specs.Outside.{Outside, StandsWithBreak, CountsBreak, HoldsJournal}
 use Rattle.tl_run.proofs.EntryLemmas.{break_none, break_some, tried_none, tried_some}
 

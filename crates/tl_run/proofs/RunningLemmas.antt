@@ -12,16 +12,15 @@ use Rattle.tl_script.specs.declared.phases.Phase.{Phase}
 use Rattle.tl_script.specs.Script.{Job as ScriptJob, ScriptReading}
 use Rattle.tl_script.specs.Phases.{no_phase, no_phase_but}
 use Rattle.tl_script.specs.Reader.{with_phases, Grows, NextFaults}
-use Rattle.tl_session.specs.declared.replies.Reply.{Reply}
-use Rattle.tl_session.specs.declared.jobs.LentJob.{LentJob}
-use Rattle.tl_session.specs.Jobs.{Job, job_of}
+use Rattle.tl_jobs.specs.declared.replies.Reply.{Reply}
+use Rattle.tl_jobs.specs.declared.jobs.LentJob.{LentJob}
+use Rattle.tl_jobs.specs.Jobs.{Job, job_of}
 use Rattle.tl_session.specs.Plain as plain
-use Rattle.tl_session.specs.Replies.{reply_bytes}
-use Rattle.tl_session.specs.Turns.{Turn, meant, of_session, all_turns}
+use Rattle.tl_jobs.specs.Replies.{reply_bytes}
+use Rattle.tl_jobs.specs.Turns.{Turn, meant, of_session, all_turns, Each, EachOfAll}
 use Rattle.tl_session.specs.Promises.{Chain, tally, weight}
-use Rattle.tl_session.specs.Transcript.{Each, EachOfAll}
 use Rattle.tl_session.specs.Phases.{own_jobs, replies_of, TakesTurns, RunsPhase, RunsFronts, HaveRun}
-use Rattle.tl_session.specs.Written.{turn_bytes, turns_bytes, transcript_bytes, jobs_of}
+use Rattle.tl_jobs.specs.Written.{turn_bytes, turns_bytes, transcript_bytes, jobs_of}
 use Rattle.tl_session.proofs.EntryLemmas.{begins_itself}
 use Rattle.tl_session.proofs.PromiseLemmas.{run_more}
 use Rattle.tl_command.specs.declared.stops.Stop.{Stop}

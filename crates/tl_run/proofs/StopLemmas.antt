@@ -1,7 +1,7 @@
 -- Where the phases stopped: what is known of the turns may be said otherwise.
 use Rattle.std.proofs.Common.{ℕ, Bool, true, List, [], ◌∷◌, ◌++◌, Some, None}
 use Rattle.tl_script.specs.Script.{ScriptReading}
-use Rattle.tl_session.specs.Turns.{Turn}
+use Rattle.tl_jobs.specs.Turns.{Turn}
 use Rattle.tl_command.specs.declared.stops.Stop.{Stop}
 use Rattle.tl_command.specs.declared.stops.Stop.TheVariants as stop
 use Rattle.tl_script.specs.declared.jobs.ScriptFault.{ScriptFault}

@@ -3,10 +3,10 @@ use Rattle.std.proofs.Common.{◌≡◌, true, ℕ, ◌+◌, false, List, None, 
 use mathlib.Core.List.{IsPrefix}
 use Rattle.tl_types.specs.declared.commits.Entry.{Entry}
 use Rattle.tl_types.specs.Entries.{commits_of, has_break}
-use Rattle.tl_session.specs.Turns.{Turn, meant, break_of, all_turns}
+use Rattle.tl_jobs.specs.Turns.{Turn, meant, break_of, all_turns}
 use Rattle.tl_session.specs.Promises.{Promised}
 use Rattle.tl_session.specs.Transcript.{Transcript}
-use Rattle.tl_session.specs.Play.{AreLone, IsPlay}
+use Rattle.tl_jobs.specs.Play.{AreLone, IsPlay}
 use Rattle.tl_session.specs.Phases.{HaveRun}
 use Rattle.tl_types.specs.Legality.{are_legal}
 use Rattle.tl_engine.specs.Counting as counting

@@ -5,15 +5,14 @@ use Rattle.tl_types.specs.declared.commits.Entry.{Entry}
 use Rattle.tl_device.specs.Known.{append_known, prepend_known, Rose}
 use Rattle.tl_script.specs.Script.{Job as ScriptJob}
 use Rattle.tl_script.specs.Reader.{Grows}
-use Rattle.tl_session.specs.declared.replies.Reply.{Reply}
-use Rattle.tl_session.specs.Jobs.{Job}
-use Rattle.tl_session.specs.Replies.{reply_bytes}
+use Rattle.tl_jobs.specs.declared.replies.Reply.{Reply}
+use Rattle.tl_jobs.specs.Jobs.{Job}
+use Rattle.tl_jobs.specs.Replies.{reply_bytes}
 use Rattle.tl_session.specs.Plain as plain
-use Rattle.tl_session.specs.Turns.{Turn, meant, of_session}
+use Rattle.tl_jobs.specs.Turns.{Turn, meant, of_session, EachOfAll}
 use Rattle.tl_session.specs.Promises.{Chain, tally, weight}
-use Rattle.tl_session.specs.Transcript.{EachOfAll}
 use Rattle.tl_session.specs.Phases.{own_jobs, HaveRun}
-use Rattle.tl_session.specs.Written.{jobs_of, turns_bytes, transcript_bytes}
+use Rattle.tl_jobs.specs.Written.{jobs_of, turns_bytes, transcript_bytes}
 use Rattle.tl_command.specs.declared.stops.Stop.{Stop}
 use Rattle.tl_command.specs.declared.stops.Stop.TheVariants as stop
 use Rattle.tl_command.specs.Jobs.{phases_asked}

@@ -5,9 +5,9 @@ use Rattle.std.specs.declared.option.Option.{Option}
 use mathlib.Core.List.{IsPrefix}
 use Rattle.tl_types.specs.declared.commits.Commit.{Commit}
 use Rattle.tl_script.specs.Script.{ScriptReading}
-use Rattle.tl_session.specs.Turns.{Turn, meant, all_turns}
+use Rattle.tl_jobs.specs.Turns.{Turn, meant, all_turns}
 use Rattle.tl_session.specs.Transcript.{Transcript}
-use Rattle.tl_session.specs.Play.{AreLone, IsPlay}
+use Rattle.tl_jobs.specs.Play.{AreLone, IsPlay}
 use Rattle.tl_command.specs.declared.statuses.Status.{Status}
 use Rattle.tl_command.specs.declared.statuses.Status.TheVariants as status
 use Rattle.tl_command.specs.declared.stops.Stop.{Stop}

@@ -5,10 +5,10 @@ use Rattle.tl_device.specs.Known.{append_known, prepend_known, Rose}
 use Rattle.tl_script.specs.declared.jobs.ScriptFault.{ScriptFault}
 use Rattle.tl_script.specs.Script.{ScriptReading}
 use Rattle.tl_script.specs.Taking.{IsAtEnd}
-use Rattle.tl_session.specs.Jobs.{Job}
-use Rattle.tl_session.specs.Turns.{Turn, of_session}
+use Rattle.tl_jobs.specs.Jobs.{Job}
+use Rattle.tl_jobs.specs.Turns.{Turn, of_session}
 use Rattle.tl_session.specs.Phases.{own_jobs}
-use Rattle.tl_session.specs.Written.{jobs_of, turns_bytes, transcript_bytes}
+use Rattle.tl_jobs.specs.Written.{jobs_of, turns_bytes, transcript_bytes}
 use Rattle.tl_command.specs.declared.stops.Stop.{Stop}
 use Rattle.tl_command.specs.declared.stops.Stop.TheVariants as stop
 use Rattle.tl_command.specs.Jobs.{phases_asked}

@@ -4,7 +4,7 @@ ghost use Rattle.std.specs.Prelude.{◌≡◌, ℕ, List, Some, is_some, false};
 ghost use Rattle.tl_types.specs.Entries.{has_break};
 ghost use Rattle.tl_types.specs.Limits.{standard_limits};
 ghost use Rattle.tl_engine.specs.Naming.{IsNameOf};
-ghost use Rattle.tl_engine.specs.Standing.{DiskStandsForHistory};
+ghost use Rattle.tl_history.specs.Standing.{DiskStandsForHistory};
 ghost use Rattle.tl_run.specs.Finishing.{Finishes};
 ghost use Rattle.tl_command.specs.Outside.{streams};
 ghost use Rattle.tl_command.specs.Coming.{HasNotBegun};
@@ -16,8 +16,9 @@ use std::thread::Threads;
 use tl_command::{Phases, Stop};
 use tl_device::{Disk, Gate, Sink, Source};
 use tl_engine::{Closed, Named, Opening, Started};
+use tl_jobs::Pace;
 use tl_session::laws::{lone_sessions_play, sessions_make_a_transcript};
-use tl_session::{AccessParts, Pace, SharedAccess};
+use tl_session::{AccessParts, SharedAccess};
 
 /// A journal that is opened, its disk as it was before that, and the pace of what is run over it.
 pub(crate) struct Attached<D: Disk> {

@@ -4,9 +4,9 @@
 ghost use Rattle.std.specs.Prelude.{◌≡◌, ◌<◌, ◌≤◌, List, All, IfOk, length, map, true, Some, OnOk, ◌++◌};
 ghost use Rattle.tl_types.specs.declared.commits.Entry.{Entry};
 ghost use Rattle.tl_types.specs.Limits.{standard_limits};
-ghost use Rattle.tl_session.specs.Jobs.{job_of};
+ghost use Rattle.tl_jobs.specs.Jobs.{job_of};
 ghost use Rattle.tl_session.specs.Phases.{HaveRun};
-ghost use Rattle.tl_session.specs.Replies.{reply_bytes};
+ghost use Rattle.tl_jobs.specs.Replies.{reply_bytes};
 ghost use Rattle.tl_command.specs.Coming.{Coming, HasNotBegun};
 ghost use Rattle.tl_command.specs.Jobs.{asked};
 ghost use Rattle.tl_command.specs.Outside.{streams, Streams};
@@ -19,8 +19,9 @@ use std::thread::Threads;
 use tl_command::{Phases, Stop, lent_jobs, stop_for, write_bytes};
 use tl_device::{Disk, Gate, Sink, Source};
 use tl_engine::{Engine, Named};
+use tl_jobs::{LentJob, Pace, Reply, ReplyBody, put_reply};
 use tl_script::Phase;
-use tl_session::{LentJob, Pace, Reply, ReplyBody, SharedAccess, put_reply, run_phase};
+use tl_session::{SharedAccess, run_phase};
 use tl_types::NoMemory;
 
 /// A run: the engine over its journal, what the sessions of its phases share, the phases that are

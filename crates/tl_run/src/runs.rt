@@ -20,9 +20,9 @@ use std::thread::Threads;
 use tl_command::{BlockPhase, Ending, Phases, Status, close_run, end_refused};
 use tl_device::{Disk, Gate, Sink, Source, SureDisk};
 use tl_engine::Engine;
+use tl_jobs::Pace;
 use tl_journal::Refused;
 use tl_script::Script;
-use tl_session::Pace;
 use tl_types::{Limits, NoMemory};
 
 // The text of the statement that loads a table.

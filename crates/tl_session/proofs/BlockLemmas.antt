@@ -5,10 +5,10 @@ use Rattle.std.specs.Option.{option_map, unwrap_or}
 use Rattle.std.proofs.lemmas.List.{map-append, take-append-drop}
 use Rattle.std.proofs.lemmas.Option.{slice_get-map}
 use Rattle.tl_csv.specs.LentBlocks.{block_at}
-use Rattle.tl_session.specs.declared.jobs.LentJob.{LentJob}
-use Rattle.tl_session.specs.Jobs.{Job, job_of}
+use Rattle.tl_jobs.specs.declared.jobs.LentJob.{LentJob}
+use Rattle.tl_jobs.specs.Jobs.{Job, job_of}
 use Rattle.tl_session.specs.Phases.{own_jobs}
-use Rattle.tl_session.specs.Reading.{HasBlockAt, block_of, blocks_of}
+use Rattle.tl_jobs.specs.Reading.{HasBlockAt, block_of, blocks_of}
 use Rattle.tl_session.proofs.ChainLemmas.{own_next, own_split}
 use Rattle.tl_session.proofs.ListLemmas.{item_at}
 

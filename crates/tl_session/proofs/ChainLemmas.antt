@@ -7,17 +7,17 @@ use Rattle.std.proofs.lemmas.List.Elements.{filter-append}
 use Rattle.std.proofs.lemmas.Option.{slice_get-get_or}
 use mathlib.Core.List.{IsPrefix}
 use Rattle.tl_types.specs.declared.commits.Entry.{Entry}
-use Rattle.tl_session.specs.declared.replies.ReplyBody.{ReplyBody}
-use Rattle.tl_session.specs.declared.replies.ReplyBody.TheVariants as body
-use Rattle.tl_session.specs.declared.jobs.LentJob.{LentJob}
-use Rattle.tl_session.specs.Jobs.{Job, job_of}
+use Rattle.tl_jobs.specs.declared.replies.ReplyBody.{ReplyBody}
+use Rattle.tl_jobs.specs.declared.replies.ReplyBody.TheVariants as body
+use Rattle.tl_jobs.specs.declared.jobs.LentJob.{LentJob}
+use Rattle.tl_jobs.specs.Jobs.{Job, job_of}
 use Rattle.tl_session.specs.Plain as plain
 use Rattle.tl_session.specs.Statements.{IsSame, Replied, IsSilent, Stops}
-use Rattle.tl_session.specs.declared.replies.Reply.{Reply}
+use Rattle.tl_jobs.specs.declared.replies.Reply.{Reply}
 use Rattle.tl_session.specs.Phases.{Ran, own_jobs, replies_of}
-use Rattle.tl_session.specs.Turns.{Turn, Meaning, meant}
+use Rattle.tl_jobs.specs.Turns.{Turn, Meaning, meant}
 use Rattle.tl_session.specs.Promises.{BodySays, Says, Chain, tally, weight}
-use Rattle.tl_session.specs.Written.{jobs_of}
+use Rattle.tl_jobs.specs.Written.{jobs_of}
 use Rattle.tl_engine.proofs.CountLemmas.{begins_on}
 use Rattle.tl_session.proofs.EntryLemmas.{begins_itself, fewer_commits, break_on}
 use Rattle.tl_session.proofs.ListLemmas.{take_next}

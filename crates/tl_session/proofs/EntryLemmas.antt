@@ -9,7 +9,7 @@ use Rattle.tl_types.specs.declared.commits.Commit.{Commit}
 use Rattle.tl_types.specs.declared.commits.Entry.{Entry}
 use Rattle.tl_types.specs.declared.commits.Entry.TheVariants as entry
 use Rattle.tl_types.specs.Entries.{commit_of, commits_of, is_break, has_break}
-use Rattle.tl_session.specs.Turns.{break_of}
+use Rattle.tl_jobs.specs.Turns.{break_of}
 use Rattle.tl_engine.specs.Counting.{news}
 use Rattle.tl_types.specs.Legality.{may_follow, are_legal_behind, are_legal}
 use Rattle.tl_types.proofs.Lists.{and_right}

@@ -21,10 +21,10 @@ use Rattle.tl_query.specs.declared.ast.Statement.TheVariants as statement
 use Rattle.tl_query.specs.declared.typed_queries.Typed.{Typed}
 use Rattle.tl_query.specs.declared.check_faults.CheckFault.{CheckFault}
 use Rattle.tl_query.specs.CheckingQueries.{checked}
-use Rattle.tl_session.specs.declared.readings.JobReading.{JobReading}
-use Rattle.tl_session.specs.declared.readings.JobReading.TheVariants as reading
-use Rattle.tl_session.specs.Jobs.{Job}
-use Rattle.tl_session.specs.Reading.{Reads, IsReading, block_of, block_reading, load_into, load_reading, query_reading, statement_reading}
+use Rattle.tl_jobs.specs.declared.readings.JobReading.{JobReading}
+use Rattle.tl_jobs.specs.declared.readings.JobReading.TheVariants as reading
+use Rattle.tl_jobs.specs.Jobs.{Job}
+use Rattle.tl_jobs.specs.Reading.{Reads, IsReading, block_of, block_reading, load_into, load_reading, query_reading, statement_reading}
 use Rattle.tl_session.proofs.EntryLemmas.{commits_split}
 
 -- the schema of the table that a name finds

@@ -6,13 +6,13 @@ use Rattle.std.proofs.lemmas.List.{reverse-append, length-map, same_from_push, s
 use Rattle.std.proofs.lemmas.List.Elements.{filter-append}
 use Rattle.std.proofs.lemmas.Option.{same_Some, slice_get-map, slice_get-get_or, slice_get_within, get_or_from_slice_get}
 use mathlib.Core.List.{IsPrefix}
-use Rattle.tl_session.specs.declared.replies.Reply.{Reply}
-use Rattle.tl_session.specs.declared.jobs.LentJob.{LentJob}
-use Rattle.tl_session.specs.Jobs.{Job, job_of}
+use Rattle.tl_jobs.specs.declared.replies.Reply.{Reply}
+use Rattle.tl_jobs.specs.declared.jobs.LentJob.{LentJob}
+use Rattle.tl_jobs.specs.Jobs.{Job, job_of}
 use Rattle.tl_session.specs.Plain as plain
 use Rattle.tl_session.specs.Phases.{HaveReplies, KeepAll, LosesLast, LosesReply, TakesLast, amounts_of, parts_of, replies_of, with_replies}
-use Rattle.tl_session.specs.Turns.{Turn, of_session}
-use Rattle.tl_session.specs.Written.{jobs_of}
+use Rattle.tl_jobs.specs.Turns.{Turn, of_session}
+use Rattle.tl_jobs.specs.Written.{jobs_of}
 use Rattle.tl_session.proofs.ChainLemmas.{jobs_on, replies_on}
 use Rattle.tl_session.proofs.ListLemmas.{item_at}
 use Rattle.tl_session.proofs.SessionLemmas.{is_itself, turns_same, turns_other}

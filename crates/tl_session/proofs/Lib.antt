@@ -7,12 +7,10 @@ pub mod EntryLemmas
 pub mod GrowthLemmas
 pub mod HandLemmas
 pub mod ListLemmas
-pub mod OnePlay
 pub mod NumberLemmas
 pub mod PhaseLemmas
 pub mod PlayLemmas
 pub mod PromiseLemmas
-pub mod ReadingLemmas
 pub mod ReplyLemmas
 pub mod SessionLemmas
 pub mod StatementLemmas

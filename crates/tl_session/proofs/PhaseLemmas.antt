@@ -2,11 +2,11 @@
 use Rattle.std.proofs.Common.{◌≡◌, ◌≢◌, ◌⊎◌, inl, inr, ℕ, zero, suc, ◌+◌, ◌<◌, ◌≤◌, ◌==◌, Bool, true, false, true≢false, cond, List, [], ◌∷◌, ◌++◌, refl, sym, ap, ◌∙◌, arith}
 use Rattle.std.proofs.lemmas.Bool.{cases_lt}
 use Rattle.std.proofs.lemmas.Bool.Decides.{nat_tests}
-use Rattle.tl_session.specs.Jobs.{Job}
+use Rattle.tl_jobs.specs.Jobs.{Job}
 use Rattle.tl_session.specs.Phases.{own_jobs}
-use Rattle.tl_session.specs.Turns.{Turn, of_session}
+use Rattle.tl_jobs.specs.Turns.{Turn, of_session}
 use Rattle.tl_session.specs.Promises.{tally}
-use Rattle.tl_session.specs.Written.{jobs_of}
+use Rattle.tl_jobs.specs.Written.{jobs_of}
 use Rattle.tl_session.proofs.SessionLemmas.{is_itself, own_same, own_other, turns_same, turns_other}
 
 -- JOBS OF A SESSION

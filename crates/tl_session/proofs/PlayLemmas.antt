@@ -6,13 +6,13 @@ use Rattle.std.proofs.lemmas.List.{take_all}
 use Rattle.tl_types.specs.declared.commits.Entry.{Entry}
 use Rattle.tl_types.specs.declared.commits.Commit.{Commit}
 use Rattle.tl_types.specs.Entries.{commits_of}
-use Rattle.tl_session.specs.declared.readings.JobReading.TheVariants.{Query}
-use Rattle.tl_session.specs.declared.replies.ReplyBody.{ReplyBody}
-use Rattle.tl_session.specs.declared.replies.ReplyBody.TheVariants as body
-use Rattle.tl_session.specs.Turns.{break_of, Turn, Meaning, HasFault, Makes, of_session, all_turns}
+use Rattle.tl_jobs.specs.declared.readings.JobReading.TheVariants.{Query}
+use Rattle.tl_jobs.specs.declared.replies.ReplyBody.{ReplyBody}
+use Rattle.tl_jobs.specs.declared.replies.ReplyBody.TheVariants as body
+use Rattle.tl_jobs.specs.Turns.{break_of, Turn, Meaning, HasFault, Makes, of_session, all_turns, Each, EachOfAll}
 use Rattle.tl_session.specs.Promises.{Promised, tally, whole_tally}
-use Rattle.tl_session.specs.Transcript.{Each, EachOfAll, OwnLine, RowsRight, RefusedRight, DoneRight, Between, NeverFalls, DoneRises, Above, highest, done_at, done_with, body_breaks, Transcript}
-use Rattle.tl_session.specs.Play.{Acts, IsPlay, AreLone}
+use Rattle.tl_session.specs.Transcript.{OwnLine, RowsRight, RefusedRight, DoneRight, Between, NeverFalls, DoneRises, Above, highest, done_at, done_with, body_breaks, Transcript}
+use Rattle.tl_jobs.specs.Play.{Acts, IsPlay, AreLone}
 use Rattle.tl_session.proofs.ChainLemmas.{tally_on}
 use Rattle.tl_session.proofs.CountingLemmas.{miss}
 use Rattle.tl_session.proofs.EntryLemmas.{fewer_commits, whole_front}

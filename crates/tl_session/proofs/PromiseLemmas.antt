@@ -5,14 +5,13 @@ use Rattle.tl_types.specs.declared.commits.Entry.{Entry}
 use Rattle.tl_types.specs.Entries.{commits_of, has_break}
 use Rattle.tl_types.specs.Legality.{are_legal}
 use Rattle.tl_engine.specs.Counting.{news}
-use Rattle.tl_session.specs.Jobs.{Job}
+use Rattle.tl_jobs.specs.Jobs.{Job}
 use Rattle.tl_session.specs.Plain as plain
 use Rattle.tl_session.specs.Phases.{TakesTurns, HaveRun}
-use Rattle.tl_session.specs.Turns.{Turn, Meaning, meant, of_session, all_turns, break_of}
+use Rattle.tl_jobs.specs.Turns.{Turn, Meaning, meant, of_session, all_turns, break_of, Each}
 use Rattle.tl_session.specs.Promises.{Chain, Chains, Promised, tally, whole_tally, weight}
-use Rattle.tl_session.specs.Play.{AreLone, AreOfOne, AreLonePhases}
-use Rattle.tl_session.specs.Transcript.{Each}
-use Rattle.tl_session.specs.Written.{jobs_of, all_jobs, IsPlayOf, transcript_bytes}
+use Rattle.tl_jobs.specs.Play.{AreLone, AreOfOne, AreLonePhases}
+use Rattle.tl_jobs.specs.Written.{jobs_of, all_jobs, IsPlayOf, transcript_bytes}
 use Rattle.tl_engine.proofs.CountLemmas.{begins_on}
 use Rattle.tl_session.proofs.EntryLemmas.{begins_itself}
 use Rattle.tl_session.proofs.ChainLemmas.{chain_from, jobs_on}

@@ -4,11 +4,11 @@ use mathlib.Core.List.{IsPrefix}
 use Rattle.tl_types.specs.declared.commits.Entry.{Entry}
 use Rattle.tl_types.specs.declared.commits.Entry.TheVariants as entry
 use Rattle.tl_types.specs.Entries.{commits_of, has_break}
-use Rattle.tl_session.specs.declared.readings.JobReading.TheVariants.{Query}
-use Rattle.tl_session.specs.declared.replies.ReplyBody.{ReplyBody}
-use Rattle.tl_session.specs.declared.replies.ReplyBody.TheVariants as body
-use Rattle.tl_session.specs.Jobs.{Job}
-use Rattle.tl_session.specs.Turns.{Turn, Meaning, break_of, HasFault, Makes, ReadsWell}
+use Rattle.tl_jobs.specs.declared.readings.JobReading.TheVariants.{Query}
+use Rattle.tl_jobs.specs.declared.replies.ReplyBody.{ReplyBody}
+use Rattle.tl_jobs.specs.declared.replies.ReplyBody.TheVariants as body
+use Rattle.tl_jobs.specs.Jobs.{Job}
+use Rattle.tl_jobs.specs.Turns.{Turn, Meaning, break_of, HasFault, Makes, ReadsWell}
 use Rattle.tl_session.specs.Promises.{Appended, BodySays, Says}
 use Rattle.tl_session.specs.Transcript.{RowsRight, RefusedRight, DoneRight, DeviceRight, BrokenRight, Between, body_breaks}
 use Rattle.tl_engine.proofs.CountLemmas.{begins_on}

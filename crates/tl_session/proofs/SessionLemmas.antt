@@ -1,11 +1,10 @@
 -- A phase, and the jobs and the turns of each of its sessions.
 use Rattle.std.proofs.Common.{◌≡◌, ◌≢◌, ℕ, ◌+◌, ◌==◌, Bool, true, false, cond, List, [], ◌∷◌, refl, sym, ap, ◌∙◌, subst, arith}
 use Rattle.std.proofs.lemmas.Bool.Decides.{nat_tests}
-use Rattle.tl_session.specs.Jobs.{Job}
+use Rattle.tl_jobs.specs.Jobs.{Job}
 use Rattle.tl_session.specs.Phases.{own_jobs}
-use Rattle.tl_session.specs.Turns.{Turn, of_session}
+use Rattle.tl_jobs.specs.Turns.{Turn, of_session, Each}
 use Rattle.tl_session.specs.Promises.{tally}
-use Rattle.tl_session.specs.Transcript.{Each}
 
 pub is_itself : (s : ℕ) → (s == s) ≡ true
 is_itself s = grind (arith, nat_tests)

@@ -6,18 +6,17 @@ use Rattle.std.proofs.lemmas.List.{get_or_default}
 use Rattle.std.proofs.Math.Seq.{take-append_seam}
 use mathlib.Core.List.{IsPrefix}
 use Rattle.tl_types.specs.declared.commits.Entry.{Entry}
-use Rattle.tl_session.specs.declared.replies.Reply.{Reply}
+use Rattle.tl_jobs.specs.declared.replies.Reply.{Reply}
 use Rattle.std.specs.declared.alloc.AllocError.{AllocError}
 use Rattle.std.specs.declared.alloc.Global.{Global}
-use Rattle.tl_session.specs.declared.jobs.LentJob.{LentJob}
-use Rattle.tl_session.specs.Jobs.{Job, job_of}
+use Rattle.tl_jobs.specs.declared.jobs.LentJob.{LentJob}
+use Rattle.tl_jobs.specs.Jobs.{Job, job_of}
 use Rattle.tl_session.specs.Plain as plain
 use Rattle.tl_session.specs.Phases.{Runs, AllRan, AllTendOn, TakesTurns, RunsPhase, RunsFronts, own_jobs, replies_of, parts_of, amounts_of, AllSeenIn, IsFresh, AllFresh, NoneRanOut, HaveReplies, KeepAll}
 use Rattle.tl_session.specs.Tending.{WasTended, WereTended}
-use Rattle.tl_session.specs.Transcript.{Each}
-use Rattle.tl_session.specs.Turns.{Turn, meant, of_session}
+use Rattle.tl_jobs.specs.Turns.{Each, Turn, meant, of_session}
 use Rattle.tl_session.specs.Promises.{Chain, tally, weight}
-use Rattle.tl_session.specs.Written.{jobs_of}
+use Rattle.tl_jobs.specs.Written.{jobs_of}
 use Rattle.tl_session.proofs.EntryLemmas.{begins_itself}
 use Rattle.tl_session.proofs.ChainLemmas.{chain_to}
 use Rattle.tl_session.proofs.PhaseLemmas.{Together, put_together, from_on, tally_from, are_below}

@@ -16,24 +16,24 @@ use Rattle.tl_engine.specs.declared.faults.CommitFault.TheVariants as fault
 use Rattle.tl_engine.specs.Saying.{Adds, CommitSays, becomes}
 use Rattle.tl_batch.specs.Made.{names_table}
 use Rattle.tl_session.proofs.TendingLemmas.{adds_later, done_names}
-use Rattle.tl_session.specs.declared.readings.JobReading.{JobReading}
-use Rattle.tl_session.specs.declared.readings.JobReading.TheVariants as reading
-use Rattle.tl_session.specs.declared.replies.AnswerText.{AnswerText}
-use Rattle.tl_session.specs.declared.replies.Refusal.{Refusal}
-use Rattle.tl_session.specs.declared.replies.Refusal.TheVariants as refusal
-use Rattle.tl_session.specs.declared.replies.ReplyBody.{ReplyBody}
-use Rattle.tl_session.specs.declared.replies.ReplyBody.TheVariants as body
+use Rattle.tl_jobs.specs.declared.readings.JobReading.{JobReading}
+use Rattle.tl_jobs.specs.declared.readings.JobReading.TheVariants as reading
+use Rattle.tl_jobs.specs.declared.replies.AnswerText.{AnswerText}
+use Rattle.tl_jobs.specs.declared.replies.Refusal.{Refusal}
+use Rattle.tl_jobs.specs.declared.replies.Refusal.TheVariants as refusal
+use Rattle.tl_jobs.specs.declared.replies.ReplyBody.{ReplyBody}
+use Rattle.tl_jobs.specs.declared.replies.ReplyBody.TheVariants as body
 use Rattle.tl_session.specs.declared.statements.Settled.{Settled}
-use Rattle.tl_session.specs.Jobs.{Job}
+use Rattle.tl_jobs.specs.Jobs.{Job}
 use Rattle.tl_session.specs.Plain as plain
-use Rattle.tl_session.specs.Reading.{Reads}
-use Rattle.tl_session.specs.Turns.{meant, made, HasFault, Makes, ReadsWell}
+use Rattle.tl_jobs.specs.Reading.{Reads}
+use Rattle.tl_jobs.specs.Turns.{meant, made, HasFault, Makes, ReadsWell}
 use Rattle.tl_session.specs.Promises.{Looked}
 use Rattle.tl_session.specs.Statements.{outcome_of, IsSame, Settles, Tells, IsLook, SeesMore}
 use Rattle.tl_session.proofs.EntryLemmas.{fewer_commits, break_on}
 use Rattle.tl_session.proofs.ChainLemmas.{body_from, same_on}
 use Rattle.tl_session.proofs.GrowthLemmas.{reads_on}
-use Rattle.tl_session.proofs.ReadingLemmas.{one_reading}
+use Rattle.tl_jobs.proofs.ReadingLemmas.{one_reading}
 
 -- A BATCH
 

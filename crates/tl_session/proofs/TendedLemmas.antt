@@ -6,16 +6,15 @@ use Rattle.tl_types.specs.Entries.{commits_of}
 use Rattle.tl_engine.proofs.CountLemmas.{begins_on}
 use Rattle.tl_engine.proofs.ListLemmas.{commits_more}
 use Rattle.tl_engine.proofs.TendLemmas.{versions_more}
-use Rattle.tl_session.specs.declared.replies.Reply.{Reply}
-use Rattle.tl_session.specs.declared.replies.ReplyBody.TheVariants as body
-use Rattle.tl_session.specs.Jobs.{Job}
+use Rattle.tl_jobs.specs.declared.replies.Reply.{Reply}
+use Rattle.tl_jobs.specs.declared.replies.ReplyBody.TheVariants as body
+use Rattle.tl_jobs.specs.Jobs.{Job}
 use Rattle.tl_session.specs.Plain as plain
 use Rattle.tl_session.specs.Phases.{replies_of}
 use Rattle.tl_session.specs.Promises.{BodySays}
 use Rattle.tl_session.specs.Statements.{AnswersJob, Replied}
 use Rattle.tl_session.specs.Tending.{WasTended, WereTended}
-use Rattle.tl_session.specs.Transcript.{Each}
-use Rattle.tl_session.specs.Turns.{Turn, meant}
+use Rattle.tl_jobs.specs.Turns.{Each, Turn, meant}
 use Rattle.tl_session.proofs.EntryLemmas.{begins_itself}
 use Rattle.tl_session.proofs.ReplyLemmas.{says_before}
 

@@ -30,14 +30,14 @@ use Rattle.tl_batch.specs.Made.{names_table}
 use Rattle.tl_engine.specs.Tending.{TendSays}
 use Rattle.tl_engine.proofs.CountLemmas.{begins_on}
 use Rattle.tl_engine.proofs.TendLemmas.{table_known, versions_more}
-use Rattle.tl_session.specs.declared.readings.JobReading.{JobReading}
-use Rattle.tl_session.specs.declared.readings.JobReading.TheVariants as reading
-use Rattle.tl_session.specs.declared.replies.ReplyBody.{ReplyBody}
-use Rattle.tl_session.specs.declared.replies.ReplyBody.TheVariants as body
-use Rattle.tl_session.specs.Jobs.{Job}
+use Rattle.tl_jobs.specs.declared.readings.JobReading.{JobReading}
+use Rattle.tl_jobs.specs.declared.readings.JobReading.TheVariants as reading
+use Rattle.tl_jobs.specs.declared.replies.ReplyBody.{ReplyBody}
+use Rattle.tl_jobs.specs.declared.replies.ReplyBody.TheVariants as body
+use Rattle.tl_jobs.specs.Jobs.{Job}
 use Rattle.tl_session.specs.Plain as plain
 use Rattle.tl_session.specs.Promises.{BodySays}
-use Rattle.tl_session.specs.Turns.{meant}
+use Rattle.tl_jobs.specs.Turns.{meant}
 use Rattle.tl_session.specs.Statements.{Tells}
 use Rattle.tl_session.specs.Tending.{table_of, reading_table, if_done, IsThere, NamesTable, IsTended, HasTended}
 use Rattle.tl_session.proofs.EntryLemmas.{placed}

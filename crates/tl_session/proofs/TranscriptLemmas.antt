@@ -10,13 +10,13 @@ use Rattle.tl_types.specs.declared.commits.Entry.TheVariants as entry
 use Rattle.tl_types.specs.Limits.{standard_limits}
 use Rattle.tl_types.specs.History.{database_of}
 use Rattle.tl_types.specs.Entries.{commits_of, has_break}
-use Rattle.tl_session.specs.declared.replies.ReplyBody.{ReplyBody}
-use Rattle.tl_session.specs.declared.replies.ReplyBody.TheVariants as body
-use Rattle.tl_session.specs.Jobs.{Job}
-use Rattle.tl_session.specs.Turns.{Turn, Meaning, Makes, break_of, of_session}
+use Rattle.tl_jobs.specs.declared.replies.ReplyBody.{ReplyBody}
+use Rattle.tl_jobs.specs.declared.replies.ReplyBody.TheVariants as body
+use Rattle.tl_jobs.specs.Jobs.{Job}
+use Rattle.tl_jobs.specs.Turns.{Turn, Meaning, Makes, break_of, of_session, Each, EachOfAll}
 use Rattle.tl_engine.specs.Counting.{news}
 use Rattle.tl_session.specs.Promises.{Appended, BodySays, Says, Chain, Chains, Promised, tally, whole_tally}
-use Rattle.tl_session.specs.Transcript.{Each, EachOfAll, OwnLine, RowsRight, RefusedRight, DoneRight, DeviceRight, BrokenRight, Between, NeverFalls, DoneRises, Above, highest, done_at, done_with, device, body_device, body_breaks, breaks, StaysBroken, AllStayBroken, OneDone, OneDevice, Transcript}
+use Rattle.tl_session.specs.Transcript.{OwnLine, RowsRight, RefusedRight, DoneRight, DeviceRight, BrokenRight, Between, NeverFalls, DoneRises, Above, highest, done_at, done_with, device, body_device, body_breaks, breaks, StaysBroken, AllStayBroken, OneDone, OneDevice, Transcript}
 use Rattle.tl_session.proofs.AuthorLemmas.{signed}
 use Rattle.tl_engine.proofs.CountLemmas.{begins_on}
 use Rattle.tl_types.specs.Legality.{are_legal}

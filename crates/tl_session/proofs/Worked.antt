@@ -10,14 +10,14 @@ use Rattle.tl_types.specs.declared.batches.Batch.TheVariants as batch
 use Rattle.tl_types.specs.declared.cells.Cell.TheVariants as cell
 use Rattle.tl_types.specs.declared.cells.ColumnKind.TheVariants as kind
 use Rattle.tl_types.specs.Plain as plain
-use Rattle.tl_session.specs.declared.readings.JobReading.{JobReading}
-use Rattle.tl_session.specs.declared.readings.JobReading.TheVariants.{Loads, Query}
-use Rattle.tl_session.specs.declared.replies.ReplyBody.{ReplyBody}
-use Rattle.tl_session.specs.declared.replies.ReplyBody.TheVariants as body
-use Rattle.tl_session.specs.Turns.{Turn, Meaning, of_session}
+use Rattle.tl_jobs.specs.declared.readings.JobReading.{JobReading}
+use Rattle.tl_jobs.specs.declared.readings.JobReading.TheVariants.{Loads, Query}
+use Rattle.tl_jobs.specs.declared.replies.ReplyBody.{ReplyBody}
+use Rattle.tl_jobs.specs.declared.replies.ReplyBody.TheVariants as body
+use Rattle.tl_jobs.specs.Turns.{Turn, Meaning, of_session}
 use Rattle.tl_session.specs.Promises.{Chain, Promised}
 use Rattle.tl_session.specs.Transcript.{Transcript}
-use Rattle.tl_session.specs.Written.{transcript_bytes}
+use Rattle.tl_jobs.specs.Written.{transcript_bytes}
 use Rattle.tl_session.proofs.SessionLemmas.{turns_other}
 use Rattle.tl_session.proofs.TranscriptLemmas.{is_transcript}
 

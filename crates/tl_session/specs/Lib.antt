@@ -1,12 +1,6 @@
-pub mod Jobs
 pub mod Plain
-pub mod Reading
-pub mod Turns
 pub mod Promises
 pub mod Tending
 pub mod Statements
 pub mod Phases
 pub mod Transcript
-pub mod Replies
-pub mod Play
-pub mod Written

@@ -5,14 +5,14 @@ use Rattle.std.specs.declared.alloc.AllocError.{AllocError}
 use Rattle.std.specs.declared.alloc.Global.{Global}
 use mathlib.Core.List.{IsPrefix}
 use Rattle.tl_types.specs.declared.commits.Entry.{Entry}
-use Rattle.tl_session.specs.declared.replies.Reply.{Reply}
-use Rattle.tl_session.specs.Jobs.{Job}
+use Rattle.tl_jobs.specs.declared.replies.Reply.{Reply}
+use Rattle.tl_jobs.specs.Jobs.{Job}
 use Rattle.tl_session.specs.Plain as plain
 use Rattle.tl_session.specs.Statements.{IsSame}
 use Rattle.tl_session.specs.Tending.{WereTended}
-use Rattle.tl_session.specs.Turns.{Turn, meant, of_session}
+use Rattle.tl_jobs.specs.Turns.{Turn, meant, of_session}
 use Rattle.tl_session.specs.Promises.{Chain, Chains, tally, whole_tally, weight}
-use Rattle.tl_session.specs.Written.{jobs_of}
+use Rattle.tl_jobs.specs.Written.{jobs_of}
 
 -- the replies of the turns, in order
 abbrev pub replies_of : List Turn → List Reply

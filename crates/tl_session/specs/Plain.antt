@@ -2,7 +2,7 @@
 use Rattle.std.specs.Prelude.{ℕ, Bool, List}
 use Rattle.atomic_table.specs.Seated.{TableId}
 use Rattle.tl_types.specs.declared.commits.Entry.{Entry}
-use Rattle.tl_session.specs.declared.replies.Reply.{Reply}
+use Rattle.tl_jobs.specs.declared.replies.Reply.{Reply}
 
 -- a session's access to an engine: the author of its batches, the table of the head that it reads,
 -- the entries that it has seen, the number of parts of its share of the ledger, and how many
@@ -19,12 +19,6 @@ pub record Session : Type 0 where
   pub access : Access
   pub replies : List Reply
   pub ran_out : Bool
-
--- by how many workers the work of a query may be shared, and with how many events since its last
--- mark a table gets another
-pub record Pace : Type 0 where
-  pub workers : ℕ
-  pub every : ℕ
 
 -- what sessions share: the table of the head that they read, the entries that they have seen, the
 -- number of parts of the share of the ledger, how many commits and breaks this share counts, and

@@ -8,11 +8,11 @@ use Rattle.tl_types.specs.declared.commits.Entry.TheVariants as entry
 use Rattle.tl_types.specs.Entries.{commits_of, has_break}
 use Rattle.tl_types.specs.Legality.{are_legal}
 use Rattle.tl_engine.specs.Counting.{news}
-use Rattle.tl_session.specs.declared.readings.JobReading.TheVariants.{Query}
-use Rattle.tl_session.specs.declared.replies.ReplyBody.{ReplyBody}
-use Rattle.tl_session.specs.declared.replies.ReplyBody.TheVariants as body
-use Rattle.tl_session.specs.Jobs.{Job}
-use Rattle.tl_session.specs.Turns.{Turn, Meaning, HasFault, Makes, ReadsWell, of_session}
+use Rattle.tl_jobs.specs.declared.readings.JobReading.TheVariants.{Query}
+use Rattle.tl_jobs.specs.declared.replies.ReplyBody.{ReplyBody}
+use Rattle.tl_jobs.specs.declared.replies.ReplyBody.TheVariants as body
+use Rattle.tl_jobs.specs.Jobs.{Job}
+use Rattle.tl_jobs.specs.Turns.{Turn, Meaning, HasFault, Makes, ReadsWell, of_session}
 
 -- what was seen begins a base, and what is seen now is the base and one entry more
 abbrev pub Appended : List Entry → List Entry → List Entry → Entry → Type 0

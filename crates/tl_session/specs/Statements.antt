@@ -6,18 +6,18 @@ use Rattle.tl_types.specs.Entries.{commits_of, has_break}
 use Rattle.tl_types.specs.History.{database_of}
 use Rattle.tl_engine.specs.declared.faults.CommitFault.{CommitFault}
 use Rattle.tl_engine.specs.declared.faults.CommitFault.TheVariants as fault
-use Rattle.tl_session.specs.declared.readings.JobReading.{JobReading}
-use Rattle.tl_session.specs.declared.readings.JobReading.TheVariants.{Loads}
-use Rattle.tl_session.specs.declared.replies.Refusal.TheVariants as refusal
-use Rattle.tl_session.specs.declared.replies.Reply.{Reply}
-use Rattle.tl_session.specs.declared.replies.ReplyBody.{ReplyBody}
-use Rattle.tl_session.specs.declared.replies.ReplyBody.TheVariants as body
+use Rattle.tl_jobs.specs.declared.readings.JobReading.{JobReading}
+use Rattle.tl_jobs.specs.declared.readings.JobReading.TheVariants.{Loads}
+use Rattle.tl_jobs.specs.declared.replies.Refusal.TheVariants as refusal
+use Rattle.tl_jobs.specs.declared.replies.Reply.{Reply}
+use Rattle.tl_jobs.specs.declared.replies.ReplyBody.{ReplyBody}
+use Rattle.tl_jobs.specs.declared.replies.ReplyBody.TheVariants as body
 use Rattle.tl_session.specs.declared.statements.Settled.{Settled}
-use Rattle.tl_session.specs.Jobs.{Job}
+use Rattle.tl_jobs.specs.Jobs.{Job}
 use Rattle.tl_session.specs.Plain as plain
-use Rattle.tl_session.specs.Reading.{Reads}
+use Rattle.tl_jobs.specs.Reading.{Reads}
 use Rattle.tl_session.specs.Tending.{table_of, NamesTable, HasTended}
-use Rattle.tl_session.specs.Turns.{meant, ReadsWell}
+use Rattle.tl_jobs.specs.Turns.{meant, ReadsWell}
 use Rattle.tl_session.specs.Promises.{BodySays, body_weight}
 
 -- the author, the table and the number of parts of the share are the same

@@ -1,24 +1,16 @@
 -- What the replies of all phases say of the commits and the break. A phase is a list of turns of
 -- any sessions, in the order of their jobs. A version v is that of the first v commits.
-use Rattle.std.specs.Prelude.{◌≡◌, ℕ, ◌+◌, ◌<◌, ◌≤◌, Bool, true, false, ◌||◌, ◌==◌, if◌then◌else◌, List, [], ◌∷◌, length, take, max, Option, Some, None, slice_get}
+use Rattle.std.specs.Prelude.{◌≡◌, ℕ, ◌+◌, ◌<◌, ◌≤◌, Bool, true, false, ◌||◌, ◌==◌, if◌then◌else◌, List, [], ◌∷◌, length, map, take, max, Option, Some, None, slice_get}
 use Rattle.tl_types.specs.declared.commits.Commit.{Commit}
-use Rattle.tl_session.specs.declared.readings.JobReading.TheVariants.{Query}
-use Rattle.tl_session.specs.declared.replies.AnswerText.{AnswerText}
-use Rattle.tl_session.specs.declared.replies.Refusal.{Refusal}
-use Rattle.tl_session.specs.declared.replies.ReplyBody.{ReplyBody}
-use Rattle.tl_session.specs.declared.replies.ReplyBody.TheVariants as body
-use Rattle.tl_session.specs.Turns.{Turn, Meaning, HasFault, Makes, ReadsWell, of_session}
+use Rattle.tl_jobs.specs.declared.readings.JobReading.TheVariants.{Query}
+use Rattle.tl_jobs.specs.declared.replies.AnswerText.{AnswerText}
+use Rattle.tl_jobs.specs.declared.replies.Refusal.{Refusal}
+use Rattle.tl_jobs.specs.declared.replies.ReplyBody.{ReplyBody}
+use Rattle.tl_jobs.specs.declared.replies.ReplyBody.TheVariants as body
+use Rattle.tl_jobs.specs.Jobs.{Job}
+use Rattle.tl_jobs.specs.Turns.{Turn, Meaning, meant, HasFault, Makes, ReadsWell, of_session, Each, EachOfAll}
+use Rattle.tl_jobs.specs.Written.{jobs_of, transcript_bytes}
 use Rattle.tl_session.specs.Promises.{whole_tally}
-
--- P holds of each turn of a list
-abbrev pub Each : (Turn → Type 0) → List Turn → Type 0
-Each P [] = Unit {0}
-Each P (t ∷ ts) = P t × Each P ts
-
--- P holds of each turn of all phases
-abbrev pub EachOfAll : (Turn → Type 0) → List (List Turn) → Type 0
-EachOfAll P [] = Unit {0}
-EachOfAll P (phase ∷ phases) = Each P phase × EachOfAll P phases
 
 -- the reply names the line of its job
 abbrev pub OwnLine : Turn → Type 0
@@ -166,3 +158,11 @@ pub record Transcript (m : Meaning) (old all : List Commit) (broke : Option Comm
   pub one_done : OneDone (length old) (length all) phases
   pub one_device : OneDevice broke phases
   pub stays_broken : AllStayBroken m all false phases
+
+-- the bytes are those of turns of the phases' jobs, which make a transcript over the opening's
+-- commits, all commits and this break, or none; the sessions have these names
+abbrev pub IsTranscript : List (List ℕ) → List (List Job) → List Commit → List Commit
+    → Option Commit → List ℕ → Type 0
+IsTranscript names phases opening all broke bytes =
+    (turns : List (List Turn)) × (map jobs_of turns ≡ phases)
+    × Transcript meant opening all broke turns × (bytes ≡ transcript_bytes names turns)

@@ -3,26 +3,18 @@
 //! law; calling it does nothing.
 ghost use Rattle.std.specs.Prelude.{◌≡◌, ◌+◌, ◌++◌, ◌∷◌, [], ℕ, IsTrue, List, None, false, map};
 ghost use mathlib.Core.List.{IsPrefix};
-ghost use Rattle.tl_types.specs.declared.commits.Commit.{Commit};
 ghost use Rattle.tl_types.specs.declared.commits.Entry.{Entry};
 ghost use Rattle.tl_types.specs.Entries.{commits_of, has_break};
 ghost use Rattle.tl_types.specs.Legality.{are_legal};
 ghost use Rattle.tl_engine.specs.Counting.{news};
-ghost use Rattle.tl_session.specs.Jobs.{Job};
+ghost use Rattle.tl_jobs.specs.Jobs.{Job};
 ghost use Rattle.tl_session.specs.Phases.{HaveRun, TakesTurns};
 ghost use Rattle.tl_session.specs.Plain.{SharedAccess};
-ghost use Rattle.tl_session.specs.Reading.{HasOneReading};
-ghost use Rattle.tl_session.specs.Turns.{Turn, meant, break_of, all_turns};
+ghost use Rattle.tl_jobs.specs.Turns.{Turn, meant, break_of, all_turns};
 ghost use Rattle.tl_session.specs.Promises.{Promised};
 ghost use Rattle.tl_session.specs.Transcript.{Transcript};
-ghost use Rattle.tl_session.specs.Play.{AreLone, AreLonePhases, IsPlay};
-ghost use Rattle.tl_session.specs.Written.{IsPlayOf, all_jobs, jobs_of, transcript_bytes};
-
-/// A job is one thing over a list of commits: a batch that reads well, a query with its answer, or
-/// its first fault.
-pub fn each_job_has_one_reading()
-    ensures { (commits : List Commit) (job : Job) → HasOneReading commits job }
-{}
+ghost use Rattle.tl_jobs.specs.Play.{AreLone, AreLonePhases, IsPlay};
+ghost use Rattle.tl_jobs.specs.Written.{IsPlayOf, all_jobs, jobs_of, transcript_bytes};
 
 /// What each session's replies say by themselves makes a transcript of them all.
 pub fn sessions_make_a_transcript()
@@ -48,17 +40,6 @@ pub fn lone_phases_play()
         → break_of last ≡ None → AreLonePhases jobs
         → IsPlayOf names (all_jobs jobs) (commits_of opening) (commits_of last)
         (transcript_bytes names phases) }
-{}
-
-/// The jobs done one after the other write one text and end with one list of commits; and there
-/// always is such a text and such a list.
-pub fn a_play_is_one()
-    ensures one { (names : List (List ℕ)) (jobs : List Job) (opening all other : List Commit)
-        (bytes others : List ℕ)
-        → IsPlayOf names jobs opening all bytes → IsPlayOf names jobs opening other others
-        → (all ≡ other) × (bytes ≡ others) }
-    ensures there { (names : List (List ℕ)) (jobs : List Job) (opening : List Commit)
-        → (all : List Commit) × (bytes : List ℕ) × IsPlayOf names jobs opening all bytes }
 {}
 
 /// Before the first phase the opening's entries are seen, and nothing is counted. What the sessions

@@ -3,16 +3,13 @@
 ghost use Rattle.std.specs.Prelude.{◌≡◌, ◌+◌, ◌<◌, All, List, false, length, map, IfOk, OnOk, OnErr};
 ghost use mathlib.Core.List.{IsPrefix};
 ghost use Rattle.tl_types.specs.Limits.{standard_limits};
-ghost use Rattle.tl_session.specs.Jobs.{job_of};
+ghost use Rattle.tl_jobs.specs.Jobs.{job_of};
 ghost use Rattle.tl_session.specs.Phases.{Runs, AllFresh, AllSeenIn, HaveReplies, KeepAll, LosesReply, NoneRanOut, TakesLast, amounts_of, parts_of, replies_of};
 ghost use Rattle.tl_session.specs.Tending.{WereTended};
-ghost use Rattle.tl_session.specs.Turns.{Turn};
-ghost use Rattle.tl_session.specs.Written.{jobs_of};
+ghost use Rattle.tl_jobs.specs.Turns.{Turn};
+ghost use Rattle.tl_jobs.specs.Written.{jobs_of};
 
 use crate::access::AccessParts;
-use crate::jobs::LentJob;
-use crate::paces::Pace;
-use crate::replies::Reply;
 use crate::runs::run_all;
 use crate::sessions::Session;
 use std::alloc::{AllocError, Global};
@@ -24,6 +21,7 @@ use tl_device::{Disk, Gate};
 use tl_engine::{Engine, Named};
 use tl_head::Pass;
 use tl_index::Snapshot;
+use tl_jobs::{LentJob, Pace, Reply};
 use tl_types::NoMemory;
 
 /// What the sessions of all phases share: a pass that has seen what each of them saw in the phases

@@ -2,13 +2,10 @@
 //! memory runs out.
 ghost use Rattle.std.specs.Prelude.{◌≡◌, ◌<◌, ◌≤◌, IfOk, length, map};
 ghost use Rattle.tl_types.specs.Limits.{standard_limits};
-ghost use Rattle.tl_session.specs.Jobs.{job_of};
+ghost use Rattle.tl_jobs.specs.Jobs.{job_of};
 ghost use Rattle.tl_session.specs.Phases.{AllRan, AllTendOn, AreNumbered, Ran, TendsOn, own_jobs};
-ghost use Rattle.tl_session.specs.Reading.{blocks_of};
+ghost use Rattle.tl_jobs.specs.Reading.{blocks_of};
 
-use crate::crews::Crew;
-use crate::jobs::LentJob;
-use crate::paces::Pace;
 use crate::sessions::Session;
 use crate::statements::run_job;
 use std::alloc::Global;
@@ -18,6 +15,7 @@ use std::thread::Threads;
 use tl_csv::{AnswerWriter, BlockReader};
 use tl_device::{Disk, Gate};
 use tl_engine::{Engine, Named};
+use tl_jobs::{Crew, LentJob, Pace};
 use tl_types::NoMemory;
 
 // The blocks of a session's own ones of these jobs, in order; of a job without one no bytes.

@@ -3,13 +3,13 @@
 ghost use Rattle.std.specs.Prelude.{◌≡◌, ◌<◌, [], false};
 
 use crate::access::{Access, AccessParts};
-use crate::replies::Reply;
 use std::alloc::Global;
 use std::marker::Model;
 use std::sync::ledger::Share;
 use tl_engine::Named;
 use tl_head::Pass;
 use tl_index::Snapshot;
+use tl_jobs::Reply;
 
 /// A session of a phase: its access to the engine, its replies in the order of their jobs, and
 /// whether memory ran out before its last job.

@@ -7,17 +7,12 @@ ghost use Rattle.tl_types.specs.History.{database_of};
 ghost use Rattle.tl_types.specs.Limits.{standard_limits};
 ghost use Rattle.tl_batch.specs.Made.{batch_matches, names_table};
 ghost use Rattle.tl_engine.specs.declared.faults.TendFault.TheVariants as tend_fault;
-ghost use Rattle.tl_session.specs.Jobs.{job_of};
-ghost use Rattle.tl_session.specs.Reading.{DoesMatch, HasBlockAt, IsKnown};
+ghost use Rattle.tl_jobs.specs.Jobs.{job_of};
+ghost use Rattle.tl_jobs.specs.Reading.{DoesMatch, HasBlockAt, IsKnown};
 ghost use Rattle.tl_session.specs.Statements.{AnswersJob, IsLook, SeesMore, Settles, Stops, Tells, outcome_of};
 ghost use Rattle.tl_session.specs.Tending.{table_of, reading_table, if_done, IsThere, NamesTable, IsTended};
 
 use crate::access::{Access, Admission};
-use crate::crews::Crew;
-use crate::jobs::LentJob;
-use crate::paces::Pace;
-use crate::readings::{JobReading, read_job};
-use crate::replies::{Refusal, Reply, ReplyBody};
 use crate::sessions::Session;
 use std::alloc::{AllocError, Global};
 use std::sync::Wait;
@@ -25,6 +20,7 @@ use std::thread::Threads;
 use tl_csv::{AnswerWriter, BlockReader};
 use tl_device::{Disk, Gate};
 use tl_engine::{CommitFault, Engine, Named, TendFault, Tended};
+use tl_jobs::{Crew, JobReading, LentJob, Pace, Refusal, Reply, ReplyBody, read_job};
 use tl_store::Store;
 use tl_types::{Batch, NoMemory};
 

@@ -1,5 +1,5 @@
 use Rattle.std.proofs.Common.{◌≡◌, map, take}
-use Rattle.tl_session.specs.Jobs.{job_of}
+use Rattle.tl_jobs.specs.Jobs.{job_of}
 use Rattle.tl_command.specs.Jobs.{asked}
 use Rattle.tl_command.proofs.lending.lent_jobs.Given as goal
 

@@ -1,5 +1,5 @@
 use Rattle.std.proofs.Common.{rules, refl, map, ◌∙◌}
-use Rattle.tl_session.specs.Jobs.{job_of}
+use Rattle.tl_jobs.specs.Jobs.{job_of}
 use Rattle.tl_command.specs.Jobs.{asked}
 use Rattle.tl_run.proofs.RunningLemmas.{nothing_run, same_sessions, some_run, all_unwritten, phase_written}
 use Rattle.tl_run.proofs.running.run_one.Goals as goal

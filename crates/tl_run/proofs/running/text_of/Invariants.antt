@@ -1,5 +1,5 @@
 use Rattle.std.proofs.Common.{◌≡◌, ◌++◌, map, take, length}
-use Rattle.tl_session.specs.Jobs.{job_of}
+use Rattle.tl_jobs.specs.Jobs.{job_of}
 use Rattle.tl_run.specs.Running.{replies_bytes}
 use Rattle.tl_run.proofs.running.text_of.Given as goal
 

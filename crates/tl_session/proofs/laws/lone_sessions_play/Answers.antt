@@ -1,4 +1,4 @@
-use Rattle.tl_session.specs.Turns.{meant}
+use Rattle.tl_jobs.specs.Turns.{meant}
 use Rattle.tl_session.proofs.PlayLemmas.{promised_play}
 use Rattle.tl_session.proofs.laws.lone_sessions_play.Goals as goal
 

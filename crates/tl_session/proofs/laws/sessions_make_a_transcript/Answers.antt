@@ -1,4 +1,4 @@
-use Rattle.tl_session.specs.Turns.{meant}
+use Rattle.tl_jobs.specs.Turns.{meant}
 use Rattle.tl_session.proofs.TranscriptLemmas.{is_transcript}
 use Rattle.tl_session.proofs.laws.sessions_make_a_transcript.Goals as goal
 

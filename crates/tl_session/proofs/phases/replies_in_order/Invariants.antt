@@ -1,5 +1,5 @@
 use Rattle.std.proofs.Common.{◌≤◌, length, map}
-use Rattle.tl_session.specs.Jobs.{job_of}
+use Rattle.tl_jobs.specs.Jobs.{job_of}
 use Rattle.tl_session.specs.Phases.{KeepAll}
 use Rattle.tl_session.proofs.HandLemmas.{HandsOut}
 use Rattle.tl_session.proofs.phases.replies_in_order.Given as goal

@@ -1,6 +1,6 @@
 use Rattle.std.proofs.Common.{rules, ◌∙◌, ap, refl, arith, map, subst}
 use Rattle.tl_head.specs.Passes.{PassValue}
-use Rattle.tl_session.specs.Jobs.{job_of}
+use Rattle.tl_jobs.specs.Jobs.{job_of}
 use Rattle.tl_session.specs.Phases.{AllTendOn}
 use Rattle.tl_session.proofs.SharedLemmas.{none_run, parts_back, phase_done, written_back}
 use Rattle.tl_session.proofs.phases.run_phase.Goals as goal

@@ -1,7 +1,7 @@
 use Rattle.std.proofs.Common.{◌≡◌, map, take}
-use Rattle.tl_session.specs.Jobs.{job_of}
+use Rattle.tl_jobs.specs.Jobs.{job_of}
 use Rattle.tl_session.specs.Phases.{own_jobs}
-use Rattle.tl_session.specs.Reading.{blocks_of}
+use Rattle.tl_jobs.specs.Reading.{blocks_of}
 use Rattle.tl_session.proofs.runs.own_blocks.Given as goal
 
 -- the blocks of the jobs so far

@@ -1,6 +1,6 @@
 use Rattle.std.proofs.Common.{rules, refl, ◌∙◌, ◌≡◌, [], None, slice_index_or}
-use Rattle.tl_session.specs.declared.jobs.LentJob.{LentJob}
-use Rattle.tl_session.specs.Jobs.{job_of}
+use Rattle.tl_jobs.specs.declared.jobs.LentJob.{LentJob}
+use Rattle.tl_jobs.specs.Jobs.{job_of}
 use Rattle.tl_session.proofs.BlockLemmas.{block_here, place_next}
 use Rattle.tl_session.proofs.ChainLemmas.{ran_none, ran_next, ran_stop}
 use Rattle.tl_session.proofs.TendedLemmas.{job_tended}

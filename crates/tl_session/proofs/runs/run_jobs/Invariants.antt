@@ -1,5 +1,5 @@
 use Rattle.std.proofs.Common.{◌≡◌, length, map, take}
-use Rattle.tl_session.specs.Jobs.{job_of}
+use Rattle.tl_jobs.specs.Jobs.{job_of}
 use Rattle.tl_session.specs.Phases.{own_jobs}
 use Rattle.tl_session.specs.Tending.{WereTended}
 use Rattle.tl_session.proofs.ChainLemmas.{RanAll}

@@ -1,6 +1,6 @@
 use Rattle.std.proofs.Common.{subst}
-use Rattle.tl_session.specs.declared.readings.JobReading.{JobReading}
-use Rattle.tl_session.specs.Jobs.{job_of}
+use Rattle.tl_jobs.specs.declared.readings.JobReading.{JobReading}
+use Rattle.tl_jobs.specs.Jobs.{job_of}
 use Rattle.tl_session.specs.Statements.{IsLook}
 use Rattle.tl_session.proofs.TendingLemmas.{names_done, there_done, look_table}
 use Rattle.tl_session.proofs.StatementLemmas.{tells_settled, tells_rows, tells_fault}

@@ -1,23 +1,15 @@
-use Rattle.std.proofs.Common.{◌∙◌}
+-- The case of a group of one commit.
+use Rattle.std.proofs.Common.{[], ◌∷◌}
 use Rattle.tl_journal.proofs.journal.Journal.append.Goals as goal
 
-pub returns-in_default-put-clause-any_moment : goal.returns-in_default-put-clause-any_moment
-returns-in_default-put-clause-any_moment g c = rw (← c.self.view_is) (λ cs r s is. c.put.ensures.any_moment cs r (is.0, c.as_slice.ensures ∙ is.1) s.on_disk)
-
-pub returns-in_default-put-clause-now : goal.returns-in_default-put-clause-now
-returns-in_default-put-clause-now g c = rw (← c.self.view_is) (λ cs r s is. c.put.ensures.now cs r (is.0, c.as_slice.ensures ∙ is.1) s.on_disk)
-
-pub returns-in_default-put-clause-reads : goal.returns-in_default-put-clause-reads
-returns-in_default-put-clause-reads g c = rw (← c.self.view_is) (λ cs r s is b reads. c.put.ensures.now cs r (is.0, c.as_slice.ensures ∙ is.1) s.on_disk b (g.met.D.Disk.an_image c.put.new.disk b reads))
+pub append_all-requires-clause-body : goal.append_all-requires-clause-body
+append_all-requires-clause-body g c = (c.requires.body.0 ∷ [], c.requires.body.1)
 
 pub returns-clause-any_moment : goal.returns-clause-any_moment
-returns-clause-any_moment g c = rw (← c.self.view_is) (λ cs r s is. c.put.ensures.any_moment cs r (is.0, c.as_slice.ensures ∙ is.1) s.on_disk)
+returns-clause-any_moment g c cs r stands is = c.append_all.ensures.any_moment cs (r ∷ []) stands is
 
 pub returns-clause-now : goal.returns-clause-now
-returns-clause-now g c = rw (← c.self.view_is) (λ cs r s is. c.put.ensures.now cs r (is.0, c.as_slice.ensures ∙ is.1) s.on_disk)
+returns-clause-now g c cs r stands is = c.append_all.ensures.now cs (r ∷ []) stands is
 
 pub returns-clause-reads : goal.returns-clause-reads
-returns-clause-reads g c = rw (← c.self.view_is) (λ cs r s is b reads. c.put.ensures.now cs r (is.0, c.as_slice.ensures ∙ is.1) s.on_disk b (g.met.D.Disk.an_image c.put.new.disk b reads))
-
-pub returns-in-Some-clause-tells : goal.returns-in-Some-clause-tells
-returns-in-Some-clause-tells g c = rw (← c.self.view_is) (λ b told. (b, told))
+returns-clause-reads g c cs r stands is = c.append_all.ensures.reads cs (r ∷ []) stands is

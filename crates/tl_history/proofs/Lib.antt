@@ -1,0 +1,10 @@
+pub mod ListLemmas
+pub mod MarkLemmas
+pub mod BuildLemmas
+pub mod PaceLemmas
+pub mod FitLemmas
+pub mod ReadLemmas
+pub mod MomentLemmas
+pub mod StandingLemmas
+pub mod OpenLemmas
+pub mod WriteLemmas

@@ -1,5 +1,0 @@
-use Rattle.tl_session.proofs.ReadingLemmas.{has_one_reading}
-use Rattle.tl_session.proofs.laws.each_job_has_one_reading.Goals as goal
-
-pub returns : goal.returns
-returns c = has_one_reading

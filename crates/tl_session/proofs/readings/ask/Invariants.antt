@@ -1,4 +1,0 @@
-use Rattle.tl_session.proofs.readings.ask.Given as goal
-
-abbrev pub ghosts-answer_uncounted : goal.ghosts-answer_uncounted
-ghosts-answer_uncounted g a = record { name = a.blank.name; parts = a.blank.parts }

@@ -1,3 +1,4 @@
+pub mod BytesLemmas
 pub mod ClosingLemmas
 pub mod ComingLemmas
 pub mod NamesLemmas

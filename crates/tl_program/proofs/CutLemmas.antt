@@ -20,7 +20,7 @@ use Rattle.tl_run.specs.Runs.{Told, OpenedEnds}
 use Rattle.tl_program.specs.Headline.{CutsReplies, CutsClosing, CutsClosed, CutsBySink, StopsInPhase, CutsByMemory, wanted_for}
 use Rattle.tl_command.specs.Outside.{Outside, streams_of, HoldsJournal}
 use Rattle.tl_run.specs.Stopping.{RunsAll, RunStops}
-use Rattle.tl_run.proofs.RunningLemmas.{written_more, written_none}
+use Rattle.tl_command.proofs.BytesLemmas.{written_more, written_none}
 use Rattle.tl_program.proofs.TopLemmas.{told_script}
 
 -- THE CLOSING LINE

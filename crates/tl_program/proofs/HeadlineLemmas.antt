@@ -29,7 +29,7 @@ use Rattle.tl_program.specs.Headline.{PrintsPlay, PrintsTranscript, PrintsAll, P
 use Rattle.tl_command.specs.Outside.{Outside, streams_of, HoldsJournal}
 use Rattle.tl_run.specs.Stopping.{RunsAll, RunStops}
 use Rattle.tl_program.proofs.CutLemmas.{refused_sink, refused_memory, nothing_done, sink_cuts, memory_cuts}
-use Rattle.tl_run.proofs.RunningLemmas.{written_more}
+use Rattle.tl_command.proofs.BytesLemmas.{written_more}
 use Rattle.tl_program.proofs.TopLemmas.{told_script}
 
 -- what was written where the run ended as it was to: neither memory nor the sink ends a run so

@@ -4,7 +4,7 @@ use Rattle.std.proofs.lemmas.List.{append-nil, length-map, length-take-le, map-a
 use mathlib.Core.List.{IsPrefix}
 use Rattle.tl_types.specs.declared.commits.Entry.{Entry}
 use Rattle.tl_device.specs.Known.{append_known, prepend_known, Rose}
-use Rattle.tl_device.proofs.Known.{append_both, read_more}
+use Rattle.tl_device.proofs.Known.{read_more}
 use Rattle.tl_script.specs.declared.jobs.ScriptFault.{ScriptFault}
 use Rattle.tl_script.specs.declared.phases.NextError.{NextError}
 use Rattle.tl_script.specs.declared.phases.NextError.TheVariants as next
@@ -32,6 +32,7 @@ use Rattle.tl_run.specs.Running.{Advances, RunsWhole, RunsUnwritten, RunsShort, 
 use Rattle.tl_command.specs.Writing.{WritesBytes}
 use Rattle.tl_run.specs.Stopping.{RunsAll, StopsAtSource, StopsAtSink, AreFronts, StopsShort}
 use Rattle.tl_command.specs.Stops.{stop_for}
+use Rattle.tl_command.proofs.BytesLemmas.{Inside, turns_on, same_turns, each_grows, turns_inside, written_more, written_none}
 use Rattle.tl_command.proofs.ComingLemmas.{rest_of, whole_told, all_told, none_come, one_more_come, at_the_end, all_read, fault_read, closed_read, so_far_read}
 
 -- WHAT SESSIONS SAY
@@ -57,10 +58,6 @@ took_phase old new before after phase None a = (by_test old.at_end refl, (a.take
 
 -- BYTES
 
-turns_on : (names : List (List ℕ)) (xs ys : List Turn) → turns_bytes names (xs ++ ys) ≡ turns_bytes names xs ++ turns_bytes names ys
-turns_on names [] ys = refl
-turns_on names (t ∷ ts) ys = ap (λ b. turn_bytes names t ++ b) (turns_on names ts ys) ∙ sym (append_assoc (turn_bytes names t) (turns_bytes names ts) (turns_bytes names ys))
-
 pub transcript_more : (names : List (List ℕ)) (phases : List (List Turn)) (phase : List Turn) → transcript_bytes names (phases ++ phase ∷ []) ≡ transcript_bytes names phases ++ turns_bytes names phase
 transcript_more names [] phase = ap (turns_bytes names) (append-nil phase)
 transcript_more names (q ∷ phases) phase =
@@ -68,29 +65,6 @@ transcript_more names (q ∷ phases) phase =
     ∙ (ap (λ b. turns_bytes names q ++ b) (transcript_more names phases phase)
     ∙ (sym (append_assoc (turns_bytes names q) (transcript_bytes names phases) (turns_bytes names phase))
     ∙ ap (λ b. b ++ turns_bytes names phase) (sym (turns_on names q (all_turns phases)))))
-
--- what was written, and then more
-pub written_more : (first old new : Option (List ℕ)) (xs ys : List ℕ) → old ≡ append_known first xs → new ≡ append_known old ys → new ≡ append_known first (xs ++ ys)
-written_more first old new xs ys e f = f ∙ (ap (λ o. append_known o ys) e ∙ sym (append_both first xs ys))
-
-pub written_none : (written : Option (List ℕ)) → written ≡ append_known written []
-written_none None = refl
-written_none (Some b) = ap Some (sym (append-nil b))
-
--- a name among the first ones stays where it is
-same_name : (names more : List (List ℕ)) (i : ℕ) → i < length names → get_or (names ++ more) i [] ≡ get_or names i []
-same_name [] more i inside = absurd (omega arith)
-same_name (x ∷ names) more zero inside = refl
-same_name (x ∷ names) more (suc i) inside = same_name names more i (omega (arith, inside))
-
-abbrev Inside : ℕ → Turn → Type 0
-Inside n t = t.job.session < n
-
-same_turns : (old new : List (List ℕ)) (ts : List Turn) → Grows old new → Each (Inside (length old)) ts → turns_bytes old ts ≡ turns_bytes new ts
-same_turns old new [] g e = refl
-same_turns old new (t ∷ ts) (more, is) e =
-    let name : get_or old t.job.session [] ≡ get_or new t.job.session [] = sym (same_name old more t.job.session e.0) ∙ ap (λ l. get_or l t.job.session []) (sym is) in
-    ap (λ n. reply_bytes n t.reply ++ turns_bytes old ts) name ∙ ap (λ b. turn_bytes new t ++ b) (same_turns old new ts (more, is) e.1)
 
 -- the sessions' names stay where they are
 pub same_transcript : (old new : List (List ℕ)) (phases : List (List Turn)) → Grows old new → EachOfAll (Inside (length old)) phases → transcript_bytes old phases ≡ transcript_bytes new phases
@@ -100,10 +74,6 @@ same_transcript old new (q ∷ phases) g e =
     ∙ (ap (λ b. b ++ transcript_bytes old phases) (same_turns old new q g e.0)
     ∙ (ap (λ b. turns_bytes new q ++ b) (same_transcript old new phases g e.1) ∙ sym (turns_on new q (all_turns phases))))
 
-each_grows : (old new : List (List ℕ)) (ts : List Turn) → Grows old new → Each (Inside (length old)) ts → Each (Inside (length new)) ts
-each_grows old new [] g e = tt
-each_grows old new (t ∷ ts) (more, is) e = ((let i = e.0 in omega (arith, i, ap length is, length-append old more)), each_grows old new ts (more, is) e.1)
-
 all_grow : (old new : List (List ℕ)) (phases : List (List Turn)) → Grows old new → EachOfAll (Inside (length old)) phases → EachOfAll (Inside (length new)) phases
 all_grow old new [] g e = tt
 all_grow old new (q ∷ phases) g e = (each_grows old new q g e.0, all_grow old new phases g e.1)
@@ -111,22 +81,6 @@ all_grow old new (q ∷ phases) g e = (each_grows old new q g e.0, all_grow old 
 all_more : (n : ℕ) (phases : List (List Turn)) (phase : List Turn) → EachOfAll (Inside n) phases → Each (Inside n) phase → EachOfAll (Inside n) (phases ++ phase ∷ [])
 all_more n [] phase e f = (f, tt)
 all_more n (q ∷ phases) phase e f = (e.0, all_more n phases phase e.1 f)
-
--- the sessions of turns are those of their jobs
-turns_inside : (n : ℕ) (jobs : List ScriptJob) (ts : List Turn) → All (λ job. job.session < n) jobs → jobs_of ts ≡ map asked jobs → Each (Inside n) ts
-turns_inside n jobs [] all e = tt
-turns_inside n [] (t ∷ ts) all e = absurd (cc)
-turns_inside n (job ∷ jobs) (t ∷ ts) all e = (
-  subst (λ (s : ℕ). s < n) (ap first_session (sym e)) (all 0 job (omega arith)),
-  turns_inside n jobs ts (λ k d inside. all (suc k) d (omega (arith, inside))) (ap tail e),
-) where
-  first_session : List Job → ℕ
-  first_session [] = 0
-  first_session (j ∷ js) = j.session
-
-  tail : List Job → List Job
-  tail [] = []
-  tail (j ∷ js) = js
 
 -- STEPS
 

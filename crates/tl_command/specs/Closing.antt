@@ -33,6 +33,13 @@ SinkFails bytes old new before after ended =
     (ended ≡ status.SinkFault after) × Rose before after
     × ((n : ℕ) × (new ≡ append_known old (take n bytes)))
 
+-- bytes are written for which there was room, and the command ends as it was to; or the sink failed
+abbrev pub WritesReady : List ℕ → Status → Option (List ℕ) → Option (List ℕ) → ℕ → ℕ → Status
+    → Type 0
+WritesReady bytes wanted old new before after ended =
+    ((ended ≡ wanted) × (new ≡ append_known old bytes) × (after ≡ before))
+    ⊎ SinkFails bytes old new before after ended
+
 -- Bytes are written, and the run ends as it was to; or memory ran out before the first of them; or
 -- the sink failed. What was written and the count of faults are given before and after.
 abbrev pub Writes : List ℕ → Status → Option (List ℕ) → Option (List ℕ) → ℕ → ℕ → Status → Type 0

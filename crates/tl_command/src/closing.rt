@@ -1,13 +1,14 @@
 //! How a run is closed: by its closing line, behind all replies. Where the sink failed or memory
 //! ran out nothing more is written.
-ghost use Rattle.std.specs.Prelude.{◌≡◌, [], Ok, Err};
-ghost use Rattle.tl_command.specs.Closing.{ended_by, status_for, wanted_by, Closes, ClosesAfter, EndsFor};
+ghost use Rattle.std.specs.Prelude.{◌≡◌, [], Ok, Err, length};
+ghost use Rattle.tl_device.specs.Known.{HasRoom};
+ghost use Rattle.tl_command.specs.Closing.{ended_by, status_for, wanted_by, Closes, ClosesAfter, EndsFor, WritesReady};
 
 use crate::statuses::{Status, closing_line};
 use crate::stops::Stop;
 use crate::writing::write_bytes;
 use std::alloc::Global;
-use tl_device::Sink;
+use tl_device::{Failed, Sink, write_all};
 use tl_journal::JournalFault;
 
 // How a run ends that was to end so, once its closing line is written or not.
@@ -31,6 +32,21 @@ pub fn close<K: Sink>(alloc: Global, sink: &mut K, wanted: Status) -> Status
     match closing_line(alloc, &wanted) {
         Ok(line) => ended_by(write_bytes(sink, line.as_bytes()), wanted),
         Err(_) => Status::NoMemory,
+    }
+}
+
+/// Writes bytes for which the sink has room, and ends as it was to. It takes no memory. `SinkFault`:
+/// the sink failed, and some prefix of the bytes is written.
+pub fn write_ready<K: Sink>(sink: &mut K, bytes: &[u8], wanted: Status) -> Status
+    requires { HasRoom (K.spare sink.old) (length bytes.now) }
+    ensures { WritesReady bytes.now wanted (K.written sink.old) (K.written sink.new)
+        (K.faults sink.old) (K.faults sink.new) result }
+{
+    match write_all(sink, bytes) {
+        Ok(()) => wanted,
+        Err(Failed) => Status::SinkFault {
+            faults: sink.faults(),
+        },
     }
 }
 

@@ -1,0 +1,126 @@
+//! The command `group`: the journal is opened, the script is played, and all its commits are
+//! appended at once before the first reply is written.
+ghost use Rattle.std.specs.Prelude.{◌≡◌, []};
+ghost use Rattle.tl_types.specs.Limits.{standard_limits};
+ghost use Rattle.tl_command.specs.Coming.{HasNotBegun, script_reads};
+ghost use Rattle.tl_command.specs.Outside.{outside};
+ghost use Rattle.tl_group.specs.Keeping.{commits_in};
+ghost use Rattle.tl_grouping.specs.Appending.{AppendsAndWrites, IsAttached};
+ghost use Rattle.tl_grouping.specs.Grouping.{GroupEnds, GroupEndsBy};
+
+use crate::playing::{Playing, play_phases};
+use std::sync::Wait;
+use std::thread::Threads;
+use tl_command::{Ending, Phases, Status, Stop, close_run, end_refused, write_ready};
+use tl_device::{Disk, Gate, Sink, Source};
+use tl_group::{Finished, Group};
+use tl_jobs::Pace;
+use tl_journal::Refused;
+use tl_script::Script;
+use tl_types::Limits;
+
+// The line that is written where the disk fails while the group is appended.
+const DEVICE_LINE: &str = "! device\n";
+
+// The room that the sink needs for a text or for the line of a disk that fails.
+const LINE_ROOM: u64 = 9;
+
+// Appends all that waits as one group, once the sink's room is taken for the text of the replies or
+// the line of a disk that fails, and writes the one or the other.
+fn append<K: Sink, D: Disk>(group: Group<D>, text: &[u8], sink: &mut K) -> Ending<D>
+    ensures { AppendsAndWrites K.Sink D.Disk group text.now sink.old sink.new result.disk
+        result.status }
+{
+    if sink.room(text.len() as u64 + LINE_ROOM).is_err() {
+        return Ending {
+            status: Status::NoMemory,
+            disk: group.into_disk(),
+        };
+    }
+    let Finished { faults, disk } = group.finish();
+    match faults {
+        None => Ending {
+            status: write_ready(sink, text, Status::Done),
+            disk,
+        },
+        Some(faults) => Ending {
+            status: write_ready(sink, DEVICE_LINE.as_bytes(), Status::DiskFault { faults }),
+            disk,
+        },
+    }
+}
+
+// Plays phases over a group as it was opened, and appends what waits then; where the script has a
+// fault, its source fails or memory runs out, the group is given up.
+fn play_group<
+    R: AllocGlobal + Threads + Wait + Sync,
+    S: Source,
+    K: Sink,
+    D: Disk,
+    P: Phases<S>,
+    G: Gate,
+>(
+    rt: &R,
+    playing: Playing<D, P>,
+    pace: &Pace,
+    source: &mut S,
+    sink: &mut K,
+    gate: &G,
+) -> Ending<D>
+    requires fresh { HasNotBegun (P.coming playing.phases) }
+    requires standard { playing.group.limits ≡ standard_limits }
+    requires silent { playing.text.items ≡ [] }
+    ensures { (begun : D) → IsAttached D.Disk begun playing.group → GroupEndsBy
+        (P.coming playing.phases).reads (commits_in playing.group)
+        (outside S.Source K.Sink D.Disk source.old sink.old begun)
+        (outside S.Source K.Sink D.Disk source.new sink.new result.disk) result.status }
+{
+    let mut playing = playing;
+    let stop = play_phases::<S, D, P, G, R>(rt, &mut playing, source, pace, gate);
+    let Playing {
+        group,
+        phases: _,
+        text,
+    } = playing;
+    match stop {
+        Stop::Ended => append(group, text.as_slice(), sink),
+        _ => Ending {
+            status: close_run(rt.alloc(), sink, stop, false, 0),
+            disk: group.into_disk(),
+        },
+    }
+}
+
+/// Plays the script that the source has over the journal on the disk, and appends the commits that
+/// its jobs make as one group: all of them or none. The replies are written once the commits are on
+/// the disk. How it ends, and what is then written and on the disk, by status, is what `GroupEnds`
+/// says. `pace` tells by how many workers the work of a query may be shared; no table gets a mark.
+pub fn group<R: AllocGlobal + Threads + Wait + Sync, S: Source, K: Sink, D: Disk, G: Gate>(
+    rt: &R,
+    pace: &Pace,
+    source: &mut S,
+    sink: &mut K,
+    disk: D,
+    gate: &G,
+) -> Ending<D>
+    ensures { GroupEnds script_reads
+        (outside S.Source K.Sink D.Disk source.old sink.old disk)
+        (outside S.Source K.Sink D.Disk source.new sink.new result.disk) result.status }
+{
+    let alloc = rt.alloc();
+    let limits = Limits::standard();
+    match Group::attach(alloc, disk, &limits) {
+        Err(Refused { fault, disk }) => Ending {
+            status: end_refused(alloc, sink, fault),
+            disk,
+        },
+        Ok(group) => {
+            let playing = Playing {
+                group,
+                phases: Script::new(alloc, &limits),
+                text: Vec::new(alloc),
+            };
+            play_group::<R, S, K, D, Script, G>(rt, playing, pace, source, sink, gate)
+        }
+    }
+}

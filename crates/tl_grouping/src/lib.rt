@@ -1,0 +1,15 @@
+//! The command `group`: a whole script whose commits are appended to the journal at once, all of
+//! them or none.
+//!
+//! The journal is opened, and the jobs of the script are done one after the other over what the
+//! journal and the jobs before them have committed; nothing of that is on the disk yet. Then the
+//! sink's room is taken for the replies, all commits are appended as one group, and the replies are
+//! written. Where the script has a fault, its source fails or memory runs out, the disk keeps the
+//! journal that it had. No thread but those of a query is started, and no lock is taken.
+#![tactic(auto)]
+
+mod grouping;
+mod playing;
+mod steps;
+
+pub use grouping::group;

@@ -81,9 +81,9 @@ pub record GroupFails (reads : Bool → List ℕ → ScriptReading) (opening : L
 
 -- the group was given up, with the closing line alone, and the disk holds what it had
 pub record GroupIsLeft (opening : List Commit) (ended : Status) (before after : Outside) : Type 0
-    where
-  pub prints : Prints (closing_line ended) before after
-  pub holds : HoldsJournal opening None before after
+  where
+    pub prints : Prints (closing_line ended) before after
+    pub holds : HoldsJournal opening None before after
 
 -- the sink failed at the replies, with all commits on the disk
 pub record CutsReplies (reads : Bool → List ℕ → ScriptReading) (opening : List Commit)

@@ -59,14 +59,7 @@ fn play_group<
     D: Disk,
     P: Phases<S>,
     G: Gate,
->(
-    rt: &R,
-    playing: Playing<D, P>,
-    pace: &Pace,
-    source: &mut S,
-    sink: &mut K,
-    gate: &G,
-) -> Ending<D>
+>(rt: &R, playing: Playing<D, P>, pace: &Pace, source: &mut S, sink: &mut K, gate: &G) -> Ending<D>
     requires fresh { HasNotBegun (P.coming playing.phases) }
     requires standard { playing.group.limits ≡ standard_limits }
     requires silent { playing.text.items ≡ [] }

@@ -13,8 +13,8 @@ ghost use Rattle.tl_grouping.specs.Playing.{KeepsDisk, PlayStops, Played, PlaysJ
 
 use crate::steps::play_job;
 use std::alloc::Global;
-use std::thread::Threads;
 use std::sync::Wait;
+use std::thread::Threads;
 use tl_command::{Phases, Stop, lent_jobs, stop_for};
 use tl_csv::{AnswerWriter, BlockReader};
 use tl_device::{Disk, Gate, Source};
@@ -35,13 +35,7 @@ pub(crate) struct Playing<D: Disk, P> {
 }
 
 // Does the jobs one after the other. The error is `NoMemory`.
-fn play_jobs<
-    S: Source,
-    D: Disk,
-    P: Phases<S>,
-    G: Gate,
-    R: AllocGlobal + Threads + Sync,
->(
+fn play_jobs<S: Source, D: Disk, P: Phases<S>, G: Gate, R: AllocGlobal + Threads + Sync>(
     rt: &R,
     playing: &mut Playing<D, P>,
     jobs: &[LentJob],
@@ -81,13 +75,7 @@ fn blocks_of<'a>(alloc: Global, jobs: &[LentJob<'a>]) -> Result<Vec<&'a [u8]>, N
 }
 
 // Does the jobs of a phase, whose blocks are read by one reader. The error is `NoMemory`.
-fn play_phase<
-    S: Source,
-    D: Disk,
-    P: Phases<S>,
-    G: Gate,
-    R: AllocGlobal + Threads + Sync,
->(
+fn play_phase<S: Source, D: Disk, P: Phases<S>, G: Gate, R: AllocGlobal + Threads + Sync>(
     rt: &R,
     playing: &mut Playing<D, P>,
     phase: &Phase,
@@ -118,13 +106,7 @@ fn play_phase<
 }
 
 // Plays the next phase. None: it is played, and another may come yet.
-fn play_next<
-    S: Source,
-    D: Disk,
-    P: Phases<S>,
-    G: Gate,
-    R: AllocGlobal + Threads + Sync,
->(
+fn play_next<S: Source, D: Disk, P: Phases<S>, G: Gate, R: AllocGlobal + Threads + Sync>(
     rt: &R,
     playing: &mut Playing<D, P>,
     source: &mut S,
@@ -160,13 +142,7 @@ pub(crate) fn play_phases<
     P: Phases<S>,
     G: Gate,
     R: AllocGlobal + Threads + Wait + Sync,
->(
-    rt: &R,
-    playing: &mut Playing<D, P>,
-    source: &mut S,
-    pace: &Pace,
-    gate: &G,
-) -> Stop
+>(rt: &R, playing: &mut Playing<D, P>, source: &mut S, pace: &Pace, gate: &G) -> Stop
     requires fresh { HasNotBegun (P.coming playing.old.phases) }
     requires standard { playing.old.group.limits ≡ standard_limits }
     requires silent { playing.old.text.items ≡ [] }

@@ -1,0 +1,82 @@
+-- What the disk holds once a group is appended or given up.
+use Rattle.std.proofs.Common.{◌≡◌, inl, inr, ℕ, List, [], ◌∷◌, ◌++◌, take, drop, Some, None, refl, sym, ap, ◌∙◌, subst, append-nil, take-append-drop}
+use Rattle.std.specs.declared.option.Option.{Option}
+use Rattle.tl_types.specs.declared.commits.Commit.{Commit}
+use Rattle.tl_device.specs.Disk.{Only}
+use Rattle.tl_device.specs.Known.{Rose}
+use Rattle.tl_device.specs.declared.disk.Disk.{Ghosts as DiskGhosts}
+use Rattle.tl_journal.specs.Image.{header, ImageStandsFor, NoneOrAll}
+use Rattle.tl_journal.specs.Stands.{DiskStandsFor}
+use Rattle.tl_group.specs.Keeping.{commits_in, journal_commits, waiting_commits}
+use Rattle.tl_group.specs.Plain as group
+use Rattle.tl_group.specs.Standing.{DiskStandsForGroup}
+use Rattle.tl_command.specs.Outside.{Outside, HoldsJournal}
+use Rattle.tl_grouping.specs.Appending.{IsAttached, IsAppended, IsInDoubt}
+use Rattle.tl_grouping.specs.Grouping.{HoldsEither, StandsForEither}
+use Rattle.tl_grouping.specs.Playing.{KeepsDisk}
+
+-- a read gives the journal of the commits, and a crash leaves just that
+abbrev pub Holds : Outside → List Commit → Type 0
+Holds after commits = (bytes : List ℕ) × (after.reads ≡ Some bytes) × Only bytes after.may_leave × ImageStandsFor commits bytes
+
+-- an outside whose disk does so holds the journal
+pub holds_journal : (commits : List Commit) (before after : Outside) → after.disk_faults ≡ before.disk_faults → ((b : List ℕ) → before.reads ≡ Some b → Holds after commits) → HoldsJournal commits None before after
+holds_journal commits before after count holds =
+    record {
+      counts = count;
+      leaves = λ b told image left. let h = holds b told in subst (ImageStandsFor commits) (sym (h.2.0 image left)) h.2.1;
+      reads = λ b told. let h = holds b told in (h.0, h.1, h.2.1);
+      settled = λ b told none. let h = holds b told in (h.0, h.1, h.2.0);
+    }
+
+-- the image of a disk that stands for commits
+pub stored_image : {D : Type 0} (disks : DiskGhosts D) (disk : D) (commits : List Commit) (gate : ℕ) → DiskStandsFor disks.reads disks.may_leave disk commits gate → (bytes : List ℕ) × (disks.reads disk ≡ Some bytes) × Only bytes (disks.may_leave disk) × ImageStandsFor commits bytes
+stored_image disks disk commits gate h = ((header ++ h.front) ++ 0 ∷ [], h.stored.reads_as, h.stored.only, (h.front, h.opens, ([], refl)))
+
+-- the journal of a group that was attached and played has the commits that it had
+pub commits_kept : {D : Type 0} (disks : DiskGhosts D) (begun : D) (attached later : group.Group D) → IsAttached disks begun attached → KeepsDisk disks attached later → journal_commits later ≡ commits_in attached
+commits_kept disks begun attached later a k = k.journal_same ∙ a.journal_is
+
+-- where no commit waits all are the journal's
+pub none_waiting : {D : Type 0} (g : group.Group D) → waiting_commits g ≡ [] → journal_commits g ≡ commits_in g
+none_waiting g none = sym (append-nil (journal_commits g)) ∙ (ap (λ cs. journal_commits g ++ cs) (sym none) ∙ take-append-drop g.first (commits_in g))
+
+-- the journal's commits and those that wait are all
+all_commits : {D : Type 0} (g : group.Group D) → journal_commits g ++ waiting_commits g ≡ commits_in g
+all_commits g = take-append-drop g.first (commits_in g)
+
+-- the disk of a group that is given up
+pub left_image : {D : Type 0} (disks : DiskGhosts D) (begun disk : D) (attached later : group.Group D) → IsAttached disks begun attached → KeepsDisk disks attached later → disk ≡ later.journal.disk → (b : List ℕ) → disks.reads begun ≡ Some b
+    → (bytes : List ℕ) × (disks.reads disk ≡ Some bytes) × Only bytes (disks.may_leave disk) × ImageStandsFor (commits_in attached) bytes
+left_image disks begun disk attached later a k same b told =
+    let stands = k.stands (a.stands b told) in
+    subst (λ (d : _). (bytes : List ℕ) × (disks.reads d ≡ Some bytes) × Only bytes (disks.may_leave d) × ImageStandsFor (commits_in attached) bytes) (sym same)
+    (subst (λ (cs : List Commit). (bytes : List ℕ) × (disks.reads later.journal.disk ≡ Some bytes) × Only bytes (disks.may_leave later.journal.disk) × ImageStandsFor cs bytes) (commits_kept disks begun attached later a k)
+    (stored_image disks later.journal.disk (journal_commits later) later.journal.gate stands.on_disk))
+
+pub left_count : {D : Type 0} (disks : DiskGhosts D) (begun disk : D) (attached later : group.Group D) → IsAttached disks begun attached → KeepsDisk disks attached later → disk ≡ later.journal.disk → disks.faults disk ≡ disks.faults begun
+left_count disks begun disk attached later a k same = ap disks.faults same ∙ (k.count_same ∙ a.count_same)
+
+-- the disk of a group that is appended
+pub appended_image : {D : Type 0} (disks : DiskGhosts D) (begun disk : D) (attached later : group.Group D) → IsAttached disks begun attached → KeepsDisk disks attached later → IsAppended disks later disk → (b : List ℕ) → disks.reads begun ≡ Some b
+    → (bytes : List ℕ) × (disks.reads disk ≡ Some bytes) × Only bytes (disks.may_leave disk) × ImageStandsFor (commits_in later) bytes
+appended_image disks begun disk attached later a k is b told =
+    let stands = is.stands (k.stands (a.stands b told)) in
+    stored_image disks disk (commits_in later) stands.0 stands.1
+
+-- the image of none or all
+either_image : {D : Type 0} (disks : DiskGhosts D) (begun : D) (attached later : group.Group D) (image : List ℕ) → IsAttached disks begun attached → KeepsDisk disks attached later → NoneOrAll (journal_commits later) (waiting_commits later) image → StandsForEither (commits_in attached) (commits_in later) image
+either_image disks begun attached later image a k (inl own) = inl (subst (λ (cs : List Commit). ImageStandsFor cs image) (commits_kept disks begun attached later a k) own)
+either_image disks begun attached later image a k (inr all) = inr (subst (λ (cs : List Commit). ImageStandsFor cs image) (all_commits later) all)
+
+-- the disk that failed while the group was appended
+pub doubt_held : {D : Type 0} (disks : DiskGhosts D) (begun disk : D) (attached later : group.Group D) (left left_after written written_after : Option (List ℕ)) (source source_after sink sink_after : ℕ) → IsAttached disks begun attached → KeepsDisk disks attached later → IsInDoubt disks later disk
+    → HoldsEither (commits_in attached) (commits_in later)
+    (record { left = left; source_faults = source; written = written; sink_faults = sink; reads = disks.reads begun; may_leave = disks.may_leave begun; disk_faults = disks.faults begun })
+    (record { left = left_after; source_faults = source_after; written = written_after; sink_faults = sink_after; reads = disks.reads disk; may_leave = disks.may_leave disk; disk_faults = disks.faults disk })
+doubt_held disks begun disk attached later left left_after written written_after source source_after sink sink_after a k is =
+    record {
+      rose = subst (λ (n : ℕ). Rose n (disks.faults disk)) (k.count_same ∙ a.count_same) is.rose;
+      leaves = λ b told image may. either_image disks begun attached later image a k (is.leaves (k.stands (a.stands b told)) image may);
+      reads = λ b told. let h = is.reads (k.stands (a.stands b told)) in (h.0, h.1, either_image disks begun attached later h.0 a k h.2);
+    }

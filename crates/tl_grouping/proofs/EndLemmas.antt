@@ -1,0 +1,117 @@
+-- How a group ends, by why its phases stopped and what became of its append.
+use Rattle.std.proofs.Common.{◌≡◌, inl, inr, ℕ, Bool, true, false, List, [], ◌++◌, take, Some, None, refl, sym, ap, ◌∙◌, subst}
+use Rattle.std.specs.declared.option.Option.{Option}
+use Rattle.tl_device.specs.Known.{append_known, Rose}
+use Rattle.tl_device.specs.declared.disk.Disk.{Ghosts as DiskGhosts}
+use Rattle.tl_device.specs.declared.sink.Sink.{Ghosts as SinkGhosts}
+use Rattle.tl_script.specs.Script.{ScriptReading}
+use Rattle.tl_group.specs.Keeping.{commits_in}
+use Rattle.tl_group.specs.Plain as group
+use Rattle.tl_command.specs.declared.statuses.Status.{Status}
+use Rattle.tl_command.specs.declared.statuses.Status.TheVariants as status
+use Rattle.tl_command.specs.declared.stops.Stop.{Stop}
+use Rattle.tl_command.specs.declared.stops.Stop.TheVariants as stop
+use Rattle.tl_command.specs.Closing.{ClosesAfter, Closes}
+use Rattle.tl_command.specs.Outside.{Outside, HoldsJournal}
+use Rattle.tl_command.specs.Status.{closing_line}
+use Rattle.tl_grouping.specs.Appending.{AppendsAndWrites, IsAttached}
+use Rattle.tl_grouping.specs.Grouping.{GroupEndsBy}
+use Rattle.tl_grouping.specs.Playing.{KeepsDisk, PlaysScript, PlayStops}
+use Rattle.tl_grouping.proofs.DiskLemmas.{holds_journal, left_image, left_count, appended_image, doubt_held}
+
+-- all phases were played, and the group was appended
+pub appended : {K D : Type 0} (sinks : SinkGhosts K) (disks : DiskGhosts D) (reads : Bool → List ℕ → ScriptReading) (begun : D) (attached later : group.Group D) (text : List ℕ) (left end : Option (List ℕ)) (first last : ℕ) (old new : K) (disk : D) (ended : Status)
+    → IsAttached disks begun attached → KeepsDisk disks attached later → PlaysScript (reads true) (commits_in attached) (commits_in later) text left end × (last ≡ first)
+    → AppendsAndWrites sinks disks later text old new disk ended
+    → GroupEndsBy reads (commits_in attached)
+    (record { left = left; source_faults = first; written = sinks.written old; sink_faults = sinks.faults old; reads = disks.reads begun; may_leave = disks.may_leave begun; disk_faults = disks.faults begun })
+    (record { left = end; source_faults = last; written = sinks.written new; sink_faults = sinks.faults new; reads = disks.reads disk; may_leave = disks.may_leave disk; disk_faults = disks.faults disk }) ended
+appended sinks disks reads begun attached later text left end first last old new disk ended a k plays writes = by_end writes where
+  before : Outside
+  before = record { left = left; source_faults = first; written = sinks.written old; sink_faults = sinks.faults old; reads = disks.reads begun; may_leave = disks.may_leave begun; disk_faults = disks.faults begun }
+
+  after : Outside
+  after = record { left = end; source_faults = last; written = sinks.written new; sink_faults = sinks.faults new; reads = disks.reads disk; may_leave = disks.may_leave disk; disk_faults = disks.faults disk }
+
+  by_end : AppendsAndWrites sinks disks later text old new disk ended → GroupEndsBy reads (commits_in attached) before after ended
+  by_end (inl (e, same, written, faults)) =
+      subst (GroupEndsBy reads (commits_in attached) before after) (sym e)
+      ((written, faults), holds_journal (commits_in attached) before after (left_count disks begun disk attached later a k same) (left_image disks begun disk attached later a k same))
+  by_end (inr (inl (is, inl (e, written, faults)))) =
+      subst (GroupEndsBy reads (commits_in attached) before after) (sym e)
+      (record {
+        all = commits_in later;
+        text = text;
+        plays = plays;
+        prints = (written, faults);
+        holds = holds_journal (commits_in later) before after (is.count_same ∙ (k.count_same ∙ a.count_same)) (appended_image disks begun disk attached later a k is);
+      })
+  by_end (inr (inl (is, inr (e, rose, some)))) =
+      subst (GroupEndsBy reads (commits_in attached) before after) (sym e) (
+        refl,
+        inl (record {
+          all = commits_in later;
+          text = text;
+          plays = plays;
+          prints = (rose, some);
+          holds = holds_journal (commits_in later) before after (is.count_same ∙ (k.count_same ∙ a.count_same)) (appended_image disks begun disk attached later a k is);
+        }),
+      )
+  by_end (inr (inr (is, inl (e, written, faults)))) =
+      subst (GroupEndsBy reads (commits_in attached) before after) (sym e) (
+        refl,
+        record {
+          all = commits_in later;
+          text = text;
+          plays = plays;
+          prints = (written, faults);
+          holds = doubt_held disks begun disk attached later left end (sinks.written old) (sinks.written new) first last (sinks.faults old) (sinks.faults new) a k is;
+        },
+      )
+  by_end (inr (inr (is, inr (e, rose, some)))) =
+      subst (GroupEndsBy reads (commits_in attached) before after) (sym e) (
+        refl,
+        inr (inl (record {
+          all = commits_in later;
+          text = text;
+          closing = status.DiskFault (disks.faults disk);
+          plays = plays;
+          prints = (rose, some);
+          holds = doubt_held disks begun disk attached later left end (sinks.written old) (sinks.written new) first last (sinks.faults old) (sinks.faults new) a k is;
+        })),
+      )
+
+-- the phases stopped before their end, and the group was given up
+pub given_up : {K D : Type 0} (sinks : SinkGhosts K) (disks : DiskGhosts D) (reads : Bool → List ℕ → ScriptReading) (begun : D) (attached later : group.Group D) (text : List ℕ) (left end : Option (List ℕ)) (first last : ℕ) (old new : K) (disk : D) (why : Stop) (ended : Status)
+    → IsAttached disks begun attached → KeepsDisk disks attached later → disk ≡ later.journal.disk
+    → (why ≡ stop.Ended → ⊥)
+    → PlayStops (reads true) (commits_in attached) (commits_in later) text why left end first last
+    → ClosesAfter why false 0 (sinks.written old) (sinks.written new) (sinks.faults old) (sinks.faults new) ended
+    → GroupEndsBy reads (commits_in attached)
+    (record { left = left; source_faults = first; written = sinks.written old; sink_faults = sinks.faults old; reads = disks.reads begun; may_leave = disks.may_leave begun; disk_faults = disks.faults begun })
+    (record { left = end; source_faults = last; written = sinks.written new; sink_faults = sinks.faults new; reads = disks.reads disk; may_leave = disks.may_leave disk; disk_faults = disks.faults disk }) ended
+given_up sinks disks reads begun attached later text left end first last old new disk why ended a k same other stops closes = by_stop why other stops closes where
+  before : Outside
+  before = record { left = left; source_faults = first; written = sinks.written old; sink_faults = sinks.faults old; reads = disks.reads begun; may_leave = disks.may_leave begun; disk_faults = disks.faults begun }
+
+  after : Outside
+  after = record { left = end; source_faults = last; written = sinks.written new; sink_faults = sinks.faults new; reads = disks.reads disk; may_leave = disks.may_leave disk; disk_faults = disks.faults disk }
+
+  holds : HoldsJournal (commits_in attached) None before after
+  holds = holds_journal (commits_in attached) before after (left_count disks begun disk attached later a k same) (left_image disks begun disk attached later a k same)
+
+  -- memory ran out, or the sink failed at the closing line
+  cut : (wanted : Status) → Closes [] wanted (sinks.written old) (sinks.written new) (sinks.faults old) (sinks.faults new) ended
+      → ((sinks.written new ≡ append_known (sinks.written old) (closing_line wanted)) → (sinks.faults new ≡ sinks.faults old) → GroupEndsBy reads (commits_in attached) before after wanted)
+      → GroupEndsBy reads (commits_in attached) before after ended
+  cut wanted (inl (e, written, faults)) closed = subst (GroupEndsBy reads (commits_in attached) before after) (sym e) (closed written faults)
+  cut wanted (inr (inl (e, written, faults))) closed = subst (GroupEndsBy reads (commits_in attached) before after) (sym e) ((written, faults), holds)
+  cut wanted (inr (inr (e, rose, some))) closed =
+      subst (GroupEndsBy reads (commits_in attached) before after) (sym e) (refl, inr (inr (record { closing = wanted; prints = (rose, some); holds = holds })))
+
+  by_stop : (w : Stop) → (w ≡ stop.Ended → ⊥) → PlayStops (reads true) (commits_in attached) (commits_in later) text w left end first last → ClosesAfter w false 0 (sinks.written old) (sinks.written new) (sinks.faults old) (sinks.faults new) ended → GroupEndsBy reads (commits_in attached) before after ended
+  by_stop stop.Ended no h c = absurd (no refl)
+  by_stop (stop.Fault f) no h c = cut (status.ScriptFault f) c (λ written faults. (h.0, h.1, record { prints = (written, faults); holds = holds }))
+  by_stop (stop.Source n) no h c = cut (status.SourceFault n) c (λ written faults. (h.1, h.0, record { prints = (written, faults); holds = holds }))
+  by_stop (stop.Sink n) no h c = absurd h
+  by_stop stop.NoMemory no h (e, written, faults) = subst (GroupEndsBy reads (commits_in attached) before after) (sym e) ((written, faults), holds)

@@ -18,7 +18,7 @@ mod session_names;
 mod texts;
 
 pub use jobs::ScriptFault;
-pub use loading::load_phase;
+pub use loading::{load_phase, read_block};
 pub use phases::{Job, NextError, Phase};
 pub use script::Script;
 pub use texts::{as_text, is_utf8};

@@ -37,6 +37,30 @@ fn take_block<S: Source>(
     Ok(())
 }
 
+/// Reads what a source has left: to its end, or until more than `most` bytes were taken, which are
+/// then at most 65,536 more. Where the answer has more than `most` bytes the source may have more
+/// yet, and else that is all. `Source`: a read failed before that; the source's count of faults,
+/// which rose in this call, is handed on. `NoMemory`: memory ran out. There is no other error.
+pub fn read_block<S: Source>(alloc: Global, source: &mut S, most: u64) -> Result<Bytes, NextError>
+    ensures takes { IfOk result (λ block. TakesBlock most (S.left source.old) block
+        (S.left source.new)) }
+    ensures fails { IfErr result (λ e. FailsBlock most (S.left source.old) e
+        (S.left source.new)) }
+    ensures sure { OnOk result (S.faults source.new ≡ S.faults source.old) }
+    ensures faults { IfErr result (λ e. NextFaults e (S.faults source.old)
+        (S.faults source.new)) }
+{
+    let mut pending = Pending::new(alloc);
+    match take_block(&mut pending, alloc, source, most) {
+        Ok(()) => {}
+        Err(error) => return Err(error),
+    }
+    match pending.into_vec() {
+        Ok(block) => Ok(Bytes::from_vec(block)),
+        Err(_) => Err(NextError::NoMemory),
+    }
+}
+
 // The job that puts a block, of the first session.
 fn load_job(text: Line, block: Bytes) -> Job
     ensures { result ≡ job_with 1 text (Some block) }

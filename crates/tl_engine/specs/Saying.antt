@@ -1,5 +1,6 @@
 -- What the answer to a commit says of the entries that its caller has seen.
-use Rattle.std.specs.Prelude.{◌≡◌, ℕ, ◌+◌, Bool, true, false, List, [], ◌∷◌, ◌++◌, length, is_some, Result, Ok, Err}
+use Rattle.std.specs.Prelude.{◌≡◌, ℕ, ◌+◌, Bool, true, false, List, [], ◌∷◌, ◌++◌, is_some, Some, None, Result, Ok, Err}
+use Rattle.std.specs.declared.option.Option.{Option}
 use mathlib.Core.List.{IsPrefix}
 use Rattle.tl_types.specs.declared.batches.Batch.{Batch}
 use Rattle.tl_types.specs.declared.batches.Batch.TheVariants as batch
@@ -13,8 +14,9 @@ use Rattle.tl_types.specs.Plain as plain
 use Rattle.tl_types.specs.Resolving.{find_table, resolved}
 use Rattle.tl_device.specs.Known.{Rose}
 use Rattle.tl_index.specs.Snapshots.{commit_entry, break_entry}
-use Rattle.tl_engine.specs.declared.faults.CommitFault.{CommitFault}
-use Rattle.tl_engine.specs.declared.faults.CommitFault.TheVariants as fault
+use Rattle.tl_history.specs.declared.faults.CommitFault.{CommitFault}
+use Rattle.tl_history.specs.declared.faults.CommitFault.TheVariants as fault
+use Rattle.tl_history.specs.Lists.{version_after}
 
 -- a batch that puts or removes rows names a table that is there
 abbrev pub names_table : plain.Database → Batch → Bool

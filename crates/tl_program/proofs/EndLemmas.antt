@@ -13,7 +13,7 @@ use Rattle.tl_journal.specs.Image.{ImageStandsFor}
 use Rattle.tl_journal.specs.Stands.{empty_journal}
 use Rattle.tl_journal.specs.declared.faults.JournalFault.{JournalFault}
 use Rattle.tl_journal.specs.declared.faults.JournalFault.TheVariants as journal
-use Rattle.tl_engine.specs.Standing.{IsCount}
+use Rattle.tl_history.specs.Standing.{IsCount}
 use Rattle.tl_program.specs.declared.statuses.Status.{Status}
 use Rattle.tl_program.specs.declared.stops.Stop.{Stop}
 use Rattle.tl_program.specs.Ending.{EndsFor, Told, ClosesAfter, PhasesEnd, OpenedEnds, RunEnds, SampleEnds, sink_alone}

@@ -10,7 +10,7 @@ use Rattle.tl_session.proofs.EntryLemmas.{break_behind}
 use Rattle.tl_types.specs.Legality.{may_follow, are_legal_behind, are_legal}
 use Rattle.tl_types.proofs.Lists.{and_right}
 use Rattle.tl_types.proofs.EntryLemmas.{none_behind_break}
-use Rattle.tl_engine.specs.Lists.{tried_commits}
+use Rattle.tl_history.specs.Lists.{tried_commits}
 
 pub break_none : (es : List Entry) → has_break es ≡ false → break_of es ≡ None
 break_none [] h = refl

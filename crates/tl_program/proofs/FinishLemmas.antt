@@ -11,7 +11,7 @@ use Rattle.tl_session.specs.Phases.{HaveRun}
 use Rattle.tl_types.specs.Legality.{are_legal}
 use Rattle.tl_journal.specs.Stands.{DiskStandsFor}
 use Rattle.tl_engine.specs.Counting.{news}
-use Rattle.tl_engine.specs.Standing.{IsCount, ImageStandsForEntries}
+use Rattle.tl_history.specs.Standing.{IsCount, ImageStandsForEntries}
 use Rattle.tl_program.specs.declared.stops.Stop.{Stop}
 use Rattle.tl_program.specs.Ending.{Told}
 use Rattle.tl_program.specs.Finishing.{Finishes}

@@ -10,7 +10,7 @@ use Rattle.tl_session.specs.Turns.{break_of}
 use Rattle.tl_journal.specs.Image.{header, ImageStandsFor, BeforeOrAfter}
 use Rattle.tl_journal.specs.Stands.{DiskStandsFor}
 use Rattle.tl_types.specs.Legality.{are_legal}
-use Rattle.tl_engine.specs.Standing.{IsCount, ImageStandsForEntries}
+use Rattle.tl_history.specs.Standing.{IsCount, ImageStandsForEntries}
 use Rattle.tl_program.specs.Outside.{Outside, StandsWithBreak, CountsBreak, HoldsJournal}
 use Rattle.tl_program.proofs.EntryLemmas.{break_none, break_some, tried_none, tried_some}
 

@@ -7,7 +7,7 @@ use Rattle.tl_device.specs.declared.disk.Disk.{Ghosts as DiskGhosts}
 use Rattle.tl_script.specs.Script.{ScriptReading}
 use Rattle.tl_session.specs.Turns.{break_of}
 use Rattle.tl_journal.specs.Stands.{DiskStandsFor}
-use Rattle.tl_engine.specs.Standing.{IsCount, ImageStandsForEntries}
+use Rattle.tl_history.specs.Standing.{IsCount, ImageStandsForEntries}
 use Rattle.tl_program.specs.declared.stops.Stop.{Stop}
 use Rattle.tl_program.specs.Ending.{Told}
 use Rattle.tl_program.specs.Outside.{Streams}

@@ -4,7 +4,7 @@ ghost use Rattle.std.specs.Prelude.{◌≡◌, ℕ, List, Some, is_some, false};
 ghost use Rattle.tl_types.specs.Entries.{has_break};
 ghost use Rattle.tl_types.specs.Limits.{standard_limits};
 ghost use Rattle.tl_engine.specs.Naming.{IsNameOf};
-ghost use Rattle.tl_engine.specs.Standing.{DiskStandsForHistory};
+ghost use Rattle.tl_history.specs.Standing.{DiskStandsForHistory};
 ghost use Rattle.tl_program.specs.Finishing.{Finishes};
 ghost use Rattle.tl_program.specs.Outside.{streams};
 ghost use Rattle.tl_program.specs.Running.{HasNotBegun};

@@ -1,4 +1,22 @@
-HEAD
+-- A history that goes on to be an engine's.
+use Rattle.std.proofs.Common.{◌≡◌, inl, inr, ℕ, List, sym, ap, ◌∙◌, subst}
+use Rattle.std.specs.Prelude.{Some, Result, Ok, Err, IfOk, IfErr}
+use Rattle.std.specs.declared.option.Option.{Option}
+use Rattle.tl_types.specs.declared.limits.Limits.{Limits}
+use Rattle.tl_device.specs.Disk.{IsStored}
+use Rattle.tl_journal.specs.Answers.{CountsFaults}
+use Rattle.tl_journal.specs.Image.{ImageStandsFor}
+use Rattle.tl_journal.specs.Moments.{EachMoment, EachMomentBySync, IsUntouched, OldOr}
+use Rattle.tl_journal.specs.Stands.{SameOrTrimmed}
+use Rattle.tl_journal.specs.declared.faults.JournalFault.{JournalFault}
+use Rattle.tl_journal.specs.declared.faults.JournalFault.TheVariants as fault
+use Rattle.tl_journal.specs.declared.opening.Refused.{Refused}
+use Rattle.tl_history.specs.Answers.{Opens, disk_opened}
+use Rattle.tl_history.specs.Plain as history
+use Rattle.tl_history.proofs.OpenLemmas.{trimmed_there}
+use Rattle.tl_engine.specs.Naming.{history_attached}
+use Rattle.tl_engine.specs.Plain as plain
+
 -- the want of memory is no other fault
 other_than_memory : (e f : JournalFault) → (fault.NoMemory ≡ f → ⊥) → e ≡ fault.NoMemory → e ≡ f → ⊥
 other_than_memory e f none no_memory is = none (sym no_memory ∙ is)
@@ -14,7 +32,7 @@ long_is_other len e = absurd (cc)
 
 module _ {D : Type 0} (read : D → Option (List ℕ)) (may_leave : D → List ℕ → Type 0) (moment : D → ℕ) (left_since : D → ℕ → List ℕ → Type 0) (fault_count : D → ℕ) where
   -- a history goes on to be an engine's, or there is no memory for it
-  pub opens_on : (given : Limits) (k : ℕ) (disk : D) (h : plain.History D) (answer : Result (plain.Opening D) (Refused D)) → Opens read may_leave moment left_since fault_count given k disk (Ok h) → IfOk answer (λ o. o.history ≡ h) → IfErr answer (λ r. r.fault ≡ fault.NoMemory) → disk_opened (history_attached answer) ≡ h.journal.disk → Opens read may_leave moment left_since fault_count given k disk (history_attached answer)
+  pub opens_on : (given : Limits) (k : ℕ) (disk : D) (h : history.History D) (answer : Result (plain.Opening D) (Refused D)) → Opens read may_leave moment left_since fault_count given k disk (Ok h) → IfOk answer (λ o. o.history ≡ h) → IfErr answer (λ r. r.fault ≡ fault.NoMemory) → disk_opened (history_attached answer) ≡ h.journal.disk → Opens read may_leave moment left_since fault_count given k disk (history_attached answer)
   opens_on given k disk h (Ok o) opens same no_memory at =
       subst (λ x. Opens read may_leave moment left_since fault_count given k disk (Ok x)) (sym same) opens
   opens_on given k disk h (Err r) opens same no_memory at =

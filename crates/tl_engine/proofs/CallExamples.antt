@@ -13,7 +13,7 @@ use Rattle.tl_types.specs.declared.commits.Entry.{Entry}
 use Rattle.tl_types.specs.declared.commits.Entry.TheVariants as entry
 use Rattle.tl_core.specs.declared.steps.Step.TheVariants as step
 use Rattle.tl_core.specs.World.{World}
-use Rattle.tl_engine.specs.declared.faults.CommitFault.TheVariants as fault
+use Rattle.tl_history.specs.declared.faults.CommitFault.TheVariants as fault
 use Rattle.tl_engine.specs.Calls.{Call, IsRun, after_calls, steps_of_calls}
 use Rattle.tl_engine.specs.Counting.{news}
 use Rattle.tl_engine.specs.Heads.{HasBuild, HeadState, LeadTo, start_state, world_of}

@@ -30,17 +30,18 @@ use Rattle.tl_core.specs.declared.steps.Step.TheVariants as step
 use Rattle.tl_core.specs.World.{World, IsLegal, IsLegalBuild, IsLegalPass, after_mark, after_step, after_allowed, after_steps, appended, begun_at, build_of, ended, may_mark, pass_at, seen_to, with_pass}
 use Rattle.tl_core.specs.Law.{GoesOn}
 use Rattle.tl_core.proofs.LawLemmas.{goes_on}
-use Rattle.tl_engine.specs.declared.faults.CommitFault.{CommitFault}
-use Rattle.tl_engine.specs.declared.faults.CommitFault.TheVariants as fault
+use Rattle.tl_history.specs.declared.faults.CommitFault.{CommitFault}
+use Rattle.tl_history.specs.declared.faults.CommitFault.TheVariants as fault
 use Rattle.tl_engine.specs.declared.faults.Tended.{Tended}
 use Rattle.tl_engine.specs.declared.faults.Tended.TheVariants as tended
 use Rattle.tl_engine.specs.declared.faults.TendFault.{TendFault}
 use Rattle.tl_engine.specs.declared.faults.TendFault.TheVariants as tend_fault
 use Rattle.tl_engine.specs.Counting.{news}
-use Rattle.tl_engine.specs.Saying.{CommitSays, FailSays, becomes, version_after}
-use Rattle.tl_engine.specs.Answers.{version_of}
-use Rattle.tl_engine.specs.Plain as plain
-use Rattle.tl_engine.specs.Writing.{WriteFails, shown_by}
+use Rattle.tl_history.specs.Answers.{version_of}
+use Rattle.tl_history.specs.Lists.{version_after}
+use Rattle.tl_history.specs.Plain as plain
+use Rattle.tl_history.specs.Writing.{WriteFails}
+use Rattle.tl_engine.specs.Saying.{CommitSays, FailSays, becomes, shown_by}
 use Rattle.tl_engine.specs.Heads.{HasBegun, HasBuild, HeadState, IsLegalState, IsSeenOf, LeadTo, SeenState, ShowsWorld, pass_of, seen_in, start_state, state_of, world_of}
 use Rattle.tl_engine.specs.Calls.{AnswersOver, AreCallsOf, AreCallsOfTend, Call, FailsOver, HasBase, IsAllowed, IsBeginCall, IsCallIn, IsCallOf, IsCommitCall, IsMarkCall, IsReadCall, IsRun, IsRunOfWorld, KeepsPromise, MarkTakesEffect, MarksItsBuild, TakesEffect, after_call, after_calls, as_list, build_after, left_by, news_of_calls, publishing, reading, seen_after, steps_of, steps_of_calls}
 use Rattle.tl_engine.specs.Tending.{HasRead, MarkAnswersOver, TendSays}

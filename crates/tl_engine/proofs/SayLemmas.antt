@@ -8,13 +8,14 @@ use Rattle.tl_types.specs.declared.limits.Limits.{Limits}
 use Rattle.tl_types.specs.Entries.{has_break}
 use Rattle.tl_device.specs.Known.{Rose}
 use Rattle.tl_index.specs.Snapshots.{commit_entry, break_entry}
-use Rattle.tl_engine.specs.declared.faults.CommitFault.{CommitFault}
-use Rattle.tl_engine.specs.declared.faults.CommitFault.TheVariants as fault
-use Rattle.tl_engine.specs.Answers.{version_of}
+use Rattle.tl_history.specs.declared.faults.CommitFault.{CommitFault}
+use Rattle.tl_history.specs.declared.faults.CommitFault.TheVariants as fault
+use Rattle.tl_history.specs.Answers.{version_of}
+use Rattle.tl_history.specs.Lists.{version_after}
 use Rattle.tl_engine.specs.Naming.{IsCommitting}
-use Rattle.tl_engine.specs.Plain as plain
-use Rattle.tl_engine.specs.Saying.{CommitSays, FailSays, becomes, version_after}
-use Rattle.tl_engine.specs.Writing.{DraftFails, WriteFails, shown_by}
+use Rattle.tl_history.specs.Plain as plain
+use Rattle.tl_engine.specs.Saying.{CommitSays, FailSays, becomes, shown_by}
+use Rattle.tl_history.specs.Writing.{DraftFails, WriteFails}
 use Rattle.tl_engine.proofs.CountLemmas.{continues_with_commit, continues_with_break}
 
 -- where no commit is ready

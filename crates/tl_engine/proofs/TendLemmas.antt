@@ -1,32 +1,27 @@
--- Lists of entries with one mark more, and what the answer of a call that tends a table says.
-use Rattle.std.proofs.Common.{◌≡◌, ℕ, ◌<◌, ◌≤◌, Bool, true, List, [], ◌∷◌, ◌++◌, length, slice_get, Some, None, Result, Ok, Err, IfOk, refl, sym, ap, ◌∙◌, subst, arith, length-append}
-use Rattle.std.specs.declared.option.Option.{Option}
+-- What a call that tends a table keeps, and what its answer says.
+use Rattle.std.proofs.Common.{◌≡◌, ℕ, ◌+◌, ◌<◌, ◌≤◌, Bool, true, List, [], ◌∷◌, ◌++◌, length, Ok, Err, Result, sym, ap, ◌∙◌, subst, arith, length-append}
 use Rattle.std.proofs.lemmas.Bool.{lt-ltb}
 use mathlib.Core.List.{IsPrefix}
 use Rattle.tl_types.specs.declared.commits.Entry.{Entry}
-use Rattle.tl_types.specs.declared.commits.Entry.TheVariants as entry
 use Rattle.tl_types.specs.declared.limits.Limits.{Limits}
-use Rattle.tl_types.specs.Checkpoints.{Checkpoint, checkpoint_of, checkpoint_at}
-use Rattle.tl_types.specs.Entries.{commits_of, has_break}
+use Rattle.tl_types.specs.Checkpoints.{Checkpoint, checkpoint_at}
+use Rattle.tl_types.specs.Entries.{commits_of}
 use Rattle.tl_types.specs.Legality.{database_behind, has_mark, are_legal}
 use Rattle.tl_types.specs.Marks.{due}
-use Rattle.tl_types.specs.Plain as types
 use Rattle.tl_types.proofs.CheckpointLemmas.{checkpoint_stands}
 use Rattle.tl_types.proofs.EntryLemmas.{commits_of-append, database_behind-append, version_behind, tables_stay}
-use Rattle.tl_types.proofs.MarkLemmas.{break_with_mark, commits_with_mark}
-use Rattle.tl_batch.specs.KeyIndex.{IdsByKey}
 use Rattle.tl_index.specs.Snapshots.{mark_entry}
+use Rattle.tl_history.specs.Building.{IsCheckpoint}
+use Rattle.tl_history.specs.Lists.{version_after}
+use Rattle.tl_history.specs.Plain as plain
+use Rattle.tl_history.proofs.BuildLemmas.{IsBuilt, is_built}
 use Rattle.tl_engine.specs.declared.faults.Tended.{Tended}
 use Rattle.tl_engine.specs.declared.faults.Tended.TheVariants as tended
 use Rattle.tl_engine.specs.declared.faults.TendFault.{TendFault}
 use Rattle.tl_engine.specs.declared.faults.TendFault.TheVariants as fault
 use Rattle.tl_engine.specs.Counting.{news}
-use Rattle.tl_engine.specs.Lists.{tried_commits}
 use Rattle.tl_engine.specs.Naming.{IsCommitting}
-use Rattle.tl_engine.specs.Plain as plain
-use Rattle.tl_engine.specs.Saying.{version_after}
-use Rattle.tl_engine.specs.Standing.{IsHistory, DiskStandsForHistory}
-use Rattle.tl_engine.specs.Tending.{IsCheckpoint, AddsMark, MarkSays, HasRead, TendSays}
+use Rattle.tl_engine.specs.Tending.{AddsMark, MarkSays, HasRead, TendSays}
 use Rattle.tl_engine.proofs.CountLemmas.{begins_on, news_split}
 
 -- WHAT A COMMITTER KEEPS

@@ -18,11 +18,12 @@ use Rattle.tl_core.specs.declared.passes.Build.{Build}
 use Rattle.tl_core.specs.declared.steps.Step.{Step}
 use Rattle.tl_core.specs.declared.steps.Step.TheVariants as step
 use Rattle.tl_core.specs.Law.{GoesOn}
-use Rattle.tl_engine.specs.declared.faults.CommitFault.{CommitFault}
-use Rattle.tl_engine.specs.declared.faults.CommitFault.TheVariants as fault
+use Rattle.tl_history.specs.declared.faults.CommitFault.{CommitFault}
+use Rattle.tl_history.specs.declared.faults.CommitFault.TheVariants as fault
+use Rattle.tl_history.specs.Lists.{version_after}
 use Rattle.tl_engine.specs.Counting.{news}
 use Rattle.tl_engine.specs.Heads.{HasBegun, HasBuild, HeadState, IsLegalState, LeadTo, SeenState, seen_in, world_of}
-use Rattle.tl_engine.specs.Saying.{becomes, version_after}
+use Rattle.tl_engine.specs.Saying.{becomes}
 use Rattle.tl_engine.specs.Tending.{MarkAnswersOver}
 use Rattle.tl_engine.specs.declared.faults.Tended.{Tended}
 use Rattle.tl_engine.specs.declared.faults.Tended.TheVariants as tended

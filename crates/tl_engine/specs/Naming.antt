@@ -6,10 +6,11 @@ use Rattle.tl_types.specs.declared.limits.Limits.{Limits}
 use Rattle.tl_journal.specs.declared.opening.Refused.{Refused}
 use Rattle.tl_engine.specs.Counting.{Continues}
 use Rattle.tl_engine.specs.Plain as plain
+use Rattle.tl_history.specs.Plain as history
 
 -- the answer of an opening that becomes an engine, by its history alone
 abbrev pub history_attached : {D : Type 0} → Result (plain.Opening D) (Refused D)
-    → Result (plain.History D) (Refused D)
+    → Result (history.History D) (Refused D)
 history_attached (Ok opening) = Ok opening.history
 history_attached (Err refused) = Err refused
 
@@ -24,7 +25,7 @@ pub record IsNameOf {D : Type 0} (table : TableId) (entries : List Entry) (count
 -- what a committer keeps: its history is what is written, it goes on from the named entries by as
 -- many commits and breaks as are counted, and count and limits are the named ones
 pub record IsCommitting {D : Type 0} (first_entries : List Entry) (count : ℕ) (limits : Limits)
-    (written : List Entry) (total : ℕ) (history : plain.History D) : Type 0 where
+    (written : List Entry) (total : ℕ) (history : history.History D) : Type 0 where
   pub entries_are : history.entries ≡ written
   pub count_is : history.first_count ≡ count
   pub limits_are : history.limits ≡ limits

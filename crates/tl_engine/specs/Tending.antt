@@ -1,17 +1,16 @@
 -- What the answer of a call that tends a table says of the entries that its caller has seen.
-use Rattle.std.specs.Prelude.{◌≡◌, ℕ, ◌<◌, ◌≤◌, true, false, List, [], ◌∷◌, ◌++◌, length, Option, Some, None, Result, Ok, Err}
+use Rattle.std.specs.Prelude.{◌≡◌, ℕ, true, false, List, [], ◌∷◌, ◌++◌, length, Option, Some, None, Result, Ok, Err}
 use mathlib.Core.List.{IsPrefix}
 use Rattle.tl_types.specs.declared.commits.Entry.{Entry}
-use Rattle.tl_types.specs.Checkpoints.{Checkpoint, checkpoint_at}
 use Rattle.tl_types.specs.Entries.{has_break}
-use Rattle.tl_types.specs.Legality.{database_behind, has_mark}
+use Rattle.tl_types.specs.Legality.{has_mark}
 use Rattle.tl_types.specs.Marks.{due}
 use Rattle.tl_index.specs.Snapshots.{mark_entry}
+use Rattle.tl_history.specs.Lists.{version_after}
 use Rattle.tl_engine.specs.declared.faults.Tended.{Tended}
 use Rattle.tl_engine.specs.declared.faults.Tended.TheVariants as tended
 use Rattle.tl_engine.specs.declared.faults.TendFault.{TendFault}
 use Rattle.tl_engine.specs.declared.faults.TendFault.TheVariants as fault
-use Rattle.tl_engine.specs.Saying.{version_after}
 
 -- ONCE THE CHECKPOINT IS THERE
 

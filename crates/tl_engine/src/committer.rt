@@ -10,14 +10,12 @@ ghost use Rattle.tl_types.specs.History.{database_of};
 ghost use Rattle.tl_types.specs.Legality.{are_legal, has_mark};
 ghost use Rattle.tl_batch.specs.Made.{batch_matches, names_table};
 ghost use Rattle.tl_index.specs.Snapshots.{mark_entry};
+ghost use Rattle.tl_history.specs.Building.{IsCheckpoint};
 ghost use Rattle.tl_engine.specs.Calls.{MarkTakesEffect, TakesEffect};
-ghost use Rattle.tl_engine.specs.Saying.{CommitSays, becomes};
-ghost use Rattle.tl_engine.specs.Tending.{IsCheckpoint, MarkSays};
-ghost use Rattle.tl_engine.specs.Writing.{shown_at, shown_by};
+ghost use Rattle.tl_engine.specs.Saying.{CommitSays, becomes, shown_at, shown_by};
+ghost use Rattle.tl_engine.specs.Tending.{MarkSays};
 
-use crate::committing::Draft;
-use crate::faults::{CommitFault, TendFault, Tended};
-use crate::histories::History;
+use crate::faults::{TendFault, Tended};
 use crate::names::Named;
 use std::alloc::Global;
 use std::marker::Model;
@@ -27,6 +25,7 @@ use std::sync::ledger::{Book, Share};
 use tl_ckpt::Checkpoint;
 use tl_device::Disk;
 use tl_head::{Head, Pass, WriterPass};
+use tl_history::{CommitFault, Draft, History};
 use tl_index::Snapshot;
 use tl_types::{Batch, NoMemory, Published};
 
@@ -110,7 +109,7 @@ impl<D: Disk, J: Named> Model for Committer<D, J> {
     ghost use Rattle.std.specs.Prelude.{◌≡◌, List, true};
     ghost use Rattle.tl_types.specs.declared.commits.Entry.{Entry};
     ghost use Rattle.tl_engine.specs.Naming.{IsCommitting};
-    ghost use Rattle.tl_engine.specs.Standing.{DiskStandsForHistory};
+    ghost use Rattle.tl_history.specs.Standing.{DiskStandsForHistory};
 
     ghost Value = { List Entry };
 

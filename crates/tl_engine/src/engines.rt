@@ -7,15 +7,14 @@ ghost use Rattle.tl_types.specs.History.{database_of};
 ghost use Rattle.tl_batch.specs.Made.{batch_matches, names_table};
 ghost use Rattle.tl_types.specs.Legality.{are_legal};
 ghost use Rattle.tl_journal.specs.Stands.{DiskStandsFor};
+ghost use Rattle.tl_history.specs.Building.{IsCheckpoint};
+ghost use Rattle.tl_history.specs.Standing.{IsCount, ImageStandsForEntries};
 ghost use Rattle.tl_engine.specs.Counting.{news};
 ghost use Rattle.tl_engine.specs.Saying.{CommitSays, becomes};
-ghost use Rattle.tl_engine.specs.Standing.{IsCount, ImageStandsForEntries};
-ghost use Rattle.tl_engine.specs.Tending.{IsCheckpoint, MarkSays, TendSays};
+ghost use Rattle.tl_engine.specs.Tending.{MarkSays, TendSays};
 
-use crate::building::build;
 use crate::committer::{Committer, Offer, Publisher};
-use crate::faults::{CommitFault, TendFault, Tended};
-use crate::histories::Closed;
+use crate::faults::{TendFault, Tended};
 use crate::locks::CommitLock;
 use crate::names::Named;
 use std::alloc::Global;
@@ -24,6 +23,7 @@ use std::sync::ledger::Share;
 use tl_ckpt::Checkpoint;
 use tl_device::Disk;
 use tl_head::{Head, Pass};
+use tl_history::{Closed, CommitFault, build_checkpoint};
 use tl_index::Snapshot;
 use tl_types::{Batch, NoMemory, Published};
 
@@ -129,7 +129,7 @@ impl<D: Disk, J: Named> Engine<D, J> {
         if !is_due {
             return Ok(Tended::NotDue);
         }
-        let Ok(checkpoint) = build(rt.alloc(), &snapshot, table) else {
+        let Ok(checkpoint) = build_checkpoint(rt.alloc(), &snapshot, table) else {
             return Err(TendFault::NoMemory);
         };
         self.publish_mark(rt, pass, checkpoint, snapshot.len())

@@ -13,7 +13,7 @@ ghost use Rattle.tl_types.specs.declared.commits.Entry.{Entry};
 ghost use Rattle.tl_types.specs.declared.limits.Limits.{Limits};
 ghost use Rattle.tl_types.specs.Legality.{are_legal, has_table};
 ghost use Rattle.tl_core.specs.World.{IsLegal, start_of};
-ghost use Rattle.tl_engine.specs.declared.faults.CommitFault.{CommitFault};
+ghost use Rattle.tl_history.specs.declared.faults.CommitFault.{CommitFault};
 ghost use Rattle.tl_engine.specs.declared.faults.TendFault.{TendFault};
 ghost use Rattle.tl_engine.specs.declared.faults.Tended.{Tended};
 ghost use Rattle.tl_engine.specs.Calls.{AreCallsOfTend, Call, HasBase, IsAllowed, IsCallIn, IsCallOf, IsRun, IsRunOfWorld, MarkTakesEffect, TakesEffect, after_call, left_by};

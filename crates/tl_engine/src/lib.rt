@@ -1,42 +1,32 @@
-//! The history of commits over its journal: what is committed is on the disk before it is seen.
+//! One history for many threads.
 //!
-//! A `History` has the journal, the snapshot of its entries, and the keys of the open rows. A
-//! commit is resolved over what is there; all memory that it needs is taken before its first byte
-//! is written; then the journal appends it; then the new snapshot is put in place. Where the disk
-//! fails in an append, the history ends with the break of that commit: its tables can still be
-//! read, and nothing more is committed. Opening a history reads its journal and applies the commits
-//! one by one, each with a mark of its table where that is due; where one does not fit those before
-//! it, the journal is damaged there.
-//!
-//! An `Engine` is one history for many threads. They read from its head, each with a pass, and
-//! commit under its lock, where the history is. What is committed is published on the head with the
-//! same entries, and counted in a ledger of which each thread has a share: so at the end all shares
+//! An `Engine` has a history of tl_history behind a lock. Threads read from its head, each with a
+//! pass, and commit under its lock. What is committed is published on the head with the same
+//! entries, and counted in a ledger of which each thread has a share: so at the end all shares
 //! together count the commits and the breaks since the opening. `attach` opens a history, and
 //! `start` gives it the name that its passes and shares carry. `tend` builds a checkpoint beside
 //! the commits, over a snapshot and without the lock, and then publishes its mark under it; marks
 //! are not counted.
+//!
+//! An engine keeps that what is published is what its history has, so that nobody sees a commit
+//! that is not on the disk; behind a break it commits nothing more, and what was published can
+//! still be read.
 //!
 //! The laws say that the calls of an engine are steps of the world of tl_core, by what they
 //! promise.
 #![tactic(auto)]
 
 mod attaching;
-mod building;
 mod committer;
-mod committing;
 mod engines;
 mod faults;
-mod histories;
 mod laws;
 mod locks;
 mod names;
-mod opening;
-mod replaying;
 
 pub use attaching::Opening;
 pub use engines::{Engine, Started};
-pub use faults::{CommitFault, TendFault, Tended};
-pub use histories::{Closed, History};
+pub use faults::{TendFault, Tended};
 pub use laws::{
     every_answer_is_of_a_call, every_call_is_allowed, every_door_shows_a_world,
     every_locked_commit_is_allowed, every_locked_mark_is_allowed, every_run_is_of_the_world,
@@ -44,3 +34,4 @@ pub use laws::{
 pub use names::Named;
 pub use std::sync::ledger::Share;
 pub use tl_head::Pass;
+pub use tl_history::{Closed, CommitFault, History};

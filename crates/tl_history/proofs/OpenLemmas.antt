@@ -1,5 +1,5 @@
 -- The end of the opening of a history.
-use Rattle.std.proofs.Common.{◌≡◌, ◌⊎◌, inl, inr, ℕ, ◌≤◌, Bool, false, List, [], ◌∷◌, ◌++◌, refl, sym, ap, ◌∙◌, subst, arith}
+use Rattle.std.proofs.Common.{◌≡◌, ◌⊎◌, inl, inr, ℕ, ◌≤◌, Bool, false, List, [], ◌∷◌, ◌++◌, refl, sym, ◌∙◌, subst, arith}
 use Rattle.std.specs.Prelude.{Some, Result, Ok, Err, IfOk, IfErr}
 use Rattle.std.specs.declared.option.Option.{Option}
 use Rattle.tl_types.specs.declared.commits.Commit.{Commit}
@@ -7,15 +7,15 @@ use Rattle.tl_types.specs.declared.commits.Entry.{Entry}
 use Rattle.tl_types.specs.declared.limits.Limits.{Limits}
 use Rattle.tl_types.specs.Entries.{commits_of, has_break}
 use Rattle.tl_device.specs.Disk.{IsStored}
-use Rattle.tl_journal.specs.Answers.{CountsFaults, IsDevice, IsDeviceOrMemory}
+use Rattle.tl_journal.specs.Answers.{IsDevice, IsDeviceOrMemory}
 use Rattle.tl_journal.specs.Image.{header, ImageStandsFor, ImageStandsOnlyFor}
-use Rattle.tl_journal.specs.Moments.{EachMoment, EachMomentBySync, IsUntouched, IsAsBefore, IsAsBeforeOrDurable, OldOr}
+use Rattle.tl_journal.specs.Moments.{EachMoment, EachMomentBySync, IsAsBefore, IsAsBeforeOrDurable, OldOr}
 use Rattle.tl_journal.specs.Stands.{JournalStandsFor, SameOrTrimmed}
 use Rattle.tl_journal.specs.Plain as journal
 use Rattle.tl_journal.specs.declared.faults.JournalFault.{JournalFault}
 use Rattle.tl_journal.specs.declared.faults.JournalFault.TheVariants as fault
 use Rattle.tl_journal.specs.declared.opening.Refused.{Refused}
-use Rattle.tl_history.specs.Answers.{KeepsOrTrims, Opens, disk_opened}
+use Rattle.tl_history.specs.Answers.{KeepsOrTrims}
 use Rattle.tl_history.specs.Opening.{HasImage}
 use Rattle.tl_history.specs.Plain as plain
 use Rattle.tl_history.specs.Standing.{IsCount, DiskStandsForHistory}

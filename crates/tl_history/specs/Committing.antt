@@ -21,13 +21,15 @@ IsRefusal limits commits author batch (fault.Refused version refusal) =
 IsRefusal limits commits author batch fault.NoMemory = Unit {0}
 IsRefusal limits commits author batch (fault.Device version count) = ⊥
 
--- at most the disk's room and the journal's spare have changed
+-- at most the disk's room and the journal's spare have changed: a read gives what it gave, and a
+-- crash leaves what it could leave, neither more nor less
 pub record TakesRoom {D : Type 0} (reads : D → Option (List ℕ)) (may_leave : D → List ℕ → Type 0)
     (moment : D → ℕ) (left_since : D → ℕ → List ℕ → Type 0) (faults : D → ℕ)
     (old new : journal.Journal D) : Type 0 where
   pub gate_same : new.gate ≡ old.gate
   pub broken_same : new.broken ≡ old.broken
   pub untouched : IsUntouched reads may_leave old.disk new.disk
+  pub back : (c : List ℕ) → may_leave old.disk c → may_leave new.disk c
   pub moments : EachMoment moment left_since old.disk new.disk (may_leave old.disk)
   pub count_same : faults new.disk ≡ faults old.disk
   pub stands : (cs : List Commit) → JournalStandsFor reads may_leave old cs

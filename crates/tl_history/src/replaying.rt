@@ -1,6 +1,6 @@
 //! The commits of a journal, applied one by one while it is opened, each with its mark where that
 //! is due. The first that does not fit those before it ends this, with the offset of its gate.
-ghost use Rattle.std.specs.Prelude.{◌≡◌, ◌+◌, ◌<◌, ◌++◌, ◌∷◌, [], ℕ, length, List, Ok, Err, None, true, false, IsTrue, IfSome, IfOk, IfErr, OnOk, OnErr, Some};
+ghost use Rattle.std.specs.Prelude.{◌≡◌, ◌+◌, ◌<◌, ◌++◌, ◌∷◌, [], ℕ, length, List, Ok, Err, None, true, false, IsTrue, IfSome, IfOk, IfErr, OnOk, Some};
 ghost use Rattle.tl_types.specs.declared.commits.Commit.{Commit as CommitValue};
 ghost use Rattle.tl_types.specs.declared.commits.Entry.{Entry};
 ghost use Rattle.tl_types.specs.Entries.{commits_of, has_break};

@@ -15,7 +15,7 @@ use crate::listings::Listing;
 use crate::tables::tables_bytes;
 use std::alloc::Global;
 use tl_device::SureDisk;
-use tl_engine::History;
+use tl_history::History;
 use tl_journal::{JournalFault, Refused};
 use tl_store::Store;
 use tl_types::{Bytes, Limits, NoMemory};

@@ -12,7 +12,7 @@ use Rattle.tl_jobs.specs.Turns.{Turn, Meaning, break_of, HasFault, Makes, ReadsW
 use Rattle.tl_session.specs.Promises.{Appended, BodySays, Says}
 use Rattle.tl_session.specs.Transcript.{RowsRight, RefusedRight, DoneRight, DeviceRight, BrokenRight, Between, body_breaks}
 use Rattle.tl_engine.proofs.CountLemmas.{begins_on}
-use Rattle.tl_engine.proofs.ListLemmas.{break_there as break_last}
+use Rattle.tl_history.proofs.ListLemmas.{break_there as break_last}
 use Rattle.tl_types.specs.Legality.{are_legal}
 use Rattle.tl_session.proofs.EntryLemmas.{commits_split, fewer_commits, same_front, whole_front, all_there, unbroken, break_found, break_there_on, placed}
 

@@ -4,7 +4,7 @@ use mathlib.Core.List.{IsPrefix}
 use Rattle.tl_types.specs.declared.commits.Entry.{Entry}
 use Rattle.tl_types.specs.Entries.{commits_of}
 use Rattle.tl_engine.proofs.CountLemmas.{begins_on}
-use Rattle.tl_engine.proofs.ListLemmas.{commits_more}
+use Rattle.tl_history.proofs.ListLemmas.{commits_more}
 use Rattle.tl_engine.proofs.TendLemmas.{versions_more}
 use Rattle.tl_jobs.specs.declared.replies.Reply.{Reply}
 use Rattle.tl_jobs.specs.declared.replies.ReplyBody.TheVariants as body

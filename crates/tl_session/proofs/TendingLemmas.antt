@@ -220,7 +220,7 @@ has_tended job v answer k table old mid new told names later tended = λ done c 
     let number : length (commits_of mid.seen) ≡ v = ap (λ es. length (commits_of es)) b.2.1 ∙ one_more base b.1 ∙ sym b.3 in
     subst (λ n. IsTended k change.table n new.seen) number (subst (λ t. IfSome t (λ t. IsTended k t (length (commits_of mid.seen)) new.seen)) which tended) where
       one_more : (base : List Entry) (c : Commit) → length (commits_of (base ++ commit_entry c ∷ [])) ≡ length (commits_of base) + 1
-      one_more base c = ap length (Rattle.tl_engine.proofs.ListLemmas.commits_more base c) ∙ Rattle.std.proofs.Common.length-append (commits_of base) (c ∷ [])
+      one_more base c = ap length (Rattle.tl_history.proofs.ListLemmas.commits_more base c) ∙ Rattle.std.proofs.Common.length-append (commits_of base) (c ∷ [])
 
 pub tended_where : {E : Type 0} (r : Result Unit E) (answer : Result Tended TendFault) (given : Option ℕ) (table k : ℕ) (lent old new : List Entry) → OnOk r (answer ≢ Err tend_fault.NoMemory) → given ≡ Some table → TendSays table k lent new answer → lent ≡ old
     → OnOk r (IfSome given (λ t. IsTended k t (length (commits_of old)) new))

@@ -8,7 +8,7 @@ ghost use Rattle.tl_types.specs.Limits.{standard_limits};
 ghost use Rattle.tl_batch.specs.Made.{batch_matches};
 ghost use Rattle.tl_engine.specs.Naming.{IsNameOf};
 ghost use Rattle.tl_engine.specs.Saying.{names_table};
-ghost use Rattle.tl_engine.specs.Tending.{IsCheckpoint};
+ghost use Rattle.tl_history.specs.Building.{IsCheckpoint};
 
 use crate::crashes::WORKED;
 use crate::limits::{Kind, holds};

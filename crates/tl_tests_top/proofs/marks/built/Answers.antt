@@ -3,7 +3,7 @@ use Rattle.std.proofs.Common.{rules, ap, ◌∙◌}
 use Rattle.tl_types.specs.Checkpoints.{checkpoint_at}
 use Rattle.tl_types.specs.Legality.{database_behind}
 use Rattle.tl_types.proofs.EntryLemmas.{version_behind}
-use Rattle.tl_engine.proofs.TendLemmas.{is_built}
+use Rattle.tl_history.proofs.BuildLemmas.{is_built}
 use Rattle.tl_tests_top.proofs.marks.built.Goals as goal
 
 pub returns-in-Ok : goal.returns-in-Ok

@@ -1,5 +1,5 @@
 -- The disk is the one of the history.
-use Rattle.tl_engine.proofs.OpenLemmas.{opens_on}
+use Rattle.tl_engine.proofs.AttachLemmas.{opens_on}
 use Rattle.tl_engine.proofs.attaching.Engine+D+Brand.attach.Goals as goal
 
 pub returns-in-Ok-clause-opens : goal.returns-in-Ok-clause-opens

@@ -1,6 +1,6 @@
 -- The snapshot is the history's, and its disk stands for it.
 use Rattle.std.proofs.Common.{sym, subst}
-use Rattle.tl_engine.specs.Standing.{ImageStandsForEntries}
+use Rattle.tl_history.specs.Standing.{ImageStandsForEntries}
 use Rattle.tl_engine.proofs.engines.Engine.close.Goals as goal
 
 pub returns-clause-leaves : goal.returns-clause-leaves

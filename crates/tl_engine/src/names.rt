@@ -6,7 +6,7 @@ use std::sync::ledger::Ledger;
 /// The name of an engine, which its passes, its shares and what lies behind its lock carry too. As
 /// a ledger it names the one in which the commits and the breaks are counted.
 pub trait Named: Ledger {
-    ghost use Rattle.std.specs.Prelude.{ℕ, Bool, List, [], false};
+    ghost use Rattle.std.specs.Prelude.{ℕ, Bool, List};
     ghost use Rattle.atomic_table.specs.Seated.{TableId};
     ghost use Rattle.tl_types.specs.declared.commits.Entry.{Entry};
     ghost use Rattle.tl_types.specs.declared.limits.Limits.{Limits};
@@ -29,6 +29,7 @@ pub trait Named: Ledger {
 
 // Where a function is called with `Brand`, the caller picks the names; these are not read then.
 impl Named for Brand {
+    ghost use Rattle.std.specs.Prelude.{[], false};
     ghost use Rattle.tl_types.specs.Limits.{standard_limits};
 
     ghost table = { record {

@@ -12,7 +12,7 @@ use Rattle.tl_group.specs.Plain as group
 use Rattle.tl_group.specs.Standing.{DiskStandsForGroup}
 use Rattle.tl_command.specs.Outside.{Outside, HoldsJournal}
 use Rattle.tl_grouping.specs.Appending.{IsAttached, IsAppended, IsInDoubt}
-use Rattle.tl_grouping.specs.Grouping.{HoldsEither, StandsForEither}
+use Rattle.tl_grouping.specs.Leaving.{HoldsEither, StandsForEither}
 use Rattle.tl_grouping.specs.Playing.{KeepsDisk}
 
 -- a read gives the journal of the commits, and a crash leaves just that

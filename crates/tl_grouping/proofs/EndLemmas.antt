@@ -1,6 +1,7 @@
 -- How a group ends, by why its phases stopped and what became of its append.
 use Rattle.std.proofs.Common.{◌≡◌, inl, inr, ℕ, Bool, true, false, List, [], ◌++◌, take, Some, None, refl, sym, ap, ◌∙◌, subst}
 use Rattle.std.specs.declared.option.Option.{Option}
+use Rattle.tl_types.specs.declared.commits.Commit.{Commit}
 use Rattle.tl_device.specs.Known.{append_known, Rose}
 use Rattle.tl_device.specs.declared.disk.Disk.{Ghosts as DiskGhosts}
 use Rattle.tl_device.specs.declared.sink.Sink.{Ghosts as SinkGhosts}
@@ -15,71 +16,85 @@ use Rattle.tl_command.specs.Closing.{ClosesAfter, Closes}
 use Rattle.tl_command.specs.Outside.{Outside, HoldsJournal}
 use Rattle.tl_command.specs.Status.{closing_line}
 use Rattle.tl_grouping.specs.Appending.{AppendsAndWrites, IsAttached}
-use Rattle.tl_grouping.specs.Grouping.{GroupEndsBy}
-use Rattle.tl_grouping.specs.Playing.{KeepsDisk, PlaysScript, PlayStops}
+use Rattle.tl_grouping.specs.Grouping.{GroupEndsBy, Plays}
+use Rattle.tl_grouping.specs.Leaving.{LeavesBy}
+use Rattle.tl_grouping.specs.Playing.{KeepsDisk, PlayStops}
 use Rattle.tl_grouping.proofs.DiskLemmas.{holds_journal, left_image, left_count, appended_image, doubt_held}
 
--- all phases were played, and the group was appended
-pub appended : {K D : Type 0} (sinks : SinkGhosts K) (disks : DiskGhosts D) (reads : Bool → List ℕ → ScriptReading) (begun : D) (attached later : group.Group D) (text : List ℕ) (left end : Option (List ℕ)) (first last : ℕ) (old new : K) (disk : D) (ended : Status)
-    → IsAttached disks begun attached → KeepsDisk disks attached later → PlaysScript (reads true) (commits_in attached) (commits_in later) text left end × (last ≡ first)
+-- all was read, and the group was appended
+pub appended : {K D : Type 0} (sinks : SinkGhosts K) (disks : DiskGhosts D) (What : List Commit → List ℕ → Type 0) (begun : D) (attached later : group.Group D) (text : List ℕ) (left end : Option (List ℕ)) (first last : ℕ) (old new : K) (disk : D) (ended : Status)
+    → IsAttached disks begun attached → KeepsDisk disks attached later → What (commits_in later) text
     → AppendsAndWrites sinks disks later text old new disk ended
-    → GroupEndsBy reads (commits_in attached)
+    → LeavesBy What (commits_in attached)
     (record { left = left; source_faults = first; written = sinks.written old; sink_faults = sinks.faults old; reads = disks.reads begun; may_leave = disks.may_leave begun; disk_faults = disks.faults begun })
     (record { left = end; source_faults = last; written = sinks.written new; sink_faults = sinks.faults new; reads = disks.reads disk; may_leave = disks.may_leave disk; disk_faults = disks.faults disk }) ended
-appended sinks disks reads begun attached later text left end first last old new disk ended a k plays writes = by_end writes where
+appended sinks disks What begun attached later text left end first last old new disk ended a k what writes = by_end writes where
   before : Outside
   before = record { left = left; source_faults = first; written = sinks.written old; sink_faults = sinks.faults old; reads = disks.reads begun; may_leave = disks.may_leave begun; disk_faults = disks.faults begun }
 
   after : Outside
   after = record { left = end; source_faults = last; written = sinks.written new; sink_faults = sinks.faults new; reads = disks.reads disk; may_leave = disks.may_leave disk; disk_faults = disks.faults disk }
 
-  by_end : AppendsAndWrites sinks disks later text old new disk ended → GroupEndsBy reads (commits_in attached) before after ended
+  by_end : AppendsAndWrites sinks disks later text old new disk ended → LeavesBy What (commits_in attached) before after ended
   by_end (inl (e, same, written, faults)) =
-      subst (GroupEndsBy reads (commits_in attached) before after) (sym e)
+      subst (LeavesBy What (commits_in attached) before after) (sym e)
       ((written, faults), holds_journal (commits_in attached) before after (left_count disks begun disk attached later a k same) (left_image disks begun disk attached later a k same))
   by_end (inr (inl (is, inl (e, written, faults)))) =
-      subst (GroupEndsBy reads (commits_in attached) before after) (sym e)
+      subst (LeavesBy What (commits_in attached) before after) (sym e)
       (record {
         all = commits_in later;
         text = text;
-        plays = plays;
+        what = what;
         prints = (written, faults);
         holds = holds_journal (commits_in later) before after (is.count_same ∙ (k.count_same ∙ a.count_same)) (appended_image disks begun disk attached later a k is);
       })
   by_end (inr (inl (is, inr (e, rose, some)))) =
-      subst (GroupEndsBy reads (commits_in attached) before after) (sym e) (
+      subst (LeavesBy What (commits_in attached) before after) (sym e) (
         refl,
         inl (record {
           all = commits_in later;
           text = text;
-          plays = plays;
+          what = what;
           prints = (rose, some);
           holds = holds_journal (commits_in later) before after (is.count_same ∙ (k.count_same ∙ a.count_same)) (appended_image disks begun disk attached later a k is);
         }),
       )
   by_end (inr (inr (is, inl (e, written, faults)))) =
-      subst (GroupEndsBy reads (commits_in attached) before after) (sym e) (
+      subst (LeavesBy What (commits_in attached) before after) (sym e) (
         refl,
         record {
           all = commits_in later;
           text = text;
-          plays = plays;
+          what = what;
           prints = (written, faults);
           holds = doubt_held disks begun disk attached later left end (sinks.written old) (sinks.written new) first last (sinks.faults old) (sinks.faults new) a k is;
         },
       )
   by_end (inr (inr (is, inr (e, rose, some)))) =
-      subst (GroupEndsBy reads (commits_in attached) before after) (sym e) (
+      subst (LeavesBy What (commits_in attached) before after) (sym e) (
         refl,
         inr (inl (record {
           all = commits_in later;
           text = text;
           closing = status.DiskFault (disks.faults disk);
-          plays = plays;
+          what = what;
           prints = (rose, some);
           holds = doubt_held disks begun disk attached later left end (sinks.written old) (sinks.written new) first last (sinks.faults old) (sinks.faults new) a k is;
         })),
       )
+
+-- how the group of a script ends, where its script has no fault
+pub as_group : (reads : Bool → List ℕ → ScriptReading) (opening : List Commit) (before after : Outside) (ended : Status) → LeavesBy (λ all text. Plays reads opening all text before after) opening before after ended → GroupEndsBy reads opening before after ended
+as_group reads opening before after status.Done h = h
+as_group reads opening before after status.NoMemory h = h
+as_group reads opening before after status.Usage h = h
+as_group reads opening before after (status.SourceFault n) h = h
+as_group reads opening before after (status.SinkFault n) h = h
+as_group reads opening before after (status.DiskFault n) h = h
+as_group reads opening before after (status.ScriptFault f) h = absurd h
+as_group reads opening before after (status.NotInitialised len) h = h
+as_group reads opening before after (status.AlreadyInitialised len) h = h
+as_group reads opening before after (status.Damaged at) h = h
 
 -- the phases stopped before their end, and the group was given up
 pub given_up : {K D : Type 0} (sinks : SinkGhosts K) (disks : DiskGhosts D) (reads : Bool → List ℕ → ScriptReading) (begun : D) (attached later : group.Group D) (text : List ℕ) (left end : Option (List ℕ)) (first last : ℕ) (old new : K) (disk : D) (why : Stop) (ended : Status)

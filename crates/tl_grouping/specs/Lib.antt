@@ -1,3 +1,4 @@
 pub mod Appending
 pub mod Grouping
+pub mod Leaving
 pub mod Playing

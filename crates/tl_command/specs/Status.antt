@@ -18,6 +18,7 @@ exit_status (status.ScriptFault fault) = 6
 exit_status (status.NotInitialised len) = 7
 exit_status (status.AlreadyInitialised len) = 8
 exit_status (status.Damaged at) = 9
+exit_status (status.PacketFault at) = 10
 
 -- the words of a script's fault
 abbrev pub script_fault_words : ScriptFault → List ℕ
@@ -48,3 +49,4 @@ closing_line (status.NotInitialised len) =
 closing_line (status.AlreadyInitialised len) =
     codes "! journal AlreadyInitialised " ++ (decimal len ++ codes "\n")
 closing_line (status.Damaged at) = codes "! journal Damaged " ++ (decimal at ++ codes "\n")
+closing_line (status.PacketFault at) = codes "! packet " ++ (decimal at ++ codes "\n")

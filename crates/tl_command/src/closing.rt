@@ -2,7 +2,7 @@
 //! ran out nothing more is written.
 ghost use Rattle.std.specs.Prelude.{◌≡◌, [], Ok, Err, length};
 ghost use Rattle.tl_device.specs.Known.{HasRoom};
-ghost use Rattle.tl_command.specs.Closing.{ended_by, status_for, wanted_by, Closes, ClosesAfter, EndsFor, WritesReady};
+ghost use Rattle.tl_command.specs.Closing.{ended_by, status_for, wanted_by, Closes, ClosesAfter, EndsFor, Writes, WritesReady};
 
 use crate::statuses::{Status, closing_line};
 use crate::stops::Stop;
@@ -30,9 +30,19 @@ pub fn close<K: Sink>(alloc: Global, sink: &mut K, wanted: Status) -> Status
         (K.faults sink.new) result }
 {
     match closing_line(alloc, &wanted) {
-        Ok(line) => ended_by(write_bytes(sink, line.as_bytes()), wanted),
+        Ok(line) => write_text(sink, line.as_bytes(), wanted),
         Err(_) => Status::NoMemory,
     }
+}
+
+/// Writes bytes, for which the sink's room is taken first, and ends as it was to. `NoMemory`: memory
+/// ran out, and nothing is written. `SinkFault`: the sink failed, and some prefix of the bytes is
+/// written.
+pub fn write_text<K: Sink>(sink: &mut K, bytes: &[u8], wanted: Status) -> Status
+    ensures { Writes bytes.now wanted (K.written sink.old) (K.written sink.new)
+        (K.faults sink.old) (K.faults sink.new) result }
+{
+    ended_by(write_bytes(sink, bytes), wanted)
 }
 
 /// Writes bytes for which the sink has room, and ends as it was to. It takes no memory. `SinkFault`:

@@ -52,6 +52,14 @@ pub enum Status {
         /// The byte offset.
         at: u64,
     },
+    /// The source's bytes are no packets that make a history of the journal's commits: it has more
+    /// than 2,147,483,648 bytes, and `at` is that number; no packet begins at the offset `at`; or
+    /// the first packet of the version that comes next, at that offset, has a commit that does not
+    /// fit.
+    PacketFault {
+        /// The byte offset.
+        at: u64,
+    },
 }
 
 impl Status {
@@ -72,6 +80,7 @@ impl Status {
             Status::NotInitialised { .. } => 7,
             Status::AlreadyInitialised { .. } => 8,
             Status::Damaged { .. } => 9,
+            Status::PacketFault { .. } => 10,
         }
     }
 }
@@ -115,5 +124,6 @@ pub fn closing_line(alloc: Global, status: &Status) -> Result<String, NoMemory>
             format!(in alloc; "! journal AlreadyInitialised {len}\n")
         }
         Status::Damaged { at } => format!(in alloc; "! journal Damaged {at}\n"),
+        Status::PacketFault { at } => format!(in alloc; "! packet {at}\n"),
     }
 }

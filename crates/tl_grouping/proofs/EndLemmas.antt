@@ -95,6 +95,7 @@ as_group reads opening before after (status.ScriptFault f) h = absurd h
 as_group reads opening before after (status.NotInitialised len) h = h
 as_group reads opening before after (status.AlreadyInitialised len) h = h
 as_group reads opening before after (status.Damaged at) h = h
+as_group reads opening before after (status.PacketFault at) h = h
 
 -- the phases stopped before their end, and the group was given up
 pub given_up : {K D : Type 0} (sinks : SinkGhosts K) (disks : DiskGhosts D) (reads : Bool → List ℕ → ScriptReading) (begun : D) (attached later : group.Group D) (text : List ℕ) (left end : Option (List ℕ)) (first last : ℕ) (old new : K) (disk : D) (why : Stop) (ended : Status)

@@ -61,6 +61,9 @@ GroupEndsBy reads opening before after (status.AlreadyInitialised len) =
 GroupEndsBy reads opening before after (status.Damaged at) =
     LeavesBy (λ all text. Plays reads opening all text before after) opening before after
     (status.Damaged at)
+GroupEndsBy reads opening before after (status.PacketFault at) =
+    LeavesBy (λ all text. Plays reads opening all text before after) opening before after
+    (status.PacketFault at)
 
 -- the same, with what was opened
 pub record GroupOpened (reads : Bool → List ℕ → ScriptReading) (opening : List Commit)

@@ -114,3 +114,4 @@ LeavesBy What opening before after (status.ScriptFault f) = ⊥
 LeavesBy What opening before after (status.NotInitialised len) = ⊥
 LeavesBy What opening before after (status.AlreadyInitialised len) = ⊥
 LeavesBy What opening before after (status.Damaged at) = ⊥
+LeavesBy What opening before after (status.PacketFault at) = ⊥

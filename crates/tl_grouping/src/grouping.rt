@@ -25,9 +25,11 @@ const DEVICE_LINE: &str = "! device\n";
 // The room that the sink needs for a text or for the line of a disk that fails.
 const LINE_ROOM: u64 = 9;
 
-// Appends all that waits as one group, once the sink's room is taken for the text of the replies or
-// the line of a disk that fails, and writes the one or the other.
-fn append<K: Sink, D: Disk>(group: Group<D>, text: &[u8], sink: &mut K) -> Ending<D>
+/// Appends all that waits as one group, once the sink's room is taken for a text and for the line of
+/// a disk that fails, and writes the text, or the line where the disk failed. `NoMemory`: there was
+/// no memory for the room, and the disk is as it was. `SinkFault`: the sink failed behind some
+/// prefix of what was to be written.
+pub fn append<K: Sink, D: Disk>(group: Group<D>, text: &[u8], sink: &mut K) -> Ending<D>
     ensures { AppendsAndWrites K.Sink D.Disk group text.now sink.old sink.new result.disk
         result.status }
 {

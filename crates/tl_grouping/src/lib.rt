@@ -12,4 +12,4 @@ mod grouping;
 mod playing;
 mod steps;
 
-pub use grouping::group;
+pub use grouping::{append, group};

@@ -1,0 +1,165 @@
+-- How `follow` ends, and what it leaves outside. C are the commits of the opening, and all are what
+-- the source's packets make of them. By status:
+--
+--   status                    written                              the disk stands for
+--   Done                      a line with the number of all         all, also in a crash
+--   NoMemory                  nothing                              C
+--   SourceFault, PacketFault  the closing line                     C
+--   SinkFault                 first bytes of a line                C, or all
+--   DiskFault                 the closing line                     C, or all; where it came in
+--                                                                  opening, as for a run
+--   NotInitialised, Damaged   as for a run that is not opened
+use Rattle.std.specs.Prelude.{◌≡◌, ◌⊎◌, ℕ, ◌<◌, ◌≤◌, List, [], ◌++◌, length, codes, Option, Some, None, IfSome}
+use Rattle.std.specs.Fmt.{decimal}
+use Rattle.tl_types.specs.declared.commits.Commit.{Commit}
+use Rattle.tl_types.specs.Limits.{standard_limits}
+use Rattle.tl_device.specs.Known.{Rose}
+use Rattle.tl_device.specs.declared.disk.Disk.{Ghosts as DiskGhosts}
+use Rattle.tl_device.specs.declared.sink.Sink.{Ghosts as SinkGhosts}
+use Rattle.tl_script.specs.Taking.{IsAtEnd}
+use Rattle.tl_group.specs.Keeping.{commits_in}
+use Rattle.tl_group.specs.Plain as group
+use Rattle.tl_follow.specs.declared.inputs.TheConstants.{INPUT_LIMIT}
+use Rattle.tl_follow.specs.declared.packets.Packet.{Packet}
+use Rattle.tl_follow.specs.Following.{followed}
+use Rattle.tl_follow.specs.Inputs.{IsInput, FollowsInput, input_fault}
+use Rattle.tl_command.specs.declared.statuses.Status.{Status}
+use Rattle.tl_command.specs.declared.statuses.Status.TheVariants as status
+use Rattle.tl_command.specs.Closing.{EndsRefused}
+use Rattle.tl_command.specs.Outside.{Outside, OpensWith}
+use Rattle.tl_grouping.specs.Appending.{AppendsAndWrites, GivesUp}
+use Rattle.tl_grouping.specs.Leaving.{IsGivenUp, LeavesBy}
+use Rattle.tl_grouping.specs.Playing.{KeepsDisk}
+
+-- the line that tells how many commits there are
+abbrev pub follow_line : ℕ → List ℕ
+follow_line n = codes "follow @" ++ (decimal n ++ codes "\n")
+
+-- THE INPUT
+
+-- these bytes are the whole input, and were taken
+abbrev pub TakesBytes : List ℕ → Option (List ℕ) → Option (List ℕ) → Type 0
+TakesBytes bytes before after =
+    (length bytes ≤ INPUT_LIMIT) × IfSome before (λ left. left ≡ bytes) × IsAtEnd after
+
+-- the whole input was taken, and makes these commits behind those of the opening
+abbrev pub TakesCommits : List Commit → Option (List ℕ) → Option (List ℕ) → List Commit → Type 0
+TakesCommits opening before after commits =
+    (bytes : List ℕ) × TakesBytes bytes before after
+    × FollowsInput standard_limits opening bytes commits
+
+-- the input has more bytes than it may have
+abbrev pub IsTooLong : Option (List ℕ) → Type 0
+IsTooLong before = IfSome before (λ left. INPUT_LIMIT < length left)
+
+-- the input has more bytes than it may have, or it has a fault, at this offset
+abbrev pub HasInputFault : List Commit → ℕ → Option (List ℕ) → Type 0
+HasInputFault opening at before =
+    ((at ≡ INPUT_LIMIT) × IsTooLong before)
+    ⊎ ((bytes : List ℕ) × (packets : List Packet) × (rest : List ℕ)
+    × IfSome before (λ left. left ≡ bytes) × IsInput bytes packets rest
+    × (input_fault standard_limits opening bytes packets rest ≡ Some at))
+
+-- why the bytes of the input were not taken: memory ran out, the source failed, or there are more
+-- than there may be
+abbrev pub FailsBytes : Option (List ℕ) → ℕ → ℕ → Status → Type 0
+FailsBytes before first last status.Done = ⊥
+FailsBytes before first last status.NoMemory = last ≡ first
+FailsBytes before first last status.Usage = ⊥
+FailsBytes before first last (status.SourceFault faults) = (faults ≡ last) × Rose first last
+FailsBytes before first last (status.SinkFault faults) = ⊥
+FailsBytes before first last (status.DiskFault faults) = ⊥
+FailsBytes before first last (status.ScriptFault f) = ⊥
+FailsBytes before first last (status.NotInitialised len) = ⊥
+FailsBytes before first last (status.AlreadyInitialised len) = ⊥
+FailsBytes before first last (status.Damaged at) = ⊥
+FailsBytes before first last (status.PacketFault at) =
+    (at ≡ INPUT_LIMIT) × IsTooLong before × (last ≡ first)
+
+-- why no commits were made of the input: memory ran out, the source failed, or it has a fault
+abbrev pub FailsInput : List Commit → Option (List ℕ) → ℕ → ℕ → Status → Type 0
+FailsInput opening before first last status.Done = ⊥
+FailsInput opening before first last status.NoMemory = last ≡ first
+FailsInput opening before first last status.Usage = ⊥
+FailsInput opening before first last (status.SourceFault faults) =
+    (faults ≡ last) × Rose first last
+FailsInput opening before first last (status.SinkFault faults) = ⊥
+FailsInput opening before first last (status.DiskFault faults) = ⊥
+FailsInput opening before first last (status.ScriptFault f) = ⊥
+FailsInput opening before first last (status.NotInitialised len) = ⊥
+FailsInput opening before first last (status.AlreadyInitialised len) = ⊥
+FailsInput opening before first last (status.Damaged at) = ⊥
+FailsInput opening before first last (status.PacketFault at) =
+    HasInputFault opening at before × (last ≡ first)
+
+-- THE GROUP
+
+-- the commits wait behind those of a group, and are appended with the line that tells how many
+-- there are then; or the group is given up for want of memory
+pub record Extends {K D : Type 0} (sinks : SinkGhosts K) (disks : DiskGhosts D)
+    (group : group.Group D) (commits : List Commit) (old new : K) (disk : D) (ended : Status)
+    : Type 0 where
+  pub later : group.Group D
+  pub keeps : KeepsDisk disks group later
+  pub ends : GivesUp sinks later old new disk ended
+      ⊎ ((commits_in later ≡ commits_in group ++ commits)
+      × AppendsAndWrites sinks disks later (follow_line (length (commits_in later))) old new disk
+      ended)
+
+-- THE COMMAND
+
+-- all commits are what the packets of the whole input make of those of the opening, and the text
+-- tells how many they are
+abbrev pub Follows : List Commit → List Commit → List ℕ → Outside → Outside → Type 0
+Follows opening all text before after =
+    (bytes : List ℕ) × (packets : List Packet) × IfSome before.left (λ left. left ≡ bytes)
+    × IsAtEnd after.left × IsInput bytes packets []
+    × (input_fault standard_limits opening bytes packets [] ≡ None)
+    × (all ≡ followed standard_limits opening packets) × (text ≡ follow_line (length all))
+    × (after.source_faults ≡ before.source_faults)
+
+-- how it ends over a journal that was opened with these commits
+abbrev pub FollowEndsBy : List Commit → Outside → Outside → Status → Type 0
+FollowEndsBy opening before after (status.PacketFault at) =
+    HasInputFault opening at before.left × (after.source_faults ≡ before.source_faults)
+    × IsGivenUp opening (status.PacketFault at) before after
+FollowEndsBy opening before after status.Done =
+    LeavesBy (λ all text. Follows opening all text before after) opening before after status.Done
+FollowEndsBy opening before after status.NoMemory =
+    LeavesBy (λ all text. Follows opening all text before after) opening before after
+    status.NoMemory
+FollowEndsBy opening before after status.Usage =
+    LeavesBy (λ all text. Follows opening all text before after) opening before after status.Usage
+FollowEndsBy opening before after (status.SourceFault faults) =
+    LeavesBy (λ all text. Follows opening all text before after) opening before after
+    (status.SourceFault faults)
+FollowEndsBy opening before after (status.SinkFault faults) =
+    LeavesBy (λ all text. Follows opening all text before after) opening before after
+    (status.SinkFault faults)
+FollowEndsBy opening before after (status.DiskFault faults) =
+    LeavesBy (λ all text. Follows opening all text before after) opening before after
+    (status.DiskFault faults)
+FollowEndsBy opening before after (status.ScriptFault f) =
+    LeavesBy (λ all text. Follows opening all text before after) opening before after
+    (status.ScriptFault f)
+FollowEndsBy opening before after (status.NotInitialised len) =
+    LeavesBy (λ all text. Follows opening all text before after) opening before after
+    (status.NotInitialised len)
+FollowEndsBy opening before after (status.AlreadyInitialised len) =
+    LeavesBy (λ all text. Follows opening all text before after) opening before after
+    (status.AlreadyInitialised len)
+FollowEndsBy opening before after (status.Damaged at) =
+    LeavesBy (λ all text. Follows opening all text before after) opening before after
+    (status.Damaged at)
+
+-- the same, with what was opened
+pub record FollowOpened (opening : List Commit) (before after : Outside) (ended : Status) : Type 0
+    where
+  pub opens : OpensWith opening before
+  pub ends : FollowEndsBy opening before after ended
+
+-- how `follow` ends: its journal is not opened, as for a run; or it is
+abbrev pub FollowEnds : Outside → Outside → Status → Type 0
+FollowEnds before after ended =
+    EndsRefused before after ended
+    ⊎ ((opening : List Commit) × FollowOpened opening before after ended)

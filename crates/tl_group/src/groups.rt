@@ -210,7 +210,6 @@ impl<D: Disk> Group<D> {
         ensures value { result.now ≡ self.now.entries }
         ensures alone { AreCommitsAlone result.now }
         ensures whole { has_break result.now ≡ false }
-        ensures whole { has_break result.now ≡ false }
     {
         &self.snapshot
     }

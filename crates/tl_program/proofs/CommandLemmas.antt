@@ -38,6 +38,18 @@ few_lines (Some n) = by_test (nat_le 1 n && nat_le n 1000000) refl where
   by_test true e = let h = both (nat_le 1 n) (nat_le n 1000000) e in grind (arith, nat_tests)
   by_test false e = tt
 
+-- a version of a shipment is below 2 ^ 32
+pub few_versions : (o : Option ℕ) → IfSome (within 0 16777215 o) (λ n. n < 4294967296)
+few_versions None = tt
+few_versions (Some n) = by_test (nat_le 0 n && nat_le n 16777215) refl where
+  both : (a b : Bool) → (a && b) ≡ true → b ≡ true
+  both true b h = h
+  both false b h = absurd (cc)
+
+  by_test : (t : Bool) → (nat_le 0 n && nat_le n 16777215) ≡ t → IfSome (cond t (Some n) None) (λ m. m < 4294967296)
+  by_test true e = let h = both (nat_le 0 n) (nat_le n 16777215) e in grind (arith, nat_tests)
+  by_test false e = tt
+
 -- each of several words is UTF-8 where all are
 pub word_is_utf8 : (given : List (List ℕ)) (i : ℕ) (d word : List ℕ) → list_all is_utf8 given ≡ true → i < length given → word ≡ get_or given i d → IsUtf8 word
 word_is_utf8 given i d word all within is = by_test (is_utf8 (get_or given i d)) refl where

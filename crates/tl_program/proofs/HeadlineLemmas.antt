@@ -361,6 +361,9 @@ command_tells (Some command.Init) before after ended h = tt
 command_tells (Some command.Run) before after ended h = run_tells script_reads before after ended h
 command_tells (Some (command.Load table)) before after ended h = run_tells (block_reads (put_text table)) before after ended h
 command_tells (Some (command.Sample lines start)) before after ended h = λ e. sample_tells (sample_reading lines start) before.written after.written before.sink_faults after.sink_faults ended (sample_lone lines start) h.1 e
+command_tells (Some command.Group) before after ended h = tt
+command_tells (Some (command.Ship from to)) before after ended h = tt
+command_tells (Some command.Follow) before after ended h = tt
 
 -- out of memory
 pub memory_tells : (c : Option Command) (before : Outside) (ended : Status) → ended ≡ status.NoMemory → HeadlineBy c before before ended
@@ -369,3 +372,6 @@ memory_tells (Some command.Init) before ended e = tt
 memory_tells (Some command.Run) before ended e = λ script image opening told reads stands. silent_tells script_reads script opening before ended e
 memory_tells (Some (command.Load table)) before ended e = λ script image opening told reads stands. silent_tells (block_reads (put_text table)) script opening before ended e
 memory_tells (Some (command.Sample lines start)) before ended e = λ done. absurd (no_memory_done (sym done ∙ e))
+memory_tells (Some command.Group) before ended e = tt
+memory_tells (Some (command.Ship from to)) before ended e = tt
+memory_tells (Some command.Follow) before ended e = tt

@@ -20,8 +20,14 @@ use Rattle.tl_run.specs.Sample.{sample_reading}
 use Rattle.tl_run.specs.Stopping.{RunStops}
 use Rattle.tl_command.specs.Closing.{wanted_by, Writes, ClosesAfter, EndsFor, EndsRefused, NotMadeBy, InitEnds}
 use Rattle.tl_program.specs.Ending.{EndsBy}
-use Rattle.tl_program.specs.Headline.{IsDoneOrNoMemory, StaysSure, IsHonest, RunCompletes, CompletesBy}
+use Rattle.tl_program.specs.Headline.{IsDoneOrNoMemory, StaysSure, IsHonest, IsFaultless, IsFollowed, RunCompletes, CompletesBy}
 use Rattle.tl_command.specs.Outside.{Outside, Streams, streams_of}
+use Rattle.tl_follow.specs.declared.inputs.TheConstants.{INPUT_LIMIT}
+use Rattle.tl_follow.specs.Inputs.{IsInput, input_fault}
+use Rattle.tl_follow.specs.Shipping.{shipment}
+use Rattle.tl_grouping.specs.Grouping.{GroupEnds, GroupEndsBy}
+use Rattle.tl_shipping.specs.Shipping.{ShipEnds}
+use Rattle.tl_following.specs.Following.{FollowEnds, FollowEndsBy, HasInputFault}
 use Rattle.tl_run.proofs.EndLemmas.{no_rise, no_break, only_memory}
 
 -- COMPLETENESS
@@ -81,6 +87,64 @@ init_complete : (before after : Outside) (ended : Status) → InitEnds before af
 init_complete before after ended (inl made) b told short sure = inl made.ends.0
 init_complete before after ended (inr failed) b told short sure = made_complete failed.fault before after ended b failed.refused failed.counts failed.ends told short sure.disk
 
+-- GROUPS AND PACKETS
+
+-- a group that was opened, with a script in which no fault is read
+group_opened : (opening : List Commit) (before after : Outside) (ended : Status) → GroupEndsBy script_reads opening before after ended → IsFaultless script_reads before → StaysSure before after → IsDoneOrNoMemory ended
+group_opened opening before after status.Done h faultless sure = inl refl
+group_opened opening before after status.NoMemory h faultless sure = inr refl
+group_opened opening before after status.Usage h faultless sure = absurd h
+group_opened opening before after (status.SourceFault n) h faultless sure = absurd (sure.source h.1)
+group_opened opening before after (status.SinkFault n) h faultless sure = absurd (sure.sink (sink_rose opening before after h.1))
+group_opened opening before after (status.DiskFault n) h faultless sure = absurd (sure.disk h.1.holds.rose)
+group_opened opening before after (status.ScriptFault f) h faultless sure =
+    let own : h.0.0 ≡ faultless.script = sym (told_script before.left h.0.0 faultless.script faultless.told h.0.1) in
+    absurd (let e : None ≡ Some f = sym faultless.whole ∙ (ap (λ s. (script_reads true s).fault) (sym own) ∙ h.0.2) in cc)
+group_opened opening before after (status.NotInitialised len) h faultless sure = absurd h
+group_opened opening before after (status.AlreadyInitialised len) h faultless sure = absurd h
+group_opened opening before after (status.Damaged at) h faultless sure = absurd h
+group_opened opening before after (status.PacketFault at) h faultless sure = absurd h
+
+group_complete : (before after : Outside) (ended : Status) → GroupEnds script_reads before after ended → RunCompletes script_reads before after ended
+group_complete before after ended (inl refused) = λ honest faultless sure. refused_complete before after ended refused honest sure
+group_complete before after ended (inr (opening, h)) = λ honest faultless sure. group_opened opening before after ended h.ends faultless sure
+
+ship_complete : (from to : ℕ) (before after : Outside) (ended : Status) → ShipEnds from to before after ended → IsHonest before → StaysSure before after → IsDoneOrNoMemory ended
+ship_complete from to before after ended (inl refused) honest sure = refused_complete before after ended refused honest sure
+ship_complete from to before after ended (inr (opening, h)) honest sure =
+    writes_complete (shipment from to opening) status.Done before.written after.written before.sink_faults after.sink_faults ended refl h.writes sure.sink
+
+-- packets that are followed to their end have no fault
+no_input_fault : (start : List Commit) (at : ℕ) (before : Outside) → IsFollowed start before → HasInputFault start at before.left → ⊥
+no_input_fault start at before followed (inl (is, long)) =
+    let much : INPUT_LIMIT < length followed.input = subst (λ (o : Option (List ℕ)). IfSome o (λ l. INPUT_LIMIT < length l)) followed.told long in
+    let fault : input_fault standard_limits start followed.input followed.packets [] ≡ Some INPUT_LIMIT = rw (lt_true INPUT_LIMIT (length followed.input) much) refl in
+    absurd (let e : None ≡ Some INPUT_LIMIT = sym followed.faultless ∙ fault in cc)
+no_input_fault start at before followed (inr (bytes, packets, rest, told, input, fault)) =
+    let same : followed.input ≡ bytes = told_script before.left bytes followed.input followed.told told in
+    let one = one_reading followed.input followed.packets packets [] rest followed.whole (subst (λ (b : List ℕ). IsInput b packets rest) (sym same) input) in
+    let there : input_fault standard_limits start followed.input followed.packets [] ≡ Some at =
+    ap (λ b. input_fault standard_limits start b followed.packets []) same ∙ (ap (λ ps. input_fault standard_limits start bytes ps []) one.0 ∙ (ap (input_fault standard_limits start bytes packets) one.1 ∙ fault)) in
+    absurd (let e : None ≡ Some at = sym followed.faultless ∙ there in cc)
+
+follow_opened : (opening : List Commit) (before after : Outside) (ended : Status) → FollowEndsBy opening before after ended → IsFollowed opening before → StaysSure before after → IsDoneOrNoMemory ended
+follow_opened opening before after status.Done h followed sure = inl refl
+follow_opened opening before after status.NoMemory h followed sure = inr refl
+follow_opened opening before after status.Usage h followed sure = absurd h
+follow_opened opening before after (status.SourceFault n) h followed sure = absurd (sure.source h.1)
+follow_opened opening before after (status.SinkFault n) h followed sure = absurd (sure.sink (sink_rose opening before after h.1))
+follow_opened opening before after (status.DiskFault n) h followed sure = absurd (sure.disk h.1.holds.rose)
+follow_opened opening before after (status.ScriptFault f) h followed sure = absurd h
+follow_opened opening before after (status.NotInitialised len) h followed sure = absurd h
+follow_opened opening before after (status.AlreadyInitialised len) h followed sure = absurd h
+follow_opened opening before after (status.Damaged at) h followed sure = absurd h
+follow_opened opening before after (status.PacketFault at) h followed sure = absurd (no_input_fault opening at before followed h.0)
+
+follow_complete : (before after : Outside) (ended : Status) → FollowEnds before after ended → (honest : IsHonest before) → IsFollowed honest.commits before → StaysSure before after → IsDoneOrNoMemory ended
+follow_complete before after ended (inl refused) honest followed sure = refused_complete before after ended refused honest sure
+follow_complete before after ended (inr (opening, h)) honest followed sure =
+    follow_opened opening before after ended h.ends (subst (λ (cs : List Commit). IsFollowed cs before) ((h.opens.stands honest.image honest.told).only honest.commits honest.stands) followed) sure
+
 -- what a command came to
 pub command_completes : (c : Option Command) (before after : Outside) (ended : Status) → EndsBy c before after ended → CompletesBy c before after ended
 command_completes None before after ended h = tt
@@ -88,6 +152,9 @@ command_completes (Some command.Init) before after ended h = λ b told short sur
 command_completes (Some command.Run) before after ended h = run_complete script_reads before after ended h
 command_completes (Some (command.Load table)) before after ended h = run_complete (block_reads (put_text table)) before after ended h
 command_completes (Some (command.Sample lines start)) before after ended h = λ sure. sample_complete lines start before after ended h.1 sure
+command_completes (Some command.Group) before after ended h = group_complete before after ended h
+command_completes (Some (command.Ship from to)) before after ended h = λ honest sure. ship_complete from to before after ended h.1 honest sure
+command_completes (Some command.Follow) before after ended h = λ honest followed sure. follow_complete before after ended h honest followed sure
 
 -- out of memory
 pub memory_completes : (c : Option Command) (before after : Outside) (ended : Status) → ended ≡ status.NoMemory → CompletesBy c before after ended
@@ -96,3 +163,6 @@ memory_completes (Some command.Init) before after ended e = λ b told short sure
 memory_completes (Some command.Run) before after ended e = λ honest faultless sure. inr e
 memory_completes (Some (command.Load table)) before after ended e = λ honest faultless sure. inr e
 memory_completes (Some (command.Sample lines start)) before after ended e = λ sure. inr e
+memory_completes (Some command.Group) before after ended e = λ honest faultless sure. inr e
+memory_completes (Some (command.Ship from to)) before after ended e = λ honest sure. inr e
+memory_completes (Some command.Follow) before after ended e = λ honest followed sure. inr e

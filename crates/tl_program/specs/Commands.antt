@@ -87,10 +87,28 @@ sample_of (Some lines) (Some start) = Some (command.Sample lines start)
 abbrev pub load_of : List ℕ → Option Command
 load_of table = if is_name table then Some (command.Load table) else None
 
--- behind `init`: no more words
-abbrev pub init_settings : List (List ℕ) → Settings
-init_settings [] = with_pace (Some command.Init) (options_of [])
-init_settings (word ∷ words) = nothing
+-- the shipment of two versions, where both are given
+abbrev pub ship_of : Option ℕ → Option ℕ → Option Command
+ship_of None to = None
+ship_of (Some from) None = None
+ship_of (Some from) (Some to) = Some (command.Ship from to)
+
+-- the version from 0 to 16,777,215 that a word spells
+abbrev pub version_by : List ℕ → Option ℕ
+version_by word = within 0 16777215 (spelled_number word)
+
+-- behind a command that stands alone: no more words
+abbrev pub alone : Command → List (List ℕ) → Settings
+alone command [] = with_pace (Some command) (options_of [])
+alone command (word ∷ words) = nothing
+
+-- behind `ship`: two versions, and no more words
+abbrev pub ship_settings : List (List ℕ) → Settings
+ship_settings [] = nothing
+ship_settings (from ∷ []) = nothing
+ship_settings (from ∷ to ∷ []) =
+    with_pace (ship_of (version_by from) (version_by to)) (options_of [])
+ship_settings (from ∷ to ∷ word ∷ words) = nothing
 
 -- behind `load`: a name, and options
 abbrev pub load_settings : List (List ℕ) → Settings
@@ -105,32 +123,41 @@ sample_settings (lines ∷ start ∷ options) =
     with_pace (sample_of (within 1 1000000 (spelled_number lines)) (spelled_number start))
     (options_of options)
 
--- what the words ask for: `init`; or `run`, `load` and a name, or `sample` and its two numbers,
--- each with options behind it
+-- what the words ask for: `init`, `group` or `follow`; `ship` and its two versions; or `run`,
+-- `load` and a name, or `sample` and its two numbers, each of these three with options behind it
 abbrev pub settings_of : List (List ℕ) → Settings
 settings_of [] = nothing
 settings_of (word ∷ words) =
-    if same_bytes word (codes "init") then init_settings words
+    if same_bytes word (codes "init") then alone command.Init words
     else (if same_bytes word (codes "run") then with_pace (Some command.Run) (options_of words)
     else (if same_bytes word (codes "load") then load_settings words
-    else (if same_bytes word (codes "sample") then sample_settings words else nothing)))
+    else (if same_bytes word (codes "sample") then sample_settings words
+    else (if same_bytes word (codes "group") then alone command.Group words
+    else (if same_bytes word (codes "ship") then ship_settings words
+    else (if same_bytes word (codes "follow") then alone command.Follow words else nothing))))))
 
 -- the command that the words are
 abbrev pub command_of : List (List ℕ) → Option Command
 command_of words = (settings_of words).command
 
--- the source is read by `run` and `load` alone
+-- the source is read by `run`, `load`, `group` and `follow` alone
 abbrev pub reads_source : Option Command → Bool
 reads_source None = false
 reads_source (Some command.Init) = false
 reads_source (Some command.Run) = true
 reads_source (Some (command.Load table)) = true
 reads_source (Some (command.Sample lines start)) = false
+reads_source (Some command.Group) = true
+reads_source (Some (command.Ship from to)) = false
+reads_source (Some command.Follow) = true
 
--- the disk is used by `init`, `run` and `load` alone
+-- the disk is used by all commands but `sample`
 abbrev pub uses_disk : Option Command → Bool
 uses_disk None = false
 uses_disk (Some command.Init) = true
 uses_disk (Some command.Run) = true
 uses_disk (Some (command.Load table)) = true
 uses_disk (Some (command.Sample lines start)) = false
+uses_disk (Some command.Group) = true
+uses_disk (Some (command.Ship from to)) = true
+uses_disk (Some command.Follow) = true

@@ -1,5 +1,6 @@
 -- What a run leaves outside, and why it ended. By status, what says it here, and which field of
--- `RunTells` (Headline.antt) says what a run over a journal printed and keeps then:
+-- `RunTells` (Headline.antt) says what a run over a journal printed and keeps then. Of `group`,
+-- `ship` and `follow` their own definitions say it all.
 --
 --   status              here                                                       in `RunTells`
 --   Done                `OpenedEnds`: `ends.why` is Ended, no break; `MakesJournal`;   done
@@ -27,6 +28,9 @@ use Rattle.tl_program.specs.Commands.{command_of}
 use Rattle.tl_run.specs.Runs.{put_text, RunEnds, SampleEnds}
 use Rattle.tl_command.specs.Coming.{script_reads, block_reads}
 use Rattle.tl_run.specs.Sample.{sample_reading}
+use Rattle.tl_grouping.specs.Grouping.{GroupEnds}
+use Rattle.tl_shipping.specs.Shipping.{ShipEnds}
+use Rattle.tl_following.specs.Following.{FollowEnds}
 use Rattle.tl_command.specs.Outside.{Outside, IsUnread, DiskAsBefore}
 use Rattle.tl_command.specs.Closing.{Closes, EndsSilent, InitEnds}
 
@@ -43,6 +47,10 @@ EndsBy (Some (command.Load table)) before after ended =
 EndsBy (Some (command.Sample lines start)) before after ended =
     IsUnread before after × SampleEnds (sample_reading lines start) before.written after.written
     before.sink_faults after.sink_faults ended
+EndsBy (Some command.Group) before after ended = GroupEnds script_reads before after ended
+EndsBy (Some (command.Ship from to)) before after ended =
+    IsUnread before after × ShipEnds from to before after ended
+EndsBy (Some command.Follow) before after ended = FollowEnds before after ended
 
 -- the same of the words
 abbrev pub Ends : List (List ℕ) → Outside → Outside → Status → Type 0

@@ -27,6 +27,8 @@ use Rattle.tl_jobs.specs.Play.{AreLonePhases}
 use Rattle.tl_session.specs.Transcript.{Transcript, IsTranscript}
 use Rattle.tl_jobs.specs.Turns.{Turn, meant}
 use Rattle.tl_jobs.specs.Written.{IsPlayOf, all_jobs, jobs_of, turns_bytes, transcript_bytes}
+use Rattle.tl_follow.specs.declared.packets.Packet.{Packet}
+use Rattle.tl_follow.specs.Inputs.{IsInput, input_fault}
 use Rattle.tl_journal.specs.Answers.{CountsFaults}
 use Rattle.tl_journal.specs.Image.{ImageStandsFor}
 use Rattle.tl_journal.specs.declared.faults.JournalFault.{JournalFault}
@@ -71,6 +73,15 @@ pub record IsFaultless (reads : Bool → List ℕ → ScriptReading) (before : O
   pub told : before.left ≡ Some script
   pub whole : (reads true script).fault ≡ None
 
+-- the source tells packets to its end, and these come to no commit that does not fit behind the
+-- first ones
+pub record IsFollowed (start : List Commit) (before : Outside) : Type 0 where
+  pub input : List ℕ
+  pub packets : List Packet
+  pub told : before.left ≡ Some input
+  pub whole : IsInput input packets []
+  pub faultless : input_fault standard_limits start input packets [] ≡ None
+
 -- a script without a fault, over a journal, is run to its end where no count rises
 abbrev pub RunCompletes : (Bool → List ℕ → ScriptReading) → Outside → Outside → Status → Type 0
 RunCompletes reads before after ended =
@@ -89,6 +100,13 @@ CompletesBy (Some (command.Load table)) before after ended =
     RunCompletes (block_reads (put_text table)) before after ended
 CompletesBy (Some (command.Sample lines start)) before after ended =
     StaysSure before after → IsDoneOrNoMemory ended
+CompletesBy (Some command.Group) before after ended =
+    RunCompletes script_reads before after ended
+CompletesBy (Some (command.Ship from to)) before after ended =
+    IsHonest before → StaysSure before after → IsDoneOrNoMemory ended
+CompletesBy (Some command.Follow) before after ended =
+    (honest : IsHonest before) → IsFollowed honest.commits before → StaysSure before after
+    → IsDoneOrNoMemory ended
 
 -- Completeness: with the words of a command, what it wants of the disk and the source, and no count
 -- that rises, the run is done, unless memory runs out.
@@ -308,6 +326,9 @@ HeadlineBy (Some (command.Load table)) before after ended =
     RunHeadline (block_reads (put_text table)) before after ended
 HeadlineBy (Some (command.Sample lines start)) before after ended =
     ended ≡ status.Done → PrintsPlay (sample_reading lines start) before.written after.written
+HeadlineBy (Some command.Group) before after ended = Unit {0}
+HeadlineBy (Some (command.Ship from to)) before after ended = Unit {0}
+HeadlineBy (Some command.Follow) before after ended = Unit {0}
 
 abbrev pub Headline : List (List ℕ) → Outside → Outside → Status → Type 0
 Headline words before after ended = HeadlineBy (command_of words) before after ended

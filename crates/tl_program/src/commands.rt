@@ -3,7 +3,7 @@
 ghost use Rattle.std.specs.Prelude.{◌≡◌, ◌<◌, ◌≤◌, ◌^◌, ◌∷◌, IfOk, IfSome, Some, true};
 ghost use Rattle.std.specs.Char.{is_ascii_digit};
 ghost use Rattle.std.specs.List.{list_all};
-ghost use Rattle.tl_program.specs.Commands.{spelled_number, within, set_by, workers_by, every_by, pace_of, either, options_of, nothing, with_pace, load_of, sample_of, init_settings, load_settings, sample_settings, settings_of, texts_of};
+ghost use Rattle.tl_program.specs.Commands.{spelled_number, within, set_by, workers_by, every_by, pace_of, either, options_of, nothing, with_pace, load_of, sample_of, ship_of, version_by, alone, load_settings, sample_settings, ship_settings, settings_of, texts_of};
 
 use std::alloc::Global;
 use tl_jobs::Pace;
@@ -16,6 +16,17 @@ pub enum Command {
     Init,
     /// `run`: the script that the source gives is run.
     Run,
+    /// `group`: the script that the source gives is run, and its commits are appended at once.
+    Group,
+    /// `ship V W`: the commits with versions from one to another are written as packets.
+    Ship {
+        /// The first version, 0 to 16,777,215.
+        from: u32,
+        /// The last one, 0 to 16,777,215.
+        to: u32,
+    },
+    /// `follow`: the commits that the source's packets make are appended.
+    Follow,
     /// `load TABLE`: all that the source gives is put as one block.
     Load {
         /// The table's name.
@@ -41,6 +52,9 @@ pub struct Settings {
 
 // The most lines of a sample.
 const MOST_LINES: u64 = 1_000_000;
+
+// The greatest version that a shipment may be asked to begin or end with.
+const MOST_VERSION: u64 = 16_777_215;
 
 // The most workers.
 const MOST_WORKERS: u64 = 64;
@@ -236,12 +250,51 @@ fn load_of(alloc: Global, table: &str) -> Result<Option<Command>, NoMemory>
     Ok(Some(Command::Load { table }))
 }
 
-// What the words behind `init` set.
-fn init_settings(words: &[String]) -> Settings
-    ensures { result ≡ init_settings (texts_of words.now) }
+fn ship_of(from: Option<u64>, to: Option<u64>) -> Option<Command>
+    requires from { IfSome from (λ n. n < 2 ^ 32) }
+    requires to { IfSome to (λ n. n < 2 ^ 32) }
+    ensures { result ≡ ship_of from to }
+{
+    match (from, to) {
+        (Some(from), Some(to)) => Some(Command::Ship {
+            from: from as u32,
+            to: to as u32,
+        }),
+        _ => None,
+    }
+}
+
+// The version that a word spells.
+#[tactic(auto, using(crate::proofs::CommandLemmas::few_versions))]
+fn version_by(word: &str) -> Option<u64>
+    ensures version { result ≡ version_by word.now }
+    ensures few { IfSome result (λ n. n < 2 ^ 32) }
+{
+    within(0, MOST_VERSION, spelled_number(word))
+}
+
+// What a command sets behind which no word stands.
+fn alone(command: Command, words: &[String]) -> Settings
+    ensures { result ≡ alone command (texts_of words.now) }
 {
     match words {
-        [] => with_pace(Some(Command::Init), options_of(words)),
+        [] => with_pace(Some(command), options_of(words)),
+        _ => nothing(),
+    }
+}
+
+// What the words behind `ship` set.
+fn ship_settings(words: &[String]) -> Settings
+    ensures { result ≡ ship_settings (texts_of words.now) }
+{
+    match words {
+        [from, to, options @ ..] => match options {
+            [] => with_pace(
+                ship_of(version_by(from.as_str()), version_by(to.as_str())),
+                options_of(options),
+            ),
+            _ => nothing(),
+        },
         _ => nothing(),
     }
 }
@@ -274,16 +327,20 @@ fn settings_by(alloc: Global, word: &str, words: &[String]) -> Result<Settings, 
     ensures { IfOk result (λ settings. settings ≡ settings_of (word.now ∷ texts_of words.now)) }
 {
     match word {
-        "init" => Ok(init_settings(words)),
+        "init" => Ok(alone(Command::Init, words)),
         "run" => Ok(with_pace(Some(Command::Run), options_of(words))),
         "load" => load_settings(alloc, words),
         "sample" => Ok(sample_settings(words)),
+        "group" => Ok(alone(Command::Group, words)),
+        "ship" => Ok(ship_settings(words)),
+        "follow" => Ok(alone(Command::Follow, words)),
         _ => Ok(nothing()),
     }
 }
 
-/// What the words set. A command is `init`; `run`; `load TABLE` with a name of the language; or
-/// `sample N START` with N from 1 to 1,000,000 and START from 0 to 2^64 - 1. Behind each but `init`
+/// What the words set. A command is `init`; `run`; `load TABLE` with a name of the language;
+/// `sample N START` with N from 1 to 1,000,000 and START from 0 to 2^64 - 1; `group`; `ship V W`
+/// with V and W from 0 to 16,777,215; or `follow`. Behind `run`, `load TABLE` and `sample N START`
 /// may stand `--workers W` with W from 1 to 64, and `--every K` with K from 0 to 16,777,216, each
 /// at most once and in either order; else W is 4 and K is 4096. The numbers are spelled by ASCII
 /// digits alone. Any other words are no command. The error is `NoMemory`.

@@ -14,8 +14,11 @@ use std::sync::Wait;
 use std::thread::Threads;
 use tl_command::{Ending, Status, close, end_refused};
 use tl_device::{Disk, Gate, Sink, Source};
+use tl_following::follow;
+use tl_grouping::group;
 use tl_journal::{InitRun, Journal};
 use tl_run::{Paced, load, run_sample, run_script};
+use tl_shipping::ship;
 
 // Makes an empty journal.
 fn init<K: Sink, D: Disk>(alloc: Global, sink: &mut K, disk: D) -> Ending<D>
@@ -67,6 +70,9 @@ fn do_command<R: AllocGlobal + Threads + Wait + Sync, S: Source, K: Sink, D: Dis
             status: run_sample(rt, lines, start, pace, sink, gate),
             disk,
         },
+        Some(Command::Group) => group(rt, &pace, source, sink, disk, gate),
+        Some(Command::Ship { from, to }) => ship(rt.alloc(), from, to, sink, disk),
+        Some(Command::Follow) => follow(rt.alloc(), source, sink, disk),
     }
 }
 
@@ -82,6 +88,12 @@ fn do_command<R: AllocGlobal + Threads + Wait + Sync, S: Source, K: Sink, D: Dis
 /// - `sample N START` runs jobs that are made from the two numbers, over a journal of its own in
 ///   memory: a table, N rows in blocks of 10,000, and three queries. Neither the source nor the
 ///   disk is used.
+/// - `group` opens the journal, runs the jobs of the script that the source gives one after the
+///   other, appends all their commits at once, and then writes the replies.
+/// - `ship V W` opens the journal, and writes its commits with versions from V to W, 0 to
+///   16,777,215, as packets. The source is not used.
+/// - `follow` opens the journal, reads packets to the end of the source, appends the commits that
+///   they make behind the journal's at once, and writes how many there are then.
 ///
 /// Behind `run`, `load TABLE` and `sample N START` may stand `--workers W` and `--every K`, in
 /// either order, each at most once. The work of a query may be shared by W workers, 1 to 64, and 4
@@ -89,7 +101,8 @@ fn do_command<R: AllocGlobal + Threads + Wait + Sync, S: Source, K: Sink, D: Dis
 /// from 0 to 16,777,216, and 4096 where it is not given; for 0 there are no marks. What is answered
 /// and kept is right for each of them.
 ///
-/// The order is: the words; opening; then for each phase reading the source, the faults of the
+/// The order is, of `group` and `follow`: the words; opening; the source and what it has; the
+/// append; writing. Of a run it is: the words; opening; then for each phase reading the source, the faults of the
 /// script, running, writing. The sessions of a phase run at once, each its own jobs in order; their
 /// replies are written, in the order of the jobs' lines, before more of the source is read. The
 /// statuses, each with its closing line but for `Done`, `NoMemory` and `SinkFault`:
@@ -115,6 +128,14 @@ fn do_command<R: AllocGlobal + Threads + Wait + Sync, S: Source, K: Sink, D: Dis
 /// - `NotInitialised`, `Damaged`: where the disk's bytes are no journal, or one whose commits do
 ///   not fit one after the other. `AlreadyInitialised`: where `init` finds more than 17 bytes. The
 ///   closing line alone is written, the source is unread, and the disk reads as it did.
+/// - `PacketFault`: where what `follow` read is too long, no packets, or packets that come to a
+///   commit that does not fit. The closing line alone is written, and the disk keeps its journal.
+///
+/// Of `group` and `follow` the disk keeps its journal, or holds this and all commits that were to
+/// be appended, and never a part of them: all at `Done`, the one or the other at `DiskFault` and
+/// `SinkFault`, and the journal alone else. At any other status the closing line
+/// alone is written, or nothing. What
+/// each command leaves, by status, is in the definitions that `ends` cites.
 ///
 /// With the words of a command, a disk whose bytes are a journal of commits that fit one after the
 /// other (for `init` at most 17 bytes), a script without a fault and no count that rises, the

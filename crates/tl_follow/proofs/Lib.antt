@@ -1,0 +1,10 @@
+pub mod Growing
+pub mod Holding
+pub mod Advancing
+pub mod Running
+pub mod Led
+pub mod Numbers
+pub mod PacketsRead
+pub mod InputLemmas
+pub mod ShipmentLemmas
+pub mod Examples

@@ -1,0 +1,162 @@
+-- What is shipped of a history, version by version, and where it leads.
+use Rattle.std.proofs.Common.{◌≡◌, ℕ, zero, suc, ◌+◌, ◌-◌, ◌<◌, ◌≤◌, Bool, true, false, ◌&&◌, cond, nat_le, ◌==◌, List, [], ◌∷◌, ◌++◌, length, Option, Some, None, IsSome, is_some, slice_get, refl, sym, ap, ◌∙◌, subst, arith, append_assoc, append-nil, length-append}
+use Rattle.std.specs.List.{AllByRecursion, filter}
+use Rattle.std.proofs.lemmas.Grind.{flat_map-append}
+use Rattle.std.proofs.lemmas.Bool.Decides.{nat_tests}
+use Rattle.tl_types.specs.declared.commits.Commit.{Commit}
+use Rattle.tl_types.specs.declared.limits.Limits.{Limits}
+use Rattle.tl_types.specs.Legality.{FitInTurn}
+use Rattle.tl_follow.specs.declared.packets.Packet.{Packet}
+use Rattle.tl_follow.specs.Packets.{packet_spelling, IsPacket}
+use Rattle.tl_follow.specs.Following.{IsPrefixOf, first_of, followed}
+use Rattle.tl_follow.specs.Leading.{IsOf, AreFrom}
+use Rattle.tl_follow.specs.Inputs.{input_of, IsInput}
+use Rattle.tl_follow.specs.Shipping.{packet_of, packets_from, packets_between, shipment}
+use Rattle.tl_follow.proofs.Growing.{prefix_length, grown_prefix}
+use Rattle.tl_follow.proofs.Led.{is_led, get_past}
+use Rattle.tl_follow.proofs.InputLemmas.{no_packet_in_none}
+
+abbrev is_between : ℕ → ℕ → Packet → Bool
+is_between from to p = nat_le from p.version && nat_le p.version to
+
+-- WHAT THE FILTER KEEPS
+
+none_over : (from to k : ℕ) (cs : List Commit) → to < k → filter (is_between from to) (packets_from k cs) ≡ []
+none_over from to k [] h = refl
+none_over from to k (c ∷ cs) h =
+    let t : (nat_le from k && nat_le k to) ≡ false = grind (arith, nat_tests) in
+    let over : to < k + 1 = omega (arith, h) in
+    rw t (none_over from to (k + 1) cs over)
+
+none_for : (from to k : ℕ) (cs : List Commit) → to < from → filter (is_between from to) (packets_from k cs) ≡ []
+none_for from to k [] h = refl
+none_for from to k (c ∷ cs) h =
+    let t : (nat_le from k && nat_le k to) ≡ false = grind (arith, nat_tests) in
+    rw t (none_for from to (k + 1) cs h)
+
+kept_more : (b : Bool) (p q : Packet) (xs ys : List Packet) → xs ≡ ys ++ q ∷ [] → cond b (p ∷ xs) xs ≡ cond b (p ∷ ys) ys ++ q ∷ []
+kept_more true p q xs ys e = ap (λ l. p ∷ l) e
+kept_more false p q xs ys e = e
+
+more_at : (from to k i : ℕ) (cs : List Commit) (c : Commit) → k + i ≡ to + 1 → from ≤ to + 1 → slice_get cs i ≡ Some c → filter (is_between from (to + 1)) (packets_from k cs) ≡ filter (is_between from to) (packets_from k cs) ++ packet_of (to + 1) c ∷ []
+more_at from to k i [] c e f g = absurd (cc)
+more_at from to k zero (d ∷ cs) c e f g =
+    let here : k ≡ to + 1 = omega (arith, e) in
+    let t : (nat_le from k && nat_le k (to + 1)) ≡ true = grind (arith, nat_tests) in
+    let u : (nat_le from k && nat_le k to) ≡ false = grind (arith, nat_tests) in
+    let over : to + 1 < k + 1 = omega (arith, here) in
+    let over' : to < k + 1 = omega (arith, here) in
+    let d_is : d ≡ c = cc in
+    let none = none_over from (to + 1) (k + 1) cs over in
+    let none' = none_over from to (k + 1) cs over' in
+    let same : packet_of k d ≡ packet_of (to + 1) c = ap (λ v. packet_of v d) here ∙ ap (packet_of (to + 1)) d_is in
+    rw (t, u, none, none') (ap (λ p. p ∷ []) same)
+more_at from to k (suc i) (d ∷ cs) c e f g =
+    let t : (nat_le from k && nat_le k (to + 1)) ≡ nat_le from k = grind (arith, nat_tests) in
+    let u : (nat_le from k && nat_le k to) ≡ nat_le from k = grind (arith, nat_tests) in
+    let e' : k + 1 + i ≡ to + 1 = omega (arith, e) in
+    rw (t, u) (kept_more (nat_le from k) (packet_of k d) (packet_of (to + 1) c)
+    (filter (is_between from (to + 1)) (packets_from (k + 1) cs)) (filter (is_between from to) (packets_from (k + 1) cs))
+    (more_at from to (k + 1) i cs c e' f g))
+
+none_past : (from to last k : ℕ) (cs : List Commit) → k + length cs ≤ last + 1 → last ≤ to → filter (is_between from to) (packets_from k cs) ≡ filter (is_between from last) (packets_from k cs)
+none_past from to last k [] h l = refl
+none_past from to last k (c ∷ cs) h l =
+    let t : (nat_le from k && nat_le k to) ≡ (nat_le from k && nat_le k last) = grind (arith, nat_tests) in
+    let h' : k + 1 + length cs ≤ last + 1 = omega (arith, h) in
+    rw t (ap (λ xs. cond (nat_le from k && nat_le k last) (packet_of k c ∷ xs) xs) (none_past from to last (k + 1) cs h' l))
+
+-- SHIPMENTS
+
+pub shipment_none : (commits : List Commit) (from to : ℕ) → to < from → shipment from to commits ≡ []
+shipment_none commits from to h = ap input_of (none_for from to 1 commits h)
+
+pub shipment_start : (commits : List Commit) (from to : ℕ) → to ≤ from - 1 → shipment from to commits ≡ []
+shipment_start commits zero to h = let over : to < 1 = omega (arith, h) in ap input_of (none_over zero to 1 commits over)
+shipment_start commits (suc from) to h = let less : to < suc from = omega (arith, h) in shipment_none commits (suc from) to less
+
+pub shipment_more : (commits : List Commit) (c : Commit) (from to : ℕ) → from ≤ to + 1 → slice_get commits to ≡ Some c → shipment from (to + 1) commits ≡ shipment from to commits ++ packet_spelling (packet_of (to + 1) c)
+shipment_more commits c from to f g =
+    let e : 1 + to ≡ to + 1 = omega arith in
+    ap input_of (more_at from to 1 to commits c e f g)
+    ∙ flat_map-append packet_spelling (packets_between from to commits) (packet_of (to + 1) c ∷ [])
+    ∙ ap (λ l. shipment from to commits ++ l) (append-nil (packet_spelling (packet_of (to + 1) c)))
+
+pub shipment_end : (commits : List Commit) (from to : ℕ) → length commits ≤ to → shipment from to commits ≡ shipment from (length commits) commits
+shipment_end commits from to h =
+    let e : 1 + length commits ≤ length commits + 1 = omega arith in
+    ap input_of (none_past from to (length commits) 1 commits e h)
+
+-- one packet more, behind those before it
+pub shipped_on : (commits : List Commit) (c : Commit) (from before : ℕ) (out new : List ℕ) → out ≡ shipment from before commits → Some c ≡ slice_get commits (before + 1 - 1) → from ≤ before + 1 → new ≡ out ++ packet_spelling (packet_of (before + 1) c) → new ≡ shipment from (before + 1) commits
+shipped_on commits c from before out new is g f n =
+    let e : before + 1 - 1 ≡ before = omega arith in
+    let g' : slice_get commits before ≡ Some c = ap (slice_get commits) (sym e) ∙ sym g in
+    n ∙ ap (λ l. l ++ packet_spelling (packet_of (before + 1) c)) is ∙ sym (shipment_more commits c from before f g')
+
+-- up to the last of them
+pub shipped_all : (commits : List Commit) (from to until : ℕ) (out : List ℕ) → (until ≡ to → ⊥) → out ≡ shipment from until commits → until ≡ length commits → length commits ≤ to → out ≡ shipment from to commits
+shipped_all commits from to until out n is u l = is ∙ ap (λ t. shipment from t commits) u ∙ sym (shipment_end commits from to l)
+
+-- WHERE THEY LEAD
+
+all_filtered : (P : Packet → Type 0) (test : Packet → Bool) (ps : List Packet) → AllByRecursion P ps → AllByRecursion P (filter test ps)
+all_filtered P test [] all = tt
+all_filtered P test (p ∷ ps) all = by_test (test p) refl (all_filtered P test ps all.1) where
+  by_test : (t : Bool) → test p ≡ t → AllByRecursion P (filter test ps) → AllByRecursion P (filter test (p ∷ ps))
+  by_test true t h = rw t (all.0, h)
+  by_test false t h = rw t h
+
+all_of : (leader front cs : List Commit) (k : ℕ) → leader ≡ front ++ cs → k ≡ length front + 1 → AllByRecursion (IsOf leader) (packets_from k cs)
+all_of leader front [] k e n = tt
+all_of leader front (c ∷ cs) k e n =
+    let one : 1 ≤ k = omega (arith, n) in
+    let back : k - 1 ≡ length front = omega (arith, n) in
+    let whole : leader ≡ (front ++ c ∷ []) ++ cs = e ∙ sym (append_assoc front (c ∷ []) cs) in
+    let n' : k + 1 ≡ length (front ++ c ∷ []) + 1 = let l = length-append front (c ∷ []) in omega (arith, l, n) in (
+      (one, ap (slice_get leader) back ∙ ap (λ l. slice_get l (length front)) e ∙ get_past front (c ∷ cs)),
+      all_of leader (front ++ c ∷ []) cs (k + 1) whole n',
+    )
+
+first_there : (from to v k i : ℕ) (cs : List Commit) → k + i ≡ v → i < length cs → from ≤ v → v ≤ to → IsSome (first_of v (filter (is_between from to) (packets_from k cs)))
+first_there from to v k i [] e l f t = absurd (omega (arith, l))
+first_there from to v k zero (c ∷ cs) e l f t =
+    let is : (nat_le from k && nat_le k to) ≡ true = grind (arith, nat_tests) in
+    let same : (k == v) ≡ true = grind (arith, nat_tests) in
+    rw (is, same) refl
+first_there from to v k (suc i) (c ∷ cs) e l f t =
+    let e' : k + 1 + i ≡ v = omega (arith, e) in
+    let l' : i < length cs = omega (arith, l) in
+    let apart : (k == v) ≡ false = grind (arith, nat_tests) in
+    by_test (nat_le from k && nat_le k to) refl apart (first_there from to v (k + 1) i cs e' l' f t) where
+      by_test : (b : Bool) → (nat_le from k && nat_le k to) ≡ b → (k == v) ≡ false → IsSome (first_of v (filter (is_between from to) (packets_from (k + 1) cs))) → IsSome (first_of v (filter (is_between from to) (packets_from k (c ∷ cs))))
+      by_test true b apart h = rw (b, apart) h
+      by_test false b apart h = rw b h
+
+pub shipment_is_input : (commits : List Commit) (from to : ℕ) → AllByRecursion IsPacket (packets_between from to commits) → IsInput (shipment from to commits) (packets_between from to commits) []
+shipment_is_input commits from to all = (all, sym (append-nil (shipment from to commits)), no_packet_in_none)
+
+whole_front : (leader front : List Commit) → IsPrefixOf front leader → length leader ≤ length front → front ≡ leader
+whole_front leader front ([], e) l = sym (e ∙ append-nil front)
+whole_front leader front (c ∷ more, e) l = absurd (let k = ap length e in let m = length-append front (c ∷ more) in omega (arith, k, m, l))
+
+pub shipment_leads : (limits : Limits) (leader start : List Commit) (from to : ℕ) → FitInTurn limits leader → IsPrefixOf start leader → from ≤ length start + 1 → length leader ≤ to → followed limits start (packets_between from to leader) ≡ leader
+shipment_leads limits leader start from to fit begins f t =
+    let packets = packets_between from to leader in
+    let each : AllByRecursion (IsOf leader) packets = all_filtered (IsOf leader) (is_between from to) (packets_from 1 leader) (all_of leader [] leader 1 refl refl) in
+    let come_from : AreFrom limits leader start packets = record { fit = fit; begins = begins; each = each } in
+    let led = is_led limits leader start packets come_from in
+    let end = followed limits start packets in
+    let s = prefix_length start end (grown_prefix limits packets (length packets) start) in
+    by_reach (nat_le (length leader) (length end)) refl led.along led.next s where
+      by_reach : (b : Bool) → nat_le (length leader) (length (followed limits start (packets_between from to leader))) ≡ b → IsPrefixOf (followed limits start (packets_between from to leader)) leader
+          → first_of (length (followed limits start (packets_between from to leader)) + 1) (packets_between from to leader) ≡ None → length start ≤ length (followed limits start (packets_between from to leader)) → followed limits start (packets_between from to leader) ≡ leader
+      by_reach true b along next s =
+          let l : length leader ≤ length (followed limits start (packets_between from to leader)) = grind (arith, nat_tests) in
+          whole_front leader (followed limits start (packets_between from to leader)) along l
+      by_reach false b along next s =
+          let n : ℕ = length (followed limits start (packets_between from to leader)) in
+          let less : length (followed limits start (packets_between from to leader)) < length leader = grind (arith, nat_tests) in
+          let e : 1 + n ≡ n + 1 = omega arith in
+          let there = first_there from to (n + 1) 1 n leader e less (omega (arith, f, s)) (omega (arith, less, t)) in
+          absurd (let o : is_some (first_of (n + 1) (packets_between from to leader)) ≡ false = ap is_some next in let q = sym o ∙ there in cc)

@@ -1,0 +1,6 @@
+pub mod Packets
+pub mod Following
+pub mod Calls
+pub mod Leading
+pub mod Inputs
+pub mod Shipping

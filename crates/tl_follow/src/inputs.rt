@@ -1,0 +1,120 @@
+//! Whole inputs of packets. It refuses bytes that are not packets to their end, and packets that
+//! lead to a commit that does not fit, each with the offset of the packet that is to blame.
+ghost use Rattle.std.specs.Prelude.{◌≡◌, ℕ, ◌≤◌, List, [], length, false, IfOk, IfErr, IsSome};
+ghost use Rattle.tl_types.specs.Entries.{commits_of, has_break};
+ghost use Rattle.tl_types.specs.Limits.{standard_limits};
+ghost use Rattle.tl_batch.specs.Made.{AreWithin};
+ghost use Rattle.tl_follow.specs.declared.packets.Packet.{Packet as PacketValue};
+ghost use Rattle.tl_follow.specs.Inputs.{IsInput, IsCutAt, place_of, packet_found, IsFirstPacket, IsPlaceOf, IsStuckPlace, IsStuckIn, IsFaultOf, FollowsInput, IsInputFault};
+
+use crate::all_packets::follow_all;
+use crate::faults::{FollowFault, PacketFault};
+use crate::packets::Packet;
+use crate::reading::{ReadPacket, read_packet};
+use std::alloc::{AllocError, Global};
+use tl_index::Snapshot;
+use tl_types::{Commit, Limits, NoMemory, Seq};
+
+/// The most bytes that an input may have: 2 GiB. Who reads an input refuses a longer one, with this
+/// offset.
+pub const INPUT_LIMIT: usize = 2_147_483_648;
+
+/// The packets of an input, in order. The error is `BadPacket` with the first offset before the end
+/// at which no packet begins, and `NoMemory`.
+pub fn read_all(alloc: Global, bytes: &[u8]) -> Result<Seq<Packet>, PacketFault>
+    ensures ok { IfOk result (λ packets. IsInput bytes.now packets []) }
+    ensures cut { IfErr result (IsCutAt bytes.now) }
+{
+    let mut packets = Seq::new(alloc);
+    let mut at = 0usize;
+    'reading: while at < bytes.len() {
+        let ReadPacket { packet, end } = read_packet(alloc, bytes, at)?;
+        packets.push(packet)?;
+        at = end;
+    }
+    Ok(packets)
+}
+
+// What was read at an offset, where a packet begins there.
+fn packet_found(read: Result<ReadPacket, PacketFault>) -> Result<Option<ReadPacket>, NoMemory>
+    ensures { result ≡ packet_found read }
+{
+    match read {
+        Ok(read) => Ok(Some(read)),
+        Err(PacketFault::BadPacket { .. }) => Ok(None),
+        Err(PacketFault::NoMemory) => Err(AllocError),
+    }
+}
+
+// The packet that begins at an offset, if one begins there.
+fn packet_at(alloc: Global, bytes: &[u8], at: usize) -> Result<Option<ReadPacket>, NoMemory>
+    requires { at ≤ length bytes.now }
+    ensures { IfOk result (IsFirstPacket bytes.now at) }
+{
+    packet_found(read_packet(alloc, bytes, at))
+}
+
+/// The byte offset of the first packet of a version among the packets that bytes begin with. `None`
+/// where none of them is of the version. The error is `NoMemory`.
+pub fn find_packet(alloc: Global, bytes: &[u8], version: u32) -> Result<Option<usize>, NoMemory>
+    ensures { IfOk result (IsPlaceOf bytes.now version) }
+{
+    let mut at = 0usize;
+    'looking: while let Some(ReadPacket { packet, end }) = packet_at(alloc, bytes, at)? {
+        if packet.version == version {
+            return Ok(Some(at));
+        }
+        at = end;
+    }
+    Ok(None)
+}
+
+// The fault of an input whose packets are stuck at a version.
+fn stuck_fault(alloc: Global, bytes: &[u8], version: u32) -> PacketFault
+    requires { (packets : List PacketValue) × IsInput bytes.now packets []
+        × IsSome (place_of version packets) }
+    ensures { IsStuckPlace bytes.now version result }
+{
+    let Ok(place) = find_packet(alloc, bytes, version) else {
+        return PacketFault::NoMemory;
+    };
+    match place {
+        Some(at) => PacketFault::BadPacket { at },
+        None => unreachable!(),
+    }
+}
+
+// A fault of a follower of an input's packets as one of the input.
+fn input_fault(alloc: Global, bytes: &[u8], fault: FollowFault) -> PacketFault
+    requires { IsStuckIn bytes.now fault }
+    ensures { IsFaultOf bytes.now fault result }
+{
+    match fault {
+        FollowFault::Unfit { version } => stuck_fault(alloc, bytes, version),
+        FollowFault::NoMemory => PacketFault::NoMemory,
+    }
+}
+
+/// The commits that the packets of an input make behind those of a snapshot, which has no break, in
+/// order. Each fits those before it, by these limits, which are within the standard ones. The input
+/// has at most `INPUT_LIMIT` bytes. The error is `BadPacket` with the first offset before the end
+/// at which no packet begins, where there is one; else with the offset of the first packet of the
+/// version that comes next, where its commit does not fit; and `NoMemory`.
+pub fn follow_input(
+    alloc: Global,
+    snapshot: Snapshot,
+    limits: &Limits,
+    bytes: &[u8],
+) -> Result<Seq<Commit>, PacketFault>
+    requires whole { has_break snapshot ≡ false }
+    requires within { AreWithin limits.now standard_limits }
+    requires short { length bytes.now ≤ INPUT_LIMIT }
+    ensures ok { IfOk result (FollowsInput limits.now (commits_of snapshot) bytes.now) }
+    ensures bad { IfErr result (IsInputFault limits.now (commits_of snapshot) bytes.now) }
+{
+    let packets = read_all(alloc, bytes)?;
+    match follow_all(alloc, snapshot, limits, packets) {
+        Ok(commits) => Ok(commits),
+        Err(fault) => Err(input_fault(alloc, bytes, fault)),
+    }
+}

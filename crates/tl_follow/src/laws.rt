@@ -1,0 +1,102 @@
+//! What holds of every follower, said in contracts of functions that do nothing.
+ghost use Rattle.std.specs.Prelude.{◌≡◌, ◌+◌, ◌<◌, ◌≤◌, ◌++◌, ℕ, List, [], length, None, Some, slice_get};
+ghost use Rattle.std.specs.List.{AllByRecursion};
+ghost use Rattle.tl_types.specs.declared.answers.Field.{Field};
+ghost use Rattle.tl_types.specs.declared.commits.Commit.{Commit};
+ghost use Rattle.tl_types.specs.declared.commits.Entry.{Entry};
+ghost use Rattle.tl_types.specs.declared.limits.Limits.{Limits};
+ghost use Rattle.tl_types.specs.Entries.{commits_of};
+ghost use Rattle.tl_types.specs.History.{database_of, database_at};
+ghost use Rattle.tl_types.specs.Legality.{FitInTurn};
+ghost use Rattle.tl_query.specs.declared.typed_queries.Typed.{Typed};
+ghost use Rattle.tl_query.specs.Answers.{answer_of};
+ghost use Rattle.tl_follow.specs.declared.packets.Packet.{Packet};
+ghost use Rattle.tl_follow.specs.Following.{Following, IsFollowing, IsPrefixOf, commits_in, next_held, next_of, followed};
+ghost use Rattle.tl_follow.specs.Calls.{Call, follower_of, after_calls, packets_of};
+ghost use Rattle.tl_follow.specs.Leading.{AreFrom, IsLed};
+ghost use Rattle.tl_follow.specs.Packets.{packet_spelling, IsPacket};
+ghost use Rattle.tl_follow.specs.Inputs.{IsInput};
+ghost use Rattle.tl_follow.specs.Shipping.{packet_of, packets_between, shipment};
+
+/// Carries a law in its contract, and does nothing: what packets make of commits ends, since no
+/// packet leads further from there.
+pub fn packets_end()
+    ensures { (limits : Limits) (packets : List Packet) (start : List Commit)
+        → next_of limits packets (followed limits start packets) ≡ None }
+{}
+
+/// Carries a law in its contract, and does nothing: after any calls, with any packets lost,
+/// repeated or out of order among those that were taken, the follower is one that follows the
+/// packets taken, and once no packet of the next version is held its commits are what the packets
+/// make of the first ones.
+pub fn after_any_calls()
+    ensures follows { (limits : Limits) (start : List Entry) (calls : List Call)
+        → IsFollowing start (packets_of calls) (after_calls (follower_of limits start) calls) }
+    ensures end { (limits : Limits) (start : List Entry) (calls : List Call)
+        → next_held (after_calls (follower_of limits start) calls) ≡ None
+        → commits_in (after_calls (follower_of limits start) calls)
+        ≡ followed limits (commits_of start) (packets_of calls) }
+{}
+
+/// Carries a law in its contract, and does nothing: where the packets are a leader's commits with
+/// their versions, they lead along the leader's commits and are never stuck, and at each moment the
+/// follower's commits are the first ones of the leader's.
+pub fn packets_of_a_leader()
+    ensures led { (limits : Limits) (leader start : List Commit) (packets : List Packet)
+        → AreFrom limits leader start packets → IsLed limits leader start packets }
+    ensures moment { (leader : List Commit) (start : List Entry) (packets : List Packet)
+        (f : Following) → AreFrom f.limits leader (commits_of start) packets
+        → IsFollowing start packets f → IsPrefixOf (commits_in f) leader }
+{}
+
+/// Carries a law in its contract, and does nothing: where the packets are a leader's commits with
+/// their versions, the follower's tables are at each moment the leader's at the version that it
+/// reached, and so what answers a query over its tables answers it over the leader's at that
+/// version.
+pub fn answers_of_a_leader()
+    ensures tables { (leader : List Commit) (start : List Entry) (packets : List Packet)
+        (f : Following) → AreFrom f.limits leader (commits_of start) packets
+        → IsFollowing start packets f
+        → database_of (commits_in f) ≡ database_at leader (length (commits_in f)) }
+    ensures answers { (leader : List Commit) (start : List Entry) (packets : List Packet)
+        (f : Following) (query : Typed) (rows : List (List Field))
+        → AreFrom f.limits leader (commits_of start) packets → IsFollowing start packets f
+        → rows ≡ answer_of (database_of (commits_in f)) query
+        → rows ≡ answer_of (database_at leader (length (commits_in f))) query }
+{}
+
+/// Carries a law in its contract, and does nothing: no packet's bytes begin another's, and bytes
+/// are packets, and what begins with none, in one way.
+pub fn inputs_are_read_once()
+    ensures packet { (p q : Packet) (r s : List ℕ) → IsPacket p → IsPacket q
+        → packet_spelling p ++ r ≡ packet_spelling q ++ s → (p ≡ q) × (r ≡ s) }
+    ensures input { (bytes : List ℕ) (ps qs : List Packet) (r s : List ℕ) → IsInput bytes ps r
+        → IsInput bytes qs s → (ps ≡ qs) × (r ≡ s) }
+{}
+
+/// Carries a law in its contract, and does nothing: what is shipped of a history begins with
+/// nothing, has one packet more with each version from the first one on, and no more behind the
+/// last commit.
+pub fn shipments_grow()
+    ensures none { (commits : List Commit) (from to : ℕ) → to < from
+        → shipment from to commits ≡ [] }
+    ensures more { (commits : List Commit) (c : Commit) (from to : ℕ) → from ≤ to + 1
+        → slice_get commits to ≡ Some c
+        → shipment from (to + 1) commits
+        ≡ shipment from to commits ++ packet_spelling (packet_of (to + 1) c) }
+    ensures end { (commits : List Commit) (from to : ℕ) → length commits ≤ to
+        → shipment from to commits ≡ shipment from (length commits) commits }
+{}
+
+/// Carries a law in its contract, and does nothing: what a leader ships is an input of packets of
+/// its commits; and where it ships all those behind the first ones, these lead a follower that
+/// begins with the first ones to all of the leader's commits.
+pub fn shipments_lead()
+    ensures input { (commits : List Commit) (from to : ℕ)
+        → AllByRecursion IsPacket (packets_between from to commits)
+        → IsInput (shipment from to commits) (packets_between from to commits) [] }
+    ensures leads { (limits : Limits) (leader start : List Commit) (from to : ℕ)
+        → FitInTurn limits leader → IsPrefixOf start leader → from ≤ length start + 1
+        → length leader ≤ to
+        → followed limits start (packets_between from to leader) ≡ leader }
+{}

@@ -25,9 +25,12 @@ use Rattle.tl_command.specs.Outside.{Outside, Streams, streams_of}
 use Rattle.tl_follow.specs.declared.inputs.TheConstants.{INPUT_LIMIT}
 use Rattle.tl_follow.specs.Inputs.{IsInput, input_fault}
 use Rattle.tl_follow.specs.Shipping.{shipment}
-use Rattle.tl_grouping.specs.Grouping.{GroupEnds, GroupEndsBy}
+use Rattle.tl_follow.proofs.InputLemmas.{one_input}
+use Rattle.tl_csv.proofs.NumberLemmas.{lt_true}
+use Rattle.tl_grouping.specs.Grouping.{GroupEnds, GroupEndsBy, Plays}
+use Rattle.tl_grouping.specs.Leaving.{CutsText, CutsFailed, CutsGivenUp}
 use Rattle.tl_shipping.specs.Shipping.{ShipEnds}
-use Rattle.tl_following.specs.Following.{FollowEnds, FollowEndsBy, HasInputFault}
+use Rattle.tl_following.specs.Following.{FollowEnds, FollowEndsBy, Follows, HasInputFault}
 use Rattle.tl_run.proofs.EndLemmas.{no_rise, no_break, only_memory}
 
 -- COMPLETENESS
@@ -89,13 +92,19 @@ init_complete before after ended (inr failed) b told short sure = made_complete 
 
 -- GROUPS AND PACKETS
 
+-- the sink failed
+sink_rose : (What : List Commit → List ℕ → Type 0) (opening : List Commit) (before after : Outside) → CutsText What before after ⊎ (CutsFailed What opening before after ⊎ CutsGivenUp opening before after) → Rose before.sink_faults after.sink_faults
+sink_rose What opening before after (inl h) = h.prints.0
+sink_rose What opening before after (inr (inl h)) = h.prints.0
+sink_rose What opening before after (inr (inr h)) = h.prints.0
+
 -- a group that was opened, with a script in which no fault is read
 group_opened : (opening : List Commit) (before after : Outside) (ended : Status) → GroupEndsBy script_reads opening before after ended → IsFaultless script_reads before → StaysSure before after → IsDoneOrNoMemory ended
 group_opened opening before after status.Done h faultless sure = inl refl
 group_opened opening before after status.NoMemory h faultless sure = inr refl
 group_opened opening before after status.Usage h faultless sure = absurd h
 group_opened opening before after (status.SourceFault n) h faultless sure = absurd (sure.source h.1)
-group_opened opening before after (status.SinkFault n) h faultless sure = absurd (sure.sink (sink_rose opening before after h.1))
+group_opened opening before after (status.SinkFault n) h faultless sure = absurd (sure.sink (sink_rose (λ all text. Plays script_reads opening all text before after) opening before after h.1))
 group_opened opening before after (status.DiskFault n) h faultless sure = absurd (sure.disk h.1.holds.rose)
 group_opened opening before after (status.ScriptFault f) h faultless sure =
     let own : h.0.0 ≡ faultless.script = sym (told_script before.left h.0.0 faultless.script faultless.told h.0.1) in
@@ -122,7 +131,7 @@ no_input_fault start at before followed (inl (is, long)) =
     absurd (let e : None ≡ Some INPUT_LIMIT = sym followed.faultless ∙ fault in cc)
 no_input_fault start at before followed (inr (bytes, packets, rest, told, input, fault)) =
     let same : followed.input ≡ bytes = told_script before.left bytes followed.input followed.told told in
-    let one = one_reading followed.input followed.packets packets [] rest followed.whole (subst (λ (b : List ℕ). IsInput b packets rest) (sym same) input) in
+    let one = one_input followed.input followed.packets packets [] rest followed.whole (subst (λ (b : List ℕ). IsInput b packets rest) (sym same) input) in
     let there : input_fault standard_limits start followed.input followed.packets [] ≡ Some at =
     ap (λ b. input_fault standard_limits start b followed.packets []) same ∙ (ap (λ ps. input_fault standard_limits start bytes ps []) one.0 ∙ (ap (input_fault standard_limits start bytes packets) one.1 ∙ fault)) in
     absurd (let e : None ≡ Some at = sym followed.faultless ∙ there in cc)
@@ -132,7 +141,7 @@ follow_opened opening before after status.Done h followed sure = inl refl
 follow_opened opening before after status.NoMemory h followed sure = inr refl
 follow_opened opening before after status.Usage h followed sure = absurd h
 follow_opened opening before after (status.SourceFault n) h followed sure = absurd (sure.source h.1)
-follow_opened opening before after (status.SinkFault n) h followed sure = absurd (sure.sink (sink_rose opening before after h.1))
+follow_opened opening before after (status.SinkFault n) h followed sure = absurd (sure.sink (sink_rose (λ all text. Follows opening all text before after) opening before after h.1))
 follow_opened opening before after (status.DiskFault n) h followed sure = absurd (sure.disk h.1.holds.rose)
 follow_opened opening before after (status.ScriptFault f) h followed sure = absurd h
 follow_opened opening before after (status.NotInitialised len) h followed sure = absurd h

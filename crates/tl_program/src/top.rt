@@ -133,9 +133,8 @@ fn do_command<R: AllocGlobal + Threads + Wait + Sync, S: Source, K: Sink, D: Dis
 ///
 /// Of `group` and `follow` the disk keeps its journal, or holds this and all commits that were to
 /// be appended, and never a part of them: all at `Done`, the one or the other at `DiskFault` and
-/// `SinkFault`, and the journal alone else. At any other status the closing line
-/// alone is written, or nothing. What
-/// each command leaves, by status, is in the definitions that `ends` cites.
+/// `SinkFault`, and the journal alone else. At any other status than `Done` the closing line alone
+/// is written, or nothing.
 ///
 /// With the words of a command, a disk whose bytes are a journal of commits that fit one after the
 /// other (for `init` at most 17 bytes), a script without a fault and no count that rises, the

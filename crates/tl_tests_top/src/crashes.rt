@@ -8,7 +8,7 @@ use std::thread::Threads;
 use tl_device::MemoryDisk;
 use tl_types::NoMemory;
 
-// The worked history in one phase, and a query; also with its first statement once more.
+// The worked history in one phase, and a query.
 pub(crate) const WORKED: &str = "a> CREATE TABLE emp (id INT, dept TEXT, pay INT) KEY id\n\
                       a> PUT emp\nid,dept,pay\n1,ops,100\n2,dev,50\n\\.\n\
                       a> PUT emp\nid,dept,pay\n1,ops,150\n\\.\n\
@@ -16,34 +16,21 @@ pub(crate) const WORKED: &str = "a> CREATE TABLE emp (id INT, dept TEXT, pay INT
                       a> PUT emp\nid,dept,pay\n2,dev,50\n\\.\n\
                       a> SELECT id, pay FROM emp\n";
 
-const AGAIN: &str = "a> CREATE TABLE emp (id INT, dept TEXT, pay INT) KEY id\n\
-                     a> PUT emp\nid,dept,pay\n1,ops,100\n2,dev,50\n\\.\n\
-                     a> PUT emp\nid,dept,pay\n1,ops,150\n\\.\n\
-                     a> REMOVE emp\nid\n2\n\\.\n\
-                     a> PUT emp\nid,dept,pay\n2,dev,50\n\\.\n\
-                     a> CREATE TABLE emp (id INT, dept TEXT, pay INT) KEY id\n\
-                     a> SELECT id, pay FROM emp\n";
-
 // A query whose reply tells how many commits there are.
 const QUERY: &str = "a> SELECT id, pay FROM emp\n";
 
-// The replies to it over the commits of the worked history up to one of them.
+// The replies to it over no commit, and over all of the worked history.
 const NONE: Wanted = (0, "a @0 ! UnknownTable 20\n");
-
-const ONE: Wanted = (0, "a @1 rows 0\n");
-
-const TWO: Wanted = (0, "a @2 rows 2\n1,100\n2,50\n");
-
-const THREE: Wanted = (0, "a @3 rows 2\n2,50\n1,150\n");
 
 const FIVE: Wanted = (0, "a @5 rows 2\n1,150\n2,50\n");
 
-// Whether a query over the disk that this choice of a crash leaves has this reply.
+// Whether a script over the disk that this choice of a crash leaves has this reply.
 fn leaves<R: AllocGlobal + Threads + Wait + Sync>(
     rt: &R,
     run_words: &[String],
     disk: &MemoryDisk,
     choice: u32,
+    asked: &str,
     found: Wanted,
 ) -> bool {
     if choice > 3 {
@@ -51,7 +38,7 @@ fn leaves<R: AllocGlobal + Threads + Wait + Sync>(
     }
     match disk.crash(rt.alloc(), choice) {
         Ok(left) => {
-            let (is_found, _) = run(rt, run_words, QUERY, left, found);
+            let (is_found, _) = run(rt, run_words, asked, left, found);
             is_found
         }
         Err(_) => false,
@@ -63,122 +50,127 @@ fn leaves_each<R: AllocGlobal + Threads + Wait + Sync>(
     rt: &R,
     run_words: &[String],
     disk: &MemoryDisk,
+    asked: &str,
     found: &[Wanted; 4],
 ) -> bool {
-    leaves(rt, run_words, disk, 0, found[0])
-        && leaves(rt, run_words, disk, 1, found[1])
-        && leaves(rt, run_words, disk, 2, found[2])
-        && leaves(rt, run_words, disk, 3, found[3])
+    leaves(rt, run_words, disk, 0, asked, found[0])
+        && leaves(rt, run_words, disk, 1, asked, found[1])
+        && leaves(rt, run_words, disk, 2, asked, found[2])
+        && leaves(rt, run_words, disk, 3, asked, found[3])
 }
 
-// An append of a script over an empty journal that fails: the number of the disk's call that fails,
-// how the run ends, and what is found on the disk that each choice of a crash leaves: the bytes of
-// the last sync, what a read gives, and these with 0 or with 255 where a write was not synced.
-struct Case {
+// An append of a script over an empty journal that fails: the number of its first call of the disk,
+// how the run ends, and what another script then replies over the commits before it, or over these
+// and the new one.
+struct Append {
     script: &'static str,
-    failing: u64,
+    first: u64,
     ends: Wanted,
-    found: [Wanted; 4],
+    asked: &'static str,
+    before: Wanted,
+    after: Wanted,
 }
 
-fn holds<R: AllocGlobal + Threads + Wait + Sync>(
+// What is found where a call of the append fails, on the disk that each choice of a crash leaves:
+// the bytes of the last sync, what a read gives, and these with 0 or with 255 where a write was not
+// synced. An append has four calls: the record is written, a sync, the gate is written, a sync.
+fn found(append: &Append, call: u64) -> [Wanted; 4] {
+    let (before, after) = (append.before, append.after);
+    match call {
+        2 => [before, before, before, after],
+        3 => [before, after, before, after],
+        _ => [before, before, before, before],
+    }
+}
+
+// Whether all is right where this call of the append fails.
+fn fails_at<R: AllocGlobal + Threads + Wait + Sync>(
     rt: &R,
     run_words: &[String],
-    case: &Case,
+    append: &Append,
+    call: u64,
 ) -> bool {
-    match disk_of(rt.alloc(), EMPTY, &[case.failing]) {
+    match disk_of(rt.alloc(), EMPTY, &[append.first.wrapping_add(call)]) {
         Ok(disk) => {
-            let (ends, disk) = run(rt, run_words, case.script, disk, case.ends);
-            ends && leaves_each(rt, run_words, &disk, &case.found)
+            let (ends, disk) = run(rt, run_words, append.script, disk, append.ends);
+            ends && leaves_each(rt, run_words, &disk, append.asked, &found(append, call))
         }
         Err(_) => false,
     }
 }
 
-// How the script ends where its first append fails.
-const FIRST: Wanted = (
-    5,
-    "a @0 ! device\na @0 ! UnknownTable\na @0 ! UnknownTable\na @0 ! UnknownTable\n\
-     a @0 ! UnknownTable\na @0 ! broken\na @0 ! UnknownTable 20\n! device\n",
-);
-
-// How it ends where its third append fails.
-const THIRD: Wanted = (
-    5,
-    "a @1 ok\na @2 ok\na @2 ! device\na @2 ! broken\na @2 ! broken\n\
-     a @2 rows 2\n1,100\n2,50\n! device\n",
-);
-
-// Opening has three calls, and an append four: the record is written, a sync, the gate is written,
-// a sync.
-const CASES: [Case; 9] = [
-    Case {
-        script: AGAIN,
-        failing: 4,
-        ends: FIRST,
-        found: [NONE, NONE, NONE, NONE],
+// Opening has three calls: so a first append begins at call 4, a second at 8, a third at 12.
+const APPENDS: [Append; 5] = [
+    Append {
+        script: "a> CREATE TABLE emp (id INT, pay INT) KEY id\n\
+                 a> PUT emp\nid,pay\n1,5\n\\.\n\
+                 a> CREATE TABLE emp (id INT, pay INT) KEY id\n\
+                 a> SELECT id, pay FROM emp\n",
+        first: 4,
+        ends: (
+            5,
+            "a @0 ! device\na @0 ! UnknownTable\na @0 ! broken\na @0 ! UnknownTable 20\n\
+             ! device\n",
+        ),
+        asked: QUERY,
+        before: NONE,
+        after: (0, "a @1 rows 0\n"),
     },
-    Case {
-        script: AGAIN,
-        failing: 5,
-        ends: FIRST,
-        found: [NONE, NONE, NONE, NONE],
-    },
-    Case {
-        script: AGAIN,
-        failing: 6,
-        ends: FIRST,
-        found: [NONE, NONE, NONE, ONE],
-    },
-    Case {
-        script: AGAIN,
-        failing: 7,
-        ends: FIRST,
-        found: [NONE, ONE, NONE, ONE],
-    },
-    Case {
-        script: WORKED,
-        failing: 12,
-        ends: THIRD,
-        found: [TWO, TWO, TWO, TWO],
-    },
-    Case {
-        script: WORKED,
-        failing: 13,
-        ends: THIRD,
-        found: [TWO, TWO, TWO, TWO],
-    },
-    Case {
-        script: WORKED,
-        failing: 14,
-        ends: THIRD,
-        found: [TWO, TWO, TWO, THREE],
-    },
-    Case {
-        script: WORKED,
-        failing: 15,
-        ends: THIRD,
-        found: [TWO, THREE, TWO, THREE],
-    },
-    Case {
+    Append {
         script: "a> CREATE TABLE emp (id INT, pay INT) KEY id\n\
                  a> PUT emp\nid,pay\n1,5\n\\.\n\
                  a> PUT emp\nid,pay\n2,5\n\\.\n\
                  a> SELECT * FROM emp\n",
-        failing: 9,
+        first: 8,
         ends: (
             5,
             "a @1 ok\na @1 ! device\na @1 ! broken\na @1 rows 0\n! device\n",
         ),
-        found: [ONE, ONE, ONE, ONE],
+        asked: QUERY,
+        before: (0, "a @1 rows 0\n"),
+        after: (0, "a @2 rows 1\n1,5\n"),
+    },
+    Append {
+        script: WORKED,
+        first: 12,
+        ends: (
+            5,
+            "a @1 ok\na @2 ok\na @2 ! device\na @2 ! broken\na @2 ! broken\n\
+             a @2 rows 2\n1,100\n2,50\n! device\n",
+        ),
+        asked: QUERY,
+        before: (0, "a @2 rows 2\n1,100\n2,50\n"),
+        after: (0, "a @3 rows 2\n2,50\n1,150\n"),
+    },
+    Append {
+        script: "a> CREATE TABLE emp (id INT) KEY id\na> MOMENT 1000\na> MOMENT 2000\n",
+        first: 8,
+        ends: (5, "a @1 ok\na @1 ! device\na @1 ! broken\n! device\n"),
+        asked: "a> MOMENT 1000\n",
+        before: (0, "a @2 ok\n"),
+        after: (0, "a @2 ! MomentFalls 1000\n"),
+    },
+    Append {
+        script: "a> CREATE TABLE emp (id INT) KEY id\na> FORGET emp BEFORE 1\na> MOMENT 2000\n",
+        first: 8,
+        ends: (5, "a @1 ok\na @1 ! device\na @1 ! broken\n! device\n"),
+        asked: "a> FORGET emp BEFORE 1\n",
+        before: (0, "a @2 ok\n"),
+        after: (0, "a @2 ! FloorFalls 1\n"),
     },
 ];
 
 #[test]
 fn each_call_of_an_append_fails(rt: HostRuntime) -> Result<(), Fail> {
     let run_words = words(rt.alloc(), "run")?;
-    for case in &CASES {
-        assert!(rt; holds(&rt, &run_words, case), "call {}", case.failing);
+    for append in &APPENDS {
+        for call in 0..4u64 {
+            assert!(rt;
+                fails_at(&rt, &run_words, append, call),
+                "call {call} of the append at {}",
+                append.first
+            );
+        }
     }
     Ok(())
 }
@@ -250,7 +242,7 @@ fn opening_fails<R: AllocGlobal + Threads + Wait + Sync>(
     match disk_of(rt.alloc(), bytes, &[call]) {
         Ok(disk) => {
             let (ends, disk) = run(rt, run_words, QUERY, disk, DEVICE);
-            ends && leaves_each(rt, run_words, &disk, &[FIVE, FIVE, FIVE, FIVE])
+            ends && leaves_each(rt, run_words, &disk, QUERY, &[FIVE, FIVE, FIVE, FIVE])
         }
         Err(_) => false,
     }
@@ -295,7 +287,7 @@ fn worked_opening_fails<R: AllocGlobal + Threads + Wait + Sync>(
 ) -> bool {
     let (is_done, disk) = run(rt, run_words, WORKED, disk, ALL);
     is_done
-        && leaves_each(rt, run_words, &disk, &[FIVE, FIVE, FIVE, FIVE])
+        && leaves_each(rt, run_words, &disk, QUERY, &[FIVE, FIVE, FIVE, FIVE])
         && each_opening_fails(rt, run_words, &disk)
 }
 

@@ -3,13 +3,21 @@
 #![tactic(auto)]
 
 #[cfg(test)]
+mod commits;
+#[cfg(test)]
 mod crashes;
+#[cfg(test)]
+mod heads;
 #[cfg(test)]
 mod limits;
 #[cfg(test)]
 mod looks;
 #[cfg(test)]
 mod marks;
+#[cfg(test)]
+mod meetings;
+#[cfg(test)]
+mod offers;
 #[cfg(test)]
 mod pieces;
 #[cfg(test)]

@@ -1,19 +1,13 @@
 //! Marks: those that are kept after the worked history, what a call that tends a table answers
 //! then, the marks that one thread makes while another commits, and those that an opening makes
 //! again.
-ghost use Rattle.std.specs.Prelude.{◌≡◌, ◌<◌, false, IsTrue, IfSome};
-ghost use Rattle.std.specs.Bool.{OnTrue};
-ghost use Rattle.tl_types.specs.History.{database_of};
-ghost use Rattle.tl_types.specs.Limits.{standard_limits};
-ghost use Rattle.tl_batch.specs.Made.{batch_matches};
+ghost use Rattle.std.specs.Prelude.{◌≡◌, ◌<◌, false, IfSome};
 ghost use Rattle.tl_engine.specs.Naming.{IsNameOf};
-ghost use Rattle.tl_engine.specs.Saying.{names_table};
 ghost use Rattle.tl_history.specs.Building.{IsCheckpoint};
 
 use crate::crashes::WORKED;
-use crate::limits::{Kind, holds};
+use crate::offers::{Committed, Kind, Left, holds};
 use crate::runs::{EMPTY, Wanted, disk_of, run, words_of};
-use std::alloc::Global;
 use std::marker::Brand;
 use std::sync::Wait;
 use std::sync::ledger::{Blank, Ledger};
@@ -26,8 +20,7 @@ use tl_device::{MemoryDisk, SureDisk};
 use tl_engine::{Closed, Engine, Named, Opening, Pass, Share, Started, TendFault, Tended};
 use tl_index::Snapshot;
 use tl_journal::Journal;
-use tl_store::Store;
-use tl_types::{Batch, Cell, KeyLine, Limits, Published, Seq, Steps, Text};
+use tl_types::{Limits, Published, Steps};
 
 // How the worked history is run.
 const REPLIES: Wanted = (
@@ -269,14 +262,6 @@ struct Marker {
     is_right: bool,
 }
 
-// What a thread that commits has left: its pass, its share, and whether all answers were right.
-#[derive(Drop)]
-struct Committed<J: Named> {
-    pass: Pass<Snapshot>,
-    share: Share<J>,
-    is_right: bool,
-}
-
 // Whether an answer is right by what is seen after it: a mark that was built is there, of a version
 // that there was when the entries were read.
 fn tells_mark(snapshot: &Snapshot, answer: Result<Tended, TendFault>) -> bool {
@@ -291,7 +276,7 @@ fn tells_mark(snapshot: &Snapshot, answer: Result<Tended, TendFault>) -> bool {
     }
 }
 
-// Whether the first table, once it is there, is tended by `k` with a right answer.
+// Whether the first table is there, and is tended by `k` with a right answer.
 fn marks_rightly<J: Named, R: AllocGlobal + Wait>(
     rt: &R,
     engine: &Engine<SureDisk, J>,
@@ -305,7 +290,7 @@ fn marks_rightly<J: Named, R: AllocGlobal + Wait>(
         return false;
     };
     if before.store().tables() == 0 {
-        return true;
+        return false;
     }
     let answer = engine.tend(rt, pass, 0, k);
     let Ok(after) = engine.read(rt, pass) else {
@@ -331,7 +316,7 @@ fn mark_each<J: Named, R: AllocGlobal + Wait>(
     Marker { pass, is_right }
 }
 
-// Makes a table, and puts its one row 50 times.
+// Puts the one row of the first table 50 times.
 fn commit_each<J: Named, R: AllocGlobal + Wait>(
     rt: &R,
     engine: &Engine<SureDisk, J>,
@@ -343,13 +328,7 @@ fn commit_each<J: Named, R: AllocGlobal + Wait>(
     ensures own { result.pass.table ≡ J.table }
     ensures parts { result.share.parts ≡ share.parts }
 {
-    let mut is_right = holds(
-        rt,
-        engine,
-        &mut pass,
-        &mut share,
-        &(Kind::Create, "t", Ok(1)),
-    );
+    let mut is_right = true;
     for version in 2..52u32 {
         let case = (Kind::Put(1), "t", Ok(version));
         let holds = holds(rt, engine, &mut pass, &mut share, &case);
@@ -390,7 +369,8 @@ fn are_listed(snapshot: &Snapshot) -> bool {
         && marks.count(0) > 0
 }
 
-// Whether all is right where one thread makes marks while another commits.
+// Whether all is right where one thread makes marks while another commits. The table is there
+// before both, so that no mark waits for it.
 fn marks_beside_commits<J: Named + Send + Sync, R: AllocGlobal + Threads + Wait + Sync>(
     rt: &R,
     opening: Opening<SureDisk>,
@@ -402,8 +382,15 @@ fn marks_beside_commits<J: Named + Send + Sync, R: AllocGlobal + Threads + Wait 
     let Started {
         engine,
         mut pass,
-        share,
+        mut share,
     } = opening.start::<J>();
+    let is_made = holds(
+        rt,
+        &engine,
+        &mut pass,
+        &mut share,
+        &(Kind::Create, "t", Ok(1)),
+    );
     let other = pass.copy(&engine.head);
     let (marked, committed) = thread::join(
         rt,
@@ -422,7 +409,7 @@ fn marks_beside_commits<J: Named + Send + Sync, R: AllocGlobal + Threads + Wait 
     pass.learn(&engine.head, theirs);
     let last = marks_rightly(rt, &engine, &mut pass, 1);
     let Closed { snapshot, .. } = engine.close(rt, pass, share);
-    marks & commits & last & are_listed(&snapshot)
+    is_made & marks & commits & last & are_listed(&snapshot)
 }
 
 // The same of an opening whose names are picked here.
@@ -447,77 +434,19 @@ fn marks_over_none<R: AllocGlobal + Threads + Wait + Sync>(rt: &R) -> bool {
     run.done.is_ok() && marks_on(rt, run.disk)
 }
 
-// The removal of the row of key 0.
-fn removal(alloc: Global) -> Option<Batch> {
-    let Ok(table) = Text::new(alloc, "t") else {
-        return None;
-    };
-    let mut lines = Seq::new(alloc);
-    let line = KeyLine {
-        key: Cell::Int(0),
-        period: None,
-    };
-    match lines.push(line) {
-        Ok(()) => Some(Batch::Remove { table, lines }),
-        Err(_) => None,
+// What the batch of a version does: the first makes a table, each fourth removes a row, and the
+// others put at most two.
+fn kind_of(version: u32) -> Kind {
+    if version % 4 == 0 {
+        return Kind::Remove(1);
+    }
+    match version {
+        1 => Kind::Create,
+        _ => Kind::Put((version % 3) as i64),
     }
 }
 
-// Whether it is a removal from a table of the store.
-fn may_remove(store: &Store, batch: &Batch) -> bool
-    ensures known { OnTrue result (IsTrue (names_table (database_of store.now) batch.now)) }
-    ensures matching { OnTrue result (IsTrue (batch_matches (database_of store.now) batch.now)) }
-{
-    match batch {
-        Batch::Remove { table, .. } => store.find(table.as_str()).is_some(),
-        _ => false,
-    }
-}
-
-// Whether the engine answers this version to a removal.
-fn is_removed<J: Named, R: AllocGlobal + Wait>(
-    rt: &R,
-    engine: &Engine<SureDisk, J>,
-    pass: &mut Pass<Snapshot>,
-    share: &mut Share<J>,
-    batch: Batch,
-    version: u32,
-) -> bool
-    requires own { pass.old.table ≡ J.table }
-    requires part { 0 < share.old.parts }
-    ensures own { pass.new.table ≡ J.table }
-    ensures parts { share.new.parts ≡ share.old.parts }
-{
-    let Ok(snapshot) = engine.read(rt, pass) else {
-        return false;
-    };
-    if !may_remove(snapshot.store(), &batch) {
-        return false;
-    }
-    engine.commit(rt, pass, share, 7, batch) == Ok(version)
-}
-
-// Whether the row of key 0 is removed in this version.
-fn removes_row<J: Named, R: AllocGlobal + Wait>(
-    rt: &R,
-    engine: &Engine<SureDisk, J>,
-    pass: &mut Pass<Snapshot>,
-    share: &mut Share<J>,
-    version: u32,
-) -> bool
-    requires own { pass.old.table ≡ J.table }
-    requires part { 0 < share.old.parts }
-    ensures own { pass.new.table ≡ J.table }
-    ensures parts { share.new.parts ≡ share.old.parts }
-{
-    match removal(rt.alloc()) {
-        Some(batch) => is_removed(rt, engine, pass, share, batch, version),
-        None => false,
-    }
-}
-
-// Whether a version is made: the first makes a table, each fourth removes a row, and the others put
-// at most two.
+// Whether the engine answers the version to its batch.
 fn makes_version<J: Named, R: AllocGlobal + Wait>(
     rt: &R,
     engine: &Engine<SureDisk, J>,
@@ -530,14 +459,8 @@ fn makes_version<J: Named, R: AllocGlobal + Wait>(
     ensures own { pass.new.table ≡ J.table }
     ensures parts { share.new.parts ≡ share.old.parts }
 {
-    if version % 4 == 0 {
-        return removes_row(rt, engine, pass, share, version);
-    }
-    let kind = match version {
-        1 => Kind::Create,
-        _ => Kind::Put((version % 3) as i64),
-    };
-    holds(rt, engine, pass, share, &(kind, "t", Ok(version)))
+    let case = (kind_of(version), "t", Ok(version));
+    holds(rt, engine, pass, share, &case)
 }
 
 // Whether the versions before `end` are made, each tended by 3 then.
@@ -560,13 +483,6 @@ fn makes_versions<J: Named, R: AllocGlobal + Wait>(
         is_right &= is_made & is_tended;
     }
     is_right
-}
-
-// What an engine has left: its snapshot and its disk, and whether all answers were right.
-#[derive(Drop)]
-struct Left {
-    closed: Closed<SureDisk>,
-    is_right: bool,
 }
 
 // What an engine leaves that makes the versions before `end`.
@@ -593,7 +509,7 @@ fn made_by_brand<R: AllocGlobal + Wait>(rt: &R, opening: Opening<SureDisk>, end:
 }
 
 // The same on a disk, which is opened with marks by 3.
-fn made_on<R: AllocGlobal + Wait>(rt: &R, disk: SureDisk, end: u32) -> Option<Left> {
+pub(crate) fn made_on<R: AllocGlobal + Wait>(rt: &R, disk: SureDisk, end: u32) -> Option<Left> {
     match Engine::attach(rt.alloc(), disk, &Limits::standard(), 3) {
         Ok(opening) => Some(made_by_brand(rt, opening, end)),
         Err(_) => None,

@@ -1,51 +1,22 @@
 //! Two pieces of an aggregate over versions, of which the first is held until the second has come.
+use crate::meetings::Meeting;
 use crate::runs::{EMPTY, Wanted, disk_of, run_by, words_of};
-use std::hint;
 use std::sync::Wait;
-use std::sync::atomic::{AtomicBool, Ordering};
 use std::test::Fail;
 use std::thread::Threads;
 use tl_device::{Gate, MemoryDisk, Place};
 
-// A gate that holds piece 0 until piece 1 has come, for at most 100,000,000 turns, and remembers
-// whether it went on then and whether the turns ran out.
+// A gate that holds piece 0 until piece 1 has come.
 #[derive(Drop)]
 struct PieceGate {
-    has_come: AtomicBool,
-    has_passed: AtomicBool,
-    ran_out: AtomicBool,
-}
-
-impl PieceGate {
-    fn new() -> PieceGate {
-        PieceGate {
-            has_come: AtomicBool::new(false),
-            has_passed: AtomicBool::new(false),
-            ran_out: AtomicBool::new(false),
-        }
-    }
-
-    fn hold(&self) {
-        for _ in 0..100_000_000u32 {
-            if self.has_come.load(Ordering::SeqCst) {
-                self.has_passed.store(true, Ordering::SeqCst);
-                return;
-            }
-            hint::spin_loop();
-        }
-        self.ran_out.store(true, Ordering::SeqCst);
-    }
-
-    fn have_met(&self) -> bool {
-        self.has_passed.load(Ordering::SeqCst) && !self.ran_out.load(Ordering::SeqCst)
-    }
+    meeting: Meeting,
 }
 
 impl Gate for PieceGate {
     fn pass(&self, place: Place) {
         match place {
-            Place::Piece(0) => self.hold(),
-            Place::Piece(1) => self.has_come.store(true, Ordering::SeqCst),
+            Place::Piece(0) => self.meeting.hold(),
+            Place::Piece(1) => self.meeting.come(),
             _ => (),
         }
     }
@@ -76,13 +47,14 @@ fn meet<R: AllocGlobal + Threads + Wait + Sync>(
     gate: PieceGate,
 ) -> bool {
     let (ends, _) = run_by(rt, words, SCRIPT, disk, REPLIES, &gate);
-    ends && gate.have_met()
+    ends && gate.meeting.has_met()
 }
 
 #[test]
 fn two_pieces_run_at_once(rt: HostRuntime) -> Result<(), Fail> {
     let words = words_of(rt.alloc(), &["run", "--every", "3", "--workers", "2"])?;
     let disk = disk_of(rt.alloc(), EMPTY, &[])?;
-    assert!(rt; meet(&rt, &words, disk, PieceGate::new()));
+    let meeting = Meeting::new();
+    assert!(rt; meet(&rt, &words, disk, PieceGate { meeting }));
     Ok(())
 }

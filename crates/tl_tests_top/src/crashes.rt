@@ -59,10 +59,11 @@ fn leaves_each<R: AllocGlobal + Threads + Wait + Sync>(
         && leaves(rt, run_words, disk, 3, asked, found[3])
 }
 
-// An append of a script over an empty journal that fails: the number of its first call of the disk,
-// how the run ends, and what another script then replies over the commits before it, or over these
-// and the new one.
+// An append of a script over an empty journal that fails, by `run` or by `group`: the number of its
+// first call of the disk, how it ends, and what another script then replies over the commits before
+// it, or over these and the new ones.
 struct Append {
+    by_group: bool,
     script: &'static str,
     first: u64,
     ends: Wanted,
@@ -87,12 +88,13 @@ fn found(append: &Append, call: u64) -> [Wanted; 4] {
 fn fails_at<R: AllocGlobal + Threads + Wait + Sync>(
     rt: &R,
     run_words: &[String],
+    own_words: &[String],
     append: &Append,
     call: u64,
 ) -> bool {
     match disk_of(rt.alloc(), EMPTY, &[append.first.wrapping_add(call)]) {
         Ok(disk) => {
-            let (ends, disk) = run(rt, run_words, append.script, disk, append.ends);
+            let (ends, disk) = run(rt, own_words, append.script, disk, append.ends);
             ends && leaves_each(rt, run_words, &disk, append.asked, &found(append, call))
         }
         Err(_) => false,
@@ -100,8 +102,9 @@ fn fails_at<R: AllocGlobal + Threads + Wait + Sync>(
 }
 
 // Opening has three calls: so a first append begins at call 4, a second at 8, a third at 12.
-const APPENDS: [Append; 5] = [
+const APPENDS: [Append; 6] = [
     Append {
+        by_group: false,
         script: "a> CREATE TABLE emp (id INT, pay INT) KEY id\n\
                  a> PUT emp\nid,pay\n1,5\n\\.\n\
                  a> CREATE TABLE emp (id INT, pay INT) KEY id\n\
@@ -117,6 +120,7 @@ const APPENDS: [Append; 5] = [
         after: (0, "a @1 rows 0\n"),
     },
     Append {
+        by_group: false,
         script: "a> CREATE TABLE emp (id INT, pay INT) KEY id\n\
                  a> PUT emp\nid,pay\n1,5\n\\.\n\
                  a> PUT emp\nid,pay\n2,5\n\\.\n\
@@ -131,6 +135,7 @@ const APPENDS: [Append; 5] = [
         after: (0, "a @2 rows 1\n1,5\n"),
     },
     Append {
+        by_group: false,
         script: WORKED,
         first: 12,
         ends: (
@@ -143,6 +148,7 @@ const APPENDS: [Append; 5] = [
         after: (0, "a @3 rows 2\n2,50\n1,150\n"),
     },
     Append {
+        by_group: false,
         script: "a> CREATE TABLE emp (id INT) KEY id\na> MOMENT 1000\na> MOMENT 2000\n",
         first: 8,
         ends: (5, "a @1 ok\na @1 ! device\na @1 ! broken\n! device\n"),
@@ -151,6 +157,7 @@ const APPENDS: [Append; 5] = [
         after: (0, "a @2 ! MomentFalls 1000\n"),
     },
     Append {
+        by_group: false,
         script: "a> CREATE TABLE emp (id INT) KEY id\na> FORGET emp BEFORE 1\na> MOMENT 2000\n",
         first: 8,
         ends: (5, "a @1 ok\na @1 ! device\na @1 ! broken\n! device\n"),
@@ -158,15 +165,30 @@ const APPENDS: [Append; 5] = [
         before: (0, "a @2 ok\n"),
         after: (0, "a @2 ! FloorFalls 1\n"),
     },
+    Append {
+        by_group: true,
+        script: WORKED,
+        first: 4,
+        ends: DEVICE,
+        asked: QUERY,
+        before: NONE,
+        after: FIVE,
+    },
 ];
 
 #[test]
 fn each_call_of_an_append_fails(rt: HostRuntime) -> Result<(), Fail> {
     let run_words = words(rt.alloc(), "run")?;
+    let group_words = words(rt.alloc(), "group")?;
     for append in &APPENDS {
+        let own_words = if append.by_group {
+            &group_words
+        } else {
+            &run_words
+        };
         for call in 0..4u64 {
             assert!(rt;
-                fails_at(&rt, &run_words, append, call),
+                fails_at(&rt, &run_words, own_words, append, call),
                 "call {call} of the append at {}",
                 append.first
             );

@@ -1,0 +1,88 @@
+-- How a journal that follows packets ends.
+use Rattle.std.proofs.Common.{◌≡◌, inl, inr, ℕ, false, List, [], ◌++◌, length, Some, None, refl, sym, ap, ◌∙◌, subst, append-nil}
+use Rattle.std.specs.declared.option.Option.{Option}
+use Rattle.tl_types.specs.declared.commits.Commit.{Commit}
+use Rattle.tl_types.specs.Limits.{standard_limits}
+use Rattle.tl_device.specs.declared.disk.Disk.{Ghosts as DiskGhosts}
+use Rattle.tl_device.specs.declared.sink.Sink.{Ghosts as SinkGhosts}
+use Rattle.tl_device.specs.Known.{append_known}
+use Rattle.tl_group.specs.Keeping.{commits_in}
+use Rattle.tl_group.specs.Plain as group
+use Rattle.tl_command.specs.declared.statuses.Status.{Status}
+use Rattle.tl_command.specs.declared.statuses.Status.TheVariants as status
+use Rattle.tl_command.specs.Closing.{Closes}
+use Rattle.tl_command.specs.Outside.{Outside, HoldsJournal}
+use Rattle.tl_command.specs.Status.{closing_line}
+use Rattle.tl_grouping.specs.Appending.{IsAttached}
+use Rattle.tl_grouping.specs.Leaving.{LeavesBy}
+use Rattle.tl_grouping.specs.Playing.{KeepsDisk}
+use Rattle.tl_grouping.proofs.DiskLemmas.{holds_journal, left_image, left_count}
+use Rattle.tl_grouping.proofs.EndLemmas.{appended}
+use Rattle.tl_grouping.proofs.PlayLemmas.{keeps_itself}
+use Rattle.tl_following.specs.Following.{Extends, FailsInput, FollowEndsBy, Follows, TakesCommits, follow_line}
+
+-- where the input has no fault
+as_follow : (opening : List Commit) (before after : Outside) (ended : Status) → LeavesBy (λ all text. Follows opening all text before after) opening before after ended → FollowEndsBy opening before after ended
+as_follow opening before after status.Done h = h
+as_follow opening before after status.NoMemory h = h
+as_follow opening before after status.Usage h = h
+as_follow opening before after (status.SourceFault n) h = h
+as_follow opening before after (status.SinkFault n) h = h
+as_follow opening before after (status.DiskFault n) h = h
+as_follow opening before after (status.ScriptFault f) h = h
+as_follow opening before after (status.NotInitialised len) h = h
+as_follow opening before after (status.AlreadyInitialised len) h = h
+as_follow opening before after (status.Damaged at) h = h
+as_follow opening before after (status.PacketFault at) h = absurd h
+
+-- nothing was written
+silent_line : (old new : Option (List ℕ)) → new ≡ append_known old [] → new ≡ old
+silent_line None new e = e
+silent_line (Some b) new e = e ∙ ap Some (append-nil b)
+
+module _ {K D : Type 0} (sinks : SinkGhosts K) (disks : DiskGhosts D) (begun : D) (attached : group.Group D) (left end : Option (List ℕ)) (first last : ℕ) (old new : K) (disk : D) (ended : Status) (a : IsAttached disks begun attached) where
+
+  before : Outside
+  before = record { left = left; source_faults = first; written = sinks.written old; sink_faults = sinks.faults old; reads = disks.reads begun; may_leave = disks.may_leave begun; disk_faults = disks.faults begun }
+
+  after : Outside
+  after = record { left = end; source_faults = last; written = sinks.written new; sink_faults = sinks.faults new; reads = disks.reads disk; may_leave = disks.may_leave disk; disk_faults = disks.faults disk }
+
+  holds : (later : group.Group D) → KeepsDisk disks attached later → disk ≡ later.journal.disk → HoldsJournal (commits_in attached) None before after
+  holds later k same = holds_journal (commits_in attached) before after (left_count disks begun disk attached later a k same) (left_image disks begun disk attached later a k same)
+
+  -- the commits were appended, or the group was given up
+  pub extended : (commits : List Commit) → TakesCommits (commits_in attached) left end commits → last ≡ first → Extends sinks disks attached commits old new disk ended → FollowEndsBy (commits_in attached) before after ended
+  extended commits taken sure h = by_end h.ends where
+    by_end : _ → FollowEndsBy (commits_in attached) before after ended
+    by_end (inl (e, same, written, faults)) =
+        subst (FollowEndsBy (commits_in attached) before after) (sym e) ((written, faults), holds h.later h.keeps same)
+    by_end (inr (all, writes)) =
+        as_follow (commits_in attached) before after ended
+        (appended sinks disks (λ all text. Follows (commits_in attached) all text before after) begun attached h.later (follow_line (length (commits_in h.later))) left end first last old new disk ended a h.keeps
+        (taken.0, taken.2.0, taken.1.1, taken.1.2, taken.2.1, taken.2.2.0, all ∙ taken.2.2.1.history, refl, sure) writes)
+
+  -- no commits were made of the input
+  pub not_extended : (wanted : Status) → FailsInput (commits_in attached) left first last wanted → disk ≡ attached.journal.disk → Closes [] wanted (sinks.written old) (sinks.written new) (sinks.faults old) (sinks.faults new) ended → FollowEndsBy (commits_in attached) before after ended
+  not_extended wanted fails same closes = by_status wanted fails closes where
+    kept : HoldsJournal (commits_in attached) None before after
+    kept = holds attached (keeps_itself disks attached) same
+
+    cut : (wanted : Status) → (sinks.written new ≡ append_known (sinks.written old) (closing_line wanted) → sinks.faults new ≡ sinks.faults old → FollowEndsBy (commits_in attached) before after wanted) → Closes [] wanted (sinks.written old) (sinks.written new) (sinks.faults old) (sinks.faults new) ended → FollowEndsBy (commits_in attached) before after ended
+    cut wanted closed (inl (e, written, faults)) = subst (FollowEndsBy (commits_in attached) before after) (sym e) (closed written faults)
+    cut wanted closed (inr (inl (e, written, faults))) = subst (FollowEndsBy (commits_in attached) before after) (sym e) ((written, faults), kept)
+    cut wanted closed (inr (inr (e, rose, some))) =
+        subst (FollowEndsBy (commits_in attached) before after) (sym e) (refl, inr (inr (record { closing = wanted; prints = (rose, some); holds = kept })))
+
+    by_status : (w : Status) → FailsInput (commits_in attached) left first last w → Closes [] w (sinks.written old) (sinks.written new) (sinks.faults old) (sinks.faults new) ended → FollowEndsBy (commits_in attached) before after ended
+    by_status status.Done h c = absurd h
+    by_status status.NoMemory h c = cut status.NoMemory (λ written faults. ((silent_line (sinks.written old) (sinks.written new) written, faults), kept)) c
+    by_status status.Usage h c = absurd h
+    by_status (status.SourceFault n) h c = cut (status.SourceFault n) (λ written faults. (h.0, h.1, record { prints = (written, faults); holds = kept })) c
+    by_status (status.SinkFault n) h c = absurd h
+    by_status (status.DiskFault n) h c = absurd h
+    by_status (status.ScriptFault f) h c = absurd h
+    by_status (status.NotInitialised n) h c = absurd h
+    by_status (status.AlreadyInitialised n) h c = absurd h
+    by_status (status.Damaged n) h c = absurd h
+    by_status (status.PacketFault n) h c = cut (status.PacketFault n) (λ written faults. (h.0, h.1, record { prints = (written, faults); holds = kept })) c

@@ -9,6 +9,7 @@ takes_none reads may_leave moment left_since faults journal only_now = record {
   gate_same = refl;
   broken_same = refl;
   untouched = record { reads_same = refl; no_more = λ image left. left };
+  back = λ image left. left;
   moments = no_moment moment left_since may_leave journal.disk (only_now journal.disk);
   count_same = refl;
   stands = λ commits stands. stands;

@@ -11,8 +11,8 @@ use Rattle.tl_types.specs.History.{database_of}
 use Rattle.tl_types.specs.Limits.{standard_limits}
 use Rattle.tl_types.specs.Resolving.{resolved}
 use Rattle.tl_index.specs.Snapshots.{commit_entry, break_entry}
-use Rattle.tl_engine.specs.declared.faults.CommitFault.{CommitFault}
-use Rattle.tl_engine.specs.declared.faults.CommitFault.TheVariants as fault
+use Rattle.tl_history.specs.declared.faults.CommitFault.{CommitFault}
+use Rattle.tl_history.specs.declared.faults.CommitFault.TheVariants as fault
 use Rattle.tl_engine.specs.Saying.{Adds, CommitSays, becomes}
 use Rattle.tl_batch.specs.Made.{names_table}
 use Rattle.tl_session.proofs.TendingLemmas.{adds_later, done_names}

@@ -4,8 +4,8 @@ use mathlib.Core.List.{IsPrefix}
 use Rattle.tl_types.specs.declared.batches.Batch.{Batch}
 use Rattle.tl_types.specs.Entries.{commits_of, has_break}
 use Rattle.tl_types.specs.History.{database_of}
-use Rattle.tl_engine.specs.declared.faults.CommitFault.{CommitFault}
-use Rattle.tl_engine.specs.declared.faults.CommitFault.TheVariants as fault
+use Rattle.tl_history.specs.declared.faults.CommitFault.{CommitFault}
+use Rattle.tl_history.specs.declared.faults.CommitFault.TheVariants as fault
 use Rattle.tl_jobs.specs.declared.readings.JobReading.{JobReading}
 use Rattle.tl_jobs.specs.declared.readings.JobReading.TheVariants.{Loads}
 use Rattle.tl_jobs.specs.declared.replies.Refusal.TheVariants as refusal

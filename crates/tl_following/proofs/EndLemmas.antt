@@ -41,7 +41,6 @@ silent_line None new e = e
 silent_line (Some b) new e = e ∙ ap Some (append-nil b)
 
 module _ {K D : Type 0} (sinks : SinkGhosts K) (disks : DiskGhosts D) (begun : D) (attached : group.Group D) (left end : Option (List ℕ)) (first last : ℕ) (old new : K) (disk : D) (ended : Status) (a : IsAttached disks begun attached) where
-
   before : Outside
   before = record { left = left; source_faults = first; written = sinks.written old; sink_faults = sinks.faults old; reads = disks.reads begun; may_leave = disks.may_leave begun; disk_faults = disks.faults begun }
 

@@ -154,9 +154,9 @@ FollowEndsBy opening before after (status.Damaged at) =
 
 -- the same, with what was opened
 pub record FollowOpened (opening : List Commit) (before after : Outside) (ended : Status) : Type 0
-    where
-  pub opens : OpensWith opening before
-  pub ends : FollowEndsBy opening before after ended
+  where
+    pub opens : OpensWith opening before
+    pub ends : FollowEndsBy opening before after ended
 
 -- how `follow` ends: its journal is not opened, as for a run; or it is
 abbrev pub FollowEnds : Outside → Outside → Status → Type 0

@@ -43,8 +43,8 @@ opens_same {D = D} reads may_leave moment left_since faults limits disk opened e
     let given : opened.limits ≡ limits = opens.limits in
     let one : (es : List Entry) (j : journal.Journal D) (n : ℕ) (l : Limits) → history.History D = λ es j n l. record { entries = es; journal = j; first_count = n; limits = l } in
     let is : opened ≡ one entries own (faults own.disk) limits =
-        ap (λ es. one es opened.journal opened.first_count opened.limits) (sym same_entries)
-        ∙ (ap (λ j. one entries j opened.first_count opened.limits) (sym same_journal)
-        ∙ (ap (λ n. one entries own n opened.limits) first
-        ∙ ap (λ l. one entries own (faults own.disk) l) given)) in
+    ap (λ es. one es opened.journal opened.first_count opened.limits) (sym same_entries)
+    ∙ (ap (λ j. one entries j opened.first_count opened.limits) (sym same_journal)
+    ∙ (ap (λ n. one entries own n opened.limits) first
+    ∙ ap (λ l. one entries own (faults own.disk) l) given)) in
     subst (λ h. Opens reads may_leave moment left_since faults limits 0 disk (Ok h)) is opens

@@ -66,9 +66,9 @@ pub record AppendFails (What : List Commit → List ℕ → Type 0) (opening : L
 
 -- the group was given up, with the closing line alone, and the disk holds what it had
 pub record IsGivenUp (opening : List Commit) (ended : Status) (before after : Outside) : Type 0
-    where
-  pub prints : Prints (closing_line ended) before after
-  pub holds : HoldsJournal opening None before after
+  where
+    pub prints : Prints (closing_line ended) before after
+    pub holds : HoldsJournal opening None before after
 
 -- the sink failed at the text, with all commits on the disk
 pub record CutsText (What : List Commit → List ℕ → Type 0) (before after : Outside) : Type 0 where

@@ -1,5 +1,5 @@
 -- The commit of a batch, read off the rows of its table.
-use Rattle.std.specs.Prelude.{◌≡◌, ℕ, ◌+◌, ◌≤◌, ℤ, pos, nat_abs, int_lt, Bool, true, nat_lt, List, [], ◌++◌, length, Option, Some, None, Result, Ok, Err, if◌then◌else◌}
+use Rattle.std.specs.Prelude.{◌≡◌, ℕ, ◌+◌, ◌≤◌, ℤ, pos, nat_abs, int_lt, Bool, true, nat_lt, List, [], ◌++◌, length, Option, Some, None, is_some, Result, Ok, Err, if◌then◌else◌}
 use Rattle.std.specs.List.{list_all}
 use Rattle.tl_types.specs.declared.commits.Commit.{Commit}
 use Rattle.tl_types.specs.declared.commits.Body.TheVariants as body
@@ -14,6 +14,14 @@ use Rattle.tl_types.specs.Resolving.{BatchLine, find_table}
 use Rattle.tl_batch.specs.Pieces.{affected_ids, old_pieces, put_pieces}
 use Rattle.tl_batch.specs.Faults.{fault_from}
 use Rattle.tl_batch.specs.declared.changing.RowChanges.{RowChanges}
+
+-- a batch that puts or removes rows names a table that is there
+abbrev pub names_table : plain.Database → Batch → Bool
+names_table db (batch.Create schema) = true
+names_table db (batch.Put name lines) = is_some (find_table name db.tables)
+names_table db (batch.Remove name lines) = is_some (find_table name db.tables)
+names_table db (batch.Moment moment) = true
+names_table db (batch.Forget name floor) = true
 
 -- the change that lines make in the table with a number, by its rows
 abbrev pub change_by : ℕ → plain.Schema → List plain.Row → List BatchLine → plain.Change

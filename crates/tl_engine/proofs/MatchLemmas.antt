@@ -13,8 +13,7 @@ use Rattle.tl_types.specs.Plain as plain
 use Rattle.tl_types.specs.Resolving.{find_table}
 use Rattle.tl_types.proofs.BodyLemmas.{StaysKnown, known_later}
 use Rattle.tl_types.proofs.EntryLemmas.{database_behind-append}
-use Rattle.tl_batch.specs.Made.{batch_matches, rows_fit_found}
-use Rattle.tl_engine.specs.Saying.{names_table}
+use Rattle.tl_batch.specs.Made.{batch_matches, rows_fit_found, names_table}
 
 -- rows that match a table that was found still match it
 rows_stay : (lines : List plain.Opened) (old now : Option (ℕ × plain.Table)) → StaysKnown old now → is_some old ≡ true → rows_fit_found lines old ≡ true → rows_fit_found lines now ≡ true

@@ -1,28 +1,18 @@
 -- What the answer to a commit says of the entries that its caller has seen.
-use Rattle.std.specs.Prelude.{◌≡◌, ℕ, ◌+◌, Bool, true, false, List, [], ◌∷◌, ◌++◌, length, is_some, Result, Ok, Err}
+use Rattle.std.specs.Prelude.{◌≡◌, ℕ, ◌+◌, true, false, List, [], ◌∷◌, ◌++◌, length, Result, Ok, Err}
 use mathlib.Core.List.{IsPrefix}
 use Rattle.tl_types.specs.declared.batches.Batch.{Batch}
-use Rattle.tl_types.specs.declared.batches.Batch.TheVariants as batch
 use Rattle.tl_types.specs.declared.batches.BatchFault.{BatchFault}
 use Rattle.tl_types.specs.declared.commits.Commit.{Commit}
 use Rattle.tl_types.specs.declared.commits.Entry.{Entry}
 use Rattle.tl_types.specs.declared.limits.Limits.{Limits}
 use Rattle.tl_types.specs.Entries.{commits_of, has_break}
 use Rattle.tl_types.specs.History.{database_of}
-use Rattle.tl_types.specs.Plain as plain
-use Rattle.tl_types.specs.Resolving.{find_table, resolved}
+use Rattle.tl_types.specs.Resolving.{resolved}
 use Rattle.tl_device.specs.Known.{Rose}
 use Rattle.tl_index.specs.Snapshots.{commit_entry, break_entry}
 use Rattle.tl_engine.specs.declared.faults.CommitFault.{CommitFault}
 use Rattle.tl_engine.specs.declared.faults.CommitFault.TheVariants as fault
-
--- a batch that puts or removes rows names a table that is there
-abbrev pub names_table : plain.Database → Batch → Bool
-names_table db (batch.Create schema) = true
-names_table db (batch.Put name lines) = is_some (find_table name db.tables)
-names_table db (batch.Remove name lines) = is_some (find_table name db.tables)
-names_table db (batch.Moment moment) = true
-names_table db (batch.Forget name floor) = true
 
 -- what a batch of an author becomes over the commits of these entries
 abbrev pub becomes : Limits → ℕ → Batch → List Entry → Result Commit BatchFault

@@ -8,10 +8,10 @@ ghost use Rattle.tl_types.specs.Checkpoints.{checkpoint_at};
 ghost use Rattle.tl_types.specs.Entries.{commits_of, has_break};
 ghost use Rattle.tl_types.specs.History.{database_of};
 ghost use Rattle.tl_types.specs.Legality.{are_legal, has_mark};
-ghost use Rattle.tl_batch.specs.Made.{batch_matches};
+ghost use Rattle.tl_batch.specs.Made.{batch_matches, names_table};
 ghost use Rattle.tl_index.specs.Snapshots.{mark_entry};
 ghost use Rattle.tl_engine.specs.Calls.{MarkTakesEffect, TakesEffect};
-ghost use Rattle.tl_engine.specs.Saying.{CommitSays, becomes, names_table};
+ghost use Rattle.tl_engine.specs.Saying.{CommitSays, becomes};
 ghost use Rattle.tl_engine.specs.Tending.{IsCheckpoint, MarkSays};
 ghost use Rattle.tl_engine.specs.Writing.{shown_at, shown_by};
 

@@ -4,11 +4,11 @@ ghost use Rattle.std.specs.Prelude.{◌≡◌, ◌+◌, ◌<◌, ℕ, length, Li
 ghost use mathlib.Core.List.{IsPrefix};
 ghost use Rattle.tl_types.specs.Entries.{commits_of, has_break};
 ghost use Rattle.tl_types.specs.History.{database_of};
-ghost use Rattle.tl_batch.specs.Made.{batch_matches};
+ghost use Rattle.tl_batch.specs.Made.{batch_matches, names_table};
 ghost use Rattle.tl_types.specs.Legality.{are_legal};
 ghost use Rattle.tl_journal.specs.Stands.{DiskStandsFor};
 ghost use Rattle.tl_engine.specs.Counting.{news};
-ghost use Rattle.tl_engine.specs.Saying.{CommitSays, becomes, names_table};
+ghost use Rattle.tl_engine.specs.Saying.{CommitSays, becomes};
 ghost use Rattle.tl_engine.specs.Standing.{IsCount, ImageStandsForEntries};
 ghost use Rattle.tl_engine.specs.Tending.{IsCheckpoint, MarkSays, TendSays};
 

@@ -11,8 +11,7 @@ use Rattle.tl_types.specs.Plain as plain
 use Rattle.tl_types.specs.History.{database_of, matches}
 use Rattle.tl_types.specs.Resolving.{find_table}
 use Rattle.tl_types.proofs.FoundTables.{table_found, schema_found, name_found}
-use Rattle.tl_batch.specs.Made.{batch_matches, rows_fit_found}
-use Rattle.tl_engine.specs.Saying.{names_table}
+use Rattle.tl_batch.specs.Made.{batch_matches, rows_fit_found, names_table}
 use Rattle.tl_csv.specs.declared.faults.CsvFault.{CsvFault}
 use Rattle.tl_csv.specs.declared.needs.BatchKind.{BatchKind}
 use Rattle.tl_csv.specs.Block.{batch_of, IsBatchFor}

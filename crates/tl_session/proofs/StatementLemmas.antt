@@ -13,7 +13,8 @@ use Rattle.tl_types.specs.Resolving.{resolved}
 use Rattle.tl_index.specs.Snapshots.{commit_entry, break_entry}
 use Rattle.tl_engine.specs.declared.faults.CommitFault.{CommitFault}
 use Rattle.tl_engine.specs.declared.faults.CommitFault.TheVariants as fault
-use Rattle.tl_engine.specs.Saying.{Adds, CommitSays, becomes, names_table}
+use Rattle.tl_engine.specs.Saying.{Adds, CommitSays, becomes}
+use Rattle.tl_batch.specs.Made.{names_table}
 use Rattle.tl_session.proofs.TendingLemmas.{adds_later, done_names}
 use Rattle.tl_session.specs.declared.readings.JobReading.{JobReading}
 use Rattle.tl_session.specs.declared.readings.JobReading.TheVariants as reading

@@ -25,7 +25,8 @@ use Rattle.tl_engine.specs.declared.faults.Tended.{Tended}
 use Rattle.tl_engine.specs.declared.faults.Tended.TheVariants as tended
 use Rattle.tl_engine.specs.declared.faults.TendFault.{TendFault}
 use Rattle.tl_engine.specs.declared.faults.TendFault.TheVariants as tend_fault
-use Rattle.tl_engine.specs.Saying.{Adds, becomes, names_table}
+use Rattle.tl_engine.specs.Saying.{Adds, becomes}
+use Rattle.tl_batch.specs.Made.{names_table}
 use Rattle.tl_engine.specs.Tending.{TendSays}
 use Rattle.tl_engine.proofs.CountLemmas.{begins_on}
 use Rattle.tl_engine.proofs.TendLemmas.{table_known, versions_more}

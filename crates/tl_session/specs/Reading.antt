@@ -10,8 +10,7 @@ use Rattle.tl_types.specs.Limits.{standard_limits}
 use Rattle.tl_types.specs.Plain as plain
 use Rattle.tl_types.specs.History.{database_of}
 use Rattle.tl_types.specs.Resolving.{find_table}
-use Rattle.tl_batch.specs.Made.{batch_matches}
-use Rattle.tl_engine.specs.Saying.{names_table}
+use Rattle.tl_batch.specs.Made.{batch_matches, names_table}
 use Rattle.tl_csv.specs.declared.faults.CsvFault.{CsvFault}
 use Rattle.tl_csv.specs.declared.faults.CsvFault.TheVariants as csv_fault
 use Rattle.tl_csv.specs.declared.needs.BatchKind.{BatchKind}

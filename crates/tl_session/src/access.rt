@@ -4,8 +4,8 @@
 ghost use Rattle.std.specs.Prelude.{◌≡◌, ◌<◌, IfOk, IsTrue, length};
 ghost use Rattle.tl_types.specs.Entries.{commits_of};
 ghost use Rattle.tl_types.specs.History.{database_of};
-ghost use Rattle.tl_batch.specs.Made.{batch_matches};
-ghost use Rattle.tl_engine.specs.Saying.{CommitSays, becomes, names_table};
+ghost use Rattle.tl_batch.specs.Made.{batch_matches, names_table};
+ghost use Rattle.tl_engine.specs.Saying.{CommitSays, becomes};
 ghost use Rattle.tl_engine.specs.Tending.{TendSays};
 ghost use Rattle.tl_session.specs.Statements.{IsSame, SeesMore};
 

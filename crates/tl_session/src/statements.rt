@@ -5,8 +5,7 @@ ghost use Rattle.std.specs.Prelude.{◌≡◌, ◌≢◌, ◌<◌, ◌≤◌, Er
 ghost use Rattle.tl_types.specs.Entries.{commits_of};
 ghost use Rattle.tl_types.specs.History.{database_of};
 ghost use Rattle.tl_types.specs.Limits.{standard_limits};
-ghost use Rattle.tl_batch.specs.Made.{batch_matches};
-ghost use Rattle.tl_engine.specs.Saying.{names_table};
+ghost use Rattle.tl_batch.specs.Made.{batch_matches, names_table};
 ghost use Rattle.tl_engine.specs.declared.faults.TendFault.TheVariants as tend_fault;
 ghost use Rattle.tl_session.specs.Jobs.{job_of};
 ghost use Rattle.tl_session.specs.Reading.{DoesMatch, HasBlockAt, IsKnown};

@@ -114,6 +114,21 @@ def builds_of(room):
         return [it for it in calls.read().split("\n") if it.startswith("run")]
 
 
+def a_build_that_is_stopped():
+    """Ctrl-C in a build says that it goes on where it stopped."""
+    with tempfile.TemporaryDirectory() as room:
+        copy_of_the_command(room, "[[ $1 == version ]] && exit\necho 'so far: 0 of 9 functions checked' >&2\ntouch begun\nsleep 60\n")
+        around = dict(os.environ, PATH=f"{room}/bin:{os.environ['PATH']}")
+        build = subprocess.Popen([f"{room}/timeline", "build"], env=around, stdin=subprocess.DEVNULL, stdout=subprocess.PIPE, stderr=subprocess.PIPE,
+                                 text=True, start_new_session=True)
+        ends = time.time() + 20
+        while not os.path.exists(f"{room}/crates/timeline/begun") and time.time() < ends:
+            time.sleep(0.1)
+        os.killpg(build.pid, signal.SIGINT)
+        said = build.stderr.read()
+        judge("a build that is stopped", build.wait() == 130 and said.endswith("timeline: stopped; ./timeline build goes on where it stopped\n"), (build.returncode, said))
+
+
 def a_build_is_for_the_processor():
     """A build is for the processor that is there, says so, and is refused on a lesser one, which builds it again."""
     for flags, kind in ((FLAGS, "x86-64-v3"), (FLAGS.replace("avx2 ", ""), ""), (FLAGS.replace(" abm", ""), ""), ("model name: none\n", "")):
@@ -395,6 +410,26 @@ def another_program_has_the_journal():
         judge("a folder in the journal's place", refused_folder() == (5, "! device\n", "timeline: timeline.tlj is a folder\n"), "")
 
 
+def a_disk_that_fails_says_why():
+    """A file that may not be written, a folder that may not, and a full disk are told apart, where this may be tried."""
+    with tempfile.TemporaryDirectory(dir=JOURNALS) as room:
+        make_journal(room)
+        os.chmod(room, 0o755)
+        os.chmod(f"{room}/timeline.tlj", 0o444)
+        os.mkdir(f"{room}/none")
+        if os.geteuid() == 0 and subprocess.run([TIMELINE, "--help"], user=65534, capture_output=True).returncode == 0:
+            told = "timeline: timeline.tlj may not be read and written here; ./timeline ask needs to read alone\n"
+            for words in (["run"], ["--strict", "run"]):
+                found = run(words, "", room, user=65534)
+                judge(f"{words} of a file that may not be written", found == (5, "! device\n", told), found)
+            found = run(["init"], "", f"{room}/none", user=65534)
+            judge("a folder that may not be written", found == (5, "! device\n", "timeline: this folder may not be written\n"), found)
+        commands = 'mount -t tmpfs -o size=16k none none && cd none && head -c 16384 /dev/zero >filler; "$0" init'
+        if subprocess.run(["unshare", "-rm", "bash", "-c", "mount -t tmpfs -o size=16k none none"], cwd=room, capture_output=True).returncode == 0:
+            done = subprocess.run(["unshare", "-rm", "bash", "-c", commands, TIMELINE], cwd=room, capture_output=True, text=True, timeout=60)
+            judge("a full disk", (done.returncode, done.stdout) == (5, "! device\n") and done.stderr.endswith("timeline: the disk is full\n"), done)
+
+
 def a_listing_is_refused():
     """Where there is no journal, or none that can be listed, `log` and `tables` say so, and end as a run does."""
     with tempfile.TemporaryDirectory(dir=JOURNALS) as room:
@@ -511,6 +546,7 @@ def a_long_load_knows_its_file():
 signal.alarm(550)
 words_are_answered_at_once()
 only_build_builds()
+a_build_that_is_stopped()
 a_build_is_for_the_processor()
 try_without_a_program()
 files_are_opened()
@@ -521,6 +557,7 @@ a_terminal_is_told()
 progress_is_told()
 two_loaders_at_once()
 another_program_has_the_journal()
+a_disk_that_fails_says_why()
 a_listing_is_refused()
 nothing_is_left_behind()
 a_long_load_goes_on()

@@ -273,6 +273,17 @@ def explanations_come_from_a_pipe():
         judge("--explain load", (status, printed) == (20, "load @1 ! NotInt 3 2\n") and said.startswith(wanted), said)
 
 
+def explanations_begin_where_the_input_stands():
+    """A script of which another program has read the front is explained from there on."""
+    with tempfile.TemporaryDirectory(dir=JOURNALS) as room:
+        make_journal(room)
+        with open(f"{room}/script.tl", "w") as script:
+            script.write("a> SELECT k FROM nothing\na> SELECT k from t\n")
+        found = run(["-c", '{ read -r _; "$0" --explain run; } <script.tl', TIMELINE], room=room, command="bash")
+        wanted = "timeline: line 1 was refused: Unexpected 9\n    SELECT k from t\n             ^\n"
+        judge("a script that is read from its second line on", found[:2] == (0, "a @0 ! Unexpected 9\n") and found[2].startswith(wanted), found)
+
+
 def what_is_not_open_fails():
     """An output or an input that is not open is one that fails; the journal's file does not take its place."""
     with tempfile.TemporaryDirectory(dir=JOURNALS) as room:
@@ -408,6 +419,21 @@ def another_program_has_the_journal():
         printed, said = waiter.stdout.read(), waiter.stderr.read()
         judge("--wait, once it is free", (waiter.wait(), printed, said) == (0, "load @2 ok\n", ""), (printed, said))
         judge("a folder in the journal's place", refused_folder() == (5, "! device\n", "timeline: timeline.tlj is a folder\n"), "")
+
+
+def another_file_is_locked():
+    """A lock of a file whose number ends as the journal's does is no lock of the journal. It is tried on a file system of
+    its own, whose numbers are small, where one may be made."""
+    commands = """mount -t tmpfs none none && cd none && "$0" init && journal=$(stat -c %i timeline.tlj) || exit
+        for ((file = 0; file < 300; file++)); do : >"$file"; done
+        other=$(stat -c '%i %n' [0-9]* | awk -v end="$journal" 'length($1) > length(end) && substr($1, length($1) - length(end) + 1) == end { print $2; exit }')
+        [[ -n $other ]] || exit 0
+        exec 9<"$other" && flock 9 && "$0" run </dev/null"""
+    with tempfile.TemporaryDirectory(dir=JOURNALS) as room:
+        os.mkdir(f"{room}/none")
+        if subprocess.run(["unshare", "-rm", "bash", "-c", "mount -t tmpfs none none"], cwd=room, capture_output=True).returncode == 0:
+            found = run(["-rm", "bash", "-c", commands, TIMELINE], room=room, command="unshare")
+            judge("another file's lock", found == (0, "", ""), found)
 
 
 def a_disk_that_fails_says_why():
@@ -552,11 +578,13 @@ try_without_a_program()
 files_are_opened()
 refusals_are_told()
 explanations_come_from_a_pipe()
+explanations_begin_where_the_input_stands()
 what_is_not_open_fails()
 a_terminal_is_told()
 progress_is_told()
 two_loaders_at_once()
 another_program_has_the_journal()
+another_file_is_locked()
 a_disk_that_fails_says_why()
 a_listing_is_refused()
 nothing_is_left_behind()

@@ -2,6 +2,7 @@
 """Runs the command `timeline` where a script with its expected replies does not reach: what it does around the program.
 Ends with 1 where something is not as it should be, and says what."""
 import fcntl
+import glob
 import hashlib
 import os
 import pty
@@ -49,6 +50,7 @@ def copy_of_the_command(room, rt):
     os.makedirs(f"{room}/crates/timeline/src")
     os.makedirs(f"{room}/crates/low/src")
     os.makedirs(f"{room}/crates/timeline_log/src")
+    os.makedirs(f"{room}/crates/timeline_look/src")
     os.makedirs(f"{room}/docs")
     os.makedirs(f"{room}/bin")
     shutil.copy(TIMELINE, f"{room}/timeline")
@@ -56,7 +58,7 @@ def copy_of_the_command(room, rt):
     shutil.copy(f"{HERE}/../docs/FORMATS.md", f"{room}/docs")
     with open(f"{room}/crates.txt", "w") as crates:
         crates.write("low:\nhigh: low\ntimeline: low\n")
-    for crate in ("timeline", "timeline_log", "low"):
+    for crate in ("timeline", "timeline_log", "timeline_look", "low"):
         with open(f"{room}/crates/{crate}/src/main.rt", "w") as source:
             source.write("\n")
     with open(f"{room}/bin/rt", "w") as command:
@@ -82,27 +84,76 @@ def words_are_answered_at_once():
 
 
 # What the prover says of two crates, and then the program that it makes, which says how it is called; and the one that
-# lists.
+# lists, and the one that looks.
 BUILDS = r"""
 [[ $1 == version ]] && echo a kit && exit
 mkdir -p out
-if [[ $2 == -- ]]; then
-    printf '#!/usr/bin/env bash\necho "the lister: $*"\n' >out/timeline_log
-    chmod +x out/timeline_log
-    exit 7
+program=${PWD##*/}
+printf '#!/usr/bin/env bash\necho "the %s: $*"\n' "$program" >"out/$program"
+chmod +x "out/$program"
+[[ $program == timeline_log ]] && exit 7
+if [[ $program == timeline ]]; then
+    echo 'so far: 0 of 2 functions checked; the verdict comes last' >&2
+    echo 'fn low::add: proved' >&2
+    echo 'fn low::take: proved' >&2
+    echo 'logic=proved functions=2' >&2
+    echo 'so far: 0 of 1 functions checked; the verdict comes last' >&2
+    echo 'fn timeline::main: proved' >&2
+    [[ -e fails ]] && exit 1
 fi
-echo 'so far: 0 of 2 functions checked; the verdict comes last' >&2
-echo 'fn low::add: proved' >&2
-echo 'fn low::take: proved' >&2
-echo 'logic=proved functions=2' >&2
-echo 'so far: 0 of 1 functions checked; the verdict comes last' >&2
-echo 'fn timeline::main: proved' >&2
-printf '#!/usr/bin/env bash\necho "the program: $*"\n' >out/timeline
-chmod +x out/timeline
-[[ -e fails ]] && exit 1
 echo '! usage'
 exit 2
 """
+# What a processor has, for which programs are built.
+FLAGS = "flags\t\t: fpu avx f16c abm fma movbe xsave bmi1 avx2 bmi2 rdrand\n"
+
+
+def builds_of(room):
+    """How the prover was asked to build, so far."""
+    with open(f"{room}/calls") as calls:
+        return [it for it in calls.read().split("\n") if it.startswith("run")]
+
+
+def a_build_that_is_stopped():
+    """Ctrl-C in a build says that it goes on where it stopped."""
+    with tempfile.TemporaryDirectory() as room:
+        copy_of_the_command(room, "[[ $1 == version ]] && exit\necho 'so far: 0 of 9 functions checked' >&2\ntouch begun\nsleep 60\n")
+        around = dict(os.environ, PATH=f"{room}/bin:{os.environ['PATH']}")
+        build = subprocess.Popen([f"{room}/timeline", "build"], env=around, stdin=subprocess.DEVNULL, stdout=subprocess.PIPE, stderr=subprocess.PIPE,
+                                 text=True, start_new_session=True)
+        ends = time.time() + 20
+        while not os.path.exists(f"{room}/crates/timeline/begun") and time.time() < ends:
+            time.sleep(0.1)
+        os.killpg(build.pid, signal.SIGINT)
+        said = build.stderr.read()
+        judge("a build that is stopped", build.wait() == 130 and said.endswith("timeline: stopped; ./timeline build goes on where it stopped\n"), (build.returncode, said))
+
+
+def a_build_is_for_the_processor():
+    """A build is for the processor that is there, says so, and is refused on a lesser one, which builds it again."""
+    for flags, kind in ((FLAGS, "x86-64-v3"), (FLAGS.replace("avx2 ", ""), ""), (FLAGS.replace(" abm", ""), ""), ("model name: none\n", "")):
+        with tempfile.TemporaryDirectory() as room:
+            command = copy_of_the_command(room, BUILDS)
+            with open(f"{room}/cpuinfo", "w") as info:
+                info.write(f"processor\t: 0\n{flags}")
+            with open(f"{room}/script/processor.sh") as script:
+                text = script.read().replace("/proc/cpuinfo", f"{room}/cpuinfo")
+            with open(f"{room}/script/processor.sh", "w") as script:
+                script.write(text)
+            status, printed, said = command("build")
+            judge("a build for a processor", (status, printed) == (0, "") and said.endswith(f"timeline: built for {kind or 'x86-64-v2'}\n"), (flags, said))
+            option = f" --cpu={kind}" if kind else ""
+            judge("what is built", builds_of(room) == [f"run{option}", f"run{option} -- log", f"run{option}"], builds_of(room))
+            judge("--version says for which", f", for {kind or 'x86-64-v2'}\n" in command("--version")[1], command("--version"))
+            with open(f"{room}/cpuinfo", "w") as info:
+                info.write(FLAGS.replace("avx2 ", ""))
+            found = command("run")
+            if kind:
+                told = "timeline: built for another kind of processor, x86-64-v3, than this one: ./timeline build\n"
+                judge("a program that was moved", found == (125, "", told), found)
+                judge("another build", command("build")[0] == 0 and command("run") == (0, "the timeline: run\n", ""), builds_of(room))
+            else:
+                judge("a program that was moved to no lesser one", found == (0, "the timeline: run\n", ""), found)
 
 
 def only_build_builds():
@@ -116,20 +167,20 @@ def only_build_builds():
         judge("nothing is built", not os.path.exists(f"{room}/calls"), "")
         status, printed, said = command("build")
         told = re.findall(r"crate (\d) of 2, (\w+): (\d) of (\d) functions checked, 0 minutes gone", said)
-        judge("a build", (status, printed) == (0, "") and said.endswith("timeline: built\n"), (status, printed, said))
+        judge("a build", (status, printed) == (0, "") and re.search(r"timeline: built for x86-64-v[23]\n$", said), (status, printed, said))
         judge("how far a build is", told == [("1", "low", "1", "2"), ("2", "timeline", "1", "1")], said)
-        judge("a run", command("run") == (0, "the program: run\n", ""), "")
-        judge("a listing", command("log", "--csv") == (0, "the lister: log\n", ""), command("log", "--csv"))
+        judge("a run", command("run") == (0, "the timeline: run\n", ""), "")
+        judge("a listing", command("log", "--csv") == (0, "the timeline_log: log\n", ""), command("log", "--csv"))
         judge("a second build", command("build") == (0, "", ""), "")
         printed = command("--version")[1]
-        judge("--version", "built from a kit\n" in printed, printed)
+        judge("--version", re.search(r"built from a kit, for x86-64-v[23]\n", printed), printed)
         later = time.time() + 5
         os.utime(f"{room}/crates/low/src/main.rt", (later, later))
         found = command("init")
-        wanted = (0, "the program: init\n", "timeline: the sources are newer than the program: ./timeline build\n")
+        wanted = (0, "the timeline: init\n", "timeline: the sources are newer than the program: ./timeline build\n")
         judge("a source that is newer", found == wanted, found)
-        with open(f"{room}/calls") as calls:
-            judge("builds", [it for it in calls.read().split("\n") if it.startswith("run")] == ["run", "run -- log"], "")
+        found = [re.sub(" --cpu=x86-64-v3", "", it) for it in builds_of(room)]
+        judge("builds", found == ["run", "run -- log", "run"], found)
         with open(f"{room}/crates/timeline/fails", "w"):
             os.utime(f"{room}/crates/low/src/main.rt", (later + 60, later + 60))
         status, printed, said = command("build")
@@ -137,7 +188,7 @@ def only_build_builds():
         with open(f"{room}/crates/low/large", "w"), open(f"{room}/crates/timeline/out/large", "w"):
             found = command("clean")
         left = sorted(os.listdir(f"{room}/crates/timeline/out"))
-        judge("clean", found[0] == 0 and left == ["built", "checked", "timeline"], (found, left))
+        judge("clean", found[0] == 0 and left == ["built", "checked", "processor", "timeline"], (found, left))
 
 
 def try_without_a_program():
@@ -184,6 +235,9 @@ def refusals_are_told():
         ends = run(["--strict", "run"], "a> S\nGO\nhello\n", room)
         told = "timeline: 1 of 1 statements was refused\n"
         judge("--strict with a status", ends == (6, "a @1 ! Unexpected 0\n! script NoSession 3\n", told), ends)
+        os.mkdir(f"{room}/none")
+        ends = run(["--strict", "run"], script, f"{room}/none")
+        judge("--strict without a journal", ends == (7, "! journal NotInitialised 0\n", ""), ends)
         with open("/dev/full", "w") as full:
             found = subprocess.run([TIMELINE, "--strict", "run"], input=script, cwd=room, stdout=full, text=True,
                                    stderr=subprocess.DEVNULL, timeout=60).returncode
@@ -217,6 +271,17 @@ def explanations_come_from_a_pipe():
         status, printed, said = run(["--explain", "load", "t"], "k,x\r\n1,2\r\n3,12.50\r\n", room)
         wanted = "timeline: the load was refused: NotInt 3 2\n    PUT t\n    line 3, record 3:\n    3,12.50\n      ^\n"
         judge("--explain load", (status, printed) == (20, "load @1 ! NotInt 3 2\n") and said.startswith(wanted), said)
+
+
+def explanations_begin_where_the_input_stands():
+    """A script of which another program has read the front is explained from there on."""
+    with tempfile.TemporaryDirectory(dir=JOURNALS) as room:
+        make_journal(room)
+        with open(f"{room}/script.tl", "w") as script:
+            script.write("a> SELECT k FROM nothing\na> SELECT k from t\n")
+        found = run(["-c", '{ read -r _; "$0" --explain run; } <script.tl', TIMELINE], room=room, command="bash")
+        wanted = "timeline: line 1 was refused: Unexpected 9\n    SELECT k from t\n             ^\n"
+        judge("a script that is read from its second line on", found[:2] == (0, "a @0 ! Unexpected 9\n") and found[2].startswith(wanted), found)
 
 
 def what_is_not_open_fails():
@@ -356,6 +421,81 @@ def another_program_has_the_journal():
         judge("a folder in the journal's place", refused_folder() == (5, "! device\n", "timeline: timeline.tlj is a folder\n"), "")
 
 
+def another_file_is_locked():
+    """A lock of a file whose number ends as the journal's does is no lock of the journal. It is tried on a file system of
+    its own, whose numbers are small, where one may be made."""
+    commands = """mount -t tmpfs none none && cd none && "$0" init && journal=$(stat -c %i timeline.tlj) || exit
+        for ((file = 0; file < 300; file++)); do : >"$file"; done
+        other=$(stat -c '%i %n' [0-9]* | awk -v end="$journal" 'length($1) > length(end) && substr($1, length($1) - length(end) + 1) == end { print $2; exit }')
+        [[ -n $other ]] || exit 0
+        exec 9<"$other" && flock 9 && "$0" run </dev/null"""
+    with tempfile.TemporaryDirectory(dir=JOURNALS) as room:
+        os.mkdir(f"{room}/none")
+        if subprocess.run(["unshare", "-rm", "bash", "-c", "mount -t tmpfs none none"], cwd=room, capture_output=True).returncode == 0:
+            found = run(["-rm", "bash", "-c", commands, TIMELINE], room=room, command="unshare")
+            judge("another file's lock", found == (0, "", ""), found)
+
+
+def a_disk_that_fails_says_why():
+    """A file that may not be written, a folder that may not, and a full disk are told apart, where this may be tried."""
+    with tempfile.TemporaryDirectory(dir=JOURNALS) as room:
+        make_journal(room)
+        os.chmod(room, 0o755)
+        os.chmod(f"{room}/timeline.tlj", 0o444)
+        os.mkdir(f"{room}/none")
+        if os.geteuid() == 0 and subprocess.run([TIMELINE, "--help"], user=65534, capture_output=True).returncode == 0:
+            told = "timeline: timeline.tlj may not be read and written here; ./timeline ask needs to read alone\n"
+            for words in (["run"], ["--strict", "run"]):
+                found = run(words, "", room, user=65534)
+                judge(f"{words} of a file that may not be written", found == (5, "! device\n", told), found)
+            found = run(["init"], "", f"{room}/none", user=65534)
+            judge("a folder that may not be written", found == (5, "! device\n", "timeline: this folder may not be written\n"), found)
+        commands = 'mount -t tmpfs -o size=16k none none && cd none && head -c 16384 /dev/zero >filler; "$0" init'
+        if subprocess.run(["unshare", "-rm", "bash", "-c", "mount -t tmpfs -o size=16k none none"], cwd=room, capture_output=True).returncode == 0:
+            done = subprocess.run(["unshare", "-rm", "bash", "-c", commands, TIMELINE], cwd=room, capture_output=True, text=True, timeout=60)
+            judge("a full disk", (done.returncode, done.stdout) == (5, "! device\n") and done.stderr.endswith("timeline: the disk is full\n"), done)
+
+
+def a_listing_is_refused():
+    """Where there is no journal, or none that can be listed, `log` and `tables` say so, and end as a run does."""
+    with tempfile.TemporaryDirectory(dir=JOURNALS) as room:
+        for words in (["log"], ["tables", "--csv"], ["log", "--times"]):
+            found = run(words, room=room)
+            judge(f"{words} without a journal", found == (7, "! journal NotInitialised 0\n", "timeline: no journal is here\n"), found)
+        judge("a listing makes no file", not os.listdir(room), os.listdir(room))
+        with open(f"{room}/timeline.tlj", "w") as journal:
+            journal.write("this is no journal of timeline\n")
+        found = run(["log"], room=room)
+        judge("log of what is no journal", found == (9, "! journal Damaged 0\n", ""), found)
+        os.remove(f"{room}/timeline.tlj")
+        os.mkdir(f"{room}/timeline.tlj")
+        found = run(["tables"], room=room)
+        judge("tables of a folder", found == (5, "! device\n", "timeline: timeline.tlj is a folder\n"), found)
+
+
+def nothing_is_left_behind():
+    """The folders that the command makes for a run are gone once it has ended, however it ends."""
+    with tempfile.TemporaryDirectory(dir=JOURNALS) as room:
+        made = lambda: set(glob.glob("/dev/shm/timeline.????????")) | set(glob.glob(f"{room}/tmp/*"))
+        os.mkdir(f"{room}/tmp")
+        around = dict(os.environ, TMPDIR=f"{room}/tmp")
+        make_journal(room, "a> CREATE TABLE t (k INT) KEY k\n")
+        before = made()
+        for words in (["log"], ["tables"], ["ask", "SELECT k FROM t"], ["ask", "S"], ["seal"], ["shell", "--look"], ["--explain", "run"], ["--strict", "load", "t"],
+                      ["try"], ["--stamp", "run"]):
+            run(words, "k\n1\n", room, env=around)
+        for number in (signal.SIGTERM, signal.SIGINT):
+            loader = subprocess.Popen([TIMELINE, "--explain", "run"], cwd=room, env=around, stdin=subprocess.PIPE, stdout=subprocess.PIPE,
+                                      stderr=subprocess.DEVNULL, start_new_session=True)
+            loader.stdin.write(b"a> SELECT k FROM t\nGO\n")
+            loader.stdin.flush()
+            loader.stdout.readline()
+            os.killpg(loader.pid, number)
+            loader.wait()
+        time.sleep(0.5)
+        judge("folders that were left behind", not made() - before, made() - before)
+
+
 def refused_folder():
     """What `--wait` makes of a journal that cannot be opened for another reason: it does not wait."""
     with tempfile.TemporaryDirectory(dir=JOURNALS) as room:
@@ -432,15 +572,22 @@ def a_long_load_knows_its_file():
 signal.alarm(550)
 words_are_answered_at_once()
 only_build_builds()
+a_build_that_is_stopped()
+a_build_is_for_the_processor()
 try_without_a_program()
 files_are_opened()
 refusals_are_told()
 explanations_come_from_a_pipe()
+explanations_begin_where_the_input_stands()
 what_is_not_open_fails()
 a_terminal_is_told()
 progress_is_told()
 two_loaders_at_once()
 another_program_has_the_journal()
+another_file_is_locked()
+a_disk_that_fails_says_why()
+a_listing_is_refused()
+nothing_is_left_behind()
 a_long_load_goes_on()
 a_long_load_names_what_is_refused()
 a_long_load_knows_its_file()

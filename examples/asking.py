@@ -139,6 +139,64 @@ def questions_in_one_line():
         judge("ask without a journal", found[:2] == (7, "! journal NotInitialised 0\n") and not os.listdir(room), found)
 
 
+def a_look_beside_a_loader():
+    """What is asked while another program commits is what some first commits make, all that were answered before among
+    them; and so is a listing."""
+    with Room("a> CREATE TABLE t (k INT) KEY k\n") as room:
+        with subprocess.Popen([TIMELINE, "run"], cwd=room, stdin=subprocess.PIPE, stdout=subprocess.PIPE, text=True) as loader:
+            answered, asked = 0, 0
+            keys = 0
+            while asked < 8:
+                for _ in range(20):
+                    loader.stdin.write(f"a> PUT t\nk\n{keys}\n\\.\nGO\n")
+                    keys += 1
+                loader.stdin.flush()
+                judge("a loader's reply", loader.stdout.readline() == f"a @{answered + 2} ok\n", answered)
+                answered += 1
+                status, printed, said = run(["ask", "SELECT k FROM t"], room=room)
+                found = printed.split()[1:]
+                is_right = (status, said) == (0, "") and found == [str(it) for it in range(len(found))] and len(found) >= answered
+                judge("a look beside a loader", is_right, (status, answered, found, said))
+                status, printed, said = run(["log", "--csv"], room=room)
+                judge("a listing beside a loader", status == 0 and printed.count("\n") >= answered + 2, (status, printed, said))
+                while answered < keys:
+                    loader.stdout.readline()
+                    answered += 1
+                asked += 1
+            loader.stdin.close()
+        judge("the loader", loader.returncode == 0, loader.returncode)
+
+
+def what_if_is_forgotten():
+    with Room(STAFF) as room:
+        with open(f"{room}/timeline.tlj", "rb") as journal:
+            before = journal.read()
+        script = "CREATE TABLE bonus (id INT, why TEXT) KEY id;\nPUT bonus;\nid,why\n1,sales\n\\.\nSELECT * FROM bonus;\nJOIN staff WITH bonus ON id = id OVER SYSTEM 7 TO 8;\n"
+        wanted = "@6 ok\n@7 ok\nid,why\n1,sales\nfrom,to,staff.id,staff.name,staff.pay,bonus.id,bonus.why\n7,8,1,\"Doe, J.\",3000,1,sales\n"
+        found = run(["shell", "--look"], script, room)
+        judge("what if", found == (0, wanted, ""), found)
+        found = run(["ask", "SELECT * FROM bonus"], room=room)
+        judge("what if is forgotten", found[0] == 20 and "UnknownTable" in found[2], found)
+        with open(f"{room}/timeline.tlj", "rb") as journal:
+            judge("what if writes nothing", journal.read() == before)
+
+
+def whoever_may_read_may_ask():
+    """A person who may only read the file asks and lists; one who may not is told so."""
+    if os.geteuid() != 0 or subprocess.run([TIMELINE, "--help"], user=65534, capture_output=True).returncode != 0:
+        return
+    with Room(STAFF) as room:
+        os.chmod(room, 0o755)
+        os.chmod(f"{room}/timeline.tlj", 0o444)
+        for words, wanted in ((["ask", "SELECT cents FROM price"], "cents\n250\n"), (["shell", "--look"], "id\n1\n2\n")):
+            found = run(words, "SELECT id FROM staff;\n", room, user=65534)
+            judge(f"{words} of a file that may only be read", found == (0, wanted, ""), found)
+        judge("log of it", run(["log"], room=room, user=65534)[0] == 0)
+        os.chmod(f"{room}/timeline.tlj", 0o600)
+        found = run(["ask", "SELECT cents FROM price"], room=room, user=65534)
+        judge("ask of a file that may not be read", found == (5, "! device\n", "timeline: timeline.tlj cannot be read\n"), found)
+
+
 def a_prompt():
     with Room(STAFF) as room:
         with open(f"{room}/more.csv", "w") as more:
@@ -303,6 +361,9 @@ def evidence():
 # A command that does not end is not as it should be either.
 signal.alarm(500)
 questions_in_one_line()
+a_look_beside_a_loader()
+what_if_is_forgotten()
+whoever_may_read_may_ask()
 a_prompt()
 a_sheet_becomes_a_table()
 a_nightly_sheet()

@@ -59,17 +59,19 @@ ask() {
     local asked=() status=0 answered refused number reply each bytes=0 line=1 seen=0 in_block=0
     part_statements "$1" || refuse_words
     refuse_batches
-    need_program
-    take_look || return
+    need_program "$looker"
+    make_room
     script=$room/script start=0 loaded=
     for each in "${asked[@]}"; do printf 'ask> %s\n' "$each"; done >"$script"
-    list_columns >"$room/columns" 2>/dev/null
-    awk -v columns="$room/columns" -f "$root/script/names.awk" "$script" >"$room/names"
-    look_program run <"$script" >"$room/replies" || status=$?
-    if ((status == 9)); then
-        status=0
-        take_look && look_program run <"$script" >"$room/replies" || status=$?
+    look_at "$script" "$room/replies" || status=$?
+    if ((status == 5 || status == 7 || status == 9)); then
+        tell_look "$status" "$room/replies"
+        return
     fi
+    # The columns come after the answers, so that each table of these is among them.
+    : >"$room/columns"
+    grep -qE '\*|JOIN' "$script" && list_columns >"$room/columns"
+    awk -v columns="$room/columns" -f "$root/script/names.awk" "$script" >"$room/names"
     show_answers "$room/replies" "$room/names" || return 4
     while read -r number reply; do
         [[ $number == end ]] && read -r answered refused <<<"$reply" && continue

@@ -1,5 +1,5 @@
-# `build` proves and builds both programs and says how far it is; `clean` removes all but them; `--version` says what the
-# program that is there was built from.
+# `build` proves and builds the three programs and says how far it is; `clean` removes all but them; `--version` says what
+# the program that is there was built from.
 # shellcheck shell=bash disable=SC2154
 
 # The number of crates that the program is made of, itself among them.
@@ -74,9 +74,10 @@ sources() {
     [[ -z $(git -C "$root" status --porcelain -- crates crates.txt 2>/dev/null) ]] || printf ' and changes'
 }
 
-# Keeps what a program was built from, once it is built.
+# Keeps what a program was built from and for, once it is built: keep_origin PROGRAM PROCESSOR
 keep_origin() {
     { sources && printf '\n'; rt version 2>/dev/null; } >"${1%/*}/built"
+    printf '%s\n' "${2:-x86-64-v2}" >"${1%/*}/processor"
     mv "${1%/*}/checked.next" "${1%/*}/checked"
 }
 
@@ -97,52 +98,65 @@ tell_end() {
     return 1
 }
 
-# Proves and builds the program. Run with no words it answers `! usage` and does nothing else.
+# Proves and builds the program for a kind of processor. Run with no words it answers `! usage` and does nothing else.
 build_program() {
-    local answer
+    local answer kind=$1
     begin_build "$program" || return
     say "building the program, with proof; from nothing it takes about an hour on four processors, and 10 GB of disk"
-    { answer=$( (cd "$crate" && rt run </dev/null 2>&1 >&4 | report) 4>&1); }
+    { answer=$( (cd "$crate" && rt run ${kind:+"--cpu=$kind"} </dev/null 2>&1 >&4 | report) 4>&1); }
     [[ $answer == '! usage' && -x $program ]] || tell_end "the program" || return
-    keep_origin "$program"
+    keep_origin "$program" "$kind"
 }
 
-# Proves and builds the program that lists. In its crate's folder, where no journal is, it ends with 7.
-build_lister() {
-    begin_build "$lister" || return
-    say "building the program that lists a journal, with proof"
-    (cd "${lister%/out/*}" && rt run -- log </dev/null >"$log" 2>&1)
-    [[ $? -eq 7 && -x $lister ]] || tell_end "the program that lists" || return
-    keep_origin "$lister"
+# Proves and builds one of the programs that stand beside it, which in its crate's folder, where no journal is, ends with a
+# status when it is run with these words: build_other PROGRAM WHICH KIND STATUS [WORDS..]
+build_other() {
+    local built=$1 which=$2 kind=$3 status=$4 words=("${@:5}")
+    begin_build "$built" || return
+    say "building the program that $which, with proof"
+    (cd "${built%/out/*}" && rt run ${kind:+"--cpu=$kind"} "${words[@]}" </dev/null >"$log" 2>&1)
+    [[ $? -eq $status && -x $built ]] || tell_end "the program that $which" || return
+    keep_origin "$built" "$kind"
+}
+
+# Whether a program is built from these sources, and can run here.
+is_ready() {
+    is_built "$1" && suits_processor "$1"
 }
 
 build() {
-    is_built && is_built "$lister" && return
+    local kind
+    is_ready "$program" && is_ready "$lister" && is_ready "$looker" && return
     has_rt || return 125
+    kind=$(processor_here)
     trap 'say "stopped; ./timeline build goes on where it stopped"; exit 130' INT
-    is_built || build_program || return 125
-    is_built "$lister" || build_lister || return 125
-    say "built"
+    is_ready "$program" || build_program "$kind" || return 125
+    is_ready "$lister" || build_other "$lister" "lists a journal" "$kind" 7 -- log || return 125
+    is_ready "$looker" || build_other "$looker" "looks at a journal" "$kind" 2 || return 125
+    say "built for ${kind:-x86-64-v2}"
 }
 
-# Removes all that a build leaves but the two programs and what says what they were built from.
+# Removes all that a build leaves but the programs, and what says what they were built from and for.
 clean() {
-    local before after
+    local before after built kept=()
+    for built in "$program" "$lister" "$looker"; do
+        kept+=(! -path "$built" ! -path "${built%/*}/checked" ! -path "${built%/*}/built" ! -path "${built%/*}/processor")
+    done
     before=$(du -sk "$root/crates" | cut -f1)
-    find "$root/crates" -mindepth 3 -maxdepth 3 -path '*/out/*' ! -path "$program" ! -path "$lister" \
-        ! \( \( -name checked -o -name built \) \( -path "${program%/*}/*" -o -path "${lister%/*}/*" \) \) -exec rm -rf {} +
+    find "$root/crates" -mindepth 3 -maxdepth 3 -path '*/out/*' "${kept[@]}" -exec rm -rf {} +
     find "$root/crates" -mindepth 2 -maxdepth 2 -name out -empty -exec rmdir {} +
     after=$(du -sk "$root/crates" | cut -f1)
     say "$(((before - after) / 1024)) MiB are free again"
 }
 
-# The commit of the sources, and what the program that is there was built from.
+# The commit of the sources, and what the program that is there was built from and for.
 version() {
-    local text
+    local text kind=''
     text=$(sources)
     printf 'timeline%s\n' "${text:+, $text}"
     if [[ -x $program && -s ${program%/*}/built ]]; then
-        printf 'built from %s\n' "$(paste -sd, "${program%/*}/built" | sed 's/,/, with /')"
+        read -r kind 2>/dev/null <"${program%/*}/processor"
+        printf 'built from %s%s\n' "$(paste -sd, "${program%/*}/built" | sed 's/,/, with /')" "${kind:+, for $kind}"
     elif [[ -x $program ]]; then
         printf 'built, and it is not kept from what\n'
     elif command -v rt >/dev/null; then

@@ -9,6 +9,7 @@ say() {
 leave() {
     [[ -n $copier ]] && kill "$copier" 2>/dev/null
     [[ -n $room ]] && rm -rf "$room"
+    [[ -n $large ]] && rm -rf "$large"
 }
 
 # Makes the folder of this run, in memory where there is a file system in memory.
@@ -44,11 +45,15 @@ is_built() {
     [[ -z $newer ]]
 }
 
-# Goes on with the program that is there, with a word of warning where sources are newer; where there is none, ends.
+# Goes on with the program that is there, with a word of warning where sources are newer; where there is none, or one for
+# another kind of processor, ends.
 need_program() {
     local built=${1:-$program}
     if [[ ! -x $built ]]; then
         say "not built: ./timeline build"
+        exit 125
+    elif ! suits_processor "$built"; then
+        say "built for another kind of processor, $(<"${built%/*}/processor"), than this one: ./timeline build"
         exit 125
     fi
     is_built "$built" || say "the sources are newer than the program: ./timeline build"

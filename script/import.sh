@@ -1,6 +1,6 @@
 # `import` makes a table of a CSV file: it shows and runs the CREATE that the header and the cells want, and loads the
 # file.
-# shellcheck shell=bash disable=SC2154
+# shellcheck shell=bash disable=SC2034,SC2154
 
 # import_file TABLE FILE KEY [yes]
 import_file() {

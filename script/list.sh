@@ -11,21 +11,29 @@ with_times() {
         { print }' "$1"
 }
 
+# Writes the listing of the journal in this folder, or the line that says why there is none: listing_of WHAT
+listing_of() {
+    local status=0
+    "$lister" "$1" || status=$?
+    ((status == 3)) || return "$status"
+    printf '! device\n' || return 4
+    return 5
+}
+
 # Lists what the journal in this folder has: list_journal WHAT [--csv] [--times].
 list_journal() {
     local status=0 what=$1
     need_program "$lister"
     make_room
-    "$lister" "$what" >"$room/listing" || status=$?
-    if ((status == 5)) && is_held; then
-        take_look || return
-        (cd "$look" && "$lister" "$what") >"$room/listing"
-        status=$?
+    listing_of "$what" >"$room/listing" || status=$?
+    # Where a writer was too quick for a reader, which shows as damage, it is read a second time.
+    if ((status == 9)); then
+        status=0
+        listing_of "$what" >"$room/listing" || status=$?
     fi
     if ((status > 0)); then
-        [[ $status -eq 7 && ! -e timeline.tlj ]] && say "no journal is here"
-        cat "$room/listing" || return 4
-        return "$status"
+        tell_look "$status" "$room/listing"
+        return
     fi
     [[ " $* " == *' --times '* ]] && with_times "$room/listing" >"$room/timed" && mv "$room/timed" "$room/listing"
     if [[ " $* " == *' --csv '* ]]; then cat "$room/listing"; else align "$room/listing"; fi || return 4

@@ -2,6 +2,31 @@
 # journal only grows behind its last record, so a line stays true for ever.
 # shellcheck shell=bash disable=SC2034,SC2154
 
+# Copies the journal in this folder into the folder `copy`: into memory where that has the room for it.
+take_copy() {
+    local size left copied=$room/copied
+    size=$(stat -Lc %s timeline.tlj 2>/dev/null)
+    left=$(df -Pk "$room" | awk 'NR == 2 { print $4 }')
+    if ((${size:-0} / 512 >= ${left:-0})); then
+        [[ -n $large ]] || large=$(mktemp -d) || return 125
+        copied=$large/copied
+    fi
+    copy=$copied
+    rm -rf "$copy"
+    mkdir "$copy" && [[ -f timeline.tlj ]] && cp timeline.tlj "$copy/timeline.tlj" 2>/dev/null && chmod u+rw "$copy/timeline.tlj"
+}
+
+# Runs the program over a copy, which it cuts off behind the last gate that is open, and writes the reply of a statement that
+# is refused: it names the version.
+seal_copy() {
+    if ! take_copy; then
+        tell_unread
+        if [[ -e timeline.tlj ]]; then printf '! device\n' && return 5; fi
+        printf '! journal NotInitialised 0\n' && return 7
+    fi
+    (cd "$copy" && "$program" run <<<'seal> S')
+}
+
 # Tries each line of a file: check_seals FILE
 check_seals() {
     local version bytes sum more size tried=0 wrong=0
@@ -29,22 +54,26 @@ check_seals() {
 }
 
 seal() {
-    local bytes version sum status=0
+    local bytes version sum copy='' status=0
     if [[ ${1-} == --check ]]; then
         [[ -f $2 && -r $2 ]] || refuse_words "$2 is no file that can be read"
         check_seals "$2"
         return
     fi
     need_program
-    take_look || return
-    # The program cuts off what an append left behind the last gate; its refusal names the version.
-    version=$(look_program run <<<'seal> S') || status=$?
+    make_room
+    seal_copy >"$room/reply" || status=$?
+    # Where a writer was too quick for the copy, which shows as damage, it is made a second time.
+    if ((status == 9)); then
+        status=0
+        seal_copy >"$room/reply" || status=$?
+    fi
     if ((status > 0)); then
-        printf '%s\n' "$version" || return 4
+        cat "$room/reply" || return 4
         return "$status"
     fi
-    version=${version#seal }
-    bytes=$(($(stat -c %s "$look/timeline.tlj") - 1))
-    sum=$(head -c "$bytes" "$look/timeline.tlj" | sha256sum)
-    printf '%s %d %s\n' "${version%% *}" "$bytes" "${sum%% *}" || return 4
+    read -r _ version _ <"$room/reply"
+    bytes=$(($(stat -c %s "$copy/timeline.tlj") - 1))
+    sum=$(head -c "$bytes" "$copy/timeline.tlj" | sha256sum)
+    printf '%s %d %s\n' "$version" "$bytes" "${sum%% *}" || return 4
 }

@@ -25,12 +25,12 @@ format_replies() {
         END { print "end" }'
 }
 
-# Starts the program over the journal of the folder `folder`: its input is descriptor 7, and 8 says how it answered.
+# Starts the program `served` over the journal in this folder: its input is descriptor 7, and 8 says how it answered.
 start_program() {
     rm -f "$room/in" "$room/out" "$room/done"
     mkfifo "$room/in" "$room/out" "$room/done" || return 125
     trap '' INT PIPE
-    (cd "$folder" && exec "$program" run <"$room/in" >"$room/out") &
+    "$served" run <"$room/in" >"$room/out" &
     runner=$!
     format_replies <"$room/out" >"$room/done" &
     exec 7>"$room/in" 8<"$room/done"
@@ -50,7 +50,8 @@ stop_program() {
 send_statement() {
     local what rest bytes=0 line=1 seen=0 in_block=0
     script=$room/script start=0
-    [[ $statement =~ (\*|JOIN) && -z $has_columns ]] && list_columns >"$room/columns" 2>/dev/null && has_columns=yes
+    [[ $statement =~ (\*|JOIN) && -z $has_columns ]] && list_columns >"$room/columns" 2>/dev/null && has_columns=yes &&
+        cat "$room/made" >>"$room/columns"
     printf 'shell> %s\n' "$statement" | awk -v columns="$room/columns" -f "$root/script/names.awk" >"$room/names"
     cat "$script" >&7 2>/dev/null
     while read -r -u 8 what rest; do
@@ -61,7 +62,11 @@ send_statement() {
                 ;;
             ok)
                 printf '%s ok\n' "$rest"
-                [[ $statement =~ ^[[:blank:]]*CREATE ]] && has_columns=
+                if [[ $statement =~ ^[[:blank:]]*CREATE ]]; then
+                    has_columns=
+                    # A look forgets what is made there, so that no listing has it.
+                    [[ $served == "$looker" ]] && made_columns >>"$room/made"
+                fi
                 return 0
                 ;;
             refused)
@@ -73,6 +78,16 @@ send_statement() {
         esac
     done
     return 1
+}
+
+# The columns of the table that this statement creates, as a listing has them.
+made_columns() {
+    local text=${statement//[(),]/ } words=() is_valid=no at
+    read -r -a words <<<"$text"
+    [[ ${words[-1]} == VALID ]] && is_valid=yes && unset 'words[-1]'
+    for ((at = 3; at + 3 < ${#words[@]}; at += 2)); do
+        printf '%s,%s,%s,no,0,0,0,%s,0\n' "${words[2]}" "${words[at]}" "${words[at + 1]}" "$is_valid"
+    done
 }
 
 # Runs a statement; one that has a block reads it up to a line `\.`, or has it from a file: run_statement [FILE]
@@ -107,7 +122,7 @@ shell_word() {
     case ${words[0]} in
         '\q') return 1 ;;
         '\tables' | '\log')
-            take_look "$folder" && (cd "$look" && "$lister" "${words[0]#?}") >"$room/listing" && align "$room/listing"
+            if listing_of "${words[0]#?}" >"$room/listing"; then align "$room/listing"; else cat "$room/listing"; fi
             ;;
         '\help')
             awk -v word="${words[1]-}" '/^  [A-Z]+ / && !/>/ { shown = word == "" || $1 == word } /^[A-Z]/ { shown = 0 }
@@ -124,22 +139,35 @@ shell_word() {
     return 0
 }
 
+# Starts the program `served` and has it refuse a statement, so that a journal that is not opened shows at once. Where a
+# writer was too quick for a look, which shows as damage, it looks a second time.
+open_shell() {
+    local tries
+    for tries in 1 2; do
+        start_program || return
+        statement=S
+        printf 'shell> S\nGO\n' >"$room/script"
+        send_statement 2>/dev/null && return
+        stop_program
+        [[ $status -eq 9 && $tries -eq 1 && $served == "$looker" ]] || break
+    done
+    [[ $served == "$looker" ]] && tell_unread
+    explain_closing "! $(closing_of "$status")"
+    return "$status"
+}
+
 shell() {
-    local folder=. runner='' status=0 buffer='' line='' asked=() each statement has_columns='' text
-    need_program
+    local served=$program runner='' status=0 buffer='' line='' asked=() each statement has_columns='' text
+    [[ ${1-} == --look ]] && served=$looker
+    need_program "$served"
     make_room
-    if [[ ${1-} == --look ]]; then
-        take_look || return
-        mkdir "$room/shell" && mv "$look/timeline.tlj" "$room/shell" && folder=$room/shell
-    elif is_held; then
+    : >"$room/made"
+    if [[ $served == "$program" ]] && is_held; then
         say "another program has this journal: ./timeline shell --look looks at it as it is now"
         printf '! device\n' || return 4
         return 5
     fi
-    start_program || return
-    statement=S
-    printf 'shell> S\nGO\n' >"$room/script"
-    if ! send_statement 2>/dev/null; then stop_program; explain_closing "! $(closing_of "$status")"; return "$status"; fi
+    open_shell || return
     [[ -t 0 ]] && say 'statements end with ;  \help lists them, \q ends' && bind 'set convert-meta off' 2>/dev/null
     set -o history
     while :; do
@@ -165,7 +193,7 @@ shell() {
 # The closing line of a status at which the journal was not opened.
 closing_of() {
     case $1 in
-        7) echo "journal NotInitialised $(stat -Lc %s "$folder/timeline.tlj" 2>/dev/null || echo 0)" ;;
+        7) echo "journal NotInitialised $(stat -Lc %s timeline.tlj 2>/dev/null || echo 0)" ;;
         9) echo "journal Damaged 0" ;;
         *) echo device ;;
     esac

@@ -2,21 +2,17 @@
 # and the others left. Both sides are brought into one form by the program itself, sorted and compared.
 # shellcheck shell=bash disable=SC2154
 
-# Writes the rows and the keys of a table of the journal in a folder, each sorted: rows_of FOLDER TABLE KEY NAME
+# Writes the rows and the keys of a table, each sorted, by replies to two queries over one version: rows_of NAME REPLIES
 rows_of() {
     local what rows=''
-    for what in "*" "$3"; do
-        (cd "$1" && printf 'sync> SELECT %s FROM %s\n' "$what" "$2" | "$program" run) >"$room/reply" || return
-        read -r _ _ what rows <"$room/reply"
-        [[ $what == rows ]] || { cat "$room/reply" >&2; return "$refused_status"; }
-        tail -n +2 "$room/reply" | sort >"$room/$4.${rows_form:-rows}"
-        if (($(wc -l <"$room/$4.${rows_form:-rows}") != rows)) || grep -qx '\\\.' "$room/$4.${rows_form:-rows}"; then
-            say "a text has a line break, or is \\. alone: sync takes neither"
-            return "$refused_status"
-        fi
-        rows_form=keys
-    done
-    rows_form=
+    read -r _ _ what rows <"$2"
+    [[ $what == rows ]] || { cat "$2" >&2; return "$refused_status"; }
+    tail -n +2 "$2" | head -n "$rows" | sort >"$room/$1.rows"
+    tail -n +$((rows + 3)) "$2" | sort >"$room/$1.keys"
+    if (($(wc -l <"$2") != 2 * rows + 2)) || grep -qx '\\\.' "$room/$1.rows" "$room/$1.keys"; then
+        say "a text has a line break, or is \\. alone: sync takes neither"
+        return "$refused_status"
+    fi
 }
 
 # Makes the table anew in a folder that is forgotten, of the file.
@@ -45,8 +41,13 @@ sync_table() {
     open_input "$2"
     need_program
     need_program "$lister"
-    take_look || return
-    list_columns >"$room/columns" || { say "the journal cannot be listed" && return 125; }
+    need_program "$looker"
+    make_room
+    listing_of tables >"$room/columns" || status=$?
+    if ((status > 0)); then
+        tell_look "$status" "$room/columns"
+        return
+    fi
     columns=$(awk -F, -v t="$table" '$1 == t && NR > 1 { printf "%s%s %s", (n++ ? ", " : ""), $2, $3 }' "$room/columns")
     names=$(awk -F, -v t="$table" '$1 == t && NR > 1 { printf "%s%s", (n++ ? "," : ""), $2 }' "$room/columns")
     key=$(awk -F, -v t="$table" '$1 == t && NR > 1 && $4 == "yes" { print $2 }' "$room/columns")
@@ -56,8 +57,9 @@ sync_table() {
         return "$refused_status"
     fi
     take_file || return
-    rows_of "$look" "$table" "$key" old || return
-    rows_of "$room/new" "$table" "$key" new || return
+    printf 'sync> SELECT * FROM %s\nsync> SELECT %s FROM %s\n' "$table" "$key" "$table" >"$room/both"
+    (cd "$room/new" && "$program" run) <"$room/both" >"$room/reply" && rows_of new "$room/reply" || return
+    look_at "$room/both" "$room/reply" && rows_of old "$room/reply" || return
     comm -13 "$room/old.rows" "$room/new.rows" >"$room/put"
     if [[ ${3-} == --keep ]]; then : >"$room/removed"; else comm -23 "$room/old.keys" "$room/new.keys" >"$room/removed"; fi
     put=$(wc -l <"$room/put") removed=$(wc -l <"$room/removed") same=$(comm -12 "$room/old.rows" "$room/new.rows" | wc -l)

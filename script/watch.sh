@@ -1,6 +1,6 @@
 # What stands beside a run: it looks at the replies as they come, says which statements were refused and why
 # (explain.awk), and gives the status where the program's own says nothing of that.
-# shellcheck shell=bash disable=SC2154
+# shellcheck shell=bash disable=SC2034,SC2154
 
 # awk that looks at each line as it comes; a NUL byte, at which mawk ends a line there, is handed on as another byte.
 live_awk() {

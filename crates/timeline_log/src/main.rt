@@ -1,12 +1,11 @@
-//! Lists what the journal of this folder has. It opens the file for reading alone, under the lock
-//! that readers share, and hands it to the call `list`, which does the rest.
+//! Lists what the journal of this folder has. It opens the file for reading alone, with no lock,
+//! and hands it to the call `list`, which does the rest.
 #![tactic(auto)]
 
-use std::fs;
 use std::process::ExitCode;
 use std::rt::Env;
-use tl_device::{RealSink, RealSource};
-use tl_log::{list, listing_of};
+use tl_device::RealSink;
+use tl_log::{FileSource, list, listing_of};
 use tl_program::{EnvWords, Status, given_words, words_of};
 use tl_types::NoMemory;
 
@@ -27,13 +26,7 @@ fn main(rt: HostRuntime) -> ExitCode {
     let Some(listing) = listing_of(&words) else {
         return ExitCode::from(Status::Usage.number());
     };
-    let Ok(file) = fs::open(&rt, JOURNAL) else {
-        return ExitCode::from(Status::NotInitialised { len: 0 }.number());
-    };
-    if file.try_lock_shared().is_err() {
-        return ExitCode::from(Status::DiskFault { faults: 1 }.number());
-    }
-    let mut source = RealSource::new(file);
+    let mut source = FileSource::new(&rt, JOURNAL);
     let mut sink = RealSink::new(rt.stdout());
     ExitCode::from(list(alloc, listing, &mut source, &mut sink).number())
 }

@@ -3,6 +3,7 @@
 #![tactic(auto)]
 
 mod commits;
+mod files;
 mod lines;
 mod listings;
 mod reading;
@@ -11,7 +12,9 @@ mod tables;
 mod top;
 
 pub use commits::log_bytes;
+pub use files::FileSource;
 pub use listings::{Listing, listing_of};
+pub use reading::{ReadFault, read_all};
 pub use reports::{ListFault, list_image};
 pub use tables::tables_bytes;
 pub use top::{ListStatus, list};

@@ -11,7 +11,7 @@ use tl_types::NoMemory;
 const PIECE: usize = 65536;
 
 /// Why a source is not read to its end.
-pub(crate) enum ReadFault {
+pub enum ReadFault {
     /// It failed, with this count of faults.
     Source {
         /// Its count of faults.
@@ -54,9 +54,10 @@ fn take_more<S: Source>(
     }
 }
 
-/// All bytes that a source has left. `Source`: it failed; its count of faults rose in this call.
-/// `NoMemory`: memory ran out.
-pub(crate) fn read_all<S: Source>(alloc: Global, source: &mut S) -> Result<Vec<u8>, ReadFault>
+/// All bytes that a source has left; it is read to its end. `Source`: it failed; `faults` is its
+/// count of faults, which rose in this call. `NoMemory`: memory ran out. After either some first
+/// bytes of the source may be taken.
+pub fn read_all<S: Source>(alloc: Global, source: &mut S) -> Result<Vec<u8>, ReadFault>
     ensures whole { (b : List ℕ) → S.left source.old ≡ Some b →
         IfOk result (λ bytes. bytes.items ≡ b) }
     ensures sure { OnOk result (S.faults source.new ≡ S.faults source.old) }

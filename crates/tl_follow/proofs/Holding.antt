@@ -78,9 +78,6 @@ commits_added start cs = commits_of-append start (map commit_entry cs) ∙ ap (�
 pub one_commit_more : (entries : List Entry) (c : Commit) → commits_of (entries ++ commit_entry c ∷ []) ≡ commits_of entries ++ c ∷ []
 one_commit_more entries c = commits_of-append entries (commit_entry c ∷ [])
 
-pub still_whole : (entries : List Entry) (c : Commit) → has_break entries ≡ false → has_break (entries ++ commit_entry c ∷ []) ≡ false
-still_whole entries c w = break_with_commit entries c ∙ w
-
 pub prefix_of_added : (start entries : List Entry) → AddsCommits start entries → IsPrefixOf (commits_of start) (commits_of entries)
 prefix_of_added start entries a = (a.0, ap commits_of a.1 ∙ commits_added start a.0)
 

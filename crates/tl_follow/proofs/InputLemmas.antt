@@ -9,6 +9,7 @@ use Rattle.tl_record.specs.Spelling.{number, spelling}
 use Rattle.tl_record.proofs.RecordsRead.{no_prefix}
 use Rattle.tl_follow.specs.declared.inputs.TheConstants.{INPUT_LIMIT}
 use Rattle.tl_follow.specs.declared.packets.Packet.{Packet}
+use Rattle.tl_follow.specs.declared.inputs.Passed.{Passed}
 use Rattle.tl_follow.specs.declared.reading.ReadPacket.{ReadPacket}
 use Rattle.tl_follow.specs.declared.faults.PacketFault.{PacketFault}
 use Rattle.tl_follow.specs.declared.faults.PacketFault.TheVariants as fault
@@ -17,7 +18,7 @@ use Rattle.tl_follow.specs.declared.faults.FollowFault.TheVariants as follow_fau
 use Rattle.tl_follow.specs.Packets.{packet_spelling, IsPacket, IsNoPacket, BeginsWithPacket, IsBadAt}
 use Rattle.tl_follow.specs.Following.{first_of, followed, IsStuck}
 use Rattle.tl_follow.specs.Calls.{FollowsAll, IsEndOfAll}
-use Rattle.tl_follow.specs.Inputs.{input_of, IsInput, place_of, stuck_at, input_fault, IsCutAt, IsFirstPacket, IsPlaceOf, IsStuckPlace, IsStuckIn, IsFaultOf, FollowsInput, IsInputFault, packet_found}
+use Rattle.tl_follow.specs.Inputs.{input_of, IsInput, place_of, stuck_at, input_fault, IsCutAt, IsPassed, IsPlaceOf, IsStuckPlace, IsStuckIn, IsFaultOf, FollowsInput, IsInputFault, passed_by}
 use Rattle.tl_follow.proofs.Numbers.{one_number}
 use Rattle.tl_follow.proofs.PacketsRead.{version_small}
 
@@ -83,9 +84,6 @@ pub record IsReadTo (bytes : List ℕ) (packets : List Packet) (at : ℕ) : Type
   pub packets_are : AllByRecursion IsPacket packets
   pub front : bytes ≡ input_of packets ++ drop at bytes
 
-pub read_none : (bytes : List ℕ) → IsReadTo bytes [] 0
-read_none bytes = record { within = omega arith; packets_are = tt; front = refl }
-
 pub read_on : (bytes : List ℕ) (packets new : List Packet) (at end : ℕ) (p : Packet) → IsReadTo bytes packets at → new ≡ packets ++ p ∷ [] → (rest : List ℕ) × BeginsWithPacket (drop at bytes) p rest → end ≡ at + length (packet_spelling p) → end ≤ length bytes → IsReadTo bytes new end
 read_on bytes packets new at end p r n b e w =
     let behind = behind_packet bytes at end p b.0 b.1.1 e in
@@ -95,24 +93,6 @@ read_on bytes packets new at end p r n b e w =
     ∙ ap (λ l. l ++ drop end bytes) (sym (input_more packets p)) in
     subst (λ ps. IsReadTo bytes ps end) (sym n)
     (record { within = w; packets_are = all_more packets p r.packets_are b.1.0; front = front })
-
-pub read_nearer : (bytes : List ℕ) (at end : ℕ) (p : Packet) → at ≤ length bytes → end ≡ at + length (packet_spelling p) → end ≤ length bytes → length bytes - end < length bytes - at
-read_nearer bytes at end p w e n = let s = some_bytes p in omega (arith, s, w, e, n)
-
-pub read_whole : (bytes : List ℕ) (packets : List Packet) (at : ℕ) → IsReadTo bytes packets at → length bytes ≤ at → IsInput bytes packets []
-read_whole bytes packets at r l =
-    (r.packets_are, r.front ∙ ap (λ d. input_of packets ++ d) (none_past at bytes l), no_packet_in_none)
-
-pub read_cut : (bytes : List ℕ) (packets : List Packet) (at : ℕ) (e : PacketFault) → IsReadTo bytes packets at → at < length bytes → IsBadAt at (drop at bytes) e → IsCutAt bytes e
-read_cut bytes packets at (fault.BadPacket place) r l h =
-    let k = length-drop at bytes in
-    let some : nat_lt 0 (length (drop at bytes)) ≡ true = grind (arith, nat_tests) in
-    let there : at ≡ length bytes - length (drop at bytes) = omega (arith, k, l) in
-    (packets, drop at bytes, (r.packets_are, r.front, h.1), some, h.0 ∙ there)
-read_cut bytes packets at fault.NoMemory r l h = tt
-
-pub cut_from : {X : Type 0} (r : Result X PacketFault) (e : PacketFault) (bytes : List ℕ) (packets : List Packet) (at : ℕ) → r ≡ Err e → IsReadTo bytes packets at → at < length bytes → IsBadAt at (drop at bytes) e → IfErr r (IsCutAt bytes)
-cut_from r e bytes packets at is to l h = rw is (read_cut bytes packets at e to l h)
 
 -- LOOKING FOR A VERSION
 
@@ -133,40 +113,35 @@ pub record IsLookedTo (bytes : List ℕ) (version at : ℕ) : Type 0 where
       → (after : List Packet) × IsInput (drop at bytes) after rest
       × (place_of version packets ≡ option_map (λ n. at + n) (place_of version after))
 
-from_start : (o : Option ℕ) → o ≡ option_map (λ n. 0 + n) o
-from_start None = refl
-from_start (Some n) = let e : n ≡ 0 + n = omega arith in ap (λ k. Some k) e
-
 further : (o : Option ℕ) (at len end : ℕ) → end ≡ at + len → option_map (λ n. at + n) (option_map (λ n. len + n) o) ≡ option_map (λ n. end + n) o
 further None at len end e = refl
 further (Some n) at len end e = let k : at + (len + n) ≡ end + n = omega (arith, e) in ap (λ m. Some m) k
 
-pub look_none : (bytes : List ℕ) (version : ℕ) → IsLookedTo bytes version 0
-look_none bytes version = record {
-  within = omega arith;
-  ahead = λ packets rest i. (packets, i, from_start (place_of version packets));
-}
+pub look_on : (bytes : List ℕ) (version at : ℕ) (passed : Passed) → IsLookedTo bytes version at → (passed.version ≡ version → ⊥) → IsPassed bytes at (Some passed) → IsLookedTo bytes version passed.end
+look_on bytes version at passed l t b =
+    let same = b.3 in
+    let other : (b.0.version == version) ≡ false = grind (arith, nat_tests) in
+    record {
+      within = b.5;
+      ahead = λ packets rest i.
+          let o = l.ahead packets rest i in
+          let f = first_packet (drop at bytes) rest o.0 b.0 b.1 o.1 b.2 in
+          let behind = behind_packet bytes at passed.end b.0 b.1 b.2.1 b.4 in
+          let here : place_of version (b.0 ∷ f.0) ≡ option_map (λ n. length (packet_spelling b.0) + n) (place_of version f.0) = rw other refl in (
+            f.0,
+            subst (λ d. IsInput d f.0 rest) (sym behind) f.2,
+            o.2 ∙ ap (λ ps. option_map (λ n. at + n) (place_of version ps)) f.1 ∙ ap (option_map (λ n. at + n)) here
+                ∙ further (place_of version f.0) at (length (packet_spelling b.0)) passed.end b.4,
+          );
+    }
 
-pub look_on : (bytes : List ℕ) (version at end : ℕ) (p : Packet) → IsLookedTo bytes version at → (p.version == version) ≡ false → (rest : List ℕ) × BeginsWithPacket (drop at bytes) p rest × (end ≡ at + length (packet_spelling p)) × (end ≤ length bytes) → IsLookedTo bytes version end
-look_on bytes version at end p l t b = record {
-  within = b.3;
-  ahead = λ packets rest i.
-      let o = l.ahead packets rest i in
-      let f = first_packet (drop at bytes) rest o.0 p b.0 o.1 b.1 in
-      let behind = behind_packet bytes at end p b.0 b.1.1 b.2 in
-      let here : place_of version (p ∷ f.0) ≡ option_map (λ n. length (packet_spelling p) + n) (place_of version f.0) = rw t refl in (
-        f.0,
-        subst (λ d. IsInput d f.0 rest) (sym behind) f.2,
-        o.2 ∙ ap (λ ps. option_map (λ n. at + n) (place_of version ps)) f.1 ∙ ap (option_map (λ n. at + n)) here
-            ∙ further (place_of version f.0) at (length (packet_spelling p)) end b.2,
-      );
-}
-
-pub look_found : (bytes : List ℕ) (version at : ℕ) (p : Packet) → IsLookedTo bytes version at → (p.version == version) ≡ true → (rest : List ℕ) × BeginsWithPacket (drop at bytes) p rest → IsPlaceOf bytes version (Some at)
-look_found bytes version at p l t b = λ packets rest i.
+pub look_found : (bytes : List ℕ) (version at : ℕ) (passed : Passed) → IsLookedTo bytes version at → passed.version ≡ version → IsPassed bytes at (Some passed) → IsPlaceOf bytes version (Some at)
+look_found bytes version at passed l t b = λ packets rest i.
+    let same = b.3 in
+    let this : (b.0.version == version) ≡ true = grind (arith, nat_tests) in
     let o = l.ahead packets rest i in
-    let f = first_packet (drop at bytes) rest o.0 p b.0 o.1 b.1 in
-    let here : place_of version (p ∷ f.0) ≡ Some 0 = rw t refl in
+    let f = first_packet (drop at bytes) rest o.0 b.0 b.1 o.1 b.2 in
+    let here : place_of version (b.0 ∷ f.0) ≡ Some 0 = rw this refl in
     let zero_more : at ≡ at + 0 = omega arith in
     sym (o.2 ∙ ap (λ ps. option_map (λ n. at + n) (place_of version ps)) f.1 ∙ ap (option_map (λ n. at + n)) here ∙ ap (λ k. Some k) (sym zero_more))
 
@@ -177,10 +152,10 @@ look_missed bytes version at l n = λ packets rest i.
     sym (o.2 ∙ ap (λ ps. option_map (λ n. at + n) (place_of version ps)) e)
 
 -- what is read at an offset
-pub found_first : (bytes : List ℕ) (at : ℕ) (r : Result ReadPacket PacketFault) → IfOk r (λ x. (rest : List ℕ) × BeginsWithPacket (drop at bytes) x.packet rest) → IfOk r (λ x. x.end ≡ at + length (packet_spelling x.packet)) → IfOk r (λ x. x.end ≤ length bytes) → IfErr r (IsBadAt at (drop at bytes)) → IfOk (packet_found r) (IsFirstPacket bytes at)
-found_first bytes at (Ok x) ok end within bad = (ok.0, ok.1, end, within)
-found_first bytes at (Err (fault.BadPacket place)) ok end within bad = bad.1
-found_first bytes at (Err fault.NoMemory) ok end within bad = tt
+pub passed_at : (bytes : List ℕ) (at : ℕ) (r : Result ReadPacket PacketFault) → IfOk r (λ x. (rest : List ℕ) × BeginsWithPacket (drop at bytes) x.packet rest) → IfOk r (λ x. x.end ≡ at + length (packet_spelling x.packet)) → IfOk r (λ x. x.end ≤ length bytes) → IfErr r (IsBadAt at (drop at bytes)) → IfOk (passed_by r) (IsPassed bytes at)
+passed_at bytes at (Ok x) ok end within bad = (x.packet, ok.0, ok.1, refl, end, within)
+passed_at bytes at (Err (fault.BadPacket place)) ok end within bad = bad.1
+passed_at bytes at (Err fault.NoMemory) ok end within bad = tt
 
 -- FAULTS
 
@@ -207,24 +182,8 @@ place_some version (p ∷ packets) c e = by_test (p.version == version) refl (pl
       let r : first_of version (p ∷ packets) ≡ first_of version packets = rw t refl in
       rw t (mapped (place_of version packets) (h (sym r ∙ e)))
 
--- a version that is there has a place
-pub not_missing : (bytes : List ℕ) (version : ℕ) (o : Option ℕ) → (packets : List Packet) × IsInput bytes packets [] × IsSome (place_of version packets) → IsPlaceOf bytes version o → o ≡ None → ⊥
-not_missing bytes version o h is none =
-    let e : is_some (place_of version h.0) ≡ false = ap is_some (sym (is h.0 [] h.1) ∙ none) in
-    absurd (let s = sym e ∙ h.2 in cc)
-
 not_long : (bytes : List ℕ) → length bytes ≤ INPUT_LIMIT → nat_lt INPUT_LIMIT (length bytes) ≡ false
 not_long bytes h = grind (arith, nat_tests)
-
-pub cut_is_fault : (limits : Limits) (start : List Commit) (bytes : List ℕ) (e : PacketFault) → length bytes ≤ INPUT_LIMIT → IsCutAt bytes e → IsInputFault limits start bytes e
-cut_is_fault limits start bytes (fault.BadPacket at) short h =
-    let long = not_long bytes short in
-    let is : input_fault limits start bytes h.0 h.1 ≡ Some (length bytes - length h.1) = rw (long, h.3) refl in
-    (h.0, h.1, h.2, is ∙ ap (λ n. Some n) (sym h.4))
-cut_is_fault limits start bytes fault.NoMemory short h = tt
-
-pub fault_from_cut : {X : Type 0} (r : Result X PacketFault) (e : PacketFault) (limits : Limits) (start : List Commit) (bytes : List ℕ) → r ≡ Err e → length bytes ≤ INPUT_LIMIT → IsCutAt bytes e → IfErr r (IsInputFault limits start bytes)
-fault_from_cut r e limits start bytes is short h = rw is (cut_is_fault limits start bytes e short h)
 
 whole_fault : (limits : Limits) (start : List Commit) (bytes : List ℕ) (packets : List Packet) → length bytes ≤ INPUT_LIMIT → input_fault limits start bytes packets [] ≡ stuck_at limits start packets
 whole_fault limits start bytes packets short = let long = not_long bytes short in rw long refl
@@ -239,11 +198,3 @@ pub stuck_in : (limits : Limits) (start : List Commit) (bytes : List ℕ) (packe
 stuck_in limits start bytes packets (follow_fault.Unfit version) i h =
     (packets, i, subst (λ v. IsSome (place_of v packets)) (sym h.0) (place_some (length (followed limits start packets) + 1) packets h.1.0 h.1.1))
 stuck_in limits start bytes packets follow_fault.NoMemory i h = tt
-
-pub stuck_fault_is : (limits : Limits) (start : List Commit) (bytes : List ℕ) (packets : List Packet) (e : FollowFault) (r : PacketFault) → length bytes ≤ INPUT_LIMIT → IsInput bytes packets [] → IsEndOfAll limits start packets e → IsFaultOf bytes e r → IsInputFault limits start bytes r
-stuck_fault_is limits start bytes packets (follow_fault.Unfit version) (fault.BadPacket at) short i h is =
-    let here : place_of version packets ≡ Some at = sym (is packets [] i) in
-    (packets, [], i, whole_fault limits start bytes packets short ∙ ap (λ v. place_of v packets) (sym h.0) ∙ here)
-stuck_fault_is limits start bytes packets (follow_fault.Unfit version) fault.NoMemory short i h is = tt
-stuck_fault_is limits start bytes packets follow_fault.NoMemory (fault.BadPacket at) short i h is = absurd (cc)
-stuck_fault_is limits start bytes packets follow_fault.NoMemory fault.NoMemory short i h is = tt

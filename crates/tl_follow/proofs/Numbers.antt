@@ -25,7 +25,3 @@ one_number v w r s f g e =
     let p = same_value {X = ℕ × List ℕ} (v, r) (w, s)
     (sym (any_4_reads.again v r f) ∙ (ap any_4 e ∙ any_4_reads.again w s g)) in
     (ap (λ z. z.0) p, ap (λ z. z.1) p)
-
--- fewer bytes are no number
-pub too_few : (v : ℕ) (bytes rest : List ℕ) → length bytes < 4 → bytes ≡ number v ++ rest → ⊥
-too_few v bytes rest few e = omega (arith, few, ap length e, length-append (number v) rest)

@@ -13,10 +13,6 @@ use Rattle.tl_follow.proofs.Numbers.{one_number}
 pub version_small : (v : ℕ) → IsVersion v → v < 2 ^ 32
 version_small v h = let b = h.1 in omega (arith, b)
 
--- the bytes begin with no version
-pub no_version : (at : ℕ) (bytes : List ℕ) → ((v : ℕ) (rest : List ℕ) → IsVersion v → bytes ≢ number v ++ rest) → IsNoPacket bytes
-no_version at bytes none p rest b = none p.version (spelling p.commit ++ rest) b.0.0 (b.1 ∙ append_assoc (number p.version) (spelling p.commit) rest)
-
 module _ (at : ℕ) (bytes : List ℕ) (version : ℕ) (range : IsVersion version) (front : drop at bytes ≡ number version ++ drop 4 (drop at bytes)) where
   behind : drop 4 (drop at bytes) ≡ drop (at + 4) bytes
   behind = drop-drop 4 at bytes
@@ -35,18 +31,6 @@ module _ (at : ℕ) (bytes : List ℕ) (version : ℕ) (range : IsVersion versio
   read_ok (Err (record_fault.Short place)) h = tt
   read_ok (Err (record_fault.Bad place)) h = tt
   read_ok (Err record_fault.NoMemory) h = tt
-
-  pub read_end : (r : Result Decoded RecordFault) → IfOk r (λ d. d.end ≡ at + 4 + length (spelling d.commit)) → IfOk (packet_read at version r) (λ x. x.end ≡ at + length (packet_spelling x.packet))
-  read_end (Ok d) h = let k = length-append (number version) (spelling d.commit) in h ∙ (let e : at + 4 + length (spelling d.commit) ≡ at + length (number version ++ spelling d.commit) = omega (arith, k) in e)
-  read_end (Err (record_fault.Short place)) h = tt
-  read_end (Err (record_fault.Bad place)) h = tt
-  read_end (Err record_fault.NoMemory) h = tt
-
-  pub read_within : (r : Result Decoded RecordFault) (n : ℕ) → IfOk r (λ d. d.end ≤ n) → IfOk (packet_read at version r) (λ x. x.end ≤ n)
-  read_within (Ok d) n h = h
-  read_within (Err (record_fault.Short place)) n h = tt
-  read_within (Err (record_fault.Bad place)) n h = tt
-  read_within (Err record_fault.NoMemory) n h = tt
 
   found_of : (r : Result Decoded RecordFault) (p : Packet) → p.version ≡ version → FindsUnlessMemory p.commit r → FindsPacket p (packet_read at version r)
   found_of (Ok d) p v h = ap₂ (λ (w : ℕ) (c : Commit). record { version = w; commit = c }) (sym v) h

@@ -1,5 +1,5 @@
 -- What is shipped of a history, version by version, and where it leads.
-use Rattle.std.proofs.Common.{◌≡◌, ℕ, zero, suc, ◌+◌, ◌-◌, ◌<◌, ◌≤◌, Bool, true, false, ◌&&◌, cond, nat_le, ◌==◌, List, [], ◌∷◌, ◌++◌, length, Option, Some, None, IsSome, is_some, slice_get, refl, sym, ap, ◌∙◌, subst, arith, append_assoc, append-nil, length-append}
+use Rattle.std.proofs.Common.{◌≡◌, ℕ, zero, suc, ◌+◌, ◌-◌, ◌<◌, ◌≤◌, Bool, true, false, ◌&&◌, cond, min, nat_le, ◌==◌, List, [], ◌∷◌, ◌++◌, length, Option, Some, None, IsSome, is_some, slice_get, refl, sym, ap, ◌∙◌, subst, arith, append_assoc, append-nil, length-append}
 use Rattle.std.specs.List.{AllByRecursion, filter}
 use Rattle.std.proofs.lemmas.Grind.{flat_map-append}
 use Rattle.std.proofs.lemmas.Bool.Decides.{nat_tests}
@@ -11,7 +11,7 @@ use Rattle.tl_follow.specs.Packets.{packet_spelling, IsPacket}
 use Rattle.tl_follow.specs.Following.{IsPrefixOf, first_of, followed}
 use Rattle.tl_follow.specs.Leading.{IsOf, AreFrom}
 use Rattle.tl_follow.specs.Inputs.{input_of, IsInput}
-use Rattle.tl_follow.specs.Shipping.{packet_of, packets_from, packets_between, shipment}
+use Rattle.tl_follow.specs.Shipping.{packet_of, packets_from, packets_between, shipment, PutsVersion}
 use Rattle.tl_follow.proofs.Growing.{prefix_length, grown_prefix}
 use Rattle.tl_follow.proofs.Led.{is_led, get_past}
 use Rattle.tl_follow.proofs.InputLemmas.{no_packet_in_none}
@@ -88,15 +88,25 @@ shipment_end commits from to h =
     ap input_of (none_past from to (length commits) 1 commits e h)
 
 -- one packet more, behind those before it
-pub shipped_on : (commits : List Commit) (c : Commit) (from before : ℕ) (out new : List ℕ) → out ≡ shipment from before commits → Some c ≡ slice_get commits (before + 1 - 1) → from ≤ before + 1 → new ≡ out ++ packet_spelling (packet_of (before + 1) c) → new ≡ shipment from (before + 1) commits
-shipped_on commits c from before out new is g f n =
+pub shipped_on : (commits : List Commit) (from before : ℕ) (out new : List ℕ) → out ≡ shipment from before commits → PutsVersion commits (before + 1) out new → from ≤ before + 1 → new ≡ shipment from (before + 1) commits
+shipped_on commits from before out new is p f =
     let e : before + 1 - 1 ≡ before = omega arith in
-    let g' : slice_get commits before ≡ Some c = ap (slice_get commits) (sym e) ∙ sym g in
-    n ∙ ap (λ l. l ++ packet_spelling (packet_of (before + 1) c)) is ∙ sym (shipment_more commits c from before f g')
+    let g : slice_get commits before ≡ Some p.0 = ap (slice_get commits) (sym e) ∙ p.1 in
+    p.2 ∙ ap (λ l. l ++ packet_spelling (packet_of (before + 1) p.0)) is ∙ sym (shipment_more commits p.0 from before f g)
 
 -- up to the last of them
-pub shipped_all : (commits : List Commit) (from to until : ℕ) (out : List ℕ) → (until ≡ to → ⊥) → out ≡ shipment from until commits → until ≡ length commits → length commits ≤ to → out ≡ shipment from to commits
-shipped_all commits from to until out n is u l = is ∙ ap (λ t. shipment from t commits) u ∙ sym (shipment_end commits from to l)
+pub shipped_until : (commits : List Commit) (from to until : ℕ) → until ≡ min to (length commits) → shipment from until commits ≡ shipment from to commits
+shipped_until commits from to until u = by_test (nat_le to (length commits)) refl where
+  by_test : (t : Bool) → nat_le to (length commits) ≡ t → shipment from until commits ≡ shipment from to commits
+  by_test true t =
+      let l : to ≤ length commits = grind (arith, nat_tests) in
+      let e : until ≡ to = omega (arith, u, l) in
+      ap (λ k. shipment from k commits) e
+  by_test false t =
+      let l : length commits < to = grind (arith, nat_tests) in
+      let e : until ≡ length commits = omega (arith, u, l) in
+      let past : length commits ≤ to = omega (arith, l) in
+      ap (λ k. shipment from k commits) e ∙ sym (shipment_end commits from to past)
 
 -- WHERE THEY LEAD
 

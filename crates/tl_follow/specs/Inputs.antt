@@ -6,6 +6,7 @@ use Rattle.tl_types.specs.declared.commits.Commit.{Commit}
 use Rattle.tl_types.specs.declared.limits.Limits.{Limits}
 use Rattle.tl_follow.specs.declared.inputs.TheConstants.{INPUT_LIMIT}
 use Rattle.tl_follow.specs.declared.packets.Packet.{Packet}
+use Rattle.tl_follow.specs.declared.inputs.Passed.{Passed}
 use Rattle.tl_follow.specs.declared.reading.ReadPacket.{ReadPacket}
 use Rattle.tl_follow.specs.declared.faults.FollowFault.{FollowFault}
 use Rattle.tl_follow.specs.declared.faults.FollowFault.TheVariants as follow_fault
@@ -51,18 +52,20 @@ IsCutAt bytes (fault.BadPacket at) =
     × (nat_lt 0 (length rest) ≡ true) × (at ≡ length bytes - length rest)
 IsCutAt bytes fault.NoMemory = Unit {0}
 
--- the packet that begins at an offset, where one begins there, and where it ends
-abbrev pub IsFirstPacket : List ℕ → ℕ → Option ReadPacket → Type 0
-IsFirstPacket bytes at None = IsNoPacket (drop at bytes)
-IsFirstPacket bytes at (Some r) =
-    (rest : List ℕ) × BeginsWithPacket (drop at bytes) r.packet rest
-    × (r.end ≡ at + length (packet_spelling r.packet)) × (r.end ≤ length bytes)
+-- the version and the end are those of the packet that begins at an offset; nothing is passed
+-- where none begins there
+abbrev pub IsPassed : List ℕ → ℕ → Option Passed → Type 0
+IsPassed bytes at None = IsNoPacket (drop at bytes)
+IsPassed bytes at (Some passed) =
+    (p : Packet) × (rest : List ℕ) × BeginsWithPacket (drop at bytes) p rest
+    × (p.version ≡ passed.version) × (passed.end ≡ at + length (packet_spelling p))
+    × (passed.end ≤ length bytes)
 
--- what was read at an offset, where a packet begins there
-abbrev pub packet_found : Result ReadPacket PacketFault → Result (Option ReadPacket) AllocError
-packet_found (Ok r) = Ok (Some r)
-packet_found (Err (fault.BadPacket at)) = Ok None
-packet_found (Err fault.NoMemory) = Err alloc_error
+-- what is passed over, by what was read
+abbrev pub passed_by : Result ReadPacket PacketFault → Result (Option Passed) AllocError
+passed_by (Ok r) = Ok (Some (record { version = r.packet.version; end = r.end }))
+passed_by (Err (fault.BadPacket at)) = Ok None
+passed_by (Err fault.NoMemory) = Err alloc_error
 
 -- the offset is where the first packet of the version begins, in each way to read the bytes as
 -- packets; there is none where no packet is of the version

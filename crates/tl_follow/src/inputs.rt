@@ -5,7 +5,7 @@ ghost use Rattle.tl_types.specs.Entries.{commits_of, has_break};
 ghost use Rattle.tl_types.specs.Limits.{standard_limits};
 ghost use Rattle.tl_batch.specs.Made.{AreWithin};
 ghost use Rattle.tl_follow.specs.declared.packets.Packet.{Packet as PacketValue};
-ghost use Rattle.tl_follow.specs.Inputs.{IsInput, IsCutAt, place_of, packet_found, IsFirstPacket, IsPlaceOf, IsStuckPlace, IsStuckIn, IsFaultOf, FollowsInput, IsInputFault};
+ghost use Rattle.tl_follow.specs.Inputs.{IsInput, IsCutAt, place_of, passed_by, IsPassed, IsPlaceOf, IsStuckPlace, IsStuckIn, IsFaultOf, FollowsInput, IsInputFault};
 
 use crate::all_packets::follow_all;
 use crate::faults::{FollowFault, PacketFault};
@@ -35,23 +35,33 @@ pub fn read_all(alloc: Global, bytes: &[u8]) -> Result<Seq<Packet>, PacketFault>
     Ok(packets)
 }
 
-// What was read at an offset, where a packet begins there.
-fn packet_found(read: Result<ReadPacket, PacketFault>) -> Result<Option<ReadPacket>, NoMemory>
-    ensures { result ≡ packet_found read }
+// The version of a packet that was read, and where it ends.
+#[derive(Clone, Copy)]
+struct Passed {
+    version: u32,
+    end: usize,
+}
+
+// What is passed over at an offset, by what was read there: nothing where no packet begins.
+fn passed_by(read: Result<ReadPacket, PacketFault>) -> Result<Option<Passed>, NoMemory>
+    ensures { result ≡ passed_by read }
 {
     match read {
-        Ok(read) => Ok(Some(read)),
+        Ok(ReadPacket { packet, end }) => Ok(Some(Passed {
+            version: packet.version,
+            end,
+        })),
         Err(PacketFault::BadPacket { .. }) => Ok(None),
         Err(PacketFault::NoMemory) => Err(AllocError),
     }
 }
 
 // The packet that begins at an offset, if one begins there.
-fn packet_at(alloc: Global, bytes: &[u8], at: usize) -> Result<Option<ReadPacket>, NoMemory>
+fn packet_at(alloc: Global, bytes: &[u8], at: usize) -> Result<Option<Passed>, NoMemory>
     requires { at ≤ length bytes.now }
-    ensures { IfOk result (IsFirstPacket bytes.now at) }
+    ensures { IfOk result (IsPassed bytes.now at) }
 {
-    packet_found(read_packet(alloc, bytes, at))
+    passed_by(read_packet(alloc, bytes, at))
 }
 
 /// The byte offset of the first packet of a version among the packets that bytes begin with. `None`
@@ -60,11 +70,11 @@ pub fn find_packet(alloc: Global, bytes: &[u8], version: u32) -> Result<Option<u
     ensures { IfOk result (IsPlaceOf bytes.now version) }
 {
     let mut at = 0usize;
-    'looking: while let Some(ReadPacket { packet, end }) = packet_at(alloc, bytes, at)? {
-        if packet.version == version {
+    'looking: while let Some(passed) = packet_at(alloc, bytes, at)? {
+        if passed.version == version {
             return Ok(Some(at));
         }
-        at = end;
+        at = passed.end;
     }
     Ok(None)
 }

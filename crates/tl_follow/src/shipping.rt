@@ -1,8 +1,8 @@
 //! Packets as bytes, one at a time or of many commits of a store. A packet is its version (4 bytes,
 //! big-endian, from 1 to 16,777,215) and then the record of its commit. Only memory is wanting.
-ghost use Rattle.std.specs.Prelude.{◌≡◌, ◌++◌, IfOk, OnOk, OnErr};
+ghost use Rattle.std.specs.Prelude.{◌≡◌, ◌<◌, ◌≤◌, ◌++◌, length, IfOk, OnOk, OnErr};
 ghost use Rattle.tl_follow.specs.Packets.{IsVersion, IsPacket, packet_spelling};
-ghost use Rattle.tl_follow.specs.Shipping.{packet_of, shipment};
+ghost use Rattle.tl_follow.specs.Shipping.{packet_of, shipment, PutsVersion};
 
 use crate::packets::Packet;
 use std::alloc::Global;
@@ -53,8 +53,25 @@ pub fn put_packet(
     Ok(())
 }
 
-// The bytes of the packets of a store's commits with versions behind `first` and up to `last`.
-#[tactic(auto, using(crate::proofs::ShipmentLemmas::shipment_more))]
+// Puts the packet of the commit that made a version of a store. The steps of reading the commit are
+// not told.
+fn put_version<L: Ledger>(
+    alloc: Global,
+    out: &mut Vec<u8>,
+    store: &Store,
+    version: u32,
+    steps: &mut Steps<L>,
+) -> Result<(), NoMemory>
+    requires range { IsVersion version }
+    requires there { version ≤ length store.now }
+    ensures { OnOk result (PutsVersion store.now version out.old.items out.new.items) }
+{
+    let commit = store.commit_at(alloc, version, steps)?;
+    put_packet(alloc, out, version, &commit)?;
+    Ok(())
+}
+
+// The bytes of the packets of a store's commits with versions from `from` to `until`.
 fn shipment_vec<L: Ledger>(
     alloc: Global,
     store: &Store,
@@ -66,14 +83,14 @@ fn shipment_vec<L: Ledger>(
     requires parts { blank.parts ≡ L.parts }
     requires some { 0 < blank.parts }
     requires there { until ≤ length store.now }
+    requires few { until ≤ 16777215 }
     ensures { IfOk result (λ b. b.items ≡ shipment from until store.now) }
 {
     let mut steps = Steps::<L>::new(blank);
     let mut out = Vec::new(alloc);
     let mut before = from.saturating_sub(1).min(until);
-    while before < until {
-        let commit = store.commit_at(alloc, before + 1, &mut steps)?;
-        put_packet(alloc, &mut out, before + 1, &commit)?;
+    'shipping: while before < until {
+        put_version(alloc, &mut out, store, before + 1, &mut steps)?;
         before += 1;
     }
     Ok(out)

@@ -1,4 +1,3 @@
 pub mod BodyLemmas
 pub mod PaceLemmas
-pub mod RoomLemmas
 pub mod WaitLemmas

@@ -2,7 +2,6 @@
 use Rattle.std.proofs.Common.{◌≡◌, ℕ, ◌≤◌, List, [], ◌∷◌, ◌++◌, length, map, take, drop, sym, refl, ◌∙◌, ap, subst, arith, length-append, take-append-drop, append-nil, inl, Option, Some}
 use Rattle.std.proofs.lemmas.List.{take-append-le, drop-append-le, map-append}
 use Rattle.tl_types.specs.declared.commits.Commit.{Commit}
-use Rattle.tl_types.specs.declared.commits.Entry.{Entry}
 use Rattle.tl_types.specs.Entries.{commits_of, has_break}
 use Rattle.tl_types.specs.History.{database_of}
 use Rattle.tl_types.specs.Limits.{standard_limits}
@@ -53,23 +52,6 @@ kept_more old_keys keys body later bytes old new c kept more first limits broken
 -- the commits of the journal and those that wait are all
 pub all_commits : {D : Type 0} (group : plain.Group D) → journal_commits group ++ waiting_commits group ≡ commits_of group.entries
 all_commits group = take-append-drop group.first (commits_of group.entries)
-
--- what a group keeps where only the disk's room has changed
-pub kept_same : {D : Type 0} (old_keys keys : List IdsByKey) (body later : plain.GroupBody) (old new : plain.Group D) → IsKept old_keys body old → new.entries ≡ old.entries → new.first ≡ old.first → new.limits ≡ old.limits → new.journal.broken ≡ old.journal.broken → StandFor keys (database_of (commits_of old.entries)) → later.bytes ≡ body.bytes → later.room ≤ new.journal.spare → IsKept keys later new
-kept_same old_keys keys body later old new kept same first limits broken stands body_same room = record {
-  within = subst (λ l. AreWithin l standard_limits) (sym limits) kept.within;
-  alone = subst (λ es. es ≡ map commit_entry (commits_of es)) (sym same) kept.alone;
-  whole = ap has_break same ∙ kept.whole;
-  keys_stand = subst (λ es. StandFor keys (database_of (commits_of es))) (sym same) stands;
-  first_there = subst (λ es. new.first ≤ length (commits_of es)) (sym same) (subst (λ n. n ≤ length (commits_of old.entries)) (sym first) kept.first_there);
-  unbroken = broken ∙ kept.unbroken;
-  body_is = body_same ∙ kept.body_is ∙ ap body_of waits;
-  written = subst (λ cs. MayWait cs) waits kept.written;
-  room = room;
-}
-  where
-    waits : waiting_commits old ≡ waiting_commits new
-    waits = ap (λ n. drop n (commits_of old.entries)) (sym first) ∙ ap (λ es. drop new.first (commits_of es)) (sym same)
 
 -- the disk stands for the group as before
 pub stands_on : {D : Type 0} (reads : D → Option (List ℕ)) (may_leave : D → List ℕ → Type 0) (old new : plain.Group D) → journal_commits new ≡ journal_commits old → ((cs : List Commit) → JournalStandsFor reads may_leave old.journal cs → JournalStandsFor reads may_leave new.journal cs) → DiskStandsForGroup reads may_leave old → DiskStandsForGroup reads may_leave new

@@ -1,5 +1,5 @@
 -- What every group keeps.
-use Rattle.std.specs.Prelude.{◌≡◌, ℕ, ◌≤◌, false, List, length, map, take, drop, None}
+use Rattle.std.specs.Prelude.{◌≡◌, ◌≤◌, false, List, length, map, take, drop, None}
 use Rattle.tl_types.specs.declared.commits.Commit.{Commit}
 use Rattle.tl_types.specs.declared.commits.Entry.{Entry}
 use Rattle.tl_types.specs.Entries.{commits_of, has_break}

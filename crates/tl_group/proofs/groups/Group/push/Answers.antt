@@ -1,4 +1,4 @@
-use Rattle.std.proofs.Common.{◌≤◌, ◌∙◌, [], ◌∷◌, ◌++◌, length, refl, ap, subst, arith}
+use Rattle.std.proofs.Common.{◌≤◌, ◌∙◌, [], ◌∷◌, ◌++◌, refl, subst, arith}
 use Rattle.tl_types.specs.History.{database_of}
 use Rattle.tl_batch.specs.Standing.{StandFor}
 use Rattle.tl_group.specs.Plain as plain

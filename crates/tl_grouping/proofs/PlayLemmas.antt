@@ -1,6 +1,8 @@
 -- Jobs done one after the other over a group, and the phases that they are of.
 use Rattle.std.proofs.Common.{◌≡◌, inl, inr, ℕ, zero, suc, ◌+◌, ◌<◌, ◌≤◌, true, false, List, [], ◌∷◌, ◌++◌, length, take, map, get_or, All, Option, Some, None, IfSome, Result, Ok, Err, refl, sym, ap, ◌∙◌, subst, arith, append_assoc, append-nil}
+use Rattle.std.specs.Option.{option_map, unwrap_or}
 use Rattle.std.proofs.lemmas.List.{map-append, take_more}
+use Rattle.std.proofs.lemmas.Option.{slice_get-get_or, slice_get-map}
 use Rattle.tl_types.specs.declared.batches.Batch.{Batch}
 use Rattle.tl_types.specs.declared.batches.BatchFault.{BatchFault}
 use Rattle.tl_types.specs.declared.commits.Commit.{Commit}
@@ -25,7 +27,8 @@ use Rattle.tl_jobs.specs.declared.replies.ReplyBody.{ReplyBody}
 use Rattle.tl_jobs.specs.declared.replies.ReplyBody.TheVariants as body
 use Rattle.tl_jobs.specs.declared.jobs.LentJob.{LentJob}
 use Rattle.tl_jobs.specs.Jobs.{Job, job_of}
-use Rattle.tl_jobs.specs.Reading.{Reads}
+use Rattle.tl_csv.specs.LentBlocks.{block_at}
+use Rattle.tl_jobs.specs.Reading.{HasBlockAt, Reads, block_of, blocks_of}
 use Rattle.tl_jobs.specs.Replies.{reply_bytes}
 use Rattle.tl_jobs.specs.Play.{Acts, IsPlay}
 use Rattle.tl_jobs.specs.Turns.{Turn, Meaning, Each, meant}
@@ -98,6 +101,13 @@ pub plays_next : (names : List (List ℕ)) (jobs : List LentJob) (i : ℕ) (d : 
 plays_next names jobs i d reply old mid new before at after given name there p line acts name_is given_is text =
     subst (λ (js : List Job). PlaysJobs names js old new before after) (sym (ap (map job_of) (take_more jobs i d there) ∙ map-append job_of (take i jobs) (get_or jobs i d ∷ [])))
     (plays_one names (map job_of (take i jobs)) (job_of (get_or jobs i d)) reply old mid new before at after p line acts (text ∙ ap (λ n. at ++ reply_bytes n reply) (given_is ∙ name_is)))
+
+-- the block of a job is the one at its place
+pub block_here : (i : ℕ) (lent : List LentJob) (d : LentJob) (blocks : List (List ℕ)) (place : ℕ) → i < length lent → blocks ≡ blocks_of (map job_of lent) → place ≡ i → HasBlockAt (get_or lent i d) blocks place
+block_here i lent d blocks place inside blocks_are place_is =
+    let block : Job → List ℕ = λ j. block_of j.block in
+    ap (block_at blocks) place_is ∙ (ap (λ bs. block_at bs i) blocks_are
+    ∙ ap (λ o. unwrap_or o []) (slice_get-map block (map job_of lent) i ∙ ap (option_map block) (slice_get-map job_of lent i ∙ ap (option_map job_of) (slice_get-get_or lent i d inside))))
 
 -- PHASES
 

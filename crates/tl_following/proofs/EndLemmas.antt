@@ -59,7 +59,7 @@ module _ {K D : Type 0} (sinks : SinkGhosts K) (disks : DiskGhosts D) (begun : D
     by_end (inr (all, writes)) =
         as_follow (commits_in attached) before after ended
         (appended sinks disks (λ all text. Follows (commits_in attached) all text before after) begun attached h.later (follow_line (length (commits_in h.later))) left end first last old new disk ended a h.keeps
-        (taken.0, taken.2.0, taken.1.1, taken.1.2, taken.2.1, taken.2.2.0, all ∙ taken.2.2.1.history, refl, sure) writes)
+        (taken.0, taken.2.0, taken.1.1, taken.1.2, taken.2.1, taken.2.2, all ∙ taken.2.3.history, refl, sure) writes)
 
   -- no commits were made of the input
   pub not_extended : (wanted : Status) → FailsInput (commits_in attached) left first last wanted → disk ≡ attached.journal.disk → Closes [] wanted (sinks.written old) (sinks.written new) (sinks.faults old) (sinks.faults new) ended → FollowEndsBy (commits_in attached) before after ended

@@ -24,9 +24,9 @@ pub holds_journal : (commits : List Commit) (before after : Outside) → after.d
 holds_journal commits before after count holds =
     record {
       counts = count;
-      leaves = λ b told image left. let h = holds b told in subst (ImageStandsFor commits) (sym (h.2.0 image left)) h.2.1;
-      reads = λ b told. let h = holds b told in (h.0, h.1, h.2.1);
-      settled = λ b told none. let h = holds b told in (h.0, h.1, h.2.0);
+      leaves = λ b told image left. let h = holds b told in subst (ImageStandsFor commits) (sym (h.2 image left)) h.3;
+      reads = λ b told. let h = holds b told in (h.0, h.1, h.3);
+      settled = λ b told none. let h = holds b told in (h.0, h.1, h.2);
     }
 
 -- the image of a disk that stands for commits

@@ -126,8 +126,8 @@ given_up sinks disks reads begun attached later text left end first last old new
       subst (GroupEndsBy reads (commits_in attached) before after) (sym e) (refl, inr (inr (record { closing = wanted; prints = (rose, some); holds = holds })))
 
   by_stop : (w : Stop) → (w ≡ stop.Ended → ⊥) → PlayStops (reads true) (commits_in attached) (commits_in later) text w left end first last → ClosesAfter w false 0 (sinks.written old) (sinks.written new) (sinks.faults old) (sinks.faults new) ended → GroupEndsBy reads (commits_in attached) before after ended
-  by_stop stop.Ended no h c = absurd (no refl)
-  by_stop (stop.Fault f) no h c = cut (status.ScriptFault f) c (λ written faults. (h.0, h.1, record { prints = (written, faults); holds = holds }))
-  by_stop (stop.Source n) no h c = cut (status.SourceFault n) c (λ written faults. (h.1, h.0, record { prints = (written, faults); holds = holds }))
-  by_stop (stop.Sink n) no h c = absurd h
-  by_stop stop.NoMemory no h (e, written, faults) = subst (GroupEndsBy reads (commits_in attached) before after) (sym e) ((written, faults), holds)
+  by_stop stop.Ended not_ended h c = absurd (not_ended refl)
+  by_stop (stop.Fault f) not_ended h c = cut (status.ScriptFault f) c (λ written faults. (h.0, h.1, record { prints = (written, faults); holds = holds }))
+  by_stop (stop.Source n) not_ended h c = cut (status.SourceFault n) c (λ written faults. (h.1, h.0, record { prints = (written, faults); holds = holds }))
+  by_stop (stop.Sink n) not_ended h c = absurd h
+  by_stop stop.NoMemory not_ended h (e, written, faults) = subst (GroupEndsBy reads (commits_in attached) before after) (sym e) ((written, faults), holds)

@@ -1,3 +1,4 @@
 pub mod DiskLemmas
 pub mod EndLemmas
+pub mod OpenLemmas
 pub mod PlayLemmas

@@ -1,5 +1,5 @@
 -- Jobs done one after the other over a group, and the phases that they are of.
-use Rattle.std.proofs.Common.{◌≡◌, inl, inr, ℕ, zero, suc, ◌+◌, ◌<◌, ◌≤◌, true, false, List, [], ◌∷◌, ◌++◌, length, take, map, get_or, All, Option, Some, None, IfSome, Result, Ok, Err, refl, sym, ap, ◌∙◌, subst, arith, append_assoc, append-nil}
+use Rattle.std.proofs.Common.{◌≡◌, inl, inr, ℕ, zero, suc, ◌+◌, ◌<◌, ◌≤◌, true, false, List, [], ◌∷◌, ◌++◌, length, take, map, get_or, All, Option, Some, None, IfSome, Result, Ok, Err, refl, sym, ap, ◌∙◌, subst, arith, append_assoc, append-nil, length-append}
 use Rattle.std.specs.Option.{option_map, unwrap_or}
 use Rattle.std.proofs.lemmas.List.{map-append, take_more}
 use Rattle.std.proofs.lemmas.Option.{slice_get-get_or, slice_get-map}
@@ -7,7 +7,11 @@ use Rattle.tl_types.specs.declared.batches.Batch.{Batch}
 use Rattle.tl_types.specs.declared.batches.BatchFault.{BatchFault}
 use Rattle.tl_types.specs.declared.commits.Commit.{Commit}
 use Rattle.tl_types.specs.declared.commits.Entry.{Entry}
+use Rattle.tl_types.specs.declared.limits.Limits.{Limits}
 use Rattle.tl_types.specs.Entries.{commits_of}
+use Rattle.tl_types.specs.History.{database_of}
+use Rattle.tl_types.specs.Limits.{standard_limits}
+use Rattle.tl_types.specs.Resolving.{resolved}
 use Rattle.tl_device.specs.Known.{prepend_known, Rose}
 use Rattle.tl_device.proofs.Known.{read_more}
 use Rattle.tl_device.specs.declared.disk.Disk.{Ghosts as DiskGhosts}
@@ -18,8 +22,10 @@ use Rattle.tl_script.specs.declared.phases.Phase.{Phase}
 use Rattle.tl_script.specs.Script.{Job as ScriptJob, ScriptReading}
 use Rattle.tl_script.specs.Phases.{no_phase, no_phase_but}
 use Rattle.tl_script.specs.Reader.{with_phases, Grows, NextFaults}
-use Rattle.tl_group.specs.Keeping.{journal_commits}
+use Rattle.tl_history.proofs.ListLemmas.{commits_more}
+use Rattle.tl_group.specs.Keeping.{commits_in, journal_commits}
 use Rattle.tl_group.specs.Plain as group
+use Rattle.tl_group.specs.Standing.{WaitsWith}
 use Rattle.tl_jobs.specs.declared.readings.JobReading.{JobReading}
 use Rattle.tl_jobs.specs.declared.readings.JobReading.TheVariants as reading
 use Rattle.tl_jobs.specs.declared.replies.Reply.{Reply}
@@ -71,6 +77,17 @@ acted author job (reading.Query answer) v told old new own reads (version, is, s
     subst (λ (b : ReplyBody). Acts meant job v b old new) (sym is) (version, reads, same)
 acted author job (reading.Fault f) v told old new own reads (version, is, same) =
     subst (λ (b : ReplyBody). Acts meant job v b old new) (sym is) (version, inl reads, same)
+
+-- a batch that waits is done, at the version that the snapshot then has
+pub add_done : {D : Type 0} (old new : group.Group D) (author version : ℕ) (batch : Batch) (c : Commit) → WaitsWith c old new → version ≡ length (commits_in new) → resolved old.limits (database_of (commits_in old)) author batch ≡ Ok c → old.limits ≡ standard_limits → AddsBatch author batch version body.Done (commits_in old) (commits_in new)
+add_done old new author version batch c waits number makes standard =
+    let is : commits_in new ≡ commits_in old ++ c ∷ [] = ap commits_of waits.entries_are ∙ commits_more old.entries c in
+    let count = length-append (commits_in old) (c ∷ []) in (
+      c,
+      number ∙ (ap length is ∙ omega (arith, count)),
+      subst (λ (l : Limits). resolved l (database_of (commits_in old)) author batch ≡ Ok c) standard makes,
+      is,
+    )
 
 -- SOME JOBS
 

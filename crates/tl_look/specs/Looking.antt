@@ -6,12 +6,13 @@ use Rattle.tl_device.specs.Kept.{fresh}
 use Rattle.tl_device.specs.Known.{Rose}
 use Rattle.tl_device.specs.Plain.{Kept}
 use Rattle.tl_device.specs.Replay.{Leaves}
-use Rattle.tl_program.specs.declared.statuses.Status.{Status}
-use Rattle.tl_program.specs.declared.statuses.Status.TheVariants as status
-use Rattle.tl_program.specs.Ending.{Ends, Writes}
+use Rattle.tl_command.specs.declared.statuses.Status.{Status}
+use Rattle.tl_command.specs.declared.statuses.Status.TheVariants as status
+use Rattle.tl_command.specs.Closing.{Writes}
+use Rattle.tl_program.specs.Ending.{Ends}
 use Rattle.tl_program.specs.Headline.{Completes, Headline}
-use Rattle.tl_program.specs.Outside.{Outside, Streams}
-use Rattle.tl_program.specs.Status.{closing_line}
+use Rattle.tl_command.specs.Outside.{Outside, Streams}
+use Rattle.tl_command.specs.Status.{closing_line}
 
 -- a source, a sink, and a disk in memory that never fails
 abbrev pub beside : Streams → Kept → Outside

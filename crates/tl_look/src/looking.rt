@@ -2,7 +2,7 @@
 //! that has its bytes. A file that fails ends it before anything else is read or run.
 ghost use Rattle.std.specs.Prelude.{◌≡◌, ℕ, false};
 ghost use Rattle.tl_program.specs.Commands.{command_of, reads_source, texts_of};
-ghost use Rattle.tl_program.specs.Outside.{streams};
+ghost use Rattle.tl_command.specs.Outside.{streams};
 ghost use Rattle.tl_look.specs.Looking.{Looks, RefusesFile, RunsOver};
 
 use std::sync::Wait;

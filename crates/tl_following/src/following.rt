@@ -20,7 +20,7 @@ use tl_group::Group;
 use tl_grouping::append;
 use tl_journal::Refused;
 use tl_script::{NextError, read_block};
-use tl_types::{Bytes, Commit, Limits, NoMemory, Seq};
+use tl_types::{Bytes, Commit, Limits, NoMemory, Published, Seq};
 
 // The bytes of the whole input, or why there are none.
 fn read_input<S: Source>(alloc: Global, source: &mut S) -> Result<Bytes, Status>

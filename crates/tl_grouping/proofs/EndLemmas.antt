@@ -1,5 +1,5 @@
 -- How a group ends, by why its phases stopped and what became of its append.
-use Rattle.std.proofs.Common.{◌≡◌, inl, inr, ℕ, Bool, true, false, List, [], ◌++◌, take, Some, None, refl, sym, ap, ◌∙◌, subst}
+use Rattle.std.proofs.Common.{◌≡◌, inl, inr, ℕ, Bool, true, false, List, [], ◌++◌, take, Some, None, IfSome, codes, refl, sym, ap, ◌∙◌, subst}
 use Rattle.std.specs.declared.option.Option.{Option}
 use Rattle.tl_types.specs.declared.commits.Commit.{Commit}
 use Rattle.tl_device.specs.Known.{append_known, Rose}
@@ -12,7 +12,7 @@ use Rattle.tl_command.specs.declared.statuses.Status.{Status}
 use Rattle.tl_command.specs.declared.statuses.Status.TheVariants as status
 use Rattle.tl_command.specs.declared.stops.Stop.{Stop}
 use Rattle.tl_command.specs.declared.stops.Stop.TheVariants as stop
-use Rattle.tl_command.specs.Closing.{ClosesAfter, Closes}
+use Rattle.tl_command.specs.Closing.{ClosesAfter, Closes, WritesReady}
 use Rattle.tl_command.specs.Outside.{Outside, HoldsJournal}
 use Rattle.tl_command.specs.Status.{closing_line}
 use Rattle.tl_grouping.specs.Appending.{AppendsAndWrites, IsAttached}
@@ -20,6 +20,22 @@ use Rattle.tl_grouping.specs.Grouping.{GroupEndsBy, Plays}
 use Rattle.tl_grouping.specs.Leaving.{LeavesBy}
 use Rattle.tl_grouping.specs.Playing.{KeepsDisk, PlayStops}
 use Rattle.tl_grouping.proofs.DiskLemmas.{holds_journal, left_image, left_count, appended_image, doubt_held}
+
+-- what is written once there is room, from before the room was taken
+pub ready_from : (bytes : List ℕ) (wanted : Status) (old mid new : Option (List ℕ)) (before at after : ℕ) (ended : Status) → mid ≡ old → at ≡ before → WritesReady bytes wanted mid new at after ended → WritesReady bytes wanted old new before after ended
+ready_from bytes wanted old mid new before at after ended e f h =
+    subst (λ (n : ℕ). WritesReady bytes wanted old new n after ended) f (subst (λ (w : Option (List ℕ)). WritesReady bytes wanted w new at after ended) e h)
+
+-- the line of a disk that failed
+pub line_ready : (bytes : List ℕ) (count faults : ℕ) (old new : Option (List ℕ)) (before after : ℕ) (ended : Status) → bytes ≡ codes "! device\n" → count ≡ faults → WritesReady bytes (status.DiskFault count) old new before after ended → WritesReady (closing_line (status.DiskFault faults)) (status.DiskFault faults) old new before after ended
+line_ready bytes count faults old new before after ended e f h =
+    subst (λ (n : ℕ). WritesReady (codes "! device\n") (status.DiskFault n) old new before after ended) f (subst (λ (b : List ℕ). WritesReady b (status.DiskFault count) old new before after ended) e h)
+
+-- the disk failed in the append
+pub in_doubt : {D : Type 0} (disks : DiskGhosts D) (g : group.Group D) (disk : D) (told : Option ℕ) (count : ℕ) → told ≡ Some count → IfSome told (λ n. (n ≡ disks.faults disk) × Rose (disks.faults g.journal.disk) n) → (count ≡ disks.faults disk) × Rose (disks.faults g.journal.disk) (disks.faults disk)
+in_doubt disks g disk told count is h =
+    let both = subst (λ (o : Option ℕ). IfSome o (λ n. (n ≡ disks.faults disk) × Rose (disks.faults g.journal.disk) n)) is h in
+    (both.0, subst (Rose (disks.faults g.journal.disk)) both.0 both.1)
 
 -- all was read, and the group was appended
 pub appended : {K D : Type 0} (sinks : SinkGhosts K) (disks : DiskGhosts D) (What : List Commit → List ℕ → Type 0) (begun : D) (attached later : group.Group D) (text : List ℕ) (left end : Option (List ℕ)) (first last : ℕ) (old new : K) (disk : D) (ended : Status)

@@ -126,6 +126,22 @@ block_here i lent d blocks place inside blocks_are place_is =
     ap (block_at blocks) place_is ∙ (ap (λ bs. block_at bs i) blocks_are
     ∙ ap (λ o. unwrap_or o []) (slice_get-map block (map job_of lent) i ∙ ap (option_map block) (slice_get-map job_of lent i ∙ ap (option_map job_of) (slice_get-get_or lent i d inside))))
 
+-- the jobs that are lent are of the same sessions
+each_lent : (n : ℕ) (lent : List LentJob) (jobs : List ScriptJob) → map job_of lent ≡ map asked jobs → All (λ job. job.session < n) jobs → All (λ job. job.session < n) lent
+each_lent n [] jobs e all k d inside = absurd (omega (arith, inside))
+each_lent n (l ∷ lent) [] e all k d inside = absurd (cc)
+each_lent n (l ∷ lent) (j ∷ jobs) e all zero d inside = subst (λ (s : ℕ). s < n) (sym (ap first_session e)) (all 0 j (omega arith)) where
+  first_session : List Job → ℕ
+  first_session [] = 0
+  first_session (x ∷ xs) = x.session
+each_lent n (l ∷ lent) (j ∷ jobs) e all (suc k) d inside = each_lent n lent jobs (ap tail e) (λ i x within. all (suc i) x (omega (arith, within))) k d (omega (arith, inside)) where
+  tail : List Job → List Job
+  tail [] = []
+  tail (x ∷ xs) = xs
+
+pub sessions_lent : (n : ℕ) (lent own : List LentJob) (jobs : List ScriptJob) → lent ≡ own → map job_of own ≡ map asked jobs → All (λ job. job.session < n) jobs → All (λ job. job.session < n) lent
+sessions_lent n lent own jobs same e all = subst (λ (ls : List LentJob). All (λ job. job.session < n) ls) (sym same) (each_lent n own jobs e all)
+
 -- PHASES
 
 all_jobs_more : (phases : List (List Job)) (jobs : List Job) → all_jobs (phases ++ jobs ∷ []) ≡ all_jobs phases ++ jobs

@@ -1,18 +1,17 @@
 -- How a look at a journal ends: as the program does over a disk in memory that has the bytes of the
 -- journal's file.
-use Rattle.std.specs.Prelude.{◌≡◌, ◌⊎◌, ℕ, List, Some}
+use Rattle.std.specs.Prelude.{◌≡◌, ◌⊎◌, ℕ, List, [], Some}
 use Rattle.std.specs.declared.option.Option.{Option}
 use Rattle.tl_device.specs.Kept.{fresh}
 use Rattle.tl_device.specs.Known.{Rose}
 use Rattle.tl_device.specs.Plain.{Kept}
 use Rattle.tl_device.specs.Replay.{Leaves}
+use Rattle.tl_command.specs.Closing.{Closes}
+use Rattle.tl_command.specs.Outside.{Outside, Streams}
 use Rattle.tl_command.specs.declared.statuses.Status.{Status}
 use Rattle.tl_command.specs.declared.statuses.Status.TheVariants as status
-use Rattle.tl_command.specs.Closing.{Writes}
 use Rattle.tl_program.specs.Ending.{Ends}
 use Rattle.tl_program.specs.Headline.{Completes, Headline}
-use Rattle.tl_command.specs.Outside.{Outside, Streams}
-use Rattle.tl_command.specs.Status.{closing_line}
 
 -- a source, a sink, and a disk in memory that never fails
 abbrev pub beside : Streams → Kept → Outside
@@ -39,13 +38,6 @@ pub record RunsOver (words : List (List ℕ)) (image : List ℕ) (before after :
 abbrev pub IsWhole : Option (List ℕ) → List ℕ → Type 0
 IsWhole told image = (b : List ℕ) → told ≡ Some b → image ≡ b
 
--- the closing line of a disk that fails was written, or nothing, where memory ran out, or some
--- prefix of it, where the sink failed
-abbrev pub RefusesFile : ℕ → Option (List ℕ) → Option (List ℕ) → ℕ → ℕ → Status → Type 0
-RefusesFile faults old new before after ended =
-    Writes (closing_line (status.DiskFault faults)) (status.DiskFault faults) old new before after
-    ended
-
 -- the file was read whole, and the program ran over its bytes
 pub record LooksOver (words : List (List ℕ)) (told : Option (List ℕ)) (before after : Streams)
     (ended : Status) : Type 0 where
@@ -53,14 +45,15 @@ pub record LooksOver (words : List (List ℕ)) (told : Option (List ℕ)) (befor
   pub whole : IsWhole told image
   pub runs : RunsOver words image before after ended
 
--- the file failed, and nothing was read of the source
+-- the file failed: nothing was read of the source, and the closing line of a disk that fails was
+-- written
 pub record FailsToLook (faults_before faults_after : ℕ) (before after : Streams) (ended : Status)
     : Type 0 where
   pub rose : Rose faults_before faults_after
   pub left_same : after.left ≡ before.left
   pub source_same : after.source_faults ≡ before.source_faults
-  pub ends : RefusesFile faults_after before.written after.written before.sink_faults
-      after.sink_faults ended
+  pub closes : Closes [] (status.DiskFault faults_after) before.written after.written
+      before.sink_faults after.sink_faults ended
 
 -- memory ran out before the file was read whole, and all is as it was
 abbrev pub StopsBeforehand : Streams → Streams → Status → Type 0

@@ -1,18 +1,16 @@
 //! The call that looks: it reads a journal's file whole and runs the top call over a disk in memory
 //! that has its bytes. A file that fails ends it before anything else is read or run.
 ghost use Rattle.std.specs.Prelude.{◌≡◌, ℕ, false};
-ghost use Rattle.tl_program.specs.Commands.{command_of, reads_source, texts_of};
 ghost use Rattle.tl_command.specs.Outside.{streams};
-ghost use Rattle.tl_look.specs.Looking.{Looks, RefusesFile, RunsOver};
+ghost use Rattle.tl_program.specs.Commands.{command_of, reads_source, texts_of};
+ghost use Rattle.tl_look.specs.Looking.{Looks, RunsOver};
 
 use std::sync::Wait;
 use std::thread::Threads;
-use tl_device::{Failed, Gate, Sink, Source, SureDisk, write_all};
+use tl_command::close;
+use tl_device::{Gate, Sink, Source, SureDisk};
 use tl_log::{ReadFault, read_all};
 use tl_program::{Status, timeline};
-
-// What is written where the file fails: the closing line of a disk that fails.
-const DEVICE: &str = "! device\n";
 
 // Runs what the words ask for over a disk in memory that has these bytes, and forgets the disk.
 fn run_over<R: AllocGlobal + Threads + Wait + Sync, S: Source, K: Sink, G: Gate>(
@@ -32,22 +30,6 @@ fn run_over<R: AllocGlobal + Threads + Wait + Sync, S: Source, K: Sink, G: Gate>
     let disk = SureDisk::new(rt.alloc(), image);
     let ending = timeline(rt, words, source, sink, disk, gate);
     ending.status
-}
-
-// Writes the closing line of a disk that fails, for which the sink's room is taken first.
-fn refuse_file<K: Sink>(sink: &mut K, faults: u64) -> Status
-    ensures { RefusesFile faults (K.written sink.old) (K.written sink.new) (K.faults sink.old)
-        (K.faults sink.new) result }
-{
-    if sink.room(DEVICE.len() as u64).is_err() {
-        return Status::NoMemory;
-    }
-    match write_all(sink, DEVICE.as_bytes()) {
-        Ok(()) => Status::DiskFault { faults },
-        Err(Failed) => Status::SinkFault {
-            faults: sink.faults(),
-        },
-    }
 }
 
 /// Reads all that `file` has left, and does over a disk in memory that has these bytes what
@@ -84,6 +66,6 @@ pub fn look<R: AllocGlobal + Threads + Wait + Sync, F: Source, S: Source, K: Sin
     match read_all(rt.alloc(), file) {
         Ok(image) => run_over(rt, words, image, source, sink, gate),
         Err(ReadFault::NoMemory) => Status::NoMemory,
-        Err(ReadFault::Source { faults }) => refuse_file(sink, faults),
+        Err(ReadFault::Source { faults }) => close(rt.alloc(), sink, Status::DiskFault { faults }),
     }
 }

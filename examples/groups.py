@@ -68,7 +68,7 @@ def put(table, rows, names="k,x"):
 def a_group_is_kept_whole():
     """The replies and the journal are those of `run`, and nothing is kept where the script or the disk fails."""
     create = "a> CREATE TABLE t (k INT, x INT) KEY k\n"
-    script = create + "".join(put("t", [f"{it},{it % 7}"]) + ("GO\n" if it % 10 == 0 else "") for it in range(100)) + "b> SELECT k FROM t WHERE x = 3\n"
+    script = create + "".join(put("t", [f"{it},{it % 7}"]) + ("GO\n" if it % 10 == 0 else "") for it in range(100)) + "GO\nb> SELECT k FROM t WHERE x = 3\n"
     with Room() as one, Room() as other:
         found, wanted = run(["group"], script, one), run(["run"], script, other)
         judge("group beside run", found == wanted and found[0] == 0, (found[0], found[1][-80:], found[2]))

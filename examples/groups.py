@@ -1,0 +1,240 @@
+#!/usr/bin/env python3
+"""Runs the commands group, ship, follow and watch: a group is kept whole or not at all, packets come in any order, are
+lost and come again, and what is watched is what asking anew says. Ends with 1 where something is not as it should be."""
+import fcntl
+import os
+import random
+import re
+import shutil
+import signal
+import subprocess
+import sys
+import tempfile
+
+HERE = os.path.dirname(os.path.abspath(__file__))
+sys.path.insert(0, HERE)
+import watched
+
+TIMELINE = os.path.join(os.path.dirname(HERE), "timeline")
+PROGRAM = os.path.join(os.path.dirname(HERE), "crates/timeline/out/timeline")
+# The folder for journals: a file system in memory, where there is one.
+JOURNALS = "/dev/shm" if os.access("/dev/shm", os.W_OK) else None
+EMPTY = b"timeline journal\0"
+SEED = 20261130          # what is drawn is the same in each run
+
+failed = 0
+
+
+def judge(name, is_right, found=""):
+    global failed
+    if not is_right:
+        failed = 1
+        print(f"{name}: not as it should be: {found}")
+
+
+def run(words, given=b"", room=None, command=TIMELINE, **more):
+    """Runs the command, and gives its status, what it printed and what it said."""
+    given = given.encode() if isinstance(given, str) else given
+    done = subprocess.run([command, *words], input=given, cwd=room, capture_output=True, timeout=300, **more)
+    return done.returncode, done.stdout, done.stderr.decode()
+
+
+class Room:
+    """A folder of its own, with a journal, over which a script was run."""
+
+    def __init__(self, script=""):
+        self.script = script
+
+    def __enter__(self):
+        self.room = tempfile.mkdtemp(dir=JOURNALS)
+        judge("init", run(["init"], room=self.room)[0] == 0)
+        if self.script:
+            judge("a first script", run(["--strict", "run"], self.script, self.room)[0] == 0, self.script)
+        return self.room
+
+    def __exit__(self, *_):
+        shutil.rmtree(self.room)
+
+
+def journal(room):
+    with open(f"{room}/timeline.tlj", "rb") as file:
+        return file.read()
+
+
+def put(table, rows, names="k,x"):
+    return f"a> PUT {table}\n{names}\n" + "".join(f"{row}\n" for row in rows) + "\\.\n"
+
+
+def a_group_is_kept_whole():
+    """The replies and the journal are those of `run`, and nothing is kept where the script or the disk fails."""
+    create = "a> CREATE TABLE t (k INT, x INT) KEY k\n"
+    script = create + "".join(put("t", [f"{it},{it % 7}"]) + ("GO\n" if it % 10 == 0 else "") for it in range(100)) + "GO\nb> SELECT k FROM t WHERE x = 3\n"
+    with Room() as one, Room() as other:
+        found, wanted = run(["group"], script, one), run(["run"], script, other)
+        judge("group beside run", found == wanted and found[0] == 0, (found[0], found[1][-80:], found[2]))
+        judge("its journal", journal(one) == journal(other))
+        with open(f"{one}/next.tl", "w") as file:
+            file.write(put("t", ["7,7"]))
+        judge("group FILE", run(["group", "next.tl"], room=one) == (0, b"a @102 ok\n", ""))
+        before = journal(one)
+        told = "timeline: 1 of 2 statements was refused\n"
+        judge("--strict group", run(["--strict", "group"], put("t", ["1,1"]) + "a> S\n", one) == (20, b"a @103 ok\na @103 ! Unexpected 0\n", told))
+        before = journal(one)
+        for name, text, status in (("an open block", create + "a> PUT t\nk,x\n1,1\n", 6), ("a line that is none", put("t", ["2,2"]) + "GO\nhello\n", 6)):
+            found = run(["group"], text, one)
+            judge(f"group of {name}", found[0] == status and found[1].startswith(b"! script ") and journal(one) == before, found)
+        # A disk with no room for all of it: the group is not there at all, and the journal goes on.
+        limit = len(before) // 1024 + 2
+        words = f'ulimit -f {limit}; trap "" XFSZ; exec "$0" group'
+        text = "".join(put("t", [f"{it},1"]) for it in range(2000, 2200))
+        done = subprocess.run(["bash", "-c", words, PROGRAM], input=text.encode(), cwd=one, capture_output=True, timeout=60)
+        judge("group on a full disk", (done.returncode, done.stdout) == (5, b"! device\n"), done)
+        found = run(["ask", "COUNT FROM t WHERE x = 1 AND k >= 2000 OVER SYSTEM 102 TO 104"], room=one)
+        judge("what it left", found == (0, b"from,to,value\n102,104,0\n", ""), found)
+        judge("the journal goes on", run(["group"], text, one)[0] == 0)
+        found = run(["ask", "COUNT FROM t WHERE x = 1 AND k >= 2000 OVER SYSTEM 303 TO 304"], room=one)
+        judge("all of it", found == (0, b"from,to,value\n303,304,200\n", ""), found)
+        with open("/dev/full", "w") as full:
+            status = subprocess.run([PROGRAM, "group"], input=put("t", ["1,1"]).encode(), cwd=one, stdout=full, timeout=60).returncode
+        judge("group with an output that fails", status == 4, status)
+
+
+def a_group_waits_twice():
+    """However many commits a group has, behind the opening there are two syncs, and one write of them all and one of the
+    gate. `strace` counts, where it is there."""
+    if not shutil.which("strace"):
+        print("groups.py: syncs are not counted, since strace is not here")
+        return
+    with Room("a> CREATE TABLE t (k INT, x INT) KEY k\n") as room:
+        counts = []
+        for script in ("", "".join(put("t", [f"{it},1"]) for it in range(1000))):
+            traced = subprocess.run(["strace", "-f", "-e", "trace=fsync,fdatasync,write,pwrite64", "-o", "calls", PROGRAM, "group"], input=script.encode(), cwd=room,
+                                    capture_output=True, timeout=120)
+            judge("group, traced", traced.returncode == 0, traced.stderr)
+            with open(f"{room}/calls") as calls:
+                text = calls.read()
+            counts.append((len(re.findall(r"f(?:data)?sync\(", text)), len(re.findall(r"p?write(?:64)?\((?!1,)", text))))
+        judge("syncs and writes of a group", counts[1][0] - counts[0][0] == 2 and counts[1][1] - counts[0][1] <= 2, counts)
+
+
+def packets(room, last):
+    """The packet of each version, from 1 on."""
+    each = [run(["ship", str(it), str(it)], room=room)[1] for it in range(1, last + 1)]
+    judge("ship", run(["ship"], room=room)[:2] == (0, b"".join(each)))
+    judge("ship from a version on", run(["ship", "3"], room=room)[1] == b"".join(each[2:]))
+    judge("ship of versions that are not there", run(["ship", str(last + 1), "16777215"], room=room) == (0, b"", ""))
+    return each
+
+
+def packets_come_as_they_like():
+    draw = random.Random(SEED)
+    script = "a> CREATE TABLE t (k INT, x INT) KEY k\na> CREATE TABLE v (k INT) KEY k VALID\n"
+    for it in range(60):
+        script += (f"a> MOMENT {it}\n", put("t", [f"{it % 20},{it}", f"{100 + it},1"]), f"a> PUT v\nk,valid_from,valid_to\n{it % 5},{it},{it + 9}\n\\.\n",
+                   f"a> REMOVE t\nk\n{100 + it - 2}\n\\.\n")[it % 4]
+    script += "a> FORGET t BEFORE 4\n"
+    with Room(script) as leader, tempfile.TemporaryDirectory(dir=JOURNALS) as room:
+        last = int(re.match(r"@(\d+) ", run(["seal"], room=leader)[1].decode())[1])
+        each = packets(leader, last)
+        whole = journal(leader)
+
+        def follow(name, given, wanted, *words):
+            found = run([*words, "follow"], given, room)
+            judge(name, found[:2] == wanted, (found, wanted))
+
+        def begin():
+            with open(f"{room}/timeline.tlj", "wb") as file:
+                file.write(EMPTY)
+
+        # In any order, each third lost, and then sent again; and all of them twice.
+        begin()
+        mixed = each[:]
+        draw.shuffle(mixed)
+        lost = set(range(2, last, 3))
+        follow("a third is lost", b"".join(it for it in mixed if each.index(it) not in lost), (0, b"follow @2\n"))
+        judge("a prefix", whole.startswith(journal(room)[:-1]))
+        draw.shuffle(mixed)
+        follow("all, twice", b"".join(mixed + mixed[::-1]), (0, f"follow @{last}\n".encode()))
+        judge("the same journal", journal(room) == whole)
+        follow("again", b"".join(each), (0, f"follow @{last}\n".encode()))
+        judge("a follower of a follower", run(["ship"], room=room)[1] == b"".join(each))
+        begin()
+        follow("backwards", b"".join(each[::-1]), (0, f"follow @{last}\n".encode()))
+        # From the version that the copy has, each time.
+        begin()
+        for upto in range(0, last + 7, 7):
+            follow("catching up", b"".join(each[max(0, upto - 9):upto]), (0, f"follow @{min(upto, last)}\n".encode()))
+        # Cut at each byte of the first packets, and with one byte changed at each place.
+        stream, starts = b"".join(each[:8]), [sum(len(it) for it in each[:at]) for at in range(9)]
+        for cut in range(len(stream)):
+            begin()
+            whole_ones = [at for at in range(9) if starts[at] <= cut][-1]
+            wanted = (0, f"follow @{whole_ones}\n".encode()) if starts[whole_ones] == cut else (10, f"! packet {starts[whole_ones]}\n".encode())
+            found = run(["follow"], stream[:cut], room, PROGRAM)
+            judge(f"cut at byte {cut}", found[:2] == wanted and (wanted[0] == 0 or journal(room) == EMPTY), (found, wanted))
+        for at in range(min(500, len(stream))):
+            begin()
+            changed = stream[:at] + bytes([stream[at] ^ (1 << draw.randrange(8))]) + stream[at + 1:]
+            status, printed, _ = run(["follow"], changed, room, PROGRAM)
+            is_right = (status == 10 and re.fullmatch(rb"! packet \d+\n", printed) and journal(room) == EMPTY) or (status == 0 and printed.startswith(b"follow @"))
+            judge(f"a byte changed at {at}", is_right, (status, printed))
+            judge(f"the journal behind it, {at}", run(["run"], b"", room, PROGRAM)[0] == 0)
+        # A copy that took a commit of its own follows as far as the leader's commits fit it, which is not to the fifth.
+        begin()
+        follow("the first", each[0], (0, b"follow @1\n"))
+        judge("a commit of its own", run(["run"], "a> CREATE TABLE v (k INT) KEY k\n", room)[0] == 0)
+        before = journal(room)
+        status, printed, said = run(["--explain", "follow"], b"".join(each), room)
+        judge("stuck", (status, printed) == (10, f"! packet {starts[4]}\n".encode()) and journal(room) == before, (status, printed))
+        judge("what is said of it", said.startswith(f"timeline: the run ended: ! packet {starts[4]}\n    At this byte"), said)
+        judge("--stamp follow", run(["--stamp", "follow"], b"", room)[:2] == (2, b"! usage\n"))
+        # While a program writes to the leader.
+        with open(f"{leader}/timeline.tlj", "rb") as other:
+            fcntl.flock(other, fcntl.LOCK_EX)
+            judge("ship beside a writer", run(["ship", "1", "2"], room=leader) == (0, b"".join(each[:2]), ""))
+        for words in (["ship", "x"], ["ship", "16777216"], ["ship", "1", "2", "3"], ["ship", "-1"], ["follow", "no file"]):
+            judge(f"the words {words}", run(words, room=leader)[:2] == (2, b"! usage\n"))
+
+
+def totals_that_are_always_there():
+    """What is watched is what asking anew says, for each kind, with groups and without, and tests."""
+    draw = random.Random(SEED)
+    create = "a> CREATE TABLE t (k INT, g INT, n TEXT, x INT) KEY k\na> CREATE TABLE u (k INT) KEY k\n"
+    first = create + put("t", [f"{it},{it % 3},{'pqr'[it % 3]},{it}" for it in range(9)], "k,g,n,x")
+    script = ""
+    for it in range(120):
+        keys = draw.sample(range(40), 3)
+        kind = draw.randrange(6)
+        if kind < 3:
+            script += put("t", [f"{key},{draw.randrange(4)},{draw.choice('pqrs')},{draw.choice((-5, 0, 0, 3, 9223372036854775807))}" for key in keys], "k,g,n,x")
+        elif kind == 3:
+            script += f"a> REMOVE t\nk\n{keys[0]}\n\\.\n"
+        elif kind == 4:
+            script += f"a> MOMENT {it}\n"
+        else:
+            script += put("u", [it], "k") + "a> SELECT k FROM t WHERE x = 3\n"
+    texts = [f"{front} FROM t{test}{by} OVER SYSTEM ALL" for front in ("COUNT", "SUM x", "AVG x", "MIN x", "MAX x") for by in ("", " BY g", " BY n")
+             for test in ("", " WHERE x = 0", " WHERE g = 1 AND n <> 'p' OR x < 0")]
+    with Room(first) as room:
+        for text in texts:
+            # The text of COUNT has no column: the answer is split by its words all the same.
+            number, wrong = watched.compare(text, script, f"{room}/timeline.tlj")
+            judge(f"watch {text}", number > 60 and not wrong, (number, wrong))
+        before = journal(room)
+        for text, words, told in (("SELECT * FROM t", "Unexpected 0", "SELECT * FROM t"), ("SUM n FROM t OVER SYSTEM ALL", "WrongType 4", "    ^"),
+                                  ("SUM x FROM t OVER VALID 0 TO 1", "", ""), ("COUNT FROM nothing OVER SYSTEM ALL", "UnknownTable 11", "           ^"), ("", "Unexpected 0", "")):
+            status, printed, said = run(["--explain", "watch", text], put("t", ["1,1,p,1"], "k,g,n,x"), room)
+            judge(f"watch {text}", status == 11 and re.fullmatch(rf"! watch {words or '.*'}\n", printed.decode()) and told in said, (status, printed, said))
+        judge("what is not watched is not run", journal(room) == before)
+        found = run(["--strict", "watch", "COUNT FROM u OVER SYSTEM ALL"], put("u", [1], "k") + put("u", ["x"], "k") + put("u", [2], "k"), room)
+        judge("--strict watch", found == (20, b"a @4 ok\nwatch @4 rows 1\n1,1\na @4 ! NotInt 2 1\na @5 ok\nwatch @5 rows 1\n2,2\n",
+                                          "timeline: 1 of 3 statements was refused\n"), found)
+
+
+# A command that does not end is not as it should be either.
+signal.alarm(500)
+a_group_is_kept_whole()
+a_group_waits_twice()
+packets_come_as_they_like()
+totals_that_are_always_there()
+sys.exit(failed)

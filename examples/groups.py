@@ -1,6 +1,6 @@
 #!/usr/bin/env python3
-"""Runs the commands group, ship, follow and watch: a group is kept whole or not at all, packets come in any order, are
-lost and come again, and what is watched is what asking anew says. Ends with 1 where something is not as it should be."""
+"""Runs the commands group, ship and follow: a group is kept whole or not at all, and packets come in any order, are lost
+and come again. Ends with 1 where something is not as it should be."""
 import fcntl
 import os
 import random
@@ -13,7 +13,6 @@ import tempfile
 
 HERE = os.path.dirname(os.path.abspath(__file__))
 sys.path.insert(0, HERE)
-import watched
 
 TIMELINE = os.path.join(os.path.dirname(HERE), "timeline")
 PROGRAM = os.path.join(os.path.dirname(HERE), "crates/timeline/out/timeline")
@@ -196,45 +195,9 @@ def packets_come_as_they_like():
             judge(f"the words {words}", run(words, room=leader)[:2] == (2, b"! usage\n"))
 
 
-def totals_that_are_always_there():
-    """What is watched is what asking anew says, for each kind, with groups and without, and tests."""
-    draw = random.Random(SEED)
-    create = "a> CREATE TABLE t (k INT, g INT, n TEXT, x INT) KEY k\na> CREATE TABLE u (k INT) KEY k\n"
-    first = create + put("t", [f"{it},{it % 3},{'pqr'[it % 3]},{it}" for it in range(9)], "k,g,n,x")
-    script = ""
-    for it in range(120):
-        keys = draw.sample(range(40), 3)
-        kind = draw.randrange(6)
-        if kind < 3:
-            script += put("t", [f"{key},{draw.randrange(4)},{draw.choice('pqrs')},{draw.choice((-5, 0, 0, 3, 9223372036854775807))}" for key in keys], "k,g,n,x")
-        elif kind == 3:
-            script += f"a> REMOVE t\nk\n{keys[0]}\n\\.\n"
-        elif kind == 4:
-            script += f"a> MOMENT {it}\n"
-        else:
-            script += put("u", [it], "k") + "a> SELECT k FROM t WHERE x = 3\n"
-    texts = [f"{front} FROM t{test}{by} OVER SYSTEM ALL" for front in ("COUNT", "SUM x", "AVG x", "MIN x", "MAX x") for by in ("", " BY g", " BY n")
-             for test in ("", " WHERE x = 0", " WHERE g = 1 AND n <> 'p' OR x < 0")]
-    with Room(first) as room:
-        for text in texts:
-            # The text of COUNT has no column: the answer is split by its words all the same.
-            number, wrong = watched.compare(text, script, f"{room}/timeline.tlj")
-            judge(f"watch {text}", number > 60 and not wrong, (number, wrong))
-        before = journal(room)
-        for text, words, told in (("SELECT * FROM t", "Unexpected 0", "SELECT * FROM t"), ("SUM n FROM t OVER SYSTEM ALL", "WrongType 4", "    ^"),
-                                  ("SUM x FROM t OVER VALID 0 TO 1", "", ""), ("COUNT FROM nothing OVER SYSTEM ALL", "UnknownTable 11", "           ^"), ("", "Unexpected 0", "")):
-            status, printed, said = run(["--explain", "watch", text], put("t", ["1,1,p,1"], "k,g,n,x"), room)
-            judge(f"watch {text}", status == 11 and re.fullmatch(rf"! watch {words or '.*'}\n", printed.decode()) and told in said, (status, printed, said))
-        judge("what is not watched is not run", journal(room) == before)
-        found = run(["--strict", "watch", "COUNT FROM u OVER SYSTEM ALL"], put("u", [1], "k") + put("u", ["x"], "k") + put("u", [2], "k"), room)
-        judge("--strict watch", found == (20, b"a @4 ok\nwatch @4 rows 1\n1,1\na @4 ! NotInt 2 1\na @5 ok\nwatch @5 rows 1\n2,2\n",
-                                          "timeline: 1 of 3 statements was refused\n"), found)
-
-
 # A command that does not end is not as it should be either.
 signal.alarm(500)
 a_group_is_kept_whole()
 a_group_waits_twice()
 packets_come_as_they_like()
-totals_that_are_always_there()
 sys.exit(failed)

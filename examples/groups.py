@@ -12,7 +12,6 @@ import sys
 import tempfile
 
 HERE = os.path.dirname(os.path.abspath(__file__))
-sys.path.insert(0, HERE)
 
 TIMELINE = os.path.join(os.path.dirname(HERE), "timeline")
 PROGRAM = os.path.join(os.path.dirname(HERE), "crates/timeline/out/timeline")

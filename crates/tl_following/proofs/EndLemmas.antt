@@ -1,5 +1,5 @@
 -- How a journal that follows packets ends.
-use Rattle.std.proofs.Common.{◌≡◌, inl, inr, ℕ, false, List, [], ◌++◌, length, Some, None, refl, sym, ap, ◌∙◌, subst, append-nil}
+use Rattle.std.proofs.Common.{◌≡◌, ◌⊎◌, inl, inr, ℕ, false, List, [], ◌++◌, length, Some, None, refl, sym, ap, ◌∙◌, subst, append-nil}
 use Rattle.std.specs.declared.option.Option.{Option}
 use Rattle.tl_types.specs.declared.commits.Commit.{Commit}
 use Rattle.tl_types.specs.Limits.{standard_limits}
@@ -13,7 +13,7 @@ use Rattle.tl_command.specs.declared.statuses.Status.TheVariants as status
 use Rattle.tl_command.specs.Closing.{Closes}
 use Rattle.tl_command.specs.Outside.{Outside, HoldsJournal}
 use Rattle.tl_command.specs.Status.{closing_line}
-use Rattle.tl_grouping.specs.Appending.{IsAttached}
+use Rattle.tl_grouping.specs.Appending.{AppendsAndWrites, GivesUp, IsAttached}
 use Rattle.tl_grouping.specs.Leaving.{LeavesBy}
 use Rattle.tl_grouping.specs.Playing.{KeepsDisk}
 use Rattle.tl_grouping.proofs.DiskLemmas.{holds_journal, left_image, left_count}
@@ -41,10 +41,10 @@ silent_line None new e = e
 silent_line (Some b) new e = e ∙ ap Some (append-nil b)
 
 module _ {K D : Type 0} (sinks : SinkGhosts K) (disks : DiskGhosts D) (begun : D) (attached : group.Group D) (left end : Option (List ℕ)) (first last : ℕ) (old new : K) (disk : D) (ended : Status) (a : IsAttached disks begun attached) where
-  before : Outside
+  abbrev pub before : Outside
   before = record { left = left; source_faults = first; written = sinks.written old; sink_faults = sinks.faults old; reads = disks.reads begun; may_leave = disks.may_leave begun; disk_faults = disks.faults begun }
 
-  after : Outside
+  abbrev pub after : Outside
   after = record { left = end; source_faults = last; written = sinks.written new; sink_faults = sinks.faults new; reads = disks.reads disk; may_leave = disks.may_leave disk; disk_faults = disks.faults disk }
 
   holds : (later : group.Group D) → KeepsDisk disks attached later → disk ≡ later.journal.disk → HoldsJournal (commits_in attached) None before after
@@ -53,7 +53,7 @@ module _ {K D : Type 0} (sinks : SinkGhosts K) (disks : DiskGhosts D) (begun : D
   -- the commits were appended, or the group was given up
   pub extended : (commits : List Commit) → TakesCommits (commits_in attached) left end commits → last ≡ first → Extends sinks disks attached commits old new disk ended → FollowEndsBy (commits_in attached) before after ended
   extended commits taken sure h = by_end h.ends where
-    by_end : _ → FollowEndsBy (commits_in attached) before after ended
+    by_end : (GivesUp sinks h.later old new disk ended ⊎ ((commits_in h.later ≡ commits_in attached ++ commits) × AppendsAndWrites sinks disks h.later (follow_line (length (commits_in h.later))) old new disk ended)) → FollowEndsBy (commits_in attached) before after ended
     by_end (inl (e, same, written, faults)) =
         subst (FollowEndsBy (commits_in attached) before after) (sym e) ((written, faults), holds h.later h.keeps same)
     by_end (inr (all, writes)) =

@@ -97,12 +97,12 @@ FailsInput opening before first last (status.PacketFault at) =
 -- the commits wait behind those of a group, and are appended with the line that tells how many
 -- there are then; or the group is given up for want of memory
 pub record Extends {K D : Type 0} (sinks : SinkGhosts K) (disks : DiskGhosts D)
-    (group : group.Group D) (commits : List Commit) (old new : K) (disk : D) (ended : Status)
+    (first : group.Group D) (commits : List Commit) (old new : K) (disk : D) (ended : Status)
     : Type 0 where
   pub later : group.Group D
-  pub keeps : KeepsDisk disks group later
+  pub keeps : KeepsDisk disks first later
   pub ends : GivesUp sinks later old new disk ended
-      ⊎ ((commits_in later ≡ commits_in group ++ commits)
+      ⊎ ((commits_in later ≡ commits_in first ++ commits)
       × AppendsAndWrites sinks disks later (follow_line (length (commits_in later))) old new disk
       ended)
 

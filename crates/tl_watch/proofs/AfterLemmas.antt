@@ -1,22 +1,19 @@
 -- The rows that stand and pass before a commit and after it.
-use Rattle.std.proofs.Common.{◌≡◌, ℕ, ℤ, zero, suc, ◌+◌, ◌<◌, ◌≤◌, Bool, true, false, ◌&&◌, nat_lt, nat_le, List, [], ◌∷◌, ◌++◌, length, map, fold, Option, Some, None, refl, sym, ap, ◌∙◌, arith, subst, slice_get}
+use Rattle.std.proofs.Common.{◌≡◌, ℕ, ℤ, zero, suc, ◌+◌, ◌<◌, List, [], ◌∷◌, ◌++◌, length, map, Some, refl, sym, ap, ◌∙◌, arith, subst, slice_get}
 use Rattle.std.specs.Prelude.{IsTrue, ◌≢◌}
-use Rattle.std.specs.List.{filter, enumerate_from, list_all}
-use Rattle.std.proofs.lemmas.Bool.{ltb-true}
+use Rattle.std.specs.List.{filter, enumerate_from}
 use Rattle.std.proofs.lemmas.List.Sums.{fold-append}
 use Rattle.tl_types.specs.Plain as plain
 use Rattle.tl_types.specs.declared.commits.Commit.{Commit}
-use Rattle.tl_types.specs.declared.commits.Body.{Body}
 use Rattle.tl_types.specs.declared.commits.Body.TheVariants as body
-use Rattle.tl_types.specs.History.{open_end, row_after, new_row, new_table, table_after, at_place, after_body, after_commit, with_floor, nothing, database_of, fits, fits_body, rows_of, visible_rows, is_visible}
-use Rattle.tl_types.specs.Legality.{FitFrom, FitInTurn}
+use Rattle.tl_types.specs.History.{open_end, row_after, new_row, new_table, table_after, at_place, after_commit, with_floor, nothing, database_of, fits, rows_of}
+use Rattle.tl_types.specs.Legality.{FitInTurn}
 use Rattle.tl_types.specs.Limits.{standard_limits}
-use Rattle.tl_types.specs.WellFormed.{AreWellFormed}
-use Rattle.tl_types.proofs.EntryLemmas.{version_after, fit_is_few, fit_more}
+use Rattle.tl_types.proofs.EntryLemmas.{fit_is_few, fit_more}
 use Rattle.tl_types.proofs.WellFormedLemmas.{history_formed}
 use Rattle.tl_query.specs.declared.typed_queries.TypedPred.{TypedPred}
 use Rattle.tl_query.specs.Passing.{passes}
-use Rattle.tl_watch.specs.Standings.{standing_rows, left_from, left_rows}
+use Rattle.tl_watch.specs.Standings.{standing_rows, left_rows}
 use Rattle.tl_watch.proofs.LeftLemmas.{left_open, left_after}
 
 -- ONE COMMIT MORE

@@ -1,7 +1,6 @@
 -- The groups stand for the rows when one comes or goes.
-use Rattle.std.proofs.Common.{◌≡◌, ℕ, zero, suc, ◌+◌, ◌-◌, ◌^◌, ◌<◌, ◌≤◌, ℤ, Bool, true, false, cond, ◌==◌, List, [], ◌∷◌, ◌++◌, length, map, Option, Some, None, refl, sym, ap, ◌∙◌, arith, subst, length-append}
+use Rattle.std.proofs.Common.{◌≡◌, ℕ, suc, ◌+◌, ◌-◌, ◌^◌, ◌<◌, ◌≤◌, Bool, true, false, cond, ◌==◌, List, [], ◌∷◌, ◌++◌, length, Option, Some, None, refl, sym, ap, ◌∙◌, arith, subst}
 use Rattle.std.specs.List.{filter}
-use Rattle.std.specs.Map.{lookup}
 use Rattle.std.proofs.lemmas.Bool.Decides.{nat_tests}
 use Rattle.std.proofs.lemmas.List.Elements.{filter-append}
 use Rattle.std.proofs.lemmas.List.{length-map}
@@ -13,7 +12,7 @@ use Rattle.tl_types.specs.History.{same_cell, cell_at}
 use Rattle.tl_query.specs.declared.ast.AggKind.{AggKind}
 use Rattle.tl_query.specs.Aggregates.{has_value}
 use Rattle.tl_query.specs.Passing.{compare_cells}
-use Rattle.tl_running.specs.Standing.{Kept, number_in, IsShort, StandsFor, HasRoom, CanLeave, Enters, Inserts}
+use Rattle.tl_running.specs.Standing.{Kept, number_in, IsShort, StandsFor, Inserts}
 use Rattle.tl_running.proofs.StandingLemmas.{has_room, row_enters, can_leave, row_leaves}
 use Rattle.tl_running.proofs.SumLemmas.{inserts_length}
 use Rattle.tl_watch.specs.Groups.{group_of, HoldsRows, GroupsStand, IsOne, HasRoomAt, CanLeaveAt, EntersGroup, with_rows, LeavesGroup}

@@ -10,10 +10,10 @@ pub none_kept : (k : AggKind) (counted : Kept) (bag : List (ℤ × ℕ)) → ((c
 none_kept k counted bag stands none column = record { count = (stands column).count; sum = (stands column).sum; short = tt; bag = λ ordered v. none v }
 
 -- one number more is counted and added
-enters_counted : (k : AggKind) (old new : Kept) (was now : List (ℤ × ℕ)) (n : ℤ) → new ≡ summing old (old.count + 1) (old.sum +ℤ n) → (is_ordered k ≡ true → AddsOne was now n) → Enters (kept_of k old was) (kept_of k new now) n
+pub enters_counted : (k : AggKind) (old new : Kept) (was now : List (ℤ × ℕ)) (n : ℤ) → new ≡ summing old (old.count + 1) (old.sum +ℤ n) → (is_ordered k ≡ true → AddsOne was now n) → Enters (kept_of k old was) (kept_of k new now) n
 enters_counted k old new was now n is adds = record { kind = refl; count = ap (λ (x : Kept). x.count) is; sum = ap (λ (x : Kept). x.sum) is; bag = adds }
 
-kind_counted : (k : AggKind) (old new : Kept) (count : ℕ) (sum : ℤ) → old.kind ≡ counted_as k → new ≡ summing old count sum → new.kind ≡ counted_as k
+pub kind_counted : (k : AggKind) (old new : Kept) (count : ℕ) (sum : ℤ) → old.kind ≡ counted_as k → new ≡ summing old count sum → new.kind ≡ counted_as k
 kind_counted k old new count sum kind_is is = ap (λ (x : Kept). x.kind) is ∙ kind_is
 
 pub ruleset counts_more = (enters_counted, kind_counted)

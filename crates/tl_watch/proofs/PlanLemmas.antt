@@ -1,6 +1,6 @@
 -- The plan of a query that suits a database is one for its table.
-use Rattle.std.proofs.Common.{◌≡◌, ℕ, ◌+◌, ◌<◌, Bool, true, false, ◌&&◌, length, Option, Some, None, slice_get, refl, ap, sym, ◌∙◌, arith}
-use Rattle.std.specs.Prelude.{option_map, All}
+use Rattle.std.proofs.Common.{◌≡◌, ℕ, true, ◌&&◌, length, Option, Some, None, slice_get, refl, ap, sym, ◌∙◌}
+use Rattle.std.specs.Prelude.{option_map}
 use Rattle.std.proofs.lemmas.Bool.{ltb-true}
 use Rattle.std.proofs.lemmas.Option.{slice_get_within}
 use Rattle.tl_types.proofs.Lists.{and_left, and_right}
@@ -9,7 +9,6 @@ use Rattle.tl_types.specs.declared.cells.ColumnKind.TheVariants.{IntKind, TextKi
 use Rattle.tl_types.specs.Plain as plain
 use Rattle.tl_query.specs.declared.ast.AggKind.{AggKind}
 use Rattle.tl_query.specs.declared.ast.AggKind.TheVariants as kind
-use Rattle.tl_query.specs.declared.typed_queries.TypedPred.{TypedPred}
 use Rattle.tl_query.specs.TypedFor.{is_typed_agg, is_typed_aggregate, is_typed_group, is_int_column, is_int_kind, is_typed_pred, is_typed_span, kind_at}
 use Rattle.tl_filter.specs.Selecting.{IsTypedPredFor}
 use Rattle.tl_filter.proofs.SelectLemmas.{typed_columns}

@@ -1,8 +1,8 @@
 -- A plan over commits that fit, and one commit more.
-use Rattle.std.proofs.Common.{◌≡◌, ℕ, ℤ, zero, suc, ◌+◌, ◌<◌, ◌≤◌, Bool, true, false, ◌&&◌, nat_lt, nat_le, List, [], ◌∷◌, ◌++◌, length, map, take, get_or, All, Option, Some, None, refl, sym, ap, ◌∙◌, arith, subst, slice_get}
-use Rattle.std.specs.Prelude.{IsTrue, ◌≢◌, ◌==◌, is_some}
+use Rattle.std.proofs.Common.{◌≡◌, ℕ, ℤ, zero, suc, ◌+◌, ◌<◌, true, ◌&&◌, nat_lt, nat_le, List, [], ◌∷◌, ◌++◌, length, map, take, get_or, All, Option, Some, None, refl, sym, ap, ◌∙◌, arith, subst, slice_get}
+use Rattle.std.specs.Prelude.{IsTrue, ◌≢◌, is_some}
 use Rattle.std.specs.Bool.{beq}
-use Rattle.std.specs.List.{filter, enumerate_from, list_all}
+use Rattle.std.specs.List.{filter, list_all}
 use Rattle.std.proofs.lemmas.Bool.Decides.{nat_tests}
 use Rattle.tl_types.proofs.Lists.{and_left, and_right}
 use Rattle.tl_types.proofs.EntryLemmas.{tables_grow}
@@ -13,21 +13,19 @@ use Rattle.tl_types.specs.declared.schemas.Column.{Column}
 use Rattle.tl_types.specs.declared.commits.Commit.{Commit}
 use Rattle.tl_types.specs.declared.commits.Body.{Body}
 use Rattle.tl_types.specs.declared.commits.Body.TheVariants as body
-use Rattle.tl_types.specs.History.{table_after, at_place, after_commit, database_of, fits, fits_body, fits_table, is_of_kind, is_open_at, match_columns, matches, rows_of, row_after, new_row, new_table, with_floor}
+use Rattle.tl_types.specs.History.{table_after, at_place, after_commit, database_of, fits, fits_body, fits_table, is_of_kind, is_open_at, match_columns, matches, rows_of, new_row, new_table, with_floor}
 use Rattle.tl_types.specs.Legality.{FitInTurn}
 use Rattle.tl_types.specs.Limits.{standard_limits}
-use Rattle.tl_query.specs.declared.ast.AggKind.{AggKind}
 use Rattle.tl_query.specs.Passing.{passes}
-use Rattle.tl_query.specs.declared.ast.AggKind.TheVariants as kind
 use Rattle.tl_store.specs.Reading.{columns_of, columns_of_table, IsIntColumn}
-use Rattle.tl_running.specs.Standing.{HaveNumbers, Suits}
+use Rattle.tl_running.specs.Standing.{Suits}
 use Rattle.tl_watch.specs.declared.plans.WatchPlan.{WatchPlan}
 use Rattle.tl_watch.specs.Standings.{standing_rows, left_rows}
 use Rattle.tl_watch.specs.Reading.{IsWithin}
 use Rattle.tl_watch.specs.Follows.{IsReady, rows_closing, rows_opening}
 use Rattle.tl_watch.specs.States.{State, Stands}
 use Rattle.tl_watch.specs.Watches.{Watched, IsPlanFor, StandsOver, AllStand}
-use Rattle.tl_watch.proofs.AfterLemmas.{one_more, fit_one_more, standing_is, standing_changed, standing_same, changed_rows, other_rows, made_rows, stated_rows, forgot_rows, table_there}
+use Rattle.tl_watch.proofs.AfterLemmas.{one_more, standing_is, standing_changed, standing_same, changed_rows, other_rows, made_rows, stated_rows, forgot_rows, table_there}
 use Rattle.tl_watch.proofs.TypedLemmas.{opens_suit, suits_after}
 
 -- THE COLUMNS STAY
@@ -166,18 +164,24 @@ over_other watched cs c fit one same over = record {
 pub over_another : (watched : Watched) (cs : List Commit) (change : plain.Change) (author : ℕ) → FitInTurn standard_limits cs → IsTrue (fits standard_limits (database_of cs) (record { author = author; body = body.Change change })) → change.table ≢ watched.plan.table → StandsOver watched (database_of cs) → StandsOver watched (database_of (cs ++ record { author = author; body = body.Change change } ∷ []))
 over_another watched cs change author fit one other over = over_other watched cs (record { author = author; body = body.Change change }) fit one (other_rows (database_of cs) change author watched.plan.table other) over
 
--- EACH PLAN, WHERE NO TABLE'S ROWS CHANGE
+-- EACH PLAN
 
-pub all_made : (plans : List Watched) (cs : List Commit) (schema : plain.Schema) (author : ℕ) → FitInTurn standard_limits cs → IsTrue (fits standard_limits (database_of cs) (record { author = author; body = body.Create schema })) → AllStand plans (database_of cs) → AllStand plans (database_of (cs ++ record { author = author; body = body.Create schema } ∷ []))
-all_made plans cs schema author fit one all i w there =
-    let over = all i w there in
-    over_other w cs (record { author = author; body = body.Create schema }) fit one (made_rows (database_of cs) schema author w.plan.table over.plan.there) over
+-- a commit that leaves the rows of each table as they were
+all_other : (plans : List Watched) (cs : List Commit) (c : Commit) → FitInTurn standard_limits cs → IsTrue (fits standard_limits (database_of cs) c) → ((table : ℕ) → table < length (database_of cs).tables → rows_of (after_commit (database_of cs) (record { author = c.author; body = c.body })) table ≡ rows_of (database_of cs) table) → AllStand plans (database_of cs)
+    → AllStand plans (database_of (cs ++ c ∷ []))
+all_other plans cs c fit one same all i w there = let over = all i w there in over_other w cs c fit one (same w.plan.table over.plan.there) over
 
-pub all_stated : (plans : List Watched) (cs : List Commit) (moment : ℤ) (author : ℕ) → FitInTurn standard_limits cs → IsTrue (fits standard_limits (database_of cs) (record { author = author; body = body.Moment moment })) → AllStand plans (database_of cs) → AllStand plans (database_of (cs ++ record { author = author; body = body.Moment moment } ∷ []))
-all_stated plans cs moment author fit one all i w there =
-    over_other w cs (record { author = author; body = body.Moment moment }) fit one (stated_rows (database_of cs) moment author w.plan.table) (all i w there)
+abbrev RowsStay : plain.Database → ℕ → Body → Type 0
+RowsStay db author b = (table : ℕ) → table < length db.tables → rows_of (after_commit db (record { author = author; body = b })) table ≡ rows_of db table
 
-pub all_forgot : (plans : List Watched) (cs : List Commit) (number floor author : ℕ) → FitInTurn standard_limits cs → IsTrue (fits standard_limits (database_of cs) (record { author = author; body = body.Forget number floor })) → AllStand plans (database_of cs) → AllStand plans (database_of (cs ++ record { author = author; body = body.Forget number floor } ∷ []))
-all_forgot plans cs number floor author fit one all i w there =
-    let over = all i w there in
-    over_other w cs (record { author = author; body = body.Forget number floor }) fit one (forgot_rows (database_of cs) number floor author w.plan.table over.plan.there) over
+pub all_made : (plans : List Watched) (cs : List Commit) (c : Commit) (schema : plain.Schema) → c.body ≡ body.Create schema → FitInTurn standard_limits cs → IsTrue (fits standard_limits (database_of cs) c) → AllStand plans (database_of cs) → AllStand plans (database_of (cs ++ c ∷ []))
+all_made plans cs c schema is fit one all = all_other plans cs c fit one (subst (RowsStay (database_of cs) c.author) (sym is) (λ table l. made_rows (database_of cs) schema c.author table l)) all
+
+pub all_stated : (plans : List Watched) (cs : List Commit) (c : Commit) (moment : ℤ) → c.body ≡ body.Moment moment → FitInTurn standard_limits cs → IsTrue (fits standard_limits (database_of cs) c) → AllStand plans (database_of cs) → AllStand plans (database_of (cs ++ c ∷ []))
+all_stated plans cs c moment is fit one all = all_other plans cs c fit one (subst (RowsStay (database_of cs) c.author) (sym is) (λ table l. stated_rows (database_of cs) moment c.author table)) all
+
+pub all_forgot : (plans : List Watched) (cs : List Commit) (c : Commit) (number floor : ℕ) → c.body ≡ body.Forget number floor → FitInTurn standard_limits cs → IsTrue (fits standard_limits (database_of cs) c) → AllStand plans (database_of cs) → AllStand plans (database_of (cs ++ c ∷ []))
+all_forgot plans cs c number floor is fit one all = all_other plans cs c fit one (subst (RowsStay (database_of cs) c.author) (sym is) (λ table l. forgot_rows (database_of cs) number floor c.author table l)) all
+
+pub all_changed : (plans : List Watched) (cs : List Commit) (c : Commit) (change : plain.Change) → c.body ≡ body.Change change → AllStand plans (database_of (cs ++ record { author = c.author; body = body.Change change } ∷ [])) → AllStand plans (database_of (cs ++ c ∷ []))
+all_changed plans cs c change is all = subst (λ b. AllStand plans (database_of (cs ++ record { author = c.author; body = b } ∷ []))) (sym is) all

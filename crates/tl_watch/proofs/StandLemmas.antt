@@ -1,11 +1,9 @@
 -- What is kept of a plan stands for the rows when one comes or goes.
-use Rattle.std.proofs.Common.{◌≡◌, ℕ, ◌-◌, ◌^◌, ◌<◌, ℤ, true, List, [], length, Option, Some, None, refl, sym, subst, ap, ◌∙◌}
-use Rattle.std.specs.Prelude.{is_some}
+use Rattle.std.proofs.Common.{ℕ, ◌-◌, ◌^◌, ◌<◌, ℤ, List, length, Option, Some, None, sym, subst, ◌∙◌}
 use Rattle.tl_types.specs.declared.cells.Cell.{Cell}
-use Rattle.tl_types.specs.History.{cell_at}
 use Rattle.tl_types.specs.Plain as plain
 use Rattle.tl_query.specs.declared.ast.AggKind.{AggKind}
-use Rattle.tl_running.specs.Standing.{Kept, number_in, IsShort, StandsFor, Inserts}
+use Rattle.tl_running.specs.Standing.{number_in, IsShort, Inserts}
 use Rattle.tl_running.proofs.StandingLemmas.{has_room, row_enters, can_leave, row_leaves}
 use Rattle.tl_watch.specs.declared.plans.WatchPlan.{WatchPlan}
 use Rattle.tl_watch.specs.States.{State, StandsAs, Stands, IsKey, TellsRow, CanCome, CanGo, Comes, Goes}

@@ -1,16 +1,17 @@
 -- What is kept of a plan when it begins: the rows that stand and pass come one by one.
-use Rattle.std.proofs.Common.{◌≡◌, ℕ, zero, suc, ◌+◌, ◌-◌, ◌*◌, ◌/◌, ◌^◌, ◌<◌, ◌≤◌, ℤ, Bool, true, false, ◌&&◌, cond, List, [], ◌∷◌, ◌++◌, length, map, set, Option, Some, None, refl, sym, ap, ◌∙◌, arith, subst, slice_get}
+use Rattle.std.proofs.Common.{◌≡◌, ℕ, zero, suc, ◌+◌, ◌*◌, ◌<◌, ◌≤◌, ℤ, Bool, true, false, ◌&&◌, cond, List, [], ◌∷◌, length, map, set, Option, Some, None, refl, sym, ap, ◌∙◌, arith, subst, slice_get}
 use Rattle.std.specs.Prelude.{IsTrue}
 use Rattle.std.specs.List.{filter, enumerate_from}
+use Rattle.std.proofs.lemmas.List.{length-map}
 use Rattle.std.proofs.lemmas.List.Sums.{sum_by-append}
 use Rattle.tl_types.specs.declared.cells.Cell.{Cell}
 use Rattle.tl_types.specs.declared.commits.Commit.{Commit}
 use Rattle.tl_types.specs.declared.commits.Entry.{Entry}
 use Rattle.tl_types.specs.Plain as plain
 use Rattle.tl_types.specs.Entries.{commits_of}
-use Rattle.tl_types.specs.Events.{activation}
 use Rattle.tl_types.specs.History.{database_of, rows_of, is_visible}
 use Rattle.tl_types.specs.Legality.{are_legal}
+use Rattle.tl_types.specs.Walks.{standing}
 use Rattle.tl_query.specs.declared.ast.AggKind.{AggKind}
 use Rattle.tl_query.specs.declared.ast.AggKind.TheVariants as kind
 use Rattle.tl_query.specs.declared.typed_queries.TypedPred.{TypedPred}
@@ -21,12 +22,15 @@ use Rattle.tl_running.specs.Standing.{HaveNumbers, Suits, IsShort, number_in, In
 use Rattle.tl_agg.specs.Kept.{picked, below, size}
 use Rattle.tl_agg.proofs.StartLemmas.{next_turns, next_below, rest_below}
 use Rattle.tl_agg.proofs.TypedLemmas.{plans_suit}
+use Rattle.tl_lanes.specs.Masks.{words_for}
+use Rattle.tl_travel.specs.Bounds.{events_after_mark, begun_words, map_digits}
+use Rattle.tl_filter.specs.Selecting.{rows_that_pass}
 use Rattle.tl_watch.specs.declared.plans.WatchPlan.{WatchPlan}
-use Rattle.tl_watch.specs.Standings.{standing_rows}
+use Rattle.tl_watch.specs.Standings.{standing_rows, tests_in}
 use Rattle.tl_watch.specs.Reading.{RowAt, IsRow, IsWithin}
 use Rattle.tl_watch.specs.States.{State, Stands, IsKey, CanCome, Comes}
 use Rattle.tl_watch.specs.Follows.{IsTaking, TakesRow, IsBeginning, rows_begun}
-use Rattle.tl_watch.specs.Watches.{IsOfQuery, IsPlanFor, StandsOver}
+use Rattle.tl_watch.specs.Watches.{IsOfQuery, IsPlanFor, StandsOver, start_steps}
 use Rattle.tl_watch.proofs.PlanLemmas.{plan_is}
 use Rattle.tl_watch.proofs.ReadyLemmas.{column_within}
 use Rattle.tl_watch.proofs.StandLemmas.{can_come, row_comes}
@@ -125,6 +129,16 @@ picked_standing v n pred (s ∷ members) (r ∷ rows) long told = by_tests s (is
   by_tests s true e later = rw e (ap (λ xs. cond (passes pred r) (r ∷ xs) xs) later)
   by_tests s false e later = rw e later
 
+pub set_stands : (entries : List Entry) (cs : List Commit) (version table : ℕ) (pred : TypedPred) (found members : List Bool) → cs ≡ commits_of entries → version ≡ (database_of cs).version → found ≡ standing (rows_of (database_of (commits_of entries)) table) version
+    → length members ≡ length found → ((row : ℕ) → is_member members row ≡ (is_member found row && is_member (rows_that_pass (database_of (commits_of entries)) table pred) row))
+    → picked members (rows_of (database_of (commits_of entries)) table) ≡ standing_rows (database_of (commits_of entries)) table pred
+set_stands entries cs version table pred found members same version_is found_is long told =
+    let now : version ≡ (database_of (commits_of entries)).version = version_is ∙ ap (λ xs. (database_of xs).version) same in
+    let stands : found ≡ standing (rows_of (database_of (commits_of entries)) table) (database_of (commits_of entries)).version = found_is ∙ ap (standing (rows_of (database_of (commits_of entries)) table)) now in
+    picked_standing (database_of (commits_of entries)).version 0 pred members (rows_of (database_of (commits_of entries)) table)
+    (long ∙ ap length stands ∙ length-map (rows_of (database_of (commits_of entries)) table) (is_visible (database_of (commits_of entries)).version))
+    (λ row. told row ∙ ap (λ bs. is_member bs row && is_member (rows_that_pass (database_of (commits_of entries)) table pred) row) stands)
+
 size_first : (b : Bool) (bs : List Bool) → size (b ∷ bs) ≡ cond b 1 0 + size bs
 size_first b bs = let z : 0 + cond b 1 0 ≡ cond b 1 0 = omega arith in sum_by-append (λ (n : Bool). cond n 1 0) (b ∷ []) bs ∙ ap (λ n. n + size bs) z
 
@@ -171,3 +185,22 @@ started plan entries cs members state query legal same rows_are stands =
       suits = table_suits plan entries legal is;
       stands = subst (λ rows. Stands plan state rows) (ap (λ xs. picked members (rows_of (database_of xs) plan.table)) same ∙ rows_are) stands;
     }
+
+pub few_rows : (n : ℕ) (cs : List Commit) (entries : List Entry) (table : ℕ) → cs ≡ commits_of entries → n ≡ length (rows_of (database_of cs) table) → n ≤ 16777216 → length (rows_of (database_of (commits_of entries)) table) ≤ 16777216
+few_rows n cs entries table same is few = subst (λ xs. length (rows_of (database_of xs) table) ≤ 16777216) same (let e = is in omega arith)
+
+-- STEPS
+
+steps_sum : (e w s p r size words before middle after : ℕ) → middle ≤ before + e + w + 2 * s + (p * w + w) → after ≤ middle + (3 * size + words) → size ≡ r → words ≡ w → after ≤ before + (e + (p + 3) * w + 2 * s + 3 * r)
+steps_sum e w s p r size words before middle after h l i j =
+    let m : (p + 3) * w ≡ p * w + 3 * w = grind arith in
+    omega arith
+
+pub start_within : (plan : WatchPlan) (entries : List Entry) (members : List Bool) (before middle after : ℕ) → length members ≡ length (rows_of (database_of (commits_of entries)) plan.table)
+    → picked members (rows_of (database_of (commits_of entries)) plan.table) ≡ standing_rows (database_of (commits_of entries)) plan.table plan.pred
+    → middle ≤ before + events_after_mark entries plan.table (database_of (commits_of entries)).version + begun_words (database_of (commits_of entries)) plan.table + 2 * map_digits (database_of (commits_of entries)) plan.table + (tests_in plan.pred * begun_words (database_of (commits_of entries)) plan.table + begun_words (database_of (commits_of entries)) plan.table)
+    → after ≤ middle + (3 * size members + words_for (length members)) → after ≤ before + start_steps entries plan
+start_within plan entries members before middle after long rows_are h l =
+    let db = database_of (commits_of entries) in
+    steps_sum (events_after_mark entries plan.table db.version) (begun_words db plan.table) (map_digits db plan.table) (tests_in plan.pred) (length (standing_rows db plan.table plan.pred)) (size members) (words_for (length members)) before middle after h l
+    (size_picked members (rows_of db plan.table) long ∙ ap length rows_are) (ap words_for long)

@@ -1,12 +1,11 @@
 -- One row more of a change is closed, or opened.
-use Rattle.std.proofs.Common.{◌≡◌, ℕ, zero, suc, ◌+◌, ◌-◌, ◌^◌, ◌<◌, ◌≤◌, ℤ, Bool, true, false, cond, List, [], ◌∷◌, ◌++◌, length, map, take, get_or, All, Option, Some, None, refl, sym, ap, ◌∙◌, arith, subst, slice_get, length-append, append_assoc}
+use Rattle.std.proofs.Common.{◌≡◌, ℕ, zero, suc, ◌+◌, ◌<◌, ◌≤◌, ℤ, Bool, true, false, cond, List, [], ◌∷◌, ◌++◌, length, map, take, get_or, Option, Some, refl, sym, ap, ◌∙◌, arith, subst, slice_get, length-append, append_assoc}
 use Rattle.std.specs.List.{filter, list_all}
-use Rattle.std.proofs.lemmas.List.{take_more, take_all, length-map, length-take-le}
-use Rattle.std.proofs.lemmas.List.Elements.{filter-append}
-use Rattle.std.proofs.lemmas.Option.{slice_get_within}
+use Rattle.std.proofs.lemmas.List.{length-map}
+use Rattle.std.proofs.lemmas.Option.{slice_get-get_or}
 use Rattle.tl_types.specs.declared.cells.Cell.{Cell}
 use Rattle.tl_types.specs.Plain as plain
-use Rattle.tl_types.specs.History.{rows_of, new_row, is_open, is_open_at}
+use Rattle.tl_types.specs.History.{rows_of, new_row, is_open_at}
 use Rattle.tl_types.proofs.Lists.{and_left, and_right, open_within}
 use Rattle.tl_query.specs.declared.ast.AggKind.{AggKind}
 use Rattle.tl_query.specs.declared.ast.AggKind.TheVariants as kind
@@ -75,6 +74,9 @@ open_id : (rows : List plain.Row) (ids : List ℕ) (i id : ℕ) → list_all (is
 open_id rows [] i id h e = absurd (cc)
 open_id rows (x ∷ ids) zero id h e = let s : x ≡ id = cc in subst (λ y. is_open_at rows y ≡ true) s (and_left (is_open_at rows x) (list_all (is_open_at rows) ids) h)
 open_id rows (x ∷ ids) (suc i) id h e = open_id rows ids i id (and_right (is_open_at rows x) (list_all (is_open_at rows) ids) h) e
+
+pub id_at : (xs ys : List ℕ) (i : ℕ) → xs ≡ ys → i < length ys → slice_get ys i ≡ Some (get_or xs i 0)
+id_at xs ys i e l = slice_get-get_or ys i 0 l ∙ ap (λ zs. Some (get_or zs i 0)) (sym e)
 
 pub close_within : (plan : WatchPlan) (db : plain.Database) (change : plain.Change) (i id : ℕ) → IsReady plan db change → slice_get change.closes i ≡ Some id → id < length (rows_of db plan.table)
 close_within plan db change i id ready there = open_within (rows_of db plan.table) id (open_id (rows_of db plan.table) change.closes i id ready.closes there)
@@ -154,6 +156,9 @@ opened_more pred w (x ∷ front) o = step (passes pred (new_row w x)) (opened_mo
       → cond b (new_row w x ∷ filter (passes pred) (map (new_row w) (front ++ o ∷ []))) (filter (passes pred) (map (new_row w) (front ++ o ∷ []))) ≡ cond b (new_row w x ∷ filter (passes pred) (map (new_row w) front)) (filter (passes pred) (map (new_row w) front)) ++ last
   step true e = ap (λ xs. new_row w x ∷ xs) e
   step false e = e
+
+pub opened_at : (xs ys : List plain.Opened) (i : ℕ) (o : plain.Opened) → xs ≡ ys → i < length ys → o ≡ get_or xs i o → slice_get ys i ≡ Some o
+opened_at xs ys i o e l is = slice_get-get_or ys i o l ∙ ap (λ zs. Some (get_or zs i o)) (sym e) ∙ ap Some (sym is)
 
 opening_more : (plan : WatchPlan) (db : plain.Database) (change : plain.Change) (i : ℕ) (o : plain.Opened) → slice_get change.opens i ≡ Some o
     → rows_opening plan db change (i + 1) ≡ rows_opening plan db change i ++ cond (passes plan.pred (new_row (db.version + 1) o)) (new_row (db.version + 1) o ∷ []) []

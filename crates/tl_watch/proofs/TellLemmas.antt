@@ -1,8 +1,7 @@
 -- What is told of what is kept are the values over the rows.
-use Rattle.std.proofs.Common.{◌≡◌, ℕ, zero, suc, ◌+◌, ◌<◌, Bool, true, false, ◌||◌, cond, List, [], ◌∷◌, ◌++◌, length, map, Option, Some, None, refl, sym, ap, ◌∙◌, arith, subst, append_assoc}
+use Rattle.std.proofs.Common.{◌≡◌, ℕ, Bool, true, false, ◌||◌, cond, List, [], ◌∷◌, ◌++◌, length, map, Option, Some, None, refl, sym, ap, ◌∙◌, arith, subst, append_assoc}
 use Rattle.std.specs.Prelude.{is_some}
-use Rattle.std.specs.List.{filter, filter_map, fold, cons_option, AllByRecursion}
-use Rattle.std.specs.Map.{lookup}
+use Rattle.std.specs.List.{filter, filter_map, cons_option}
 use Rattle.std.proofs.lemmas.List.{length-map}
 use Rattle.tl_types.specs.declared.answers.Field.{Field}
 use Rattle.tl_types.specs.declared.cells.Cell.{Cell}
@@ -10,14 +9,14 @@ use Rattle.tl_types.specs.Plain as plain
 use Rattle.tl_types.specs.History.{same_cell, cell_at}
 use Rattle.tl_query.specs.declared.ast.AggKind.{AggKind}
 use Rattle.tl_query.specs.Aggregates.{aggregate_of, has_value}
-use Rattle.tl_query.specs.Ordered.{cell_before, with_value, values_of, has, Rises}
+use Rattle.tl_query.specs.Ordered.{cell_before, values_of, has, Rises}
 use Rattle.tl_running.specs.Standing.{Kept, number_in, StandsFor, Suits}
 use Rattle.tl_watch.specs.declared.standings.Standing.{Standing}
 use Rattle.tl_watch.specs.declared.plans.WatchPlan.{WatchPlan}
 use Rattle.tl_watch.specs.Standings.{value_over, values_over}
 use Rattle.tl_watch.specs.Groups.{group_of, HoldsRows, GroupsStand, TellsValue, TellsGroup, TellGroups, TellsAll}
 use Rattle.tl_watch.specs.States.{State, StandsAs, Stands}
-use Rattle.tl_query.proofs.CellOrder.{cell_symm, cell_itself, cell_equal}
+use Rattle.tl_query.proofs.CellOrder.{cell_symm, cell_itself}
 use Rattle.tl_query.proofs.ValueOrder.{values_same, has_fold, rises_fold, of_member, before_apart}
 use Rattle.tl_watch.proofs.GroupLemmas.{has_key}
 use Rattle.tl_running.proofs.TellLemmas.{suits_none}

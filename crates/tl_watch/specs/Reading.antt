@@ -1,5 +1,5 @@
 -- A row of a store, and what a plan reads of a table.
-use Rattle.std.specs.Prelude.{◌≡◌, ℕ, ◌<◌, List, length, Option, Some, None, slice_get, All}
+use Rattle.std.specs.Prelude.{◌≡◌, ℕ, ◌<◌, List, Option, Some, None, slice_get, All}
 use Rattle.tl_types.specs.History.{rows_of}
 use Rattle.tl_types.specs.Plain as plain
 use Rattle.tl_query.specs.declared.typed_queries.TypedTest.{TypedTest}

@@ -1,5 +1,5 @@
 -- Standing aggregates: what the value of a plan is over the rows of a table that stand.
-use Rattle.std.specs.Prelude.{◌≡◌, ℕ, ◌+◌, Bool, ◌&&◌, not, List, [], ◌∷◌, length, map, Option, None, Some, if◌then◌else◌, sum_by}
+use Rattle.std.specs.Prelude.{ℕ, ◌+◌, Bool, ◌&&◌, not, List, [], ◌∷◌, length, map, Option, None, Some, if◌then◌else◌, sum_by}
 use Rattle.std.specs.List.{filter}
 use Rattle.tl_types.specs.declared.cells.Cell.{Cell}
 use Rattle.tl_types.specs.History.{is_open, has_id, visible_rows}

@@ -1,10 +1,10 @@
 -- What is kept of a plan, and the rows for which it stands.
-use Rattle.std.specs.Prelude.{◌≡◌, ℕ, ℤ, ◌-◌, ◌^◌, ◌<◌, Bool, true, List, [], ◌∷◌, ◌++◌, length, Option, None, Some, is_some}
+use Rattle.std.specs.Prelude.{◌≡◌, ℕ, ℤ, true, List, [], ◌∷◌, Option, None, Some, is_some}
 use Rattle.tl_types.specs.declared.cells.Cell.{Cell}
-use Rattle.tl_types.specs.History.{cell_at, new_row}
+use Rattle.tl_types.specs.History.{cell_at}
 use Rattle.tl_types.specs.Plain as plain
 use Rattle.tl_query.specs.declared.ast.AggKind.{AggKind}
-use Rattle.tl_running.specs.Standing.{Kept, StandsFor, Suits, HasRoom, CanLeave, Enters, IsShort, number_in, Inserts}
+use Rattle.tl_running.specs.Standing.{Kept, StandsFor, Suits, HasRoom, CanLeave, Enters, IsShort, number_in}
 use Rattle.tl_watch.specs.declared.plans.WatchPlan.{WatchPlan}
 use Rattle.tl_watch.specs.Groups.{GroupsStand, HasRoomAt, CanLeaveAt, EntersGroup, LeavesGroup, group_of}
 

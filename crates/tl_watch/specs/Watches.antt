@@ -1,5 +1,5 @@
 -- A watch, and the commits for which it stands.
-use Rattle.std.specs.Prelude.{◌≡◌, ℕ, ◌+◌, ◌*◌, ◌<◌, ◌≤◌, ◌==◌, Bool, List, [], ◌∷◌, length, map, sum_by, Option, None, Some, if◌then◌else◌, slice_get, slice_set, All}
+use Rattle.std.specs.Prelude.{◌≡◌, ℕ, ◌+◌, ◌*◌, ◌<◌, ◌≤◌, ◌==◌, Bool, List, length, map, sum_by, Option, None, Some, if◌then◌else◌, slice_get, slice_set, All}
 use Rattle.tl_types.specs.declared.commits.Body.{Body}
 use Rattle.tl_types.specs.declared.commits.Body.TheVariants as body
 use Rattle.tl_types.specs.declared.commits.Commit.{Commit}
@@ -84,13 +84,13 @@ abbrev pub most_steps : Watch → Body → ℕ
 most_steps watch body = sum_by (most_steps_for body) watch.plans
 
 -- the most steps that a plan takes when it begins: those that it takes to find the rows of its table
--- that stand and pass, and two for each of them
+-- that stand and pass, and three for each of them
 abbrev pub start_steps : List Entry → WatchPlan → ℕ
 start_steps entries plan =
     events_after_mark entries plan.table (database_behind entries).version
     + (tests_in plan.pred + 3) * begun_words (database_behind entries) plan.table
     + 2 * map_digits (database_behind entries) plan.table
-    + 2 * length (standing_rows (database_behind entries) plan.table plan.pred)
+    + 3 * length (standing_rows (database_behind entries) plan.table plan.pred)
 
 -- the plans, without what is kept
 abbrev pub plans_of : List Watched → List WatchPlan

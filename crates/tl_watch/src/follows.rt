@@ -86,11 +86,7 @@ fn close_all<L: Ledger>(
 }
 
 // Puts in a row that is opened and passes.
-fn put_in(
-    state: &mut State,
-    plan: &WatchPlan,
-    opened: &Opened,
-) -> Result<(), NoMemory>
+fn put_in(state: &mut State, plan: &WatchPlan, opened: &Opened) -> Result<(), NoMemory>
     requires by { IsWithin plan.now.by (length opened.now.cells) }
     requires room { IsRoomy plan.now state.old }
     ensures { OnOk result (EntersRow plan.now state.old state.new opened.now) }

@@ -72,7 +72,7 @@ fn take_in<L: Ledger>(
     Ok(())
 }
 
-// The rows of a set come, in order of id. It takes at most two steps for each, and one for each
+// The rows of a set come, in order of id. It takes at most three steps for each, and one for each
 // begun 64 of rows.
 fn take_all<L: Ledger>(
     state: &mut State,
@@ -87,7 +87,7 @@ fn take_all<L: Ledger>(
     ensures stands { OnOk result (Stands plan.now state.new
         (picked set.now (rows_of (database_of store.now) plan.now.table))) }
     ensures steps { steps.new
-        ≤ steps.old + (2 * size set.now + words_for (length set.now)) }
+        ≤ steps.old + (3 * size set.now + words_for (length set.now)) }
 {
     let mut from = 0;
     'members: while let Some(id) = set.next(from, steps) {
@@ -99,7 +99,7 @@ fn take_all<L: Ledger>(
 }
 
 /// What is kept of a plan over a snapshot. It takes the steps that it takes to find the rows that
-/// stand and pass, and at most two for each of them. The error is `NoMemory`.
+/// stand and pass, and at most three for each of them. The error is `NoMemory`.
 pub(crate) fn start<L: Ledger>(
     alloc: Global,
     snapshot: &Snapshot,

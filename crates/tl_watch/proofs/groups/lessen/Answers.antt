@@ -1,4 +1,4 @@
-use Rattle.std.proofs.Common.{Some, None, refl, subst, w64, sym, ap, ◌∙◌}
+use Rattle.std.proofs.Common.{Some, None, refl, subst, w64, sym, ap}
 use Rattle.std.specs.Prelude.{is_some}
 use Rattle.std.proofs.lemmas.Int.{to_z-of_z}
 use Rattle.tl_running.specs.Standing.{CanLeave, Enters}

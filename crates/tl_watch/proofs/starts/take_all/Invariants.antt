@@ -9,7 +9,7 @@ abbrev pub invariant-members : goal.invariant-members
 invariant-members g l = record {
   within : l.from ≤ length l.set;
   stands : Stands l.plan l.state (rows_begun l.plan (database_of l.store) l.set l.from);
-  steps : l.steps ≤ l.initial.steps + (2 * size (below l.from l.set) + l.from / 64);
+  steps : l.steps ≤ l.initial.steps + (3 * size (below l.from l.set) + l.from / 64);
 }
 
 abbrev pub decreases-members : goal.decreases-members

@@ -13,3 +13,4 @@ pub mod ReadyLemmas
 pub mod WatchLemmas
 pub mod PlanLemmas
 pub mod StartLemmas
+pub mod CallLemmas

@@ -71,7 +71,8 @@ pub record IsReady (plan : WatchPlan) (db : plain.Database) (change : plain.Chan
   pub by : IsWithin plan.by (length (columns_of db plan.table))
   pub suits : Suits plan.kind plan.column (rows_of db plan.table)
   pub opens_suit : Suits plan.kind plan.column (map (new_row (db.version + 1)) change.opens)
-  pub opens_long : All (λ opened. length opened.cells ≡ length (columns_of db plan.table)) change.opens
+  pub opens_long : All
+      (λ opened. length opened.cells ≡ length (columns_of db plan.table)) change.opens
   pub closes : list_all (is_open_at (rows_of db plan.table)) change.closes ≡ true
   pub ascends : AscendFrom 0 change.closes
   pub few : length (rows_of db plan.table) + length change.opens ≤ 16777216

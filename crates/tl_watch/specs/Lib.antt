@@ -5,3 +5,4 @@ pub mod States
 pub mod Reading
 pub mod Follows
 pub mod Watches
+pub mod Calls

@@ -32,7 +32,8 @@ values_over kind column (Some by) rows =
 
 -- the values of a plan over a database
 abbrev pub standing_of : plain.Database → WatchPlan → List Standing
-standing_of db plan = values_over plan.kind plan.column plan.by (standing_rows db plan.table plan.pred)
+standing_of db plan =
+    values_over plan.kind plan.column plan.by (standing_rows db plan.table plan.pred)
 
 -- WHILE A COMMIT IS TAKEN IN
 

@@ -45,8 +45,8 @@ pub record IsPlanFor (plan : WatchPlan) (db : plain.Database) : Type 0 where
   pub kind : plan.column ≡ None → plan.kind ≡ kind.Count
   pub by : IsWithin plan.by (length (columns_of db plan.table))
 
--- each row of the plan's table has a number where the plan asks for one, and what is kept is that of
--- those that stand and pass
+-- each row of the plan's table has a number where the plan asks for one, and what is kept is that
+-- of those that stand and pass
 pub record StandsOver (watched : Watched) (db : plain.Database) : Type 0 where
   pub plan : IsPlanFor watched.plan db
   pub suits : Suits watched.plan.kind watched.plan.column (rows_of db watched.plan.table)
@@ -83,8 +83,8 @@ most_steps_for (body.Forget number floor) watched = 0
 abbrev pub most_steps : Watch → Body → ℕ
 most_steps watch body = sum_by (most_steps_for body) watch.plans
 
--- the most steps that a plan takes when it begins: those that it takes to find the rows of its table
--- that stand and pass, and three for each of them
+-- the most steps that a plan takes when it begins: those that it takes to find the rows of its
+-- table that stand and pass, and three for each of them
 abbrev pub start_steps : List Entry → WatchPlan → ℕ
 start_steps entries plan =
     events_after_mark entries plan.table (database_behind entries).version

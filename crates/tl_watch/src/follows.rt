@@ -1,5 +1,6 @@
 //! What is kept of a plan, while a change of its table is taken in: first each row that it closes
-//! goes where it passes, which takes steps, and then each row that it opens comes, which takes none.
+//! goes where it passes, which takes steps, and then each row that it opens comes where it passes,
+//! which takes none. After an error what is kept may stand for no rows.
 ghost use Rattle.std.specs.Prelude.{◌≡◌, ◌+◌, ◌*◌, ◌<◌, ◌≤◌, length, OnOk};
 ghost use Rattle.tl_types.specs.History.{database_of};
 ghost use Rattle.tl_store.specs.Reading.{columns_of};

@@ -1,4 +1,5 @@
-//! The groups of a plan.
+//! The groups of a plan: of each value that a row has, what is kept of the rows that have it. A
+//! group that loses its last row is left out; a number that a group has not cannot go.
 ghost use Rattle.std.specs.Prelude.{◌≡◌, [], None, IfOk, OnOk, map};
 ghost use Rattle.tl_types.specs.declared.cells.Cell.{Cell};
 ghost use Rattle.tl_watch.specs.Groups.{group_of, HasRoomAt, CanLeaveAt, EntersGroup, LessensGroup, LeavesGroup, TellsGroup, TellGroups};

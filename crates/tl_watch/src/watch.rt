@@ -25,8 +25,8 @@ use tl_types::{Body, Change, Commit, NoMemory, Seq, Steps};
 // How many plans there are at most.
 const MOST_PLANS: usize = 4294967295;
 
-/// Plans whose values are kept while commits come. A contract sees whether it is live, and the plans
-/// with what is kept of each.
+/// Plans whose values are kept while commits come. A contract sees whether it is live, and the
+/// plans with what is kept of each.
 #[derive(Drop)]
 pub struct Watch {
     alloc: Global,

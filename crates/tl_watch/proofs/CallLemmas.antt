@@ -2,7 +2,7 @@
 use Rattle.std.proofs.Common.{◌≡◌, List, [], ◌∷◌, sym, ap, ◌∙◌, subst}
 use Rattle.tl_types.specs.declared.commits.Commit.{Commit}
 use Rattle.tl_watch.specs.Watches.{Watch, StandsForCommits, plans_of}
-use Rattle.tl_watch.specs.Calls.{Call, RunTo, with_commit, with_plan, commits_after, plans_after}
+use Rattle.tl_watch.specs.Calls.{Call, RunTo, with_commit, commits_after, plans_after}
 
 pub calls_stand : (calls : List Call) (first last : Watch) (commits : List Commit) → StandsForCommits first commits → RunTo calls first commits last → StandsForCommits last (commits_after commits calls)
 calls_stand [] first last commits stands run = subst (λ w. StandsForCommits w commits) (sym run) stands

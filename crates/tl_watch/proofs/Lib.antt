@@ -1,5 +1,6 @@
 pub mod SuitLemmas
 pub mod NumberLemmas
+pub mod SumLemmas
 pub mod GroupLemmas
 pub mod PlaceLemmas
 pub mod StandLemmas

@@ -1,5 +1,5 @@
 -- What is kept of a plan when it begins: the rows that stand and pass come one by one.
-use Rattle.std.proofs.Common.{◌≡◌, ℕ, zero, suc, ◌+◌, ◌*◌, ◌<◌, ◌≤◌, ℤ, Bool, true, false, ◌&&◌, cond, List, [], ◌∷◌, length, map, set, Option, Some, None, refl, sym, ap, ◌∙◌, arith, subst, slice_get}
+use Rattle.std.proofs.Common.{◌≡◌, ℕ, zero, suc, ◌+◌, ◌*◌, ◌<◌, ◌≤◌, ℤ, pos, Bool, true, false, ◌&&◌, cond, List, [], ◌∷◌, length, map, set, Option, Some, None, refl, sym, ap, ◌∙◌, arith, subst, slice_get}
 use Rattle.std.specs.Prelude.{IsTrue}
 use Rattle.std.specs.List.{filter, enumerate_from}
 use Rattle.std.proofs.lemmas.List.{length-map}
@@ -27,6 +27,7 @@ use Rattle.tl_travel.specs.Bounds.{events_after_mark, begun_words, map_digits}
 use Rattle.tl_filter.specs.Selecting.{rows_that_pass}
 use Rattle.tl_watch.specs.declared.plans.WatchPlan.{WatchPlan}
 use Rattle.tl_watch.specs.Standings.{standing_rows, tests_in}
+use Rattle.tl_watch.specs.Sums.{AddsUp, numbers_in, IsCounted, IsSummed}
 use Rattle.tl_watch.specs.Reading.{RowAt, IsRow, IsWithin}
 use Rattle.tl_watch.specs.States.{State, Stands, IsKey, CanCome, Comes}
 use Rattle.tl_watch.specs.Follows.{IsTaking, TakesRow, IsBeginning, rows_begun}
@@ -35,6 +36,7 @@ use Rattle.tl_watch.proofs.PlanLemmas.{plan_is}
 use Rattle.tl_watch.proofs.ReadyLemmas.{column_within}
 use Rattle.tl_watch.proofs.StandLemmas.{can_come, row_comes}
 use Rattle.tl_watch.proofs.StepLemmas.{row_there}
+use Rattle.tl_watch.proofs.SumLemmas.{none_add}
 
 -- ONE ROW
 
@@ -49,6 +51,14 @@ have_at : (column : Option ℕ) (rows : List plain.Row) (id : ℕ) (r : plain.Ro
 have_at column [] id r e h = absurd (cc)
 have_at column (x ∷ rows) zero r e h = let s : x ≡ r = cc in subst (λ y. HaveNumbers column (y ∷ [])) s (h.0, tt)
 have_at column (x ∷ rows) (suc id) r e h = have_at column rows id r e h.1
+
+have_picked : (column : Option ℕ) (members : List Bool) (rows : List plain.Row) → HaveNumbers column rows → HaveNumbers column (picked members rows)
+have_picked column [] rows h = tt
+have_picked column (b ∷ members) [] h = tt
+have_picked column (b ∷ members) (r ∷ rows) h = by_test b (have_picked column members rows h.1) where
+  by_test : (t : Bool) → HaveNumbers column (picked members rows) → HaveNumbers column (cond t (r ∷ picked members rows) (picked members rows))
+  by_test true later = (h.0, later)
+  by_test false later = later
 
 suits_at : (k : AggKind) (column : Option ℕ) (rows : List plain.Row) (id : ℕ) (r : plain.Row) → slice_get rows id ≡ Some r → Suits k column rows → Suits k column (r ∷ [])
 suits_at kind.Count column rows id r e s = tt
@@ -170,6 +180,7 @@ begins plan entries cs members query legal same long few =
     subst (λ xs. IsBeginning plan (database_of xs) members) (sym same) (record {
       there = is.there;
       column = column_within (columns_of (database_of (commits_of entries)) plan.table) plan.column is.column;
+      ints = is.column;
       by = is.by;
       suits = table_suits plan entries legal is;
       long = long;
@@ -189,17 +200,38 @@ started plan entries cs members state query legal same rows_are stands =
 pub few_rows : (n : ℕ) (cs : List Commit) (entries : List Entry) (table : ℕ) → cs ≡ commits_of entries → n ≡ length (rows_of (database_of cs) table) → n ≤ 16777216 → length (rows_of (database_of (commits_of entries)) table) ≤ 16777216
 few_rows n cs entries table same is few = subst (λ xs. length (rows_of (database_of xs) table) ≤ 16777216) same (let e = is in omega arith)
 
+-- SUMS
+
+suits_picked : (k : AggKind) (column : Option ℕ) (members : List Bool) (rows : List plain.Row) → Suits k column rows → Suits k column (picked members rows)
+suits_picked kind.Count column members rows s = tt
+suits_picked kind.Sum column members rows s = have_picked column members rows s
+suits_picked kind.Avg column members rows s = have_picked column members rows s
+suits_picked kind.Min column members rows s = have_picked column members rows s
+suits_picked kind.Max column members rows s = have_picked column members rows s
+
+pub counted_stands : (plan : WatchPlan) (db : plain.Database) (members : List Bool) (count : ℕ) (state : State) → IsBeginning plan db members → IsCounted plan → count ≡ size members
+    → ((p : WatchPlan) (rows : List plain.Row) → p.kind ≡ plan.kind → p.by ≡ None → Suits p.kind p.column rows → count ≡ length rows → AddsUp (map (number_in p.column) rows) (pos 0) → Stands p state rows) → Stands plan state (picked members (rows_of db plan.table))
+counted_stands plan db members count state b counted count_is stands =
+    stands plan (picked members (rows_of db plan.table)) refl counted.by (suits_picked plan.kind plan.column members (rows_of db plan.table) b.suits) (count_is ∙ size_picked members (rows_of db plan.table) b.long)
+    (subst (λ c. AddsUp (map (number_in c) (picked members (rows_of db plan.table))) (pos 0)) (sym counted.column_is) (none_add (picked members (rows_of db plan.table))))
+
+pub summed_stands : (plan : WatchPlan) (db : plain.Database) (members : List Bool) (column count : ℕ) (sum : ℤ) (state : State) → IsBeginning plan db members → IsSummed plan column → count ≡ size members → AddsUp (numbers_in column members (rows_of db plan.table)) sum
+    → ((p : WatchPlan) (rows : List plain.Row) → p.kind ≡ plan.kind → p.by ≡ None → Suits p.kind p.column rows → count ≡ length rows → AddsUp (map (number_in p.column) rows) sum → Stands p state rows) → Stands plan state (picked members (rows_of db plan.table))
+summed_stands plan db members column count sum state b summed count_is adds stands =
+    stands plan (picked members (rows_of db plan.table)) refl summed.by (suits_picked plan.kind plan.column members (rows_of db plan.table) b.suits) (count_is ∙ size_picked members (rows_of db plan.table) b.long)
+    (subst (λ c. AddsUp (map (number_in c) (picked members (rows_of db plan.table))) sum) (sym summed.column_is) adds)
+
 -- STEPS
 
-steps_sum : (e w s p r size words before middle after : ℕ) → middle ≤ before + e + w + 2 * s + (p * w + w) → after ≤ middle + (3 * size + words) → size ≡ r → words ≡ w → after ≤ before + (e + (p + 3) * w + 2 * s + 3 * r)
+steps_sum : (e w s p r size words before middle after : ℕ) → middle ≤ before + e + w + 2 * s + (p * w + w) → after ≤ middle + (3 * size + 3 * words) → size ≡ r → words ≡ w → after ≤ before + (e + (p + 5) * w + 2 * s + 3 * r)
 steps_sum e w s p r size words before middle after h l i j =
-    let m : (p + 3) * w ≡ p * w + 3 * w = grind arith in
+    let m : (p + 5) * w ≡ p * w + 5 * w = grind arith in
     omega arith
 
 pub start_within : (plan : WatchPlan) (entries : List Entry) (members : List Bool) (before middle after : ℕ) → length members ≡ length (rows_of (database_of (commits_of entries)) plan.table)
     → picked members (rows_of (database_of (commits_of entries)) plan.table) ≡ standing_rows (database_of (commits_of entries)) plan.table plan.pred
     → middle ≤ before + events_after_mark entries plan.table (database_of (commits_of entries)).version + begun_words (database_of (commits_of entries)) plan.table + 2 * map_digits (database_of (commits_of entries)) plan.table + (tests_in plan.pred * begun_words (database_of (commits_of entries)) plan.table + begun_words (database_of (commits_of entries)) plan.table)
-    → after ≤ middle + (3 * size members + words_for (length members)) → after ≤ before + start_steps entries plan
+    → after ≤ middle + (3 * size members + 3 * words_for (length members)) → after ≤ before + start_steps entries plan
 start_within plan entries members before middle after long rows_are h l =
     let db = database_of (commits_of entries) in
     steps_sum (events_after_mark entries plan.table db.version) (begun_words db plan.table) (map_digits db plan.table) (tests_in plan.pred) (length (standing_rows db plan.table plan.pred)) (size members) (words_for (length members)) before middle after h l

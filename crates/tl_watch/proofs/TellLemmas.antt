@@ -147,6 +147,13 @@ none_stands plan kept groups k is kind_is stands none = record {
   suits = suits_none plan.kind plan.column;
 }
 
+sums_as : (by column : Option ℕ) (k : AggKind) (kept : Kept) (groups : List (Cell × Kept)) (rows : List plain.Row) → by ≡ None → kept.kind ≡ k → StandsFor kept column rows → StandsAs k column by (record { all = kept; groups = groups }) rows
+sums_as None column k kept groups rows by_is kind_is stands = (kind_is, stands)
+sums_as (Some by) column k kept groups rows by_is kind_is stands = absurd (cc)
+
+pub sums_stand : (plan : WatchPlan) (kept : Kept) (groups : List (Cell × Kept)) (rows : List plain.Row) (k : AggKind) → plan.by ≡ None → kept.kind ≡ k → plan.kind ≡ k → StandsFor kept plan.column rows → Suits plan.kind plan.column rows → Stands plan (record { all = kept; groups = groups }) rows
+sums_stand plan kept groups rows k by_is kept_is plan_is stands suits = record { kept = sums_as plan.by plan.column plan.kind kept groups rows by_is (kept_is ∙ sym plan_is) stands; suits = suits }
+
 -- BY A PLAN
 
 pub told_all : (plan : WatchPlan) (state : State) (rows : List plain.Row) (told : List Standing) → plan.by ≡ None → TellsAll state.all told → Stands plan state rows → told ≡ values_over plan.kind plan.column plan.by rows

@@ -1,11 +1,11 @@
 -- What is kept of a plan while rows of its table come and go.
-use Rattle.std.specs.Prelude.{◌≡◌, ℕ, ◌+◌, ◌-◌, ◌^◌, ◌<◌, ◌≤◌, Bool, true, List, [], ◌∷◌, ◌++◌, length, map, take, All}
+use Rattle.std.specs.Prelude.{◌≡◌, ℕ, ◌+◌, ◌-◌, ◌^◌, ◌<◌, ◌≤◌, Bool, true, List, [], ◌∷◌, ◌++◌, length, map, take, Some, All}
 use Rattle.std.specs.List.{filter, list_all}
 use Rattle.tl_types.specs.Facts.{AscendFrom}
 use Rattle.tl_types.specs.History.{rows_of, new_row, is_open_at}
 use Rattle.tl_types.specs.Plain as plain
 use Rattle.tl_query.specs.Passing.{passes}
-use Rattle.tl_store.specs.Reading.{columns_of}
+use Rattle.tl_store.specs.Reading.{columns_of, IsIntColumn}
 use Rattle.tl_running.specs.Standing.{Suits, Inserts}
 use Rattle.tl_agg.specs.Kept.{picked, below}
 use Rattle.tl_watch.specs.declared.plans.WatchPlan.{WatchPlan}
@@ -94,6 +94,7 @@ rows_opening plan db change i =
 pub record IsBeginning (plan : WatchPlan) (db : plain.Database) (set : List Bool) : Type 0 where
   pub there : plan.table < length db.tables
   pub column : IsWithin plan.column (length (columns_of db plan.table))
+  pub ints : (c : ℕ) → plan.column ≡ Some c → IsIntColumn (columns_of db plan.table) c
   pub by : IsWithin plan.by (length (columns_of db plan.table))
   pub suits : Suits plan.kind plan.column (rows_of db plan.table)
   pub long : length set ≡ length (rows_of db plan.table)

@@ -88,7 +88,7 @@ most_steps watch body = sum_by (most_steps_for body) watch.plans
 abbrev pub start_steps : List Entry → WatchPlan → ℕ
 start_steps entries plan =
     events_after_mark entries plan.table (database_behind entries).version
-    + (tests_in plan.pred + 3) * begun_words (database_behind entries) plan.table
+    + (tests_in plan.pred + 5) * begun_words (database_behind entries) plan.table
     + 2 * map_digits (database_behind entries) plan.table
     + 3 * length (standing_rows (database_behind entries) plan.table plan.pred)
 

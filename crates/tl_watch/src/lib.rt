@@ -13,6 +13,7 @@ mod plans;
 mod standings;
 mod starts;
 mod states;
+mod sums;
 mod watch;
 mod watched;
 

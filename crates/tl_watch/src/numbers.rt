@@ -1,15 +1,17 @@
 //! What is kept of the numbers of rows: how many there are, their sum, and for a least or greatest
 //! number each of them with how often it is there, so that the memory is in proportion to the rows
 //! that stand. A number that is not there cannot go.
-ghost use Rattle.std.specs.Prelude.{◌≡◌, ℕ, ◌+◌, ◌-◌, ◌^◌, ◌<◌, ℤ, pos, neg_ℤ, ◌+ℤ◌, ◌≤ℤ◌, true, Option, List, [], OnOk};
+ghost use Rattle.std.specs.Prelude.{◌≡◌, ℕ, ◌+◌, ◌-◌, ◌^◌, ◌<◌, ℤ, pos, neg_ℤ, ◌+ℤ◌, ◌≤ℤ◌, true, false, Option, List, [], length, map, OnOk};
 ghost use Rattle.std.specs.List.{count_by};
 ghost use Rattle.std.specs.Ordering.{int_eq};
 ghost use Rattle.tl_types.specs.declared.answers.Field.TheVariants as field;
+ghost use Rattle.tl_types.specs.Plain as plain;
 ghost use Rattle.tl_bits.specs.Bags.{times, AddsOne};
 ghost use Rattle.tl_query.specs.Aggregates.{least_field, greatest_field};
-ghost use Rattle.tl_running.specs.Standing.{is_ordered, StandsFor, HasRoom, CanLeave, Enters, summing};
+ghost use Rattle.tl_running.specs.Standing.{is_ordered, number_in, StandsFor, HasRoom, CanLeave, Enters, summing};
 ghost use Rattle.tl_watch.specs.Groups.{TellsValue};
 ghost use Rattle.tl_watch.specs.Numbers.{counted_as};
+ghost use Rattle.tl_watch.specs.Sums.{AddsUp};
 
 use std::alloc::Global;
 use std::marker::Model;
@@ -131,6 +133,24 @@ impl Numbers {
         Numbers {
             kind,
             counted: Running::none(alloc, counted_as(kind)),
+            bag: Bag::none(alloc),
+        }
+    }
+
+    /// What is kept of numbers that were counted and added elsewhere, for a kind that asks for no
+    /// order of them. It takes no memory.
+    #[tactic(auto, using(crate::proofs::NumberLemmas::kind_counted))]
+    pub(crate) fn of_sums(alloc: Global, kind: AggKind, count: u32, sum: i128) -> Numbers
+        requires { is_ordered kind ≡ false }
+        ensures kind { result.kind ≡ kind }
+        ensures stands { (column : Option ℕ) (rows : List plain.Row) → count ≡ length rows
+            → AddsUp (map (number_in column) rows) sum → StandsFor result column rows }
+    {
+        let mut counted = Running::none(alloc, counted_as(kind));
+        counted.set_sums(count, sum);
+        Numbers {
+            kind,
+            counted,
             bag: Bag::none(alloc),
         }
     }

@@ -1,10 +1,12 @@
 //! What is kept of a plan: without a column that separates the rows, of all rows at once, and else
 //! of each group; the other part holds nothing then. A row that is not there cannot go.
-ghost use Rattle.std.specs.Prelude.{◌≡◌, List, [], IfOk, OnOk};
+ghost use Rattle.std.specs.Prelude.{◌≡◌, false, None, List, [], length, map, IfOk, OnOk};
 ghost use Rattle.tl_types.specs.Plain as plain;
 ghost use Rattle.tl_watch.specs.declared.plans.WatchPlan.{WatchPlan};
 ghost use Rattle.tl_watch.specs.Groups.{TellsAll};
 ghost use Rattle.tl_watch.specs.Standings.{values_over};
+ghost use Rattle.tl_running.specs.Standing.{is_ordered, number_in, Suits};
+ghost use Rattle.tl_watch.specs.Sums.{AddsUp};
 ghost use Rattle.tl_watch.specs.States.{State, Stands, CanCome, CanGo, Comes, Goes};
 
 use crate::groups::Groups;
@@ -54,6 +56,21 @@ impl State {
         State {
             alloc,
             all: Numbers::none(alloc, kind),
+            groups: Groups::none(alloc),
+        }
+    }
+
+    /// What is kept of all rows at once, whose number and sum of numbers were made elsewhere, for a
+    /// kind that asks for no order of them. It takes no memory.
+    pub(crate) fn of_sums(alloc: Global, kind: AggKind, count: u32, sum: i128) -> State
+        requires { is_ordered kind ≡ false }
+        ensures { (plan : WatchPlan) (rows : List plain.Row) → plan.kind ≡ kind → plan.by ≡ None
+            → Suits plan.kind plan.column rows → count ≡ length rows
+            → AddsUp (map (number_in plan.column) rows) sum → Stands plan result rows }
+    {
+        State {
+            alloc,
+            all: Numbers::of_sums(alloc, kind, count, sum),
             groups: Groups::none(alloc),
         }
     }

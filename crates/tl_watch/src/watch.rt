@@ -166,7 +166,7 @@ impl Watch {
     /// which the watch stands, and tells its number, counted from 0. The watch still stands for
     /// them. With e events of the plan's table behind its last mark, w begun 64s of its rows, p
     /// tests, r rows that stand and pass, and as many versions with events, and one more, as a
-    /// number of s binary digits tells, it takes at most e + (p + 3)w + 2s + 3r steps. `NoMemory`
+    /// number of s binary digits tells, it takes at most e + (p + 5)w + 2s + 3r steps. `NoMemory`
     /// comes where memory is out, or where there are 2^32 - 1 plans; the plans are then as before,
     /// and the watch is no longer live.
     pub fn register<L: Ledger>(

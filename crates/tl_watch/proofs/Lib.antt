@@ -1,0 +1,17 @@
+pub mod SuitLemmas
+pub mod NumberLemmas
+pub mod SumLemmas
+pub mod GroupLemmas
+pub mod PlaceLemmas
+pub mod StandLemmas
+pub mod TellLemmas
+pub mod LeftLemmas
+pub mod AfterLemmas
+pub mod TypedLemmas
+pub mod StepLemmas
+pub mod ReadLemmas
+pub mod ReadyLemmas
+pub mod WatchLemmas
+pub mod PlanLemmas
+pub mod StartLemmas
+pub mod CallLemmas

@@ -1,0 +1,18 @@
+-- What is kept of the numbers of rows, in two parts.
+use Rattle.std.specs.Prelude.{ℕ, ℤ, List}
+use Rattle.tl_query.specs.declared.ast.AggKind.{AggKind}
+use Rattle.tl_query.specs.declared.ast.AggKind.TheVariants as kind
+use Rattle.tl_running.specs.Standing.{Kept}
+
+-- the kind as which numbers are counted and added: one that asks for no order
+abbrev pub counted_as : AggKind → AggKind
+counted_as kind.Count = kind.Count
+counted_as kind.Sum = kind.Sum
+counted_as kind.Avg = kind.Avg
+counted_as kind.Min = kind.Count
+counted_as kind.Max = kind.Count
+
+-- what is kept for a kind: the count and the sum of one part, and the numbers of the other
+abbrev pub kept_of : AggKind → Kept → List (ℤ × ℕ) → Kept
+kept_of kind counted bag =
+    record { kind = kind; count = counted.count; sum = counted.sum; bag = bag }

@@ -1,8 +1,7 @@
 -- What was taken of an input of packets.
-use Rattle.std.proofs.Common.{◌≡◌, inl, inr, ◌⊎◌, ℕ, ◌<◌, ◌≤◌, List, [], ◌++◌, length, Option, Some, None, IfSome, refl, sym, ap, ◌∙◌, subst, arith, length-append}
+use Rattle.std.proofs.Common.{◌≡◌, inl, inr, ◌⊎◌, ℕ, ◌<◌, ◌≤◌, List, length, Option, Some, None, IfSome, sym, subst, arith, length-append}
 use Rattle.tl_types.specs.declared.commits.Commit.{Commit}
 use Rattle.tl_types.specs.Limits.{standard_limits}
-use Rattle.tl_device.specs.Known.{prepend_known}
 use Rattle.tl_script.specs.Reader.{TakesBlock}
 use Rattle.tl_script.specs.Taking.{IsAtEnd}
 use Rattle.tl_follow.specs.declared.inputs.TheConstants.{INPUT_LIMIT}

@@ -1,6 +1,8 @@
 -- How a run ends, and when it is done.
-use Rattle.std.proofs.Common.{◌≡◌, ℕ, Bool, true, false, ◌≤◌, List, [], length, Some, None, is_some, IfSome, refl, ap, subst, sym, ◌∙◌, inl, inr, arith}
+use Rattle.std.proofs.Common.{◌≡◌, ℕ, Bool, true, false, ◌≤◌, List, [], length, Some, None, is_some, IfSome, ◌⊎◌, ◌<◌, refl, ap, subst, sym, ◌∙◌, inl, inr, arith}
 use Rattle.std.specs.declared.option.Option.{Option}
+use Rattle.tl_types.specs.declared.commits.Commit.{Commit}
+use Rattle.tl_types.specs.Limits.{standard_limits}
 use Rattle.tl_device.specs.Known.{Rose}
 use Rattle.tl_script.specs.Script.{ScriptReading}
 use Rattle.tl_jobs.specs.Turns.{Turn}

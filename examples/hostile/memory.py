@@ -1,7 +1,8 @@
 #!/usr/bin/env python3
-"""Refuses memory to the program: each allocation of four runs in turn, alone and with all behind it, by the library
+"""Refuses memory to the program: each allocation of seven runs in turn, alone and with all behind it, by the library
 that refuse.c makes. Each run has to give the usual result; or status 1, and then the replies of its first phases, whole,
-and a journal that opens and has at least the commits that were answered. `memory.py PROGRAM`; it prints a row for each
+and a journal that opens and has at least the commits that were answered. Of `group`, `ship` and `follow` it is the usual
+result, or status 1, nothing that is written, and the journal as it was. `memory.py PROGRAM`; it prints a row for each
 run, `name, tried, wrong`, and says what was wrong."""
 import os
 import re
@@ -87,6 +88,43 @@ def initialise(library, refusal):
         return f"status {done.returncode}, {done.stdout!r}, {size} bytes", is_made(f"{room}/refused")
 
 
+def grouped():
+    """A journal of one commit, a script of four batches and a query, and its replies."""
+    first = journal_of([("a> CREATE TABLE emp (id INT, dept TEXT) KEY id\n", "")])
+    script = ("a> PUT emp\nid,dept\n1,ops\n2,a text of more than sixteen bytes\n\\.\na> MOMENT 1000\na> PUT emp\nid,dept\n1,dev\n\\.\n"
+              "a> FORGET emp BEFORE 2\na> SELECT id FROM emp WHERE dept = 'dev'\n")
+    return first, script.encode(), b"a @2 ok\na @3 ok\na @4 ok\na @5 ok\na @5 rows 1\n1\n"
+
+
+def journal_of(phases):
+    """The bytes of a journal of these phases."""
+    with tempfile.TemporaryDirectory(dir=JOURNALS) as room:
+        subprocess.run([PROGRAM, "init"], cwd=room, stdin=subprocess.DEVNULL, check=True)
+        given = "GO\n".join(script for script, _ in phases)
+        subprocess.run([PROGRAM, "run"], cwd=room, input=given, stdout=subprocess.DEVNULL, text=True, check=True)
+        with open(f"{room}/timeline.tlj", "rb") as file:
+            return file.read()
+
+
+def over(words, given, journal, library="", refusal=None):
+    """Runs over a journal: the status, what is written, the journal then, and whether memory was refused."""
+    with tempfile.TemporaryDirectory(dir=JOURNALS) as room:
+        with open(f"{room}/timeline.tlj", "wb") as file:
+            file.write(journal)
+        around = dict(os.environ, LD_PRELOAD=library, REFUSED=f"{room}/refused", **(refusal or {}))
+        done = subprocess.run([PROGRAM, *words], cwd=room, input=given, env=around, capture_output=True, timeout=60)
+        with open(f"{room}/timeline.tlj", "rb") as file:
+            return done.returncode, done.stdout, file.read(), is_made(f"{room}/refused")
+
+
+def all_or_nothing(words, given, journal, usual, library, refusal):
+    """Runs over a journal with some memory refused: the usual result, or nothing at all."""
+    status, written, left, was_refused = over(words, given, journal, library, refusal)
+    if (status, written, left) == usual or was_refused and (status, written, left) == (1, b"", journal):
+        return None, was_refused
+    return f"status {status}, {written!r}, {len(left)} bytes", was_refused
+
+
 def refusals():
     """None, and then each allocation by its number, alone and with all behind it."""
     yield "no memory", {}
@@ -105,6 +143,15 @@ def main():
             "moments and floors": lambda refusal: trial(["run"], TOLD, library, refusal),
             "sample 2 7": lambda refusal: trial(["sample", "2", "7"], SAMPLE, library, refusal),
         }
+        first, script, replies = grouped()
+        worked, empty = journal_of(WORKED), b"timeline journal\0"
+        packets = over(["ship", "0", "16777215"], b"", worked)[1]
+        for words, given, journal, wanted in (["group"], script, first, replies), (["ship", "0", "16777215"], b"", worked, packets), \
+                (["follow"], packets, empty, b"follow @5\n"):
+            status, written, left, _ = over(words, given, journal)
+            if (status, written) != (0, wanted):
+                sys.exit(f"{words[0]}: status {status}, {written!r}")
+            runs[words[0]] = lambda refusal, it=(words, given, journal, (status, written, left)): all_or_nothing(*it, library, refusal)
         for name, attempt in runs.items():
             tried = wrong = 0
             for refused, refusal in refusals():

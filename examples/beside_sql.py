@@ -20,7 +20,8 @@ In SQL a row also has its place in the order in which rows were put, `from_versi
 2147483647 while the row stands; a price has `valid_from` and `valid_to`. The plain rows are loaded version by version,
 a transaction each: an UPDATE ends the rows whose keys come again, an INSERT puts the new ones. What a line does to
 older periods of a price is worked out here and not timed: SQL is spared that work, and gets the rows with both versions
-at once. Each system syncs each commit. Loading has the indexes (see `indexes`) and ANALYZE in it.
+at once. Each system syncs each commit. Loading has the indexes (see `indexes`) and ANALYZE in it. Last, 1,000 statements of
+one row are kept all or none: by `timeline group`, and as INSERTs of one transaction, into a table with an index, in SQL.
 
 The seconds are by the clock, of a question the best of several. `timeline`, `psql` and `mariadb` are a process for each
 question, which reads it from a file and prints to a file. The seconds of a question are without those of an empty
@@ -306,6 +307,28 @@ def measure(systems, commits, times):
     return lines, differing
 
 
+def measure_group(systems, times):
+    """The line of 1,000 statements of one row that are kept all or none: a group of commits, or a transaction in SQL."""
+    rows, seconds = [(key, key % 100) for key in range(1000)], []
+    for system in systems:
+        taken = []
+        for it in range(times):
+            if system.name == "timeline":
+                room = f"{system.folder}/group{it}"
+                os.mkdir(room)
+                system.process(system.init, "", room)
+                system.process(system.words, "a> CREATE TABLE t (k INT, x INT) KEY k\n", room)
+                script = "".join(f"a> PUT t\nk,x\n{key},{cell}\n\\.\n" for key, cell in rows)
+                taken.append(system.process([system.words[0], "group"], script, room)[0])
+            else:
+                columns = ", ".join(f"{name} INTEGER NOT NULL" for name in ("k", "x", "from_version", "to_version"))
+                system.run("", [f"CREATE TABLE group{it} (place INTEGER PRIMARY KEY, {columns})", f"CREATE INDEX group{it}_k ON group{it} (k)"])
+                inserts = [f"INSERT INTO group{it} VALUES ({place}, {key}, {cell}, {place + 2}, {STANDS})" for place, (key, cell) in enumerate(rows)]
+                taken.append(system.run("", ["BEGIN", *inserts, "COMMIT"])[0])
+        seconds.append(min(taken))
+    return "1,000 statements of one row, all or none", "", seconds, None
+
+
 def main():
     words = argparse.ArgumentParser(description="Loads, asks and times the same in timeline and in SQL; see the file's head.")
     words.add_argument("--program", default=os.path.dirname(os.path.abspath(__file__)) + "/../crates/timeline/out/timeline")
@@ -338,14 +361,15 @@ def main():
                     server.process(server.words, "CREATE SCHEMA beside_sql;\n")
                     made.append(server)
             lines, differing = measure(systems, commits, given.times)
+            lines.append(measure_group(systems, given.times))
         finally:
             for server in made:
                 server.run("", [f"DROP SCHEMA beside_sql{' CASCADE' * (server is servers[0])}"])
     has_whole = systems[0].name == "timeline"
-    print(f"{'seconds':36}{'rows':>8}" + "".join(f"{it.name:>12}" for it in systems) + f"{'whole':>12}" * has_whole)
+    print(f"{'seconds':42}{'rows':>8}" + "".join(f"{it.name:>12}" for it in systems) + f"{'whole':>12}" * has_whole)
     for name, rows, seconds, empty in lines:
         shown = [it - (empty[at] if empty else 0) for at, it in enumerate(seconds)] + seconds[:1] * bool(has_whole and empty)
-        print(f"{name:36}{rows:>8}" + "".join(f"{it:12.3f}" for it in shown))
+        print(f"{name:42}{rows:>8}" + "".join(f"{it:12.3f}" for it in shown))
     print(f"{differing} answers differ" if differing else "all answers are the same")
     return 1 if differing else 0
 

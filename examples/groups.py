@@ -127,7 +127,7 @@ def packets(room, last):
 def packets_come_as_they_like():
     draw = random.Random(SEED)
     script = "a> CREATE TABLE t (k INT, x INT) KEY k\na> CREATE TABLE v (k INT) KEY k VALID\n"
-    for it in range(60):
+    for it in range(200):
         script += (f"a> MOMENT {it}\n", put("t", [f"{it % 20},{it}", f"{100 + it},1"]), f"a> PUT v\nk,valid_from,valid_to\n{it % 5},{it},{it + 9}\n\\.\n",
                    f"a> REMOVE t\nk\n{100 + it - 2}\n\\.\n")[it % 4]
     script += "a> FORGET t BEFORE 4\n"

@@ -25,8 +25,8 @@ as_follow : (opening : List Commit) (before after : Outside) (ended : Status) �
 as_follow opening before after status.Done h = h
 as_follow opening before after status.NoMemory h = h
 as_follow opening before after status.Usage h = h
-as_follow opening before after (status.SourceFault n) h = h
-as_follow opening before after (status.SinkFault n) h = h
+as_follow opening before after (status.SourceFault n) h = absurd h
+as_follow opening before after (status.SinkFault n) h = inl h
 as_follow opening before after (status.DiskFault n) h = h
 as_follow opening before after (status.ScriptFault f) h = h
 as_follow opening before after (status.NotInitialised len) h = h
@@ -66,21 +66,21 @@ module _ {K D : Type 0} (sinks : SinkGhosts K) (disks : DiskGhosts D) (begun : D
     kept : HoldsJournal (commits_in attached) None before after
     kept = holds attached (keeps_itself disks attached) same
 
-    cut : (wanted : Status) → (sinks.written new ≡ append_known (sinks.written old) (closing_line wanted) → sinks.faults new ≡ sinks.faults old → FollowEndsBy (commits_in attached) before after wanted) → Closes [] wanted (sinks.written old) (sinks.written new) (sinks.faults old) (sinks.faults new) ended → FollowEndsBy (commits_in attached) before after ended
-    cut wanted closed (inl (e, written, faults)) = subst (FollowEndsBy (commits_in attached) before after) (sym e) (closed written faults)
-    cut wanted closed (inr (inl (e, written, faults))) = subst (FollowEndsBy (commits_in attached) before after) (sym e) ((written, faults), kept)
-    cut wanted closed (inr (inr (e, rose, some))) =
-        subst (FollowEndsBy (commits_in attached) before after) (sym e) (refl, inr (inr (record { closing = wanted; prints = (rose, some); holds = kept })))
+    cut : (wanted : Status) → FailsInput (commits_in attached) left first last wanted → (sinks.written new ≡ append_known (sinks.written old) (closing_line wanted) → sinks.faults new ≡ sinks.faults old → FollowEndsBy (commits_in attached) before after wanted) → Closes [] wanted (sinks.written old) (sinks.written new) (sinks.faults old) (sinks.faults new) ended → FollowEndsBy (commits_in attached) before after ended
+    cut wanted why closed (inl (e, written, faults)) = subst (FollowEndsBy (commits_in attached) before after) (sym e) (closed written faults)
+    cut wanted why closed (inr (inl (e, written, faults))) = subst (FollowEndsBy (commits_in attached) before after) (sym e) ((written, faults), kept)
+    cut wanted why closed (inr (inr (e, rose, some))) =
+        subst (FollowEndsBy (commits_in attached) before after) (sym e) (inr (refl, record { closing = wanted; why = why; prints = (rose, some); holds = kept }))
 
     by_status : (w : Status) → FailsInput (commits_in attached) left first last w → Closes [] w (sinks.written old) (sinks.written new) (sinks.faults old) (sinks.faults new) ended → FollowEndsBy (commits_in attached) before after ended
     by_status status.Done h c = absurd h
-    by_status status.NoMemory h c = cut status.NoMemory (λ written faults. ((silent_line (sinks.written old) (sinks.written new) written, faults), kept)) c
+    by_status status.NoMemory h c = cut status.NoMemory h (λ written faults. ((silent_line (sinks.written old) (sinks.written new) written, faults), kept)) c
     by_status status.Usage h c = absurd h
-    by_status (status.SourceFault n) h c = cut (status.SourceFault n) (λ written faults. (h.0, h.1, record { prints = (written, faults); holds = kept })) c
+    by_status (status.SourceFault n) h c = cut (status.SourceFault n) h (λ written faults. (h.0, h.1, record { prints = (written, faults); holds = kept })) c
     by_status (status.SinkFault n) h c = absurd h
     by_status (status.DiskFault n) h c = absurd h
     by_status (status.ScriptFault f) h c = absurd h
     by_status (status.NotInitialised n) h c = absurd h
     by_status (status.AlreadyInitialised n) h c = absurd h
     by_status (status.Damaged n) h c = absurd h
-    by_status (status.PacketFault n) h c = cut (status.PacketFault n) (λ written faults. (h.0, h.1, record { prints = (written, faults); holds = kept })) c
+    by_status (status.PacketFault n) h c = cut (status.PacketFault n) h (λ written faults. (h.0, h.1, record { prints = (written, faults); holds = kept })) c

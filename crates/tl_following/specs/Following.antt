@@ -28,7 +28,7 @@ use Rattle.tl_command.specs.declared.statuses.Status.TheVariants as status
 use Rattle.tl_command.specs.Closing.{EndsRefused}
 use Rattle.tl_command.specs.Outside.{Outside, OpensWith}
 use Rattle.tl_grouping.specs.Appending.{AppendsAndWrites, GivesUp}
-use Rattle.tl_grouping.specs.Leaving.{IsGivenUp, LeavesBy}
+use Rattle.tl_grouping.specs.Leaving.{CutsGivenUp, IsGivenUp, LeavesBy}
 use Rattle.tl_grouping.specs.Playing.{KeepsDisk}
 
 -- the line that tells how many commits there are
@@ -131,11 +131,14 @@ FollowEndsBy opening before after status.NoMemory =
 FollowEndsBy opening before after status.Usage =
     LeavesBy (λ all text. Follows opening all text before after) opening before after status.Usage
 FollowEndsBy opening before after (status.SourceFault faults) =
-    LeavesBy (λ all text. Follows opening all text before after) opening before after
-    (status.SourceFault faults)
+    (faults ≡ after.source_faults) × Rose before.source_faults after.source_faults
+    × IsGivenUp opening (status.SourceFault faults) before after
 FollowEndsBy opening before after (status.SinkFault faults) =
     LeavesBy (λ all text. Follows opening all text before after) opening before after
     (status.SinkFault faults)
+    ⊎ ((faults ≡ after.sink_faults)
+    × CutsGivenUp (FailsInput opening before.left before.source_faults after.source_faults)
+    opening before after)
 FollowEndsBy opening before after (status.DiskFault faults) =
     LeavesBy (λ all text. Follows opening all text before after) opening before after
     (status.DiskFault faults)

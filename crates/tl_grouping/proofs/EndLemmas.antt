@@ -16,7 +16,7 @@ use Rattle.tl_command.specs.Closing.{ClosesAfter, Closes, WritesReady}
 use Rattle.tl_command.specs.Outside.{Outside, HoldsJournal}
 use Rattle.tl_command.specs.Status.{closing_line}
 use Rattle.tl_grouping.specs.Appending.{AppendsAndWrites, IsAttached}
-use Rattle.tl_grouping.specs.Grouping.{GroupEndsBy, Plays}
+use Rattle.tl_grouping.specs.Grouping.{GroupEndsBy, Plays, WhyGivenUp}
 use Rattle.tl_grouping.specs.Leaving.{LeavesBy}
 use Rattle.tl_grouping.specs.Playing.{KeepsDisk, PlayStops}
 use Rattle.tl_grouping.proofs.DiskLemmas.{holds_journal, left_image, left_count, appended_image, doubt_held}
@@ -89,14 +89,13 @@ appended sinks disks What begun attached later text left end first last old new 
   by_end (inr (inr (is, inr (e, rose, some)))) =
       subst (LeavesBy What (commits_in attached) before after) (sym e) (
         refl,
-        inr (inl (record {
+        inr (record {
           all = commits_in later;
           text = text;
-          closing = status.DiskFault (disks.faults disk);
           what = what;
           prints = (rose, some);
           holds = doubt_held disks begun disk attached later left end (sinks.written old) (sinks.written new) first last (sinks.faults old) (sinks.faults new) a k is;
-        })),
+        }),
       )
 
 -- how the group of a script ends, where its script has no fault
@@ -104,8 +103,8 @@ pub as_group : (reads : Bool → List ℕ → ScriptReading) (opening : List Com
 as_group reads opening before after status.Done h = h
 as_group reads opening before after status.NoMemory h = h
 as_group reads opening before after status.Usage h = h
-as_group reads opening before after (status.SourceFault n) h = h
-as_group reads opening before after (status.SinkFault n) h = h
+as_group reads opening before after (status.SourceFault n) h = absurd h
+as_group reads opening before after (status.SinkFault n) h = inl h
 as_group reads opening before after (status.DiskFault n) h = h
 as_group reads opening before after (status.ScriptFault f) h = absurd h
 as_group reads opening before after (status.NotInitialised len) h = h
@@ -117,7 +116,7 @@ as_group reads opening before after (status.PacketFault at) h = h
 pub given_up : {K D : Type 0} (sinks : SinkGhosts K) (disks : DiskGhosts D) (reads : Bool → List ℕ → ScriptReading) (begun : D) (attached later : group.Group D) (text : List ℕ) (left end : Option (List ℕ)) (first last : ℕ) (old new : K) (disk : D) (why : Stop) (ended : Status)
     → IsAttached disks begun attached → KeepsDisk disks attached later → disk ≡ later.journal.disk
     → (why ≡ stop.Ended → ⊥)
-    → PlayStops (reads true) (commits_in attached) (commits_in later) text why left end first last
+    → PlayStops reads (commits_in attached) (commits_in later) text why left end first last
     → ClosesAfter why false 0 (sinks.written old) (sinks.written new) (sinks.faults old) (sinks.faults new) ended
     → GroupEndsBy reads (commits_in attached)
     (record { left = left; source_faults = first; written = sinks.written old; sink_faults = sinks.faults old; reads = disks.reads begun; may_leave = disks.may_leave begun; disk_faults = disks.faults begun })
@@ -133,17 +132,17 @@ given_up sinks disks reads begun attached later text left end first last old new
   holds = holds_journal (commits_in attached) before after (left_count disks begun disk attached later a k same) (left_image disks begun disk attached later a k same)
 
   -- memory ran out, or the sink failed at the closing line
-  cut : (wanted : Status) → Closes [] wanted (sinks.written old) (sinks.written new) (sinks.faults old) (sinks.faults new) ended
+  cut : (wanted : Status) → WhyGivenUp reads before after wanted → Closes [] wanted (sinks.written old) (sinks.written new) (sinks.faults old) (sinks.faults new) ended
       → ((sinks.written new ≡ append_known (sinks.written old) (closing_line wanted)) → (sinks.faults new ≡ sinks.faults old) → GroupEndsBy reads (commits_in attached) before after wanted)
       → GroupEndsBy reads (commits_in attached) before after ended
-  cut wanted (inl (e, written, faults)) closed = subst (GroupEndsBy reads (commits_in attached) before after) (sym e) (closed written faults)
-  cut wanted (inr (inl (e, written, faults))) closed = subst (GroupEndsBy reads (commits_in attached) before after) (sym e) ((written, faults), holds)
-  cut wanted (inr (inr (e, rose, some))) closed =
-      subst (GroupEndsBy reads (commits_in attached) before after) (sym e) (refl, inr (inr (record { closing = wanted; prints = (rose, some); holds = holds })))
+  cut wanted why (inl (e, written, faults)) closed = subst (GroupEndsBy reads (commits_in attached) before after) (sym e) (closed written faults)
+  cut wanted why (inr (inl (e, written, faults))) closed = subst (GroupEndsBy reads (commits_in attached) before after) (sym e) ((written, faults), holds)
+  cut wanted why (inr (inr (e, rose, some))) closed =
+      subst (GroupEndsBy reads (commits_in attached) before after) (sym e) (inr (refl, record { closing = wanted; why = why; prints = (rose, some); holds = holds }))
 
-  by_stop : (w : Stop) → (w ≡ stop.Ended → ⊥) → PlayStops (reads true) (commits_in attached) (commits_in later) text w left end first last → ClosesAfter w false 0 (sinks.written old) (sinks.written new) (sinks.faults old) (sinks.faults new) ended → GroupEndsBy reads (commits_in attached) before after ended
+  by_stop : (w : Stop) → (w ≡ stop.Ended → ⊥) → PlayStops reads (commits_in attached) (commits_in later) text w left end first last → ClosesAfter w false 0 (sinks.written old) (sinks.written new) (sinks.faults old) (sinks.faults new) ended → GroupEndsBy reads (commits_in attached) before after ended
   by_stop stop.Ended not_ended h c = absurd (not_ended refl)
-  by_stop (stop.Fault f) not_ended h c = cut (status.ScriptFault f) c (λ written faults. (h.0, h.1, record { prints = (written, faults); holds = holds }))
-  by_stop (stop.Source n) not_ended h c = cut (status.SourceFault n) c (λ written faults. (h.1, h.0, record { prints = (written, faults); holds = holds }))
+  by_stop (stop.Fault f) not_ended h c = cut (status.ScriptFault f) h c (λ written faults. (h, record { prints = (written, faults); holds = holds }))
+  by_stop (stop.Source n) not_ended h c = cut (status.SourceFault n) h c (λ written faults. (h, record { prints = (written, faults); holds = holds }))
   by_stop (stop.Sink n) not_ended h c = absurd h
   by_stop stop.NoMemory not_ended h (e, written, faults) = subst (GroupEndsBy reads (commits_in attached) before after) (sym e) ((written, faults), holds)

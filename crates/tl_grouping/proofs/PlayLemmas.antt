@@ -45,8 +45,8 @@ use Rattle.tl_command.specs.Coming.{Coming, AnswersComing, BringsPhase, BringsNo
 use Rattle.tl_command.specs.Jobs.{asked, phases_asked}
 use Rattle.tl_command.specs.Stops.{stop_for}
 use Rattle.tl_command.proofs.BytesLemmas.{Inside, turns_on, same_turns, each_grows, turns_inside}
-use Rattle.tl_command.proofs.ComingLemmas.{rest_of, whole_told, all_told, none_come, one_more_come, at_the_end, all_read, fault_read}
-use Rattle.tl_grouping.specs.Playing.{AddsBatch, Answers, HasFault, KeepsDisk, PlayStops, Played, PlaysJobs, PlaysOn, PlaysScript}
+use Rattle.tl_command.proofs.ComingLemmas.{rest_of, whole_told, all_told, none_come, one_more_come, at_the_end, all_read, closed_read, fault_read}
+use Rattle.tl_grouping.specs.Playing.{AddsBatch, Answers, HasFault, HasNoFaultSoFar, KeepsDisk, PlayStops, Played, PlaysJobs, PlaysOn, PlaysScript}
 
 -- THE DISK
 
@@ -237,12 +237,24 @@ faulty first opening begun count old new all text left end faults f h p =
       ap (λ (r : ScriptReading). r.fault) read,
     )
 
+-- the source failed before a fault was read
+not_faulty : (first : Coming) (opening : List Commit) (begun : Option (List ℕ)) (count : ℕ) (old new : Coming) (all : List Commit) (text : List ℕ) (left end : Option (List ℕ)) (faults n : ℕ)
+    → AnswersComing old left (Err (next.Source n)) new end
+    → Played first opening begun count old all text left faults → HasNoFaultSoFar (first.reads false) begun end
+not_faulty first opening begun count old new all text left end faults n h p =
+    let none : old.reads false h.taken ≡ no_phase old.names = h.says in
+    let read = closed_read first begun p.bytes p.phases old left h.taken p.come (not_over old h.taken (Err (next.Source n)) h.idle (λ e. cc)) none in (
+      p.bytes ++ h.taken,
+      read_more begun left end p.bytes h.taken (p.bytes ++ h.taken) p.come.order h.order refl,
+      ap (λ (r : ScriptReading). r.fault) read,
+    )
+
 -- the phases stopped
 pub stop_played : (first : Coming) (opening : List Commit) (begun : Option (List ℕ)) (count : ℕ) (old new : Coming) (all : List Commit) (text : List ℕ) (left end : Option (List ℕ)) (faults last : ℕ) (e : NextError)
     → AnswersComing old left (Err e) new end → NextFaults e faults last
-    → Played first opening begun count old all text left faults → PlayStops (first.reads true) opening all text (stop_for e) begun end count last
+    → Played first opening begun count old all text left faults → PlayStops first.reads opening all text (stop_for e) begun end count last
 stop_played first opening begun count old new all text left end faults last next.NoMemory h counts p = counts ∙ p.sure
 stop_played first opening begun count old new all text left end faults last (next.Source n) h counts p =
-    (subst (λ (k : ℕ). Rose k last) p.sure counts.1, counts.0)
+    (not_faulty first opening begun count old new all text left end faults n h p, subst (λ (k : ℕ). Rose k last) p.sure counts.1, counts.0)
 stop_played first opening begun count old new all text left end faults last (next.Fault f) h counts p =
     (faulty first opening begun count old new all text left end faults f h p, counts ∙ p.sure)

@@ -6,19 +6,20 @@
 --   NoMemory                  nothing                              C
 --   SourceFault, ScriptFault  the closing line                     C
 --   SinkFault                 first bytes of the replies, or of    C, or C and G
---                             the closing line
+--                             the line that was to close
 --   DiskFault                 the closing line                     C, or C and G; where it came in
 --                                                                  opening, as for a run
 --   NotInitialised, Damaged   as for a run that is not opened
-use Rattle.std.specs.Prelude.{◌≡◌, ◌⊎◌, ℕ, Bool, true, List}
+use Rattle.std.specs.Prelude.{◌≡◌, ◌⊎◌, ℕ, Bool, true, false, List}
 use Rattle.tl_types.specs.declared.commits.Commit.{Commit}
+use Rattle.tl_device.specs.Known.{Rose}
 use Rattle.tl_script.specs.Script.{ScriptReading}
 use Rattle.tl_command.specs.declared.statuses.Status.{Status}
 use Rattle.tl_command.specs.declared.statuses.Status.TheVariants as status
 use Rattle.tl_command.specs.Closing.{EndsRefused}
 use Rattle.tl_command.specs.Outside.{Outside, OpensWith}
-use Rattle.tl_grouping.specs.Leaving.{IsGivenUp, LeavesBy}
-use Rattle.tl_grouping.specs.Playing.{PlaysScript, HasFault}
+use Rattle.tl_grouping.specs.Leaving.{CutsGivenUp, IsGivenUp, LeavesBy}
+use Rattle.tl_grouping.specs.Playing.{PlaysScript, HasFault, HasNoFaultSoFar}
 
 -- the script was read to its end and has no fault; its jobs, done one after the other from the
 -- commits of the opening to all, have these replies
@@ -28,11 +29,28 @@ Plays reads opening all text before after =
     PlaysScript (reads true) opening all text before.left after.left
     × (after.source_faults ≡ before.source_faults)
 
+-- why a group was given up: the script has a fault, or the source failed before one was read
+abbrev pub WhyGivenUp : (Bool → List ℕ → ScriptReading) → Outside → Outside → Status → Type 0
+WhyGivenUp reads before after (status.ScriptFault f) =
+    HasFault (reads true) f before.left × (after.source_faults ≡ before.source_faults)
+WhyGivenUp reads before after (status.SourceFault faults) =
+    HasNoFaultSoFar (reads false) before.left after.left
+    × Rose before.source_faults after.source_faults × (faults ≡ after.source_faults)
+WhyGivenUp reads before after status.Done = ⊥
+WhyGivenUp reads before after status.NoMemory = ⊥
+WhyGivenUp reads before after status.Usage = ⊥
+WhyGivenUp reads before after (status.SinkFault faults) = ⊥
+WhyGivenUp reads before after (status.DiskFault faults) = ⊥
+WhyGivenUp reads before after (status.NotInitialised len) = ⊥
+WhyGivenUp reads before after (status.AlreadyInitialised len) = ⊥
+WhyGivenUp reads before after (status.Damaged at) = ⊥
+WhyGivenUp reads before after (status.PacketFault at) = ⊥
+
 -- how a group ends that was opened with these commits
 abbrev pub GroupEndsBy : (Bool → List ℕ → ScriptReading) → List Commit → Outside → Outside → Status
     → Type 0
 GroupEndsBy reads opening before after (status.ScriptFault f) =
-    HasFault (reads true) f before.left × (after.source_faults ≡ before.source_faults)
+    WhyGivenUp reads before after (status.ScriptFault f)
     × IsGivenUp opening (status.ScriptFault f) before after
 GroupEndsBy reads opening before after status.Done =
     LeavesBy (λ all text. Plays reads opening all text before after) opening before after
@@ -44,11 +62,13 @@ GroupEndsBy reads opening before after status.Usage =
     LeavesBy (λ all text. Plays reads opening all text before after) opening before after
     status.Usage
 GroupEndsBy reads opening before after (status.SourceFault faults) =
-    LeavesBy (λ all text. Plays reads opening all text before after) opening before after
-    (status.SourceFault faults)
+    WhyGivenUp reads before after (status.SourceFault faults)
+    × IsGivenUp opening (status.SourceFault faults) before after
 GroupEndsBy reads opening before after (status.SinkFault faults) =
     LeavesBy (λ all text. Plays reads opening all text before after) opening before after
     (status.SinkFault faults)
+    ⊎ ((faults ≡ after.sink_faults)
+    × CutsGivenUp (WhyGivenUp reads before after) opening before after)
 GroupEndsBy reads opening before after (status.DiskFault faults) =
     LeavesBy (λ all text. Plays reads opening all text before after) opening before after
     (status.DiskFault faults)

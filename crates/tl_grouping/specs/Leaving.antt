@@ -4,11 +4,12 @@
 --   status       written                                      the disk stands for
 --   Done         the text                                     all, also in a crash
 --   NoMemory     nothing                                      C
---   SourceFault  the closing line                             C
---   SinkFault    first bytes of the text or a closing line    C, or all
+--   SinkFault    first bytes of the text, or of the line      all
+--                of a disk that failed                        C, or all
 --   DiskFault    the closing line                             C, or all
 --
--- `What` says of all commits and the text what they are.
+-- `What` says of all commits and the text what they are. What was read and may have a fault, each
+-- command says itself, and how it ends then: the group is given up.
 use Rattle.std.specs.Prelude.{◌≡◌, ◌⊎◌, ℕ, List, take, Some, None}
 use Rattle.tl_types.specs.declared.commits.Commit.{Commit}
 use Rattle.tl_device.specs.Known.{append_known, Rose}
@@ -84,30 +85,29 @@ pub record CutsFailed (What : List Commit → List ℕ → Type 0) (opening : Li
   pub all : List Commit
   pub text : List ℕ
   pub what : What all text
-  pub closing : Status
-  pub prints : PrintsSome (closing_line closing) before after
+  pub prints : PrintsSome (closing_line (status.DiskFault after.disk_faults)) before after
   pub holds : HoldsEither opening all before after
 
--- the sink failed at the closing line of a group that was given up
-pub record CutsGivenUp (opening : List Commit) (before after : Outside) : Type 0 where
+-- the sink failed at the closing line of a group that was given up, for what the line says
+pub record CutsGivenUp (Why : Status → Type 0) (opening : List Commit) (before after : Outside)
+    : Type 0 where
   pub closing : Status
+  pub why : Why closing
   pub prints : PrintsSome (closing_line closing) before after
   pub holds : HoldsJournal opening None before after
 
--- how such a command ends over these commits of its journal, but for the faults of what it reads
+-- how such a command ends over these commits of its journal, where the group is not given up for a
+-- fault of what is read
 abbrev pub LeavesBy : (List Commit → List ℕ → Type 0) → List Commit → Outside → Outside → Status
     → Type 0
 LeavesBy What opening before after status.Done = AppendsAll What before after
 LeavesBy What opening before after status.NoMemory =
     PrintsNothing before after × HoldsJournal opening None before after
 LeavesBy What opening before after status.Usage = ⊥
-LeavesBy What opening before after (status.SourceFault faults) =
-    (faults ≡ after.source_faults) × Rose before.source_faults after.source_faults
-    × IsGivenUp opening (status.SourceFault faults) before after
+LeavesBy What opening before after (status.SourceFault faults) = ⊥
 LeavesBy What opening before after (status.SinkFault faults) =
     (faults ≡ after.sink_faults)
-    × (CutsText What before after
-    ⊎ (CutsFailed What opening before after ⊎ CutsGivenUp opening before after))
+    × (CutsText What before after ⊎ CutsFailed What opening before after)
 LeavesBy What opening before after (status.DiskFault faults) =
     (faults ≡ after.disk_faults) × AppendFails What opening (status.DiskFault faults) before after
 LeavesBy What opening before after (status.ScriptFault f) = ⊥

@@ -1,10 +1,10 @@
 -- Jobs done one after the other over a group whose commits wait: what each is answered with, what
 -- is read and done of a script, and what the disk keeps meanwhile.
-use Rattle.std.specs.Prelude.{◌≡◌, ℕ, ◌+◌, ◌<◌, true, List, [], ◌∷◌, ◌++◌, length, Option, Some, None, IfSome, Ok, Err}
+use Rattle.std.specs.Prelude.{◌≡◌, ℕ, ◌+◌, ◌<◌, Bool, true, false, List, [], ◌∷◌, ◌++◌, length, Option, Some, None, IfSome, Ok, Err}
 use Rattle.tl_types.specs.declared.batches.Batch.{Batch}
 use Rattle.tl_types.specs.declared.batches.BatchFault.{BatchFault}
 use Rattle.tl_types.specs.declared.commits.Commit.{Commit}
-use Rattle.tl_device.specs.Known.{Rose}
+use Rattle.tl_device.specs.Known.{Rose, prepend_known}
 use Rattle.tl_device.specs.declared.disk.Disk.{Ghosts as DiskGhosts}
 use Rattle.tl_script.specs.declared.jobs.ScriptFault.{ScriptFault}
 use Rattle.tl_script.specs.Script.{Job as ScriptJob, ScriptReading}
@@ -103,15 +103,21 @@ abbrev pub HasFault : (List ℕ → ScriptReading) → ScriptFault → Option (L
 HasFault reads f before =
     (script : List ℕ) × IfSome before (λ left. left ≡ script) × ((reads script).fault ≡ Some f)
 
--- what was done, by why no further phase is played
-abbrev pub PlayStops : (List ℕ → ScriptReading) → List Commit → List Commit → List ℕ → Stop
+-- in the bytes that were taken no fault is read
+abbrev pub HasNoFaultSoFar : (List ℕ → ScriptReading) → Option (List ℕ) → Option (List ℕ) → Type 0
+HasNoFaultSoFar closed before after =
+    (taken : List ℕ) × (before ≡ prepend_known taken after) × ((closed taken).fault ≡ None)
+
+-- what was done, by why no further phase is played; how a whole script is read, and the start of
+-- one
+abbrev pub PlayStops : (Bool → List ℕ → ScriptReading) → List Commit → List Commit → List ℕ → Stop
     → Option (List ℕ) → Option (List ℕ) → ℕ → ℕ → Type 0
 PlayStops reads opening all text stop.Ended before after first last =
-    PlaysScript reads opening all text before after × (last ≡ first)
+    PlaysScript (reads true) opening all text before after × (last ≡ first)
 PlayStops reads opening all text (stop.Fault f) before after first last =
-    HasFault reads f before × (last ≡ first)
+    HasFault (reads true) f before × (last ≡ first)
 PlayStops reads opening all text (stop.Source faults) before after first last =
-    Rose first last × (faults ≡ last)
+    HasNoFaultSoFar (reads false) before after × Rose first last × (faults ≡ last)
 PlayStops reads opening all text (stop.Sink faults) before after first last = ⊥
 PlayStops reads opening all text stop.NoMemory before after first last = last ≡ first
 
@@ -121,4 +127,4 @@ abbrev pub PlaysOn : Coming → List Commit → Option (List ℕ) → ℕ → Co
 PlaysOn first opening begun count now all text left faults None =
     Played first opening begun count now all text left faults
 PlaysOn first opening begun count now all text left faults (Some why) =
-    PlayStops (first.reads true) opening all text why begun left count faults
+    PlayStops first.reads opening all text why begun left count faults

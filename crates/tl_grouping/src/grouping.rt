@@ -22,7 +22,7 @@ use tl_types::Limits;
 // The line that is written where the disk fails while the group is appended.
 const DEVICE_LINE: &str = "! device\n";
 
-// The room that the sink needs for a text or for the line of a disk that fails.
+// The room that the sink needs for that line.
 const LINE_ROOM: u64 = 9;
 
 /// Appends all that waits as one group, once the sink's room is taken for a text and for the line of

@@ -146,7 +146,7 @@ pub(crate) fn play_phases<
     requires fresh { HasNotBegun (P.coming playing.old.phases) }
     requires standard { playing.old.group.limits ≡ standard_limits }
     requires silent { playing.old.text.items ≡ [] }
-    ensures stops { PlayStops ((P.coming playing.old.phases).reads true)
+    ensures stops { PlayStops (P.coming playing.old.phases).reads
         (commits_in playing.old.group) (commits_in playing.new.group) playing.new.text.items result
         (S.left source.old) (S.left source.new) (S.faults source.old) (S.faults source.new) }
     ensures keeps { KeepsDisk D.Disk playing.old.group playing.new.group }

@@ -38,10 +38,11 @@ pub record RunsOver (words : List (List ℕ)) (image : List ℕ) (before after :
 abbrev pub IsWhole : Option (List ℕ) → List ℕ → Type 0
 IsWhole told image = (b : List ℕ) → told ≡ Some b → image ≡ b
 
--- the file was read whole, and the program ran over its bytes
-pub record LooksOver (words : List (List ℕ)) (told : Option (List ℕ)) (before after : Streams)
-    (ended : Status) : Type 0 where
+-- the file was read whole, without a fault, and the program ran over its bytes
+pub record LooksOver (words : List (List ℕ)) (told : Option (List ℕ)) (first last : ℕ)
+    (before after : Streams) (ended : Status) : Type 0 where
   pub image : List ℕ
+  pub sure : last ≡ first
   pub whole : IsWhole told image
   pub runs : RunsOver words image before after ended
 
@@ -63,6 +64,6 @@ StopsBeforehand before after ended = (after ≡ before) × (ended ≡ status.NoM
 -- before and after, and by the source and the sink before and after
 abbrev pub Looks : List (List ℕ) → Option (List ℕ) → ℕ → ℕ → Streams → Streams → Status → Type 0
 Looks words told faults_before faults_after before after ended =
-    LooksOver words told before after ended
+    LooksOver words told faults_before faults_after before after ended
     ⊎ (StopsBeforehand before after ended
     ⊎ FailsToLook faults_before faults_after before after ended)

@@ -29,10 +29,10 @@ use Rattle.tl_follow.specs.Inputs.{IsInput, input_fault}
 use Rattle.tl_follow.specs.Shipping.{shipment}
 use Rattle.tl_follow.proofs.InputLemmas.{one_input}
 use Rattle.tl_csv.proofs.NumberLemmas.{lt_true}
-use Rattle.tl_grouping.specs.Grouping.{GroupEnds, GroupEndsBy, Plays}
-use Rattle.tl_grouping.specs.Leaving.{CutsText, CutsFailed, CutsGivenUp}
+use Rattle.tl_grouping.specs.Grouping.{GroupEnds, GroupEndsBy, Plays, WhyGivenUp}
+use Rattle.tl_grouping.specs.Leaving.{CutsGivenUp, LeavesBy}
 use Rattle.tl_shipping.specs.Shipping.{ShipEnds}
-use Rattle.tl_following.specs.Following.{FollowEnds, FollowEndsBy, Follows, HasInputFault}
+use Rattle.tl_following.specs.Following.{FailsInput, FollowEnds, FollowEndsBy, Follows, HasInputFault}
 use Rattle.tl_run.proofs.EndLemmas.{no_rise, no_break, only_memory}
 
 -- COMPLETENESS
@@ -95,22 +95,23 @@ init_complete before after ended (inr failed) b told short sure = made_complete 
 -- GROUPS AND PACKETS
 
 -- the sink failed
-sink_rose : (What : List Commit → List ℕ → Type 0) (opening : List Commit) (before after : Outside) → CutsText What before after ⊎ (CutsFailed What opening before after ⊎ CutsGivenUp opening before after) → Rose before.sink_faults after.sink_faults
-sink_rose What opening before after (inl h) = h.prints.0
-sink_rose What opening before after (inr (inl h)) = h.prints.0
-sink_rose What opening before after (inr (inr h)) = h.prints.0
+sink_rose : (What : List Commit → List ℕ → Type 0) (Why : Status → Type 0) (opening : List Commit) (before after : Outside) (n : ℕ) → LeavesBy What opening before after (status.SinkFault n) ⊎ ((n ≡ after.sink_faults) × CutsGivenUp Why opening before after) → Rose before.sink_faults after.sink_faults
+sink_rose What Why opening before after n (inl (same, inl h)) = h.prints.0
+sink_rose What Why opening before after n (inl (same, inr h)) = h.prints.0
+sink_rose What Why opening before after n (inr (same, h)) = h.prints.0
 
 -- a group that was opened, with a script in which no fault is read
 group_opened : (opening : List Commit) (before after : Outside) (ended : Status) → GroupEndsBy script_reads opening before after ended → IsFaultless script_reads before → StaysSure before after → IsDoneOrNoMemory ended
 group_opened opening before after status.Done h faultless sure = inl refl
 group_opened opening before after status.NoMemory h faultless sure = inr refl
 group_opened opening before after status.Usage h faultless sure = absurd h
-group_opened opening before after (status.SourceFault n) h faultless sure = absurd (sure.source h.1)
-group_opened opening before after (status.SinkFault n) h faultless sure = absurd (sure.sink (sink_rose (λ all text. Plays script_reads opening all text before after) opening before after h.1))
+group_opened opening before after (status.SourceFault n) h faultless sure = absurd (sure.source h.0.1)
+group_opened opening before after (status.SinkFault n) h faultless sure = absurd (sure.sink (sink_rose (λ all text. Plays script_reads opening all text before after) (WhyGivenUp script_reads before after) opening before after n h))
 group_opened opening before after (status.DiskFault n) h faultless sure = absurd (sure.disk h.1.holds.rose)
 group_opened opening before after (status.ScriptFault f) h faultless sure =
-    let own : h.0.0 ≡ faultless.script = sym (told_script before.left h.0.0 faultless.script faultless.told h.0.1) in
-    absurd (let e : None ≡ Some f = sym faultless.whole ∙ (ap (λ s. (script_reads true s).fault) (sym own) ∙ h.0.2) in cc)
+    let script = h.0.0 in
+    let own : script.0 ≡ faultless.script = sym (told_script before.left script.0 faultless.script faultless.told script.1) in
+    absurd (let e : None ≡ Some f = sym faultless.whole ∙ (ap (λ s. (script_reads true s).fault) (sym own) ∙ script.2) in cc)
 group_opened opening before after (status.NotInitialised len) h faultless sure = absurd h
 group_opened opening before after (status.AlreadyInitialised len) h faultless sure = absurd h
 group_opened opening before after (status.Damaged at) h faultless sure = absurd h
@@ -143,7 +144,7 @@ follow_opened opening before after status.Done h followed sure = inl refl
 follow_opened opening before after status.NoMemory h followed sure = inr refl
 follow_opened opening before after status.Usage h followed sure = absurd h
 follow_opened opening before after (status.SourceFault n) h followed sure = absurd (sure.source h.1)
-follow_opened opening before after (status.SinkFault n) h followed sure = absurd (sure.sink (sink_rose (λ all text. Follows opening all text before after) opening before after h.1))
+follow_opened opening before after (status.SinkFault n) h followed sure = absurd (sure.sink (sink_rose (λ all text. Follows opening all text before after) (FailsInput opening before.left before.source_faults after.source_faults) opening before after n h))
 follow_opened opening before after (status.DiskFault n) h followed sure = absurd (sure.disk h.1.holds.rose)
 follow_opened opening before after (status.ScriptFault f) h followed sure = absurd h
 follow_opened opening before after (status.NotInitialised len) h followed sure = absurd h

@@ -102,10 +102,11 @@ fn do_command<R: AllocGlobal + Threads + Wait + Sync, S: Source, K: Sink, D: Dis
 /// and kept is right for each of them.
 ///
 /// The order is, of `group` and `follow`: the words; opening; the source and what it has; the
-/// append; writing. Of a run it is: the words; opening; then for each phase reading the source, the faults of the
-/// script, running, writing. The sessions of a phase run at once, each its own jobs in order; their
-/// replies are written, in the order of the jobs' lines, before more of the source is read. The
-/// statuses, each with its closing line but for `Done`, `NoMemory` and `SinkFault`:
+/// append; writing. Of a run it is: the words; opening; then for each phase reading the source, the
+/// faults of the script, running, writing. The sessions of a phase run at once, each its own jobs
+/// in order; their replies are written, in the order of the jobs' lines, before more of the source
+/// is read. The statuses of a run, each with its closing line but for `Done`, `NoMemory` and
+/// `SinkFault`:
 /// - `Done`: the source was read to its end, and the bytes written are the replies to all jobs, a
 ///   transcript of the script's phases. The disk holds the journal of the commits that they end
 ///   with, also in a crash. Where each phase has jobs of one session, the replies are those of the
@@ -133,13 +134,15 @@ fn do_command<R: AllocGlobal + Threads + Wait + Sync, S: Source, K: Sink, D: Dis
 ///
 /// Of `group` and `follow` the disk keeps its journal, or holds this and all commits that were to
 /// be appended, and never a part of them: all at `Done`, the one or the other at `DiskFault` and
-/// `SinkFault`, and the journal alone else. At any other status than `Done` the closing line alone
-/// is written, or nothing.
+/// `SinkFault`, and the journal alone else. At `Done` the replies are written, or the line that
+/// tells how many commits there are; at `SinkFault` a prefix of these or of the closing line; else
+/// the closing line alone, or nothing. `ship` keeps the journal as it is, and writes all packets at
+/// `Done`, and a prefix of them at `SinkFault`.
 ///
 /// With the words of a command, a disk whose bytes are a journal of commits that fit one after the
-/// other (for `init` at most 17 bytes), a script without a fault and no count that rises, the
-/// status is `Done` or `NoMemory`. The call may wait, and starts threads of its own, which end with
-/// it.
+/// other (for `init` at most 17 bytes), a script, or for `follow` packets, without a fault and no
+/// count that rises, the status is `Done` or `NoMemory`. The call may wait, and starts threads of
+/// its own, which end with it.
 pub fn timeline<
     R: AllocGlobal + Threads + Wait + Sync,
     S: Source,

@@ -23,5 +23,5 @@ returns-clause-more g c = λ first opening begun count p.
     let coming = g.P.Phases.coming in
     let all = commits_in c.args.playing.now.group in
     let text = c.args.playing.now.text.items in
-    subst (λ (o : Stop). PlayStops (first.reads true) opening all text o begun (source.left c.next.new.source) count (source.faults c.next.new.source)) (sym c.stop_for.ensures)
+    subst (λ (o : Stop). PlayStops first.reads opening all text o begun (source.left c.next.new.source) count (source.faults c.next.new.source)) (sym c.stop_for.ensures)
     (stop_played first opening begun count (coming c.args.playing.now.phases) (coming c.next.new.self) all text (source.left c.args.source.now) (source.left c.next.new.source) (source.faults c.args.source.now) (source.faults c.next.new.source) c.in-Err.error c.in-Err.ensures.answers c.in-Err.ensures.faults p)

@@ -154,7 +154,8 @@ impl TextColumn {
     pub fn codes_from(&self, row: u32) -> &[u32]
         requires { row < length self.now }
         ensures codes { result.now
-            ≡ take (CHUNK - row % CHUNK) (drop row (map (code_for (dictionary_of self.now)) self.now)) }
+            ≡ take (CHUNK - row % CHUNK)
+            (drop row (map (code_for (dictionary_of self.now)) self.now)) }
         ensures some { 0 < length result.now }
     {
         self.codes.chunk_from(row as u64)

@@ -33,13 +33,15 @@ Only file outcomes = (c : List ℕ) → outcomes c → c ≡ file
 
 -- from one moment to a later one, since any moment up to the first nothing is lost, and only that
 -- is added which a crash now may leave
-pub record Elapses (before now : ℕ) (past since : ℕ → List ℕ → Type 0) (may_leave : List ℕ → Type 0) : Type 0 where
+pub record Elapses (before now : ℕ) (past since : ℕ → List ℕ → Type 0)
+    (may_leave : List ℕ → Type 0) : Type 0 where
   pub later : before ≤ now
   pub nothing_else : (t : ℕ) (c : List ℕ) → t ≤ before → since t c → past t c ⊎ may_leave c
   pub nothing_lost : (t : ℕ) (c : List ℕ) → t ≤ before → past t c → since t c
 
 -- a crash at each moment since an old one leaves what has P
-pub record LeavesOnly (was now : ℕ) (past since : ℕ → List ℕ → Type 0) (P : List ℕ → Type 0) : Type 0 where
+pub record LeavesOnly (was now : ℕ) (past since : ℕ → List ℕ → Type 0) (P : List ℕ → Type 0)
+    : Type 0 where
   pub later : was ≤ now
   pub each : (c : List ℕ) → since was c → P c
   -- for a run that began earlier
@@ -47,6 +49,7 @@ pub record LeavesOnly (was now : ℕ) (past since : ℕ → List ℕ → Type 0)
   pub nothing_lost : (t : ℕ) (c : List ℕ) → t ≤ was → past t c → since t c
 
 -- the disk reads as these bytes, and a crash leaves just them
-pub record IsStored {D : Type 0} (reads : D → Option (List ℕ)) (may_leave : D → List ℕ → Type 0) (disk : D) (file : List ℕ) : Type 0 where
+pub record IsStored {D : Type 0} (reads : D → Option (List ℕ)) (may_leave : D → List ℕ → Type 0)
+    (disk : D) (file : List ℕ) : Type 0 where
   pub reads_as : reads disk ≡ Some file
   pub only : Only file (may_leave disk)

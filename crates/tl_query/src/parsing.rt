@@ -48,8 +48,8 @@ fn read(alloc: Global, text: &str) -> Result<Statement, TextFault>
 /// - `PUT name`, `REMOVE name`, `MOMENT number`, `FORGET name BEFORE version`;
 /// - `SELECT items FROM name [WHERE ..] [VALID AT number] [AS OF ..]`, where the items are `*`, or
 ///   column names, `valid_from` and `valid_to` in any order;
-/// - `COUNT` or `SUM`, `AVG`, `MIN`, `MAX` and a column, then `FROM name [WHERE ..] [BY name]` and a
-///   range;
+/// - `COUNT` or `SUM`, `AVG`, `MIN`, `MAX` and a column, then `FROM name [WHERE ..] [BY name]` and
+///   a range;
 /// - `JOIN name [WHERE ..] WITH name [WHERE ..] ON name = name` and a range.
 ///
 /// A range is `OVER SYSTEM ALL`, `OVER SYSTEM version TO version`, or `OVER VALID bound TO bound

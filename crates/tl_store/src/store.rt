@@ -119,7 +119,8 @@ impl Store {
     /// one, or the last version where none does.
     pub fn version_at(&self, moment: i64) -> u32
         ensures value { result
-            ≡ version_at_moment (database_of self.now).version (database_of self.now).stamps moment }
+            ≡ version_at_moment (database_of self.now).version (database_of self.now).stamps
+            moment }
         ensures reached { result ≤ length self.now }
     {
         self.stamps.version_at(self.versions(), moment)

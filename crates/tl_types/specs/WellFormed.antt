@@ -31,8 +31,8 @@ BeginInOrder low (row ∷ rows) = (low ≤ row.from) × BeginInOrder row.from ro
 abbrev pub HaveRowsInOrder : List plain.Table → Type 0
 HaveRowsInOrder tables = AllByRecursion (λ table. BeginInOrder 0 table.rows) tables
 
--- a stamp stands at version 1 or later, and its version and its moment are greater than those of the
--- one before it, where there is one
+-- a stamp stands at version 1 or later, and its version and its moment are greater than those of
+-- the one before it, where there is one
 abbrev pub Follows : Option plain.Stamp → plain.Stamp → Type 0
 Follows None stamp = 0 < stamp.version
 Follows (Some last) stamp = (last.version < stamp.version) × (last.moment <ℤ stamp.moment)

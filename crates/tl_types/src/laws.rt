@@ -14,8 +14,8 @@ ghost use Rattle.tl_types.specs.Walks.{standing, after_events, ChangesEach, even
 ghost use Rattle.tl_types.specs.Runs.{runs_of, seam};
 ghost use Rattle.tl_types.specs.WellFormed.{AreWellFormed, BeginInOrder, HaveReachedFloors, HaveReachedStamps, Rise};
 
-/// Carries a law in its contract, and does nothing: the checkpoint of a table, at a version, both of
-/// which some entries have, is the same over every longer legal list of entries.
+/// Carries a law in its contract, and does nothing: the checkpoint of a table, at a version, both
+/// of which some entries have, is the same over every longer legal list of entries.
 pub fn checkpoints_stand()
     ensures { (before more : List Entry) (table version : ℕ) → IsTrue (are_legal (before ++ more))
         → IsTrue (has_table before table) → version ≤ length (commits_of before)

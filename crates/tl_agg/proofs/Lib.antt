@@ -13,3 +13,4 @@ pub mod JoinLemmas
 pub mod GroupedLemmas
 pub mod TypedLemmas
 pub mod PassLemmas
+pub mod TypedAggregates

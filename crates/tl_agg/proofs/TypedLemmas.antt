@@ -71,7 +71,7 @@ typed_at (x ∷ tables) (suc i) t h e = typed_at tables i t h.1 e
 -- NUMBERS
 
 -- a row has a number in a column of numbers
-has_number : (columns : List Column) (cells : List Cell) (c : ℕ) → match_columns columns cells ≡ true → IsIntColumn columns c → is_some (number_of (cell_at cells c)) ≡ true
+pub has_number : (columns : List Column) (cells : List Cell) (c : ℕ) → match_columns columns cells ≡ true → IsIntColumn columns c → is_some (number_of (cell_at cells c)) ≡ true
 has_number [] cells c m is = absurd (cc)
 has_number (k ∷ columns) [] c m is = absurd (cc)
 has_number (k ∷ columns) (x ∷ cells) zero m is = of_kind k.kind x (and_left (is_of_kind k.kind x) (match_columns columns cells) m) is where
@@ -85,7 +85,7 @@ have_numbers : (columns : List Column) (rows : List plain.Row) (c : ℕ) → Are
 have_numbers columns [] c typed is = tt
 have_numbers columns (r ∷ rows) c typed is = (has_number columns r.cells c typed.0 is, have_numbers columns rows c typed.1 is)
 
-some_suit : (k : AggKind) (c : ℕ) (rows : List plain.Row) → HaveNumbers (Some c) rows → Suits k (Some c) rows
+pub some_suit : (k : AggKind) (c : ℕ) (rows : List plain.Row) → HaveNumbers (Some c) rows → Suits k (Some c) rows
 some_suit kind.Count c rows have = tt
 some_suit kind.Sum c rows have = have
 some_suit kind.Avg c rows have = have

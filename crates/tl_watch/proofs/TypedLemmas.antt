@@ -1,47 +1,25 @@
 -- Rows have a number where a plan asks for one: those that a change opens, and those that it closes.
-use Rattle.std.proofs.Common.{◌≡◌, ℕ, zero, suc, ◌+◌, Bool, true, false, cond, List, [], ◌∷◌, ◌++◌, map, Option, Some, None, refl, sym, subst}
+use Rattle.std.proofs.Common.{◌≡◌, ℕ, ◌+◌, Bool, true, false, cond, List, [], ◌∷◌, ◌++◌, map, Option, Some, None, refl, sym, subst}
 use Rattle.std.specs.Bool.{beq}
 use Rattle.std.specs.Prelude.{is_some}
 use Rattle.std.specs.List.{enumerate_from, list_all}
 use Rattle.tl_types.proofs.Lists.{and_left, and_right}
 use Rattle.tl_types.specs.Plain as plain
-use Rattle.tl_types.specs.declared.cells.Cell.{Cell}
-use Rattle.tl_types.specs.declared.cells.Cell.TheVariants as cell
-use Rattle.tl_types.specs.declared.cells.ColumnKind.{ColumnKind}
-use Rattle.tl_types.specs.declared.cells.ColumnKind.TheVariants.{IntKind, TextKind}
-use Rattle.tl_types.specs.declared.schemas.Column.{Column}
-use Rattle.tl_types.specs.History.{has_id, row_after, new_row, is_of_kind, match_columns, matches, cell_at}
+use Rattle.tl_types.specs.History.{has_id, row_after, new_row, match_columns, matches}
 use Rattle.tl_query.specs.declared.ast.AggKind.{AggKind}
 use Rattle.tl_query.specs.declared.ast.AggKind.TheVariants as kind
-use Rattle.tl_query.specs.Aggregates.{number_of, number_at}
+use Rattle.tl_query.specs.Aggregates.{number_at}
 use Rattle.tl_store.specs.Reading.{IsIntColumn}
 use Rattle.tl_running.specs.Standing.{HaveNumbers, Suits}
+use Rattle.tl_agg.proofs.TypedLemmas.{has_number, some_suit}
 
 -- OPENED ROWS
-
--- a row has a number in a column of numbers
-has_number : (columns : List Column) (cells : List Cell) (c : ℕ) → match_columns columns cells ≡ true → IsIntColumn columns c → is_some (number_of (cell_at cells c)) ≡ true
-has_number [] cells c m is = absurd (cc)
-has_number (k ∷ columns) [] c m is = absurd (cc)
-has_number (k ∷ columns) (x ∷ cells) zero m is = of_kind k.kind x (and_left (is_of_kind k.kind x) (match_columns columns cells) m) is where
-  of_kind : (t : ColumnKind) (x : Cell) → is_of_kind t x ≡ true → Some t ≡ Some IntKind → is_some (number_of (Some x)) ≡ true
-  of_kind IntKind (cell.Int i) h e = refl
-  of_kind IntKind (cell.Text s) h e = absurd (cc)
-  of_kind TextKind x h e = absurd (cc)
-has_number (k ∷ columns) (x ∷ cells) (suc c) m is = has_number columns cells c (and_right (is_of_kind k.kind x) (match_columns columns cells) m) is
 
 opens_have : (w : ℕ) (schema : plain.Schema) (c : ℕ) (opens : List plain.Opened) → list_all (matches schema) opens ≡ true → IsIntColumn schema.columns c → HaveNumbers (Some c) (map (new_row w) opens)
 opens_have w schema c [] h is = tt
 opens_have w schema c (o ∷ opens) h is =
     let one = and_left (matches schema o) (list_all (matches schema) opens) h in
     (has_number schema.columns o.cells c (and_left (match_columns schema.columns o.cells) (beq schema.valid (is_some o.period)) one) is, opens_have w schema c opens (and_right (matches schema o) (list_all (matches schema) opens) h) is)
-
-some_suit : (k : AggKind) (c : ℕ) (rows : List plain.Row) → HaveNumbers (Some c) rows → Suits k (Some c) rows
-some_suit kind.Count c rows have = tt
-some_suit kind.Sum c rows have = have
-some_suit kind.Avg c rows have = have
-some_suit kind.Min c rows have = have
-some_suit kind.Max c rows have = have
 
 pub opens_suit : (w : ℕ) (schema : plain.Schema) (k : AggKind) (column : Option ℕ) (opens : List plain.Opened) → list_all (matches schema) opens ≡ true → ((c : ℕ) → column ≡ Some c → IsIntColumn schema.columns c) → (column ≡ None → k ≡ kind.Count) → Suits k column (map (new_row w) opens)
 opens_suit w schema k None opens h is count = subst (λ j. Suits j None (map (new_row w) opens)) (sym (count refl)) tt

@@ -1,7 +1,7 @@
 //! What is kept of a plan when it begins: the rows of its table that stand and pass are found as a
 //! set, and come one by one. Over all of them at once they are only counted where that is all that
 //! is asked, and for a sum or an average their numbers are added by the kernel over lanes. A plan
-//! that no query over the table has is refused.
+//! that no query over the table has may not be given.
 ghost use Rattle.std.specs.Prelude.{◌≡◌, ◌+◌, ◌*◌, ◌<◌, ◌≤◌, true, length, IfOk, IfSome, OnOk};
 ghost use Rattle.tl_types.specs.Entries.{commits_of};
 ghost use Rattle.tl_types.specs.History.{database_of, rows_of};

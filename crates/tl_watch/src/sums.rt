@@ -1,6 +1,6 @@
 //! The sum of the numbers of the rows of a set, by the kernel over lanes: word by word of the set,
-//! and 64 rows of the column at a time. It keeps nothing; a column that is not of numbers is
-//! refused.
+//! and 64 rows of the column at a time. It keeps nothing; a column that is not of numbers may not
+//! be given.
 ghost use Rattle.std.specs.Prelude.{◌≡◌, ◌+◌, ◌*◌, ◌^◌, ◌<◌, ◌≤◌, pos, neg_ℤ, ◌≤ℤ◌, length, take};
 ghost use Rattle.tl_types.specs.History.{database_of, rows_of};
 ghost use Rattle.tl_lanes.specs.Masks.{words_for};

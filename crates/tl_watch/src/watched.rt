@@ -1,5 +1,5 @@
 //! A plan with what is kept of it. A change of another table changes nothing here and takes no
-//! step; a plan that is not one for its table is refused.
+//! step; a plan that is not one for its table may not be given.
 ghost use Rattle.std.specs.Prelude.{◌≡◌, ◌+◌, ◌≤◌, ◌++◌, ◌∷◌, [], IsTrue, OnOk, IfOk};
 ghost use Rattle.tl_types.specs.declared.commits.Body.TheVariants as body;
 ghost use Rattle.tl_types.specs.History.{database_of, fits};

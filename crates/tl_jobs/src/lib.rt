@@ -14,5 +14,5 @@ mod replies;
 pub use crews::Crew;
 pub use jobs::LentJob;
 pub use paces::Pace;
-pub use readings::{JobReading, read_job};
-pub use replies::{AnswerText, Refusal, Reply, ReplyBody, put_reply};
+pub use readings::{JobReading, check_refusal, read_job, text_refusal};
+pub use replies::{AnswerText, Refusal, Reply, ReplyBody, put_reply, refusal_words};

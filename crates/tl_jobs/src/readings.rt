@@ -46,8 +46,8 @@ pub enum JobReading {
     Fault(Refusal),
 }
 
-// The refusal of a query or a new table; being out of memory is none.
-fn check_refusal(fault: CheckFault) -> Result<Refusal, NoMemory>
+/// The refusal of a query or a new table; being out of memory is none.
+pub fn check_refusal(fault: CheckFault) -> Result<Refusal, NoMemory>
     ensures why { IfOk result (λ why. why ≡ refusal.CheckFault fault) }
     ensures told { OnOk result (fault ≢ check_fault.NoMemory) }
 {
@@ -218,8 +218,8 @@ fn read_statement<R: AllocGlobal + Threads + Sync, G: Gate>(
     }
 }
 
-// The refusal of a text; being out of memory is none.
-fn text_refusal(fault: TextFault) -> Result<Refusal, NoMemory>
+/// The refusal of a text; being out of memory is none.
+pub fn text_refusal(fault: TextFault) -> Result<Refusal, NoMemory>
     ensures why { IfOk result (λ why. why ≡ refusal.TextFault fault) }
     ensures told { OnOk result (fault ≢ text_fault.NoMemory) }
 {

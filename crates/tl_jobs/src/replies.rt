@@ -124,7 +124,9 @@ fn batch_fault_words(alloc: Global, fault: &BatchFault) -> Result<String, NoMemo
     }
 }
 
-fn refusal_words(alloc: Global, refusal: &Refusal) -> Result<String, NoMemory>
+/// The words of a refusal, as a reply has them: the fault's name and its fields. The error is
+/// `NoMemory`.
+pub fn refusal_words(alloc: Global, refusal: &Refusal) -> Result<String, NoMemory>
     ensures { IfOk result (λ text. string_bytes text ≡ refusal_words refusal.now) }
 {
     match refusal {

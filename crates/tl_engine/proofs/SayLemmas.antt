@@ -1,5 +1,5 @@
 -- What the answer to a commit says, and what a committer then keeps.
-use Rattle.std.proofs.Common.{◌≡◌, ℕ, ◌+◌, false, List, [], ◌∷◌, ◌++◌, Option, Some, None, Result, Ok, Err, IfOk, IfErr, sym, ap, ◌∙◌, subst}
+use Rattle.std.proofs.Common.{◌≡◌, ℕ, ◌+◌, Bool, true, false, List, [], ◌∷◌, ◌++◌, Option, Some, None, Result, Ok, Err, IfOk, IfErr, refl, sym, ap, ◌∙◌, subst}
 use mathlib.Core.List.{IsPrefix}
 use Rattle.tl_types.specs.declared.batches.Batch.{Batch}
 use Rattle.tl_types.specs.declared.commits.Commit.{Commit}
@@ -12,7 +12,8 @@ use Rattle.tl_history.specs.declared.faults.CommitFault.{CommitFault}
 use Rattle.tl_history.specs.declared.faults.CommitFault.TheVariants as fault
 use Rattle.tl_history.specs.Answers.{version_of}
 use Rattle.tl_history.specs.Lists.{version_after}
-use Rattle.tl_engine.specs.Naming.{IsCommitting}
+use Rattle.tl_history.specs.Standing.{DiskStandsForHistory}
+use Rattle.tl_engine.specs.Naming.{IsCommitting, WereWritten}
 use Rattle.tl_history.specs.Plain as plain
 use Rattle.tl_engine.specs.Saying.{CommitSays, FailSays, becomes, shown_by}
 use Rattle.tl_history.specs.Writing.{DraftFails, WriteFails}
@@ -105,3 +106,26 @@ one_more faults mid last c written next broken shown (Err fault.NoMemory) err ne
 one_more faults mid last c written next broken shown (Err (fault.Device version count)) err next_is broken_is chosen at =
     let e : shown ≡ broken = cc in
     (break_entry c, e ∙ (broken_is ∙ ap (λ es. es ++ break_entry c ∷ []) at))
+
+-- WHAT WAS SEEN UNDER THE LOCK
+
+-- what a committer has written was written
+pub were_written : {D : Type 0} (reads : D → Option (List ℕ)) (may_leave : D → List ℕ → Type 0) (told : Bool) (first_entries : List Entry) (count : ℕ) (limits : Limits) (written seen : List Entry) (total : ℕ) (history : plain.History D)
+    → seen ≡ written → IsCommitting first_entries count limits written total history → (told ≡ true → DiskStandsForHistory reads may_leave history)
+    → WereWritten reads may_leave told first_entries count limits seen
+were_written reads may_leave told first_entries count limits written seen total history is commits stands =
+    record {
+      history = history;
+      total = total;
+      commits = subst (λ es. IsCommitting first_entries count limits es total history) (sym is) commits;
+      stands = stands;
+    }
+
+-- where nothing is published memory ran out
+pub nothing_shown : {D : Type 0} (faults : D → ℕ) (mid last : plain.History D) (c : Commit) (next broken : List Entry) (answer : Result ℕ CommitFault)
+    → IfErr answer (WriteFails faults c mid last) → None ≡ shown_by answer next broken → answer ≡ Err fault.NoMemory
+nothing_shown faults mid last c next broken (Ok v) err chosen = absurd (cc)
+nothing_shown faults mid last c next broken (Err (fault.Broken version)) err chosen = absurd err
+nothing_shown faults mid last c next broken (Err (fault.Refused version refusal)) err chosen = absurd err
+nothing_shown faults mid last c next broken (Err fault.NoMemory) err chosen = refl
+nothing_shown faults mid last c next broken (Err (fault.Device version count)) err chosen = absurd (cc)

@@ -1,7 +1,7 @@
 //! What lies behind the lock of an engine: the history, the pass that writes the head, and the
 //! book. A commit or a mark is in the history, on the head and, where it counts, in the book, or in
 //! none of them; whoever comes is first shown all that is written.
-ghost use Rattle.std.specs.Prelude.{◌≡◌, ◌+◌, ◌<◌, ◌≤◌, ◌++◌, ◌∷◌, [], false, length, IsTrue, IfOk};
+ghost use Rattle.std.specs.Prelude.{◌≡◌, ◌≢◌, ◌+◌, ◌<◌, ◌≤◌, ◌++◌, ◌∷◌, [], false, length, IsTrue, IfOk, Err};
 ghost use mathlib.Core.List.{IsPrefix};
 ghost use Rattle.tl_types.specs.declared.commits.Entry.{Entry};
 ghost use Rattle.tl_types.specs.Checkpoints.{checkpoint_at};
@@ -11,7 +11,9 @@ ghost use Rattle.tl_types.specs.Legality.{are_legal, has_mark};
 ghost use Rattle.tl_batch.specs.Made.{batch_matches, names_table};
 ghost use Rattle.tl_index.specs.Snapshots.{mark_entry};
 ghost use Rattle.tl_history.specs.Building.{IsCheckpoint};
+ghost use Rattle.tl_history.specs.declared.faults.CommitFault.TheVariants as commit_fault;
 ghost use Rattle.tl_engine.specs.Calls.{MarkTakesEffect, TakesEffect};
+ghost use Rattle.tl_engine.specs.Naming.{WereWritten};
 ghost use Rattle.tl_engine.specs.Saying.{CommitSays, becomes, shown_at, shown_by};
 ghost use Rattle.tl_engine.specs.Tending.{MarkSays};
 
@@ -215,6 +217,8 @@ impl<D: Disk, J: Named> Committer<D, J> {
             (batch_matches (database_of (commits_of pass.old.seen)) offer.batch) }
         ensures own { pass.new.table ≡ J.table }
         ensures written { pass.new.seen ≡ self.new }
+        ensures were { result ≢ Err commit_fault.NoMemory → WereWritten D.reads D.may_leave J.told
+            J.first_entries J.first_count J.limits pass.new.seen }
         ensures effect { TakesEffect (becomes J.limits offer.author offer.batch) J.first_count
             self.old self.new pass.old.seen pass.new.seen result }
         ensures legal { IsTrue (are_legal pass.new.seen) }

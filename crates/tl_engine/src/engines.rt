@@ -1,6 +1,6 @@
 //! The engine: threads read from its head, each by a pass of its own, and commit or mark under its
 //! lock. What each call says, it says of the entries that its pass had seen and then has seen.
-ghost use Rattle.std.specs.Prelude.{◌≡◌, ◌+◌, ◌<◌, ℕ, length, List, Some, true, false, IsTrue, IfOk};
+ghost use Rattle.std.specs.Prelude.{◌≡◌, ◌≢◌, ◌+◌, ◌<◌, ℕ, length, List, Some, true, false, IsTrue, IfOk, Err};
 ghost use mathlib.Core.List.{IsPrefix};
 ghost use Rattle.tl_types.specs.Entries.{commits_of, has_break};
 ghost use Rattle.tl_types.specs.History.{database_of};
@@ -9,7 +9,9 @@ ghost use Rattle.tl_types.specs.Legality.{are_legal};
 ghost use Rattle.tl_journal.specs.Stands.{DiskStandsFor};
 ghost use Rattle.tl_history.specs.Building.{IsCheckpoint};
 ghost use Rattle.tl_history.specs.Standing.{IsCount, ImageStandsForEntries};
+ghost use Rattle.tl_history.specs.declared.faults.CommitFault.TheVariants as commit_fault;
 ghost use Rattle.tl_engine.specs.Counting.{news};
+ghost use Rattle.tl_engine.specs.Naming.{WereWritten};
 ghost use Rattle.tl_engine.specs.Saying.{CommitSays, becomes};
 ghost use Rattle.tl_engine.specs.Tending.{MarkSays, TendSays};
 
@@ -68,7 +70,8 @@ impl<D: Disk, J: Named> Engine<D, J> {
 
     /// Commits a batch of an author over all that is written, and answers the version that it
     /// makes: the number of the commits with it. It takes the lock. In every answer but `NoMemory`
-    /// the pass has then seen all that is written, which is legal.
+    /// the pass has then seen all that was written while the call had the lock, and a disk that
+    /// told its contents at the opening stood for just that; what it has seen is legal.
     ///
     /// Rows that the batch puts match the schema of the table that it names, which is among those
     /// of what the pass has seen. The faults are tried in this order. `Broken`: there is a break.
@@ -91,6 +94,8 @@ impl<D: Disk, J: Named> Engine<D, J> {
             (batch_matches (database_of (commits_of pass.old.seen)) batch) }
         ensures own { pass.new.table ≡ J.table }
         ensures legal { IsTrue (are_legal pass.new.seen) }
+        ensures written { result ≢ Err commit_fault.NoMemory → WereWritten D.reads D.may_leave
+            J.told J.first_entries J.first_count J.limits pass.new.seen }
         ensures parts { share.new.parts ≡ share.old.parts }
         ensures says { CommitSays (becomes J.limits author batch) J.first_count
             pass.old.seen pass.new.seen share.old.amount share.new.amount result }

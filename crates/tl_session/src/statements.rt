@@ -211,7 +211,8 @@ fn reader_of<'a>(alloc: Global, job: &LentJob<'a>) -> Result<BlockReader<'a>, No
 
 // Whether memory did not run out while a table was tended.
 fn was_tended(answer: Result<Tended, TendFault>) -> Result<(), NoMemory>
-    ensures { OnOk result (answer ≢ Err tend_fault.NoMemory) }
+    ensures tended { OnOk result (answer ≢ Err tend_fault.NoMemory) }
+    ensures memory { OnErr result (answer ≡ Err tend_fault.NoMemory) }
 {
     match answer {
         Err(TendFault::NoMemory) => Err(AllocError),

@@ -1,3 +1,4 @@
 pub mod BodyLemmas
 pub mod PaceLemmas
+pub mod RoomLemmas
 pub mod WaitLemmas

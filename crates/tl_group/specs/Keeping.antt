@@ -3,11 +3,8 @@ use Rattle.std.specs.Prelude.{◌≡◌, ◌≤◌, false, List, length, map, ta
 use Rattle.tl_types.specs.declared.commits.Commit.{Commit}
 use Rattle.tl_types.specs.declared.commits.Entry.{Entry}
 use Rattle.tl_types.specs.Entries.{commits_of, has_break}
-use Rattle.tl_types.specs.History.{database_of}
 use Rattle.tl_types.specs.Limits.{standard_limits}
-use Rattle.tl_batch.specs.KeyIndex.{IdsByKey}
 use Rattle.tl_batch.specs.Made.{AreWithin}
-use Rattle.tl_batch.specs.Standing.{StandFor}
 use Rattle.tl_index.specs.Snapshots.{commit_entry}
 use Rattle.tl_journal.specs.Image.{body_of}
 use Rattle.tl_group.specs.Bodies.{MayWait}
@@ -29,15 +26,13 @@ waiting_commits group = drop group.first (commits_in group)
 abbrev pub AreCommitsAlone : List Entry → Type 0
 AreCommitsAlone entries = entries ≡ map commit_entry (commits_of entries)
 
--- what every group keeps: its snapshot has commits alone, for the tables of which the keys stand;
--- the body is that of the commits that wait, and the journal, which is not broken, has the room
--- that the body may take
-pub record IsKept {D : Type 0} (keys : List IdsByKey) (body : plain.GroupBody)
-    (group : plain.Group D) : Type 0 where
+-- what every group keeps beside keys that stand for the tables of its snapshot: the snapshot has
+-- commits alone; the body is that of the commits that wait, and the journal, which is not broken,
+-- has the room that the body may take
+pub record IsKept {D : Type 0} (body : plain.GroupBody) (group : plain.Group D) : Type 0 where
   pub within : AreWithin group.limits standard_limits
   pub alone : AreCommitsAlone group.entries
   pub whole : has_break group.entries ≡ false
-  pub keys_stand : StandFor keys (database_of (commits_of group.entries))
   pub first_there : group.first ≤ length (commits_of group.entries)
   pub unbroken : group.journal.broken ≡ None
   pub body_is : body.bytes ≡ body_of (waiting_commits group)

@@ -7,13 +7,14 @@ ghost use Rattle.std.specs.Prelude.{◌≡◌, ◌==◌, ◌+◌, ◌≤◌, ◌
 ghost use Rattle.tl_types.specs.declared.commits.Commit.{Commit as CommitValue};
 ghost use Rattle.tl_history.specs.Committing.{TakesRoom};
 ghost use Rattle.tl_journal.specs.Image.{IsBodyOf, body_of};
-ghost use Rattle.tl_group.specs.Bodies.{MayWait};
+ghost use Rattle.tl_group.specs.Bodies.{MayWait, PutsRecords};
 
 use std::alloc::{AllocError, Global};
 use std::marker::Model;
 use tl_device::Disk;
 use tl_journal::Journal;
-use tl_types::{Bytes, NoMemory};
+use tl_record::encode_with_gate;
+use tl_types::{Bytes, Commit, NoMemory};
 
 /// The body of the commits that wait, and how many bytes it may become with the memory and the
 /// journal's room that are taken.
@@ -131,6 +132,47 @@ impl GroupBody {
         ensures room { self.new.room ≡ self.old.room }
     {
         put_behind(&mut self.bytes, spelled);
+    }
+
+    /// Puts the record of a commit behind the body, with the room that it wants. The error is
+    /// `NoMemory`.
+    pub(crate) fn put_commit<D: Disk>(
+        &mut self,
+        alloc: Global,
+        journal: &mut Journal<D>,
+        commit: &Commit,
+    ) -> Result<(), NoMemory>
+        requires spare { self.old.room ≤ journal.old.spare }
+        ensures body { OnOk result
+            (PutsRecords (commit.now ∷ []) self.old.bytes self.new.bytes) }
+        ensures spare { self.new.room ≤ journal.new.spare }
+        ensures journal { TakesRoom D.reads D.may_leave D.moment D.left_since D.faults
+            journal.old journal.new }
+    {
+        let spelled = encode_with_gate(alloc, commit)?;
+        self.take_room(journal, spelled.as_slice())?;
+        self.put_record(spelled.as_slice());
+        Ok(())
+    }
+
+    /// Puts the records of commits behind the body, with the room that they want. The error is
+    /// `NoMemory`.
+    pub(crate) fn put_commits<D: Disk>(
+        &mut self,
+        alloc: Global,
+        journal: &mut Journal<D>,
+        commits: &[Commit],
+    ) -> Result<(), NoMemory>
+        requires spare { self.old.room ≤ journal.old.spare }
+        ensures body { OnOk result (PutsRecords commits.now self.old.bytes self.new.bytes) }
+        ensures spare { self.new.room ≤ journal.new.spare }
+        ensures journal { TakesRoom D.reads D.may_leave D.moment D.left_since D.faults
+            journal.old journal.new }
+    {
+        for commit in commits {
+            self.put_commit(alloc, journal, commit)?;
+        }
+        Ok(())
     }
 
     /// Whether the body has no byte.

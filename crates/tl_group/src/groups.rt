@@ -19,11 +19,10 @@ ghost use Rattle.tl_history.specs.Answers.{Opens};
 ghost use Rattle.tl_history.specs.Committing.{TakesRoom};
 ghost use Rattle.tl_group.specs.Attaching.{as_history};
 ghost use Rattle.tl_group.specs.Keeping.{commits_in, journal_commits, waiting_commits, AreCommitsAlone};
-ghost use Rattle.tl_group.specs.Standing.{DiskStandsForGroup, WaitsWith, WaitsAsBefore};
+ghost use Rattle.tl_group.specs.Standing.{DiskStandsForGroup, IsGivenBack, WaitsWith, WaitsAsBefore};
 
 use crate::attaching::group_of;
-use crate::bodies::GroupBody;
-use crate::writing::append;
+use crate::waiting::{Finished, Waiting};
 use std::alloc::Global;
 use std::marker::Model;
 use tl_batch::Keys;
@@ -31,50 +30,28 @@ use tl_device::Disk;
 use tl_history::History;
 use tl_index::Snapshot;
 use tl_journal::{Journal, Refused};
-use tl_record::encode_with_gate;
 use tl_types::{Batch, BatchFault, Commit, Limits, NoMemory};
 
-/// A journal, the keys and the snapshot of its commits and of those that wait to be appended behind
-/// them, and the body with which these will be appended. Contracts see the journal, the entries of
-/// the snapshot, how many commits the journal has, and the limits.
+/// A journal with the commits that wait to be appended to it, and the keys of the tables that all
+/// of them make. Contracts see the journal, the entries of the snapshot, how many commits the
+/// journal has, and the limits.
 #[derive(Drop)]
 pub struct Group<D: Disk> {
-    journal: Journal<D>,
     keys: Keys,
-    snapshot: Snapshot,
-    first: u32,
-    body: GroupBody,
-    limits: Limits,
+    waiting: Waiting<D>,
 }
 
 impl<D: Disk> Model for Group<D> {
+    ghost use Rattle.tl_types.specs.Entries.{commits_of};
+    ghost use Rattle.tl_types.specs.History.{database_of};
+    ghost use Rattle.tl_batch.specs.Standing.{StandFor};
     ghost use Rattle.tl_group.specs.Plain as plain;
-    ghost use Rattle.tl_group.specs.Keeping.{IsKept};
 
     ghost Value = { plain.Group D };
 
-    ghost view = { λ g. record {
-      journal = g.journal;
-      entries = g.snapshot;
-      first = g.first;
-      limits = g.limits;
-    } };
+    ghost view = { λ g. g.waiting };
 
-    ghost invariant = { λ g. IsKept g.keys g.body (record {
-      journal = g.journal;
-      entries = g.snapshot;
-      first = g.first;
-      limits = g.limits;
-    }) };
-}
-
-/// What is left of a group that is finished.
-#[derive(Drop)]
-pub struct Finished<D> {
-    /// The disk's count of faults, where the disk failed in the append.
-    pub faults: Option<u64>,
-    /// The disk.
-    pub disk: D,
+    ghost invariant = { λ g. StandFor g.keys (database_of (commits_of g.waiting.entries)) };
 }
 
 impl<D: Disk> Group<D> {
@@ -126,15 +103,29 @@ impl<D: Disk> Group<D> {
         ensures journal { journal_commits result ≡ commits_of snapshot }
         ensures waiting { waiting_commits result ≡ [] }
     {
-        let first = snapshot.store().versions();
-        Group {
-            journal,
-            keys,
-            snapshot,
-            first,
-            body: GroupBody::empty(alloc),
-            limits,
-        }
+        let waiting = Waiting::over(alloc, journal, snapshot, limits);
+        Group { keys, waiting }
+    }
+
+    /// The commit that a batch of an author becomes over the tables that the snapshot's commits
+    /// make, under the limits that `attach` was given. It fits these tables. The batch's rows match
+    /// the schema of the table that it names, where there is one. The group stays as it is.
+    ///
+    /// The faults are those of a batch that becomes no commit over these tables, and `NoMemory`:
+    /// memory ran out.
+    pub fn resolve(&self, alloc: Global, batch: &Batch, author: u32) -> Result<Commit, BatchFault>
+        requires { IsTrue (batch_matches (database_of (commits_in self.now)) batch.now) }
+        ensures ok { IfOk result (λ commit. resolved self.now.limits
+            (database_of (commits_in self.now)) author batch.now ≡ Ok commit) }
+        ensures fit { IfOk result (λ commit. IsTrue (fits self.now.limits
+            (database_of (commits_in self.now)) commit)) }
+        ensures err { IfErr result (λ e. (e ≡ fault.NoMemory)
+            ⊎ (resolved self.now.limits (database_of (commits_in self.now)) author batch.now
+            ≡ Err e)) }
+    {
+        let store = self.waiting.snapshot().store();
+        self.keys
+            .resolve(alloc, store, batch, author, self.waiting.limits())
     }
 
     /// Makes a batch of an author one commit more that waits, and answers its version: the number
@@ -164,13 +155,11 @@ impl<D: Disk> Group<D> {
         ensures stands { DiskStandsForGroup D.reads D.may_leave self.old →
             DiskStandsForGroup D.reads D.may_leave self.new }
     {
-        let commit = self
-            .keys
-            .resolve(alloc, self.snapshot.store(), batch, author, &self.limits)?;
+        let commit = self.resolve(alloc, batch, author)?;
         let Ok(()) = self.push(alloc, &commit) else {
             return Err(BatchFault::NoMemory);
         };
-        Ok(self.snapshot.store().versions())
+        Ok(self.snapshot().store().versions())
     }
 
     /// Makes a commit that fits the tables of the snapshot's commits, under the limits that
@@ -189,20 +178,39 @@ impl<D: Disk> Group<D> {
         ensures stands { DiskStandsForGroup D.reads D.may_leave self.old →
             DiskStandsForGroup D.reads D.may_leave self.new }
     {
-        let Group {
-            journal,
-            keys,
-            snapshot,
-            body,
-            ..
-        } = self;
-        let next = snapshot.apply(alloc, commit)?;
-        let spelled = encode_with_gate(alloc, commit)?;
-        body.take_room(journal, spelled.as_slice())?;
-        keys.follow(alloc, snapshot.store(), commit)?;
-        body.put_record(spelled.as_slice());
-        *snapshot = next;
+        let Group { keys, waiting } = self;
+        waiting.push(alloc, keys, commit)?;
         Ok(())
+    }
+
+    /// Makes a commit that fits the tables of the snapshot's commits, under the limits that
+    /// `attach` was given, one more that waits, as `push`, but takes the group over: what of its
+    /// snapshot nobody else has is not copied. No byte of the disk changes, nor what a crash
+    /// leaves, nor its count of faults. The error is the disk, where memory ran out: what waited is
+    /// dropped.
+    pub fn follow(self, alloc: Global, commit: &Commit) -> Result<Group<D>, D>
+        requires { IsTrue (fits self.limits (database_of (commits_in self)) commit.now) }
+        ensures ok { IfOk result (WaitsWith commit.now self) }
+        ensures limits { IfOk result (λ group. group.limits ≡ self.limits) }
+        ensures journal { IfOk result (λ group. TakesRoom D.reads D.may_leave D.moment D.left_since
+            D.faults self.journal group.journal) }
+        ensures stands { DiskStandsForGroup D.reads D.may_leave self →
+            IfOk result (DiskStandsForGroup D.reads D.may_leave) }
+        ensures err { IfErr result (IsGivenBack D.reads D.may_leave D.faults self) }
+    {
+        let Group { mut keys, waiting } = self;
+        match waiting.follow(alloc, &mut keys, commit) {
+            Ok(waiting) => Ok(Group { keys, waiting }),
+            Err(disk) => Err(disk),
+        }
+    }
+
+    /// The journal with the commits that wait, without the keys: for those who put no batch more.
+    pub fn without_keys(self) -> Waiting<D>
+        ensures { result ≡ self }
+    {
+        let Group { waiting, .. } = self;
+        waiting
     }
 
     /// The snapshot of the journal's commits and of those that wait, without a mark.
@@ -211,14 +219,14 @@ impl<D: Disk> Group<D> {
         ensures alone { AreCommitsAlone result.now }
         ensures whole { has_break result.now ≡ false }
     {
-        &self.snapshot
+        self.waiting.snapshot()
     }
 
     /// How many commits wait.
     pub fn waiting(&self) -> u32
         ensures { result ≡ length (waiting_commits self.now) }
     {
-        self.snapshot.store().versions() - self.first
+        self.waiting.waiting()
     }
 
     /// Appends all commits that wait as one group, and hands the disk back. It takes no memory.
@@ -249,30 +257,13 @@ impl<D: Disk> Group<D> {
         ensures device { IfSome result.faults (λ count. (count ≡ D.faults result.disk)
             × Rose (D.faults self.journal.disk) count) }
     {
-        let Group {
-            mut journal,
-            body,
-            ..
-        } = self;
-        if body.is_empty() {
-            return Finished {
-                faults: None,
-                disk: journal.into_disk(),
-            };
-        }
-        let body = body.into_bytes();
-        let faults = append(&mut journal, &body);
-        Finished {
-            faults,
-            disk: journal.into_disk(),
-        }
+        self.without_keys().finish()
     }
 
     /// The disk, as it is, without a call of it. What waits is dropped. It takes no memory.
     pub fn into_disk(self) -> D
         ensures { result ≡ self.journal.disk }
     {
-        let Group { journal, .. } = self;
-        journal.into_disk()
+        self.without_keys().into_disk()
     }
 }

@@ -162,16 +162,24 @@ end_of_all (fault.Unfit v) limits start packets f is h =
     subst (λ l. (v ≡ length (followed l (commits_of start) packets) + 1) × IsStuck l packets (followed l (commits_of start) packets)) is (h.0 ∙ ap (λ cs. length cs + 1) h.2, s)
 end_of_all fault.NoMemory limits start packets f is h = tt
 
-pub end_from : {X : Type 0} (r : Result X FollowFault) (e : FollowFault) (limits : Limits) (start : List Entry) (packets : List Packet) (f : Following) → r ≡ Err e → f.limits ≡ limits → IsHaltedBy start packets f e → IfErr r (IsEndOfAll limits (commits_of start) packets)
-end_from r e limits start packets f is l h = rw is (end_of_all e limits start packets f l h)
+pub end_by : {X : Type 0} (r : Result X FollowFault) (e : FollowFault) (limits other : Limits) (start : List Entry) (packets : List Packet) → r ≡ Err e → other ≡ limits → IsEndOfAll other (commits_of start) packets e → IfErr r (IsEndOfAll limits (commits_of start) packets)
+end_by r e limits other start packets is l h = rw is (subst (λ k. IsEndOfAll k (commits_of start) packets e) l h)
 
--- from a follower that began with these entries and took these packets, and one that went on from it
--- as far as they lead
-pub follows_all : (limits : Limits) (start : List Entry) (packets : List Packet) (f g : Following) (cs : List Commit) → f.entries ≡ start → f.limits ≡ limits → g.limits ≡ f.limits → commits_in g ≡ commits_in f ++ cs → FitFrom f.limits (database_of (commits_in f)) cs → IsWhole g.limits (commits_of start) packets (commits_in g) → FollowsAll limits (commits_of start) packets cs
-follows_all limits start packets f g cs es fl gl more fit whole =
-    let behind : commits_in g ≡ commits_of start ++ cs = more ∙ ap (λ l. commits_of l ++ cs) es in
+-- a follower that fails, and one that went on as far as the packets lead
+pub halted_for_all : (e : FollowFault) (f g : Following) (limits : Limits) (start : List Entry) (packets : List Packet) → f.limits ≡ limits → IsAdvanced f (Err e) g → IsFollowing start packets f → IsEndOfAll limits (commits_of start) packets e
+halted_for_all e f g limits start packets l a h = end_of_all e limits start packets f l (halted_at e f g start packets a h)
+
+pub whole_for_all : (f g : Following) (limits : Limits) (start : List Entry) (packets : List Packet) → f.limits ≡ limits → IsAdvanced f (Ok None) g → IsFollowing start packets f → IsWhole limits (commits_of start) packets (commits_in g)
+whole_for_all f g limits start packets l a h =
+    subst (λ k. IsWhole k (commits_of start) packets (commits_in g)) (same_limits (Ok None) f g a ∙ l) (done f g start packets a h)
+
+-- from a follower that began with these entries and took these packets, and the entries with which
+-- it went on from there as far as they lead
+pub follows_held : (limits : Limits) (start : List Entry) (packets : List Packet) (f : Following) (next : List Entry) (cs : List Commit) → f.entries ≡ start → f.limits ≡ limits → next ≡ f.entries ++ map commit_entry cs → FitFrom f.limits (database_of (commits_in f)) cs → IsWhole f.limits (commits_of start) packets (commits_of next) → FollowsAll limits (commits_of start) packets cs
+follows_held limits start packets f next cs es fl more fit whole =
+    let behind : commits_of next ≡ commits_of start ++ cs = commits_behind f.entries next cs more ∙ ap (λ l. commits_of l ++ cs) es in
     record {
-      history = sym behind ∙ whole.0 ∙ ap (λ l. followed l (commits_of start) packets) (gl ∙ fl);
+      history = sym behind ∙ whole.0 ∙ ap (λ l. followed l (commits_of start) packets) fl;
       fit = subst (λ k. FitFrom k (database_of (commits_of start)) cs) fl (subst (λ l. FitFrom f.limits (database_of (commits_of l)) cs) es fit);
       last = subst (λ l. first_of (length l + 1) packets ≡ None) behind whole.1;
     }

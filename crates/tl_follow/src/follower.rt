@@ -29,10 +29,10 @@ use tl_types::{Commit, Limits, NoMemory, Seq};
 /// its commits the first one that was taken. It has no break.
 #[derive(Drop)]
 pub struct Follower {
-    snapshot: Snapshot,
-    limits: Limits,
-    held: BTreeMap<u32, Commit>,
-    alloc: Global,
+    pub(crate) snapshot: Snapshot,
+    pub(crate) limits: Limits,
+    pub(crate) held: BTreeMap<u32, Commit>,
+    pub(crate) alloc: Global,
 }
 
 impl Model for Follower {

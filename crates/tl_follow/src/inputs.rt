@@ -1,19 +1,21 @@
 //! Whole inputs of packets. It refuses bytes that are not packets to their end, and packets that
 //! lead to a commit that does not fit, each with the offset of the packet that is to blame.
-ghost use Rattle.std.specs.Prelude.{◌≡◌, ℕ, ◌≤◌, List, [], length, false, IfOk, IfErr, IsSome};
+ghost use Rattle.std.specs.Prelude.{◌≡◌, ℕ, ◌≤◌, List, [], ◌++◌, length, map, false, IfOk, IfErr, IsSome};
 ghost use Rattle.tl_types.specs.Entries.{commits_of, has_break};
 ghost use Rattle.tl_types.specs.Limits.{standard_limits};
 ghost use Rattle.tl_batch.specs.Made.{AreWithin};
+ghost use Rattle.tl_index.specs.Snapshots.{commit_entry};
 ghost use Rattle.tl_follow.specs.declared.packets.Packet.{Packet as PacketValue};
 ghost use Rattle.tl_follow.specs.Inputs.{IsInput, IsCutAt, place_of, passed_by, IsPassed, IsPlaceOf, IsStuckPlace, IsStuckIn, IsFaultOf, FollowsInput, IsInputFault};
 
 use crate::all_packets::follow_all;
 use crate::faults::{FollowFault, PacketFault};
+use crate::in_place::Followed;
 use crate::packets::Packet;
 use crate::reading::{ReadPacket, read_packet};
 use std::alloc::{AllocError, Global};
 use tl_index::Snapshot;
-use tl_types::{Commit, Limits, NoMemory, Seq};
+use tl_types::{Limits, NoMemory, Seq};
 
 /// The most bytes that an input may have: 2 GiB. Who reads an input refuses a longer one, with this
 /// offset.
@@ -106,25 +108,28 @@ fn input_fault(alloc: Global, bytes: &[u8], fault: FollowFault) -> PacketFault
 }
 
 /// The commits that the packets of an input make behind those of a snapshot, which has no break, in
-/// order. Each fits those before it, by these limits, which are within the standard ones. The input
-/// has at most `INPUT_LIMIT` bytes. The error is `BadPacket` with the first offset before the end
-/// at which no packet begins, where there is one; else with the offset of the first packet of the
-/// version that comes next, where its commit does not fit; and `NoMemory`.
+/// order, and the snapshot with them. Each fits those before it, by these limits, which are within
+/// the standard ones. The input has at most `INPUT_LIMIT` bytes. The error is `BadPacket` with the
+/// first offset before the end at which no packet begins, where there is one; else with the offset
+/// of the first packet of the version that comes next, where its commit does not fit; and
+/// `NoMemory`.
 pub fn follow_input(
     alloc: Global,
     snapshot: Snapshot,
     limits: &Limits,
     bytes: &[u8],
-) -> Result<Seq<Commit>, PacketFault>
+) -> Result<Followed, PacketFault>
     requires whole { has_break snapshot ≡ false }
     requires within { AreWithin limits.now standard_limits }
     requires short { length bytes.now ≤ INPUT_LIMIT }
-    ensures ok { IfOk result (FollowsInput limits.now (commits_of snapshot) bytes.now) }
+    ensures ok { IfOk result
+        (λ f. FollowsInput limits.now (commits_of snapshot) bytes.now f.commits) }
+    ensures next { IfOk result (λ f. f.snapshot ≡ snapshot ++ map commit_entry f.commits) }
     ensures bad { IfErr result (IsInputFault limits.now (commits_of snapshot) bytes.now) }
 {
     let packets = read_all(alloc, bytes)?;
     match follow_all(alloc, snapshot, limits, packets) {
-        Ok(commits) => Ok(commits),
+        Ok(followed) => Ok(followed),
         Err(fault) => Err(input_fault(alloc, bytes, fault)),
     }
 }

@@ -38,9 +38,10 @@ pub fn after_any_calls()
         ≡ followed limits (commits_of start) (packets_of calls) }
 {}
 
-/// Carries a law in its contract, and does nothing: where the packets are a leader's commits with
-/// their versions, they lead along the leader's commits and are never stuck, and at each moment the
-/// follower's commits are the first ones of the leader's.
+/// Carries a law in its contract, and does nothing: where the leader's commits fit one after the
+/// other by the follower's limits, the follower began with the first ones of them, and the packets
+/// are commits of the leader's with their versions, the packets lead along the leader's commits and
+/// are never stuck, and at each moment the follower's commits are the first ones of the leader's.
 pub fn packets_of_a_leader()
     ensures led { (limits : Limits) (leader start : List Commit) (packets : List Packet)
         → AreFrom limits leader start packets → IsLed limits leader start packets }
@@ -49,10 +50,11 @@ pub fn packets_of_a_leader()
         → IsFollowing start packets f → IsPrefixOf (commits_in f) leader }
 {}
 
-/// Carries a law in its contract, and does nothing: where the packets are a leader's commits with
-/// their versions, the follower's tables are at each moment the leader's at the version that it
-/// reached, and so what answers a query over its tables answers it over the leader's at that
-/// version.
+/// Carries a law in its contract, and does nothing: where the leader's commits fit one after the
+/// other by the follower's limits, the follower began with the first ones of them, and the packets
+/// are commits of the leader's with their versions, the follower's tables are at each moment the
+/// leader's at the version that it reached, and so what answers a query over its tables answers it
+/// over the leader's at that version.
 pub fn answers_of_a_leader()
     ensures tables { (leader : List Commit) (start : List Entry) (packets : List Packet)
         (f : Following) → AreFrom f.limits leader (commits_of start) packets
@@ -88,9 +90,10 @@ pub fn shipments_grow()
         → shipment from to commits ≡ shipment from (length commits) commits }
 {}
 
-/// Carries a law in its contract, and does nothing: what a leader ships is an input of packets of
-/// its commits; and where it ships all those behind the first ones, these lead a follower that
-/// begins with the first ones to all of the leader's commits.
+/// Carries a law in its contract, and does nothing: where what a leader ships are packets that can
+/// be spelled, it is an input of just these; and where the leader's commits fit one after the other
+/// by the follower's limits, the follower begins with the first ones of them, and all those behind
+/// them are shipped, these lead the follower to all of the leader's commits.
 pub fn shipments_lead()
     ensures input { (commits : List Commit) (from to : ℕ)
         → AllByRecursion IsPacket (packets_between from to commits)

@@ -14,6 +14,7 @@
 mod all_packets;
 mod faults;
 mod follower;
+mod in_place;
 mod inputs;
 pub mod laws;
 mod packets;
@@ -23,6 +24,7 @@ mod shipping;
 pub use all_packets::follow_all;
 pub use faults::{FollowFault, PacketFault};
 pub use follower::Follower;
+pub use in_place::Followed;
 pub use inputs::{INPUT_LIMIT, find_packet, follow_input, read_all};
 pub use packets::{Packet, Taken};
 pub use reading::{ReadPacket, read_packet};

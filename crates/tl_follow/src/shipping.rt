@@ -12,26 +12,14 @@ use tl_record::encode;
 use tl_store::Store;
 use tl_types::{Bytes, Commit, NoMemory, Steps};
 
-// The bytes of the packet of a version and a commit.
-fn packet_vec(alloc: Global, version: u32, commit: &Commit) -> Result<Vec<u8>, NoMemory>
-    requires { IsVersion version }
-    ensures spelled { IfOk result (λ b. b.items ≡ packet_spelling (packet_of version commit.now)) }
-    ensures fits { IfOk result (λ b. IsPacket (packet_of version commit.now)) }
-{
-    let record = encode(alloc, commit)?;
-    let mut out = Vec::new(alloc);
-    out.extend_from_slice(&version.to_be_bytes())?;
-    out.extend_from_slice(record.as_slice())?;
-    Ok(out)
-}
-
 /// The bytes of a packet, whose version is from 1 to 16,777,215. The error is `NoMemory`.
 pub fn packet_bytes(alloc: Global, packet: &Packet) -> Result<Bytes, NoMemory>
     requires { IsVersion packet.now.version }
     ensures spelled { IfOk result (λ b. b ≡ packet_spelling packet.now) }
     ensures fits { IfOk result (λ b. IsPacket packet.now) }
 {
-    let out = packet_vec(alloc, packet.version, &packet.commit)?;
+    let mut out = Vec::new(alloc);
+    put_packet(alloc, &mut out, packet.version, &packet.commit)?;
     Ok(Bytes::from_vec(out))
 }
 
@@ -47,9 +35,12 @@ pub fn put_packet(
     ensures ok { OnOk result (out.new.items
         ≡ out.old.items ++ packet_spelling (packet_of version commit.now)) }
     ensures err { OnErr result (out.new.items ≡ out.old.items) }
+    ensures fits { OnOk result (IsPacket (packet_of version commit.now)) }
 {
-    let packet = packet_vec(alloc, version, commit)?;
-    out.extend_from_slice(packet.as_slice())?;
+    let record = encode(alloc, commit)?;
+    out.reserve(4 + record.len())?;
+    out.extend_from_slice(&version.to_be_bytes()).unwrap();
+    out.extend_from_slice(record.as_slice()).unwrap();
     Ok(())
 }
 

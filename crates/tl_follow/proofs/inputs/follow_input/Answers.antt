@@ -8,4 +8,4 @@ input_fault-requires c =
 
 pub returns-in-Ok-clause-ok : goal.returns-in-Ok-clause-ok
 returns-in-Ok-clause-ok c =
-    follows_input c.args.limits.now (commits_of c.args.snapshot) c.args.bytes.now c.in_ok-packets.packets c.in-Ok.commits c.requires.short c.in_ok-packets.ensures.ok c.in-Ok.ensures.ok
+    follows_input c.args.limits.now (commits_of c.args.snapshot) c.args.bytes.now c.in_ok-packets.packets c.in-Ok.followed.commits c.requires.short c.in_ok-packets.ensures.ok c.in-Ok.ensures.ok

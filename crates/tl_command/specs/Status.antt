@@ -1,6 +1,8 @@
 -- How a run ends: the exit status, and the line that is written last.
 use Rattle.std.specs.Prelude.{ℕ, List, [], ◌++◌, codes}
 use Rattle.std.specs.Fmt.{decimal}
+use Rattle.tl_jobs.specs.declared.replies.Refusal.{Refusal}
+use Rattle.tl_jobs.specs.Replies.{refusal_words}
 use Rattle.tl_script.specs.declared.jobs.ScriptFault.{ScriptFault}
 use Rattle.tl_script.specs.declared.jobs.ScriptFault.TheVariants as fault
 use Rattle.tl_command.specs.declared.statuses.Status.{Status}
@@ -19,6 +21,7 @@ exit_status (status.NotInitialised len) = 7
 exit_status (status.AlreadyInitialised len) = 8
 exit_status (status.Damaged at) = 9
 exit_status (status.PacketFault at) = 10
+exit_status (status.WatchFault f) = 11
 
 -- the words of a script's fault
 abbrev pub script_fault_words : ScriptFault → List ℕ
@@ -33,6 +36,10 @@ script_fault_words (fault.BlockOpen line) = codes "BlockOpen " ++ decimal line
 -- the line of a script with a fault
 abbrev pub script_line : ScriptFault → List ℕ
 script_line f = codes "! script " ++ (script_fault_words f ++ codes "\n")
+
+-- the line of a text that was to name what is watched, with a fault
+abbrev pub watch_line : Refusal → List ℕ
+watch_line f = codes "! watch " ++ (refusal_words f ++ codes "\n")
 
 -- the line that is written last; where all went well, memory ran out or the sink failed there is
 -- none
@@ -50,3 +57,4 @@ closing_line (status.AlreadyInitialised len) =
     codes "! journal AlreadyInitialised " ++ (decimal len ++ codes "\n")
 closing_line (status.Damaged at) = codes "! journal Damaged " ++ (decimal at ++ codes "\n")
 closing_line (status.PacketFault at) = codes "! packet " ++ (decimal at ++ codes "\n")
+closing_line (status.WatchFault f) = watch_line f

@@ -35,9 +35,9 @@ pub fn close<K: Sink>(alloc: Global, sink: &mut K, wanted: Status) -> Status
     }
 }
 
-/// Writes bytes, for which the sink's room is taken first, and ends as it was to. `NoMemory`: memory
-/// ran out, and nothing is written. `SinkFault`: the sink failed, and some prefix of the bytes is
-/// written.
+/// Writes bytes, for which the sink's room is taken first, and ends as it was to. `NoMemory`:
+/// memory ran out, and nothing is written. `SinkFault`: the sink failed, and some prefix of the
+/// bytes is written.
 pub fn write_text<K: Sink>(sink: &mut K, bytes: &[u8], wanted: Status) -> Status
     ensures { Writes bytes.now wanted (K.written sink.old) (K.written sink.new)
         (K.faults sink.old) (K.faults sink.new) result }
@@ -45,8 +45,8 @@ pub fn write_text<K: Sink>(sink: &mut K, bytes: &[u8], wanted: Status) -> Status
     ended_by(write_bytes(sink, bytes), wanted)
 }
 
-/// Writes bytes for which the sink has room, and ends as it was to. It takes no memory. `SinkFault`:
-/// the sink failed, and some prefix of the bytes is written.
+/// Writes bytes for which the sink has room, and ends as it was to. It takes no memory.
+/// `SinkFault`: the sink failed, and some prefix of the bytes is written.
 pub fn write_ready<K: Sink>(sink: &mut K, bytes: &[u8], wanted: Status) -> Status
     requires { HasRoom (K.spare sink.old) (length bytes.now) }
     ensures { WritesReady bytes.now wanted (K.written sink.old) (K.written sink.new)

@@ -29,8 +29,8 @@ fn lent_job<'a>(job: &'a Job) -> LentJob<'a>
     }
 }
 
-/// The jobs of a phase as those who are asked to do them see them: each lends its text and its block.
-/// The error is `NoMemory`.
+/// The jobs of a phase as those who are asked to do them see them: each lends its text and its
+/// block. The error is `NoMemory`.
 pub fn lent_jobs<'a>(alloc: Global, jobs: &'a [Job]) -> Result<Vec<LentJob<'a>>, NoMemory>
     ensures { IfOk result (λ lent. map job_of lent.items ≡ map asked jobs.now) }
 {

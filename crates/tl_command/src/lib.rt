@@ -1,5 +1,5 @@
-//! What all commands of the program share: the phases that they read, the bytes that they write, how
-//! they end, and what they leave outside.
+//! What all commands of the program share: the phases that they read, the bytes that they write,
+//! how they end, and what they leave outside.
 //!
 //! A command has a source, a sink and a disk. `Phases` come one after the other, of a script or of
 //! one block; `lent_jobs` hands the jobs of one on to those who do them. A command ends with a

@@ -1,10 +1,11 @@
-//! How a run ends: ten statuses, each with its number and its closing line. Both are
+//! How a run ends: twelve statuses, each with its number and its closing line. Both are
 //! the same for every run that ends so.
 ghost use Rattle.std.specs.Prelude.{◌≡◌, IfOk};
 ghost use Rattle.std.specs.String.{string_bytes};
-ghost use Rattle.tl_command.specs.Status.{script_fault_words, script_line, closing_line};
+ghost use Rattle.tl_command.specs.Status.{script_fault_words, script_line, watch_line, closing_line};
 
 use std::alloc::Global;
+use tl_jobs::{Refusal, refusal_words};
 use tl_script::ScriptFault;
 use tl_types::NoMemory;
 
@@ -60,6 +61,10 @@ pub enum Status {
         /// The byte offset.
         at: u64,
     },
+    /// The text that was to name what is watched has this fault over the journal's commits: it is
+    /// no statement, none that can be watched, or one that does not fit the tables. Nothing of the
+    /// source is read.
+    WatchFault(Refusal),
 }
 
 impl Status {
@@ -81,6 +86,7 @@ impl Status {
             Status::AlreadyInitialised { .. } => 8,
             Status::Damaged { .. } => 9,
             Status::PacketFault { .. } => 10,
+            Status::WatchFault(_) => 11,
         }
     }
 }
@@ -106,6 +112,13 @@ fn script_line(alloc: Global, fault: &ScriptFault) -> Result<String, NoMemory>
     format!(in alloc; "! script {words}\n")
 }
 
+fn watch_line(alloc: Global, fault: &Refusal) -> Result<String, NoMemory>
+    ensures { IfOk result (λ text. string_bytes text ≡ watch_line fault.now) }
+{
+    let words = refusal_words(alloc, fault)?;
+    format!(in alloc; "! watch {words}\n")
+}
+
 /// The line that is written last where a run ends so; it is empty where none is. The error is
 /// `NoMemory`.
 pub fn closing_line(alloc: Global, status: &Status) -> Result<String, NoMemory>
@@ -125,5 +138,6 @@ pub fn closing_line(alloc: Global, status: &Status) -> Result<String, NoMemory>
         }
         Status::Damaged { at } => format!(in alloc; "! journal Damaged {at}\n"),
         Status::PacketFault { at } => format!(in alloc; "! packet {at}\n"),
+        Status::WatchFault(fault) => watch_line(alloc, fault),
     }
 }

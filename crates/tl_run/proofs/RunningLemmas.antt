@@ -33,6 +33,7 @@ use Rattle.tl_command.specs.Writing.{WritesBytes}
 use Rattle.tl_run.specs.Stopping.{RunsAll, StopsAtSource, StopsAtSink, AreFronts, StopsShort}
 use Rattle.tl_command.specs.Stops.{stop_for}
 use Rattle.tl_command.proofs.BytesLemmas.{Inside, turns_on, same_turns, each_grows, turns_inside, written_more, written_none}
+use Rattle.tl_command.proofs.LentLemmas.{sessions_lent}
 use Rattle.tl_command.proofs.ComingLemmas.{rest_of, whole_told, all_told, none_come, one_more_come, at_the_end, all_read, fault_read, closed_read, so_far_read}
 
 -- WHAT SESSIONS SAY
@@ -331,18 +332,6 @@ no_phase_yet first shared begun fresh parts amount =
 -- ONE PHASE
 
 -- the jobs that are lent are of the same sessions
-pub sessions_lent : (n : ℕ) (lent : List LentJob) (jobs : List ScriptJob) → map job_of lent ≡ map asked jobs → All (λ job. job.session < n) jobs → All (λ job. job.session < n) lent
-sessions_lent n [] jobs e all k d inside = absurd (omega (arith, inside))
-sessions_lent n (l ∷ lent) [] e all k d inside = absurd (cc)
-sessions_lent n (l ∷ lent) (j ∷ jobs) e all zero d inside = subst (λ (s : ℕ). s < n) (sym (ap first_session e)) (all 0 j (omega arith)) where
-  first_session : List Job → ℕ
-  first_session [] = 0
-  first_session (x ∷ xs) = x.session
-sessions_lent n (l ∷ lent) (j ∷ jobs) e all (suc k) d inside = sessions_lent n lent jobs (ap tail e) (λ i x within. all (suc i) x (omega (arith, within))) k d (omega (arith, inside)) where
-  tail : List Job → List Job
-  tail [] = []
-  tail (x ∷ xs) = xs
-
 pub same_sessions : (n m : ℕ) (lent own : List LentJob) (jobs : List ScriptJob) → lent ≡ own → m ≡ n → map job_of own ≡ map asked jobs → All (λ job. job.session < n) jobs → All (λ job. job.session < m) lent
 same_sessions n m lent own jobs same count e all =
     subst (λ (ls : List LentJob). All (λ job. job.session < m) ls) (sym same) (subst (λ (k : ℕ). All (λ job. job.session < k) own) (sym count) (sessions_lent n own jobs e all))

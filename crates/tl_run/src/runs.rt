@@ -1,5 +1,5 @@
-//! Runs over a journal: of the script that a source gives, of one block that loads a table, and of a
-//! sample over a journal of its own in memory. Each opens its journal, runs its phases, and hands
+//! Runs over a journal: of the script that a source gives, of one block that loads a table, and of
+//! a sample over a journal of its own in memory. Each opens its journal, runs its phases, and hands
 //! the disk back; one whose journal is refused writes its closing line alone.
 ghost use Rattle.std.specs.Prelude.{◌≡◌, IfOk};
 ghost use Rattle.std.specs.String.{string_bytes};
@@ -81,9 +81,9 @@ fn run<
     }
 }
 
-/// Runs the script that the source has, over the journal on the disk: it opens the journal, and then
-/// reads, runs and answers one phase after the other. How it ends, and what is then written and on
-/// the disk, by status, is what `RunEnds` says.
+/// Runs the script that the source has, over the journal on the disk: it opens the journal, and
+/// then reads, runs and answers one phase after the other. How it ends, and what is then written
+/// and on the disk, by status, is what `RunEnds` says.
 pub fn run_script<
     R: AllocGlobal + Threads + Wait + Sync,
     S: Source,

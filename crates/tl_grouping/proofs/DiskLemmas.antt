@@ -9,7 +9,7 @@ use Rattle.tl_journal.specs.Image.{header, ImageStandsFor, NoneOrAll}
 use Rattle.tl_journal.specs.Stands.{DiskStandsFor}
 use Rattle.tl_group.specs.Keeping.{commits_in, journal_commits, waiting_commits}
 use Rattle.tl_group.specs.Plain as group
-use Rattle.tl_group.specs.Standing.{DiskStandsForGroup}
+use Rattle.tl_group.specs.Standing.{IsGivenBack}
 use Rattle.tl_command.specs.Outside.{Outside, HoldsJournal}
 use Rattle.tl_grouping.specs.Appending.{IsAttached, IsAppended, IsInDoubt}
 use Rattle.tl_grouping.specs.Leaving.{HoldsEither, StandsForEither}
@@ -56,6 +56,23 @@ left_image disks begun disk attached later a k same b told =
 
 pub left_count : {D : Type 0} (disks : DiskGhosts D) (begun disk : D) (attached later : group.Group D) → IsAttached disks begun attached → KeepsDisk disks attached later → disk ≡ later.journal.disk → disks.faults disk ≡ disks.faults begun
 left_count disks begun disk attached later a k same = ap disks.faults same ∙ (k.count_same ∙ a.count_same)
+
+-- the same of a group that gave its disk back
+pub back_image : {D : Type 0} (disks : DiskGhosts D) (begun disk : D) (attached : group.Group D) → IsAttached disks begun attached → IsGivenBack disks.reads disks.may_leave disks.faults attached disk → (b : List ℕ) → disks.reads begun ≡ Some b
+    → (bytes : List ℕ) × (disks.reads disk ≡ Some bytes) × Only bytes (disks.may_leave disk) × ImageStandsFor (commits_in attached) bytes
+back_image disks begun disk attached a back b told =
+    let stands = back.stands (a.stands b told) in
+    subst (λ (cs : List Commit). (bytes : List ℕ) × (disks.reads disk ≡ Some bytes) × Only bytes (disks.may_leave disk) × ImageStandsFor cs bytes) a.journal_is (stored_image disks disk (journal_commits attached) stands.0 stands.1)
+
+pub back_held : {D : Type 0} (disks : DiskGhosts D) (begun disk : D) (attached : group.Group D) (left left_after written written_after : Option (List ℕ)) (source source_after sink sink_after : ℕ) → IsAttached disks begun attached → IsGivenBack disks.reads disks.may_leave disks.faults attached disk
+    → HoldsJournal (commits_in attached) None
+    (record { left = left; source_faults = source; written = written; sink_faults = sink; reads = disks.reads begun; may_leave = disks.may_leave begun; disk_faults = disks.faults begun })
+    (record { left = left_after; source_faults = source_after; written = written_after; sink_faults = sink_after; reads = disks.reads disk; may_leave = disks.may_leave disk; disk_faults = disks.faults disk })
+back_held disks begun disk attached left left_after written written_after source source_after sink sink_after a back =
+    holds_journal (commits_in attached)
+    (record { left = left; source_faults = source; written = written; sink_faults = sink; reads = disks.reads begun; may_leave = disks.may_leave begun; disk_faults = disks.faults begun })
+    (record { left = left_after; source_faults = source_after; written = written_after; sink_faults = sink_after; reads = disks.reads disk; may_leave = disks.may_leave disk; disk_faults = disks.faults disk })
+    (back.count_same ∙ a.count_same) (back_image disks begun disk attached a back)
 
 -- the disk of a group that is appended
 pub appended_image : {D : Type 0} (disks : DiskGhosts D) (begun disk : D) (attached later : group.Group D) → IsAttached disks begun attached → KeepsDisk disks attached later → IsAppended disks later disk → (b : List ℕ) → disks.reads begun ≡ Some b

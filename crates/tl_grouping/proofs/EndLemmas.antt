@@ -8,6 +8,8 @@ use Rattle.tl_device.specs.declared.sink.Sink.{Ghosts as SinkGhosts}
 use Rattle.tl_script.specs.Script.{ScriptReading}
 use Rattle.tl_group.specs.Keeping.{commits_in}
 use Rattle.tl_group.specs.Plain as group
+use Rattle.tl_group.specs.Standing.{IsGivenBack}
+use Rattle.tl_watch.specs.declared.plans.WatchPlan.{WatchPlan}
 use Rattle.tl_command.specs.declared.statuses.Status.{Status}
 use Rattle.tl_command.specs.declared.statuses.Status.TheVariants as status
 use Rattle.tl_command.specs.declared.stops.Stop.{Stop}
@@ -19,7 +21,7 @@ use Rattle.tl_grouping.specs.Appending.{AppendsAndWrites, IsAttached}
 use Rattle.tl_grouping.specs.Grouping.{GroupEndsBy, Plays, WhyGivenUp}
 use Rattle.tl_grouping.specs.Leaving.{LeavesBy}
 use Rattle.tl_grouping.specs.Playing.{KeepsDisk, PlayStops}
-use Rattle.tl_grouping.proofs.DiskLemmas.{holds_journal, left_image, left_count, appended_image, doubt_held}
+use Rattle.tl_grouping.proofs.DiskLemmas.{holds_journal, left_image, left_count, appended_image, back_held, doubt_held}
 
 -- what is written once there is room, from before the room was taken
 pub ready_from : (bytes : List ℕ) (wanted : Status) (old mid new : Option (List ℕ)) (before at after : ℕ) (ended : Status) → mid ≡ old → at ≡ before → WritesReady bytes wanted mid new at after ended → WritesReady bytes wanted old new before after ended
@@ -99,29 +101,29 @@ appended sinks disks What begun attached later text left end first last old new 
       )
 
 -- how the group of a script ends, where its script has no fault
-pub as_group : (reads : Bool → List ℕ → ScriptReading) (opening : List Commit) (before after : Outside) (ended : Status) → LeavesBy (λ all text. Plays reads opening all text before after) opening before after ended → GroupEndsBy reads opening before after ended
-as_group reads opening before after status.Done h = h
-as_group reads opening before after status.NoMemory h = h
-as_group reads opening before after status.Usage h = h
-as_group reads opening before after (status.SourceFault n) h = absurd h
-as_group reads opening before after (status.SinkFault n) h = inl h
-as_group reads opening before after (status.DiskFault n) h = h
-as_group reads opening before after (status.ScriptFault f) h = absurd h
-as_group reads opening before after (status.NotInitialised len) h = h
-as_group reads opening before after (status.AlreadyInitialised len) h = h
-as_group reads opening before after (status.Damaged at) h = h
-as_group reads opening before after (status.PacketFault at) h = h
+pub as_group : (plan : Option WatchPlan) (reads : Bool → List ℕ → ScriptReading) (opening : List Commit) (before after : Outside) (ended : Status) → LeavesBy (λ all text. Plays plan reads opening all text before after) opening before after ended → GroupEndsBy plan reads opening before after ended
+as_group plan reads opening before after status.Done h = h
+as_group plan reads opening before after status.NoMemory h = h
+as_group plan reads opening before after status.Usage h = h
+as_group plan reads opening before after (status.SourceFault n) h = absurd h
+as_group plan reads opening before after (status.SinkFault n) h = inl h
+as_group plan reads opening before after (status.DiskFault n) h = h
+as_group plan reads opening before after (status.ScriptFault f) h = absurd h
+as_group plan reads opening before after (status.NotInitialised len) h = h
+as_group plan reads opening before after (status.AlreadyInitialised len) h = h
+as_group plan reads opening before after (status.Damaged at) h = h
+as_group plan reads opening before after (status.PacketFault at) h = h
+as_group plan reads opening before after (status.WatchFault f) h = h
 
 -- the phases stopped before their end, and the group was given up
-pub given_up : {K D : Type 0} (sinks : SinkGhosts K) (disks : DiskGhosts D) (reads : Bool → List ℕ → ScriptReading) (begun : D) (attached later : group.Group D) (text : List ℕ) (left end : Option (List ℕ)) (first last : ℕ) (old new : K) (disk : D) (why : Stop) (ended : Status)
-    → IsAttached disks begun attached → KeepsDisk disks attached later → disk ≡ later.journal.disk
-    → (why ≡ stop.Ended → ⊥)
-    → PlayStops reads (commits_in attached) (commits_in later) text why left end first last
+pub given_up : {K D : Type 0} (sinks : SinkGhosts K) (disks : DiskGhosts D) (plan : Option WatchPlan) (reads : Bool → List ℕ → ScriptReading) (begun : D) (attached : group.Group D) (left end : Option (List ℕ)) (first last : ℕ) (old new : K) (disk : D) (why : Stop) (ended : Status)
+    → IsAttached disks begun attached → IsGivenBack disks.reads disks.may_leave disks.faults attached disk
+    → PlayStops reads why left end first last
     → ClosesAfter why false 0 (sinks.written old) (sinks.written new) (sinks.faults old) (sinks.faults new) ended
-    → GroupEndsBy reads (commits_in attached)
+    → GroupEndsBy plan reads (commits_in attached)
     (record { left = left; source_faults = first; written = sinks.written old; sink_faults = sinks.faults old; reads = disks.reads begun; may_leave = disks.may_leave begun; disk_faults = disks.faults begun })
     (record { left = end; source_faults = last; written = sinks.written new; sink_faults = sinks.faults new; reads = disks.reads disk; may_leave = disks.may_leave disk; disk_faults = disks.faults disk }) ended
-given_up sinks disks reads begun attached later text left end first last old new disk why ended a k same other stops closes = by_stop why other stops closes where
+given_up sinks disks plan reads begun attached left end first last old new disk why ended a back stops closes = by_stop why stops closes where
   before : Outside
   before = record { left = left; source_faults = first; written = sinks.written old; sink_faults = sinks.faults old; reads = disks.reads begun; may_leave = disks.may_leave begun; disk_faults = disks.faults begun }
 
@@ -129,20 +131,20 @@ given_up sinks disks reads begun attached later text left end first last old new
   after = record { left = end; source_faults = last; written = sinks.written new; sink_faults = sinks.faults new; reads = disks.reads disk; may_leave = disks.may_leave disk; disk_faults = disks.faults disk }
 
   holds : HoldsJournal (commits_in attached) None before after
-  holds = holds_journal (commits_in attached) before after (left_count disks begun disk attached later a k same) (left_image disks begun disk attached later a k same)
+  holds = back_held disks begun disk attached left end (sinks.written old) (sinks.written new) first last (sinks.faults old) (sinks.faults new) a back
 
   -- memory ran out, or the sink failed at the closing line
   cut : (wanted : Status) → WhyGivenUp reads before after wanted → Closes [] wanted (sinks.written old) (sinks.written new) (sinks.faults old) (sinks.faults new) ended
-      → ((sinks.written new ≡ append_known (sinks.written old) (closing_line wanted)) → (sinks.faults new ≡ sinks.faults old) → GroupEndsBy reads (commits_in attached) before after wanted)
-      → GroupEndsBy reads (commits_in attached) before after ended
-  cut wanted why (inl (e, written, faults)) closed = subst (GroupEndsBy reads (commits_in attached) before after) (sym e) (closed written faults)
-  cut wanted why (inr (inl (e, written, faults))) closed = subst (GroupEndsBy reads (commits_in attached) before after) (sym e) ((written, faults), holds)
+      → ((sinks.written new ≡ append_known (sinks.written old) (closing_line wanted)) → (sinks.faults new ≡ sinks.faults old) → GroupEndsBy plan reads (commits_in attached) before after wanted)
+      → GroupEndsBy plan reads (commits_in attached) before after ended
+  cut wanted why (inl (e, written, faults)) closed = subst (GroupEndsBy plan reads (commits_in attached) before after) (sym e) (closed written faults)
+  cut wanted why (inr (inl (e, written, faults))) closed = subst (GroupEndsBy plan reads (commits_in attached) before after) (sym e) ((written, faults), holds)
   cut wanted why (inr (inr (e, rose, some))) closed =
-      subst (GroupEndsBy reads (commits_in attached) before after) (sym e) (inr (refl, record { closing = wanted; why = why; prints = (rose, some); holds = holds }))
+      subst (GroupEndsBy plan reads (commits_in attached) before after) (sym e) (inr (refl, record { closing = wanted; why = why; prints = (rose, some); holds = holds }))
 
-  by_stop : (w : Stop) → (w ≡ stop.Ended → ⊥) → PlayStops reads (commits_in attached) (commits_in later) text w left end first last → ClosesAfter w false 0 (sinks.written old) (sinks.written new) (sinks.faults old) (sinks.faults new) ended → GroupEndsBy reads (commits_in attached) before after ended
-  by_stop stop.Ended not_ended h c = absurd (not_ended refl)
-  by_stop (stop.Fault f) not_ended h c = cut (status.ScriptFault f) h c (λ written faults. (h, record { prints = (written, faults); holds = holds }))
-  by_stop (stop.Source n) not_ended h c = cut (status.SourceFault n) h c (λ written faults. (h, record { prints = (written, faults); holds = holds }))
-  by_stop (stop.Sink n) not_ended h c = absurd h
-  by_stop stop.NoMemory not_ended h (e, written, faults) = subst (GroupEndsBy reads (commits_in attached) before after) (sym e) ((written, faults), holds)
+  by_stop : (w : Stop) → PlayStops reads w left end first last → ClosesAfter w false 0 (sinks.written old) (sinks.written new) (sinks.faults old) (sinks.faults new) ended → GroupEndsBy plan reads (commits_in attached) before after ended
+  by_stop stop.Ended h c = absurd h
+  by_stop (stop.Fault f) h c = cut (status.ScriptFault f) h c (λ written faults. (h, record { prints = (written, faults); holds = holds }))
+  by_stop (stop.Source n) h c = cut (status.SourceFault n) h c (λ written faults. (h, record { prints = (written, faults); holds = holds }))
+  by_stop (stop.Sink n) h c = absurd h
+  by_stop stop.NoMemory h (e, written, faults) = subst (GroupEndsBy plan reads (commits_in attached) before after) (sym e) ((written, faults), holds)

@@ -6,7 +6,6 @@ use Rattle.std.proofs.lemmas.Option.{slice_get-get_or, slice_get-map}
 use Rattle.tl_types.specs.declared.batches.Batch.{Batch}
 use Rattle.tl_types.specs.declared.batches.BatchFault.{BatchFault}
 use Rattle.tl_types.specs.declared.commits.Commit.{Commit}
-use Rattle.tl_types.specs.declared.commits.Entry.{Entry}
 use Rattle.tl_types.specs.declared.limits.Limits.{Limits}
 use Rattle.tl_types.specs.Entries.{commits_of}
 use Rattle.tl_types.specs.History.{database_of}
@@ -23,30 +22,35 @@ use Rattle.tl_script.specs.Script.{Job as ScriptJob, ScriptReading}
 use Rattle.tl_script.specs.Phases.{no_phase, no_phase_but}
 use Rattle.tl_script.specs.Reader.{with_phases, Grows, NextFaults}
 use Rattle.tl_history.proofs.ListLemmas.{commits_more}
+use Rattle.tl_journal.specs.Stands.{DiskStandsFor}
 use Rattle.tl_group.specs.Keeping.{commits_in, journal_commits}
 use Rattle.tl_group.specs.Plain as group
-use Rattle.tl_group.specs.Standing.{WaitsWith}
+use Rattle.tl_group.specs.Standing.{IsGivenBack, WaitsWith}
 use Rattle.tl_jobs.specs.declared.readings.JobReading.{JobReading}
 use Rattle.tl_jobs.specs.declared.readings.JobReading.TheVariants as reading
-use Rattle.tl_jobs.specs.declared.replies.Reply.{Reply}
 use Rattle.tl_jobs.specs.declared.replies.ReplyBody.{ReplyBody}
 use Rattle.tl_jobs.specs.declared.replies.ReplyBody.TheVariants as body
 use Rattle.tl_jobs.specs.declared.jobs.LentJob.{LentJob}
 use Rattle.tl_jobs.specs.Jobs.{Job, job_of}
 use Rattle.tl_csv.specs.LentBlocks.{block_at}
 use Rattle.tl_jobs.specs.Reading.{HasBlockAt, Reads, block_of, blocks_of}
-use Rattle.tl_jobs.specs.Replies.{reply_bytes}
+use Rattle.tl_jobs.specs.Replies.{body_bytes}
 use Rattle.tl_jobs.specs.Play.{Acts, IsPlay}
 use Rattle.tl_jobs.specs.Turns.{Turn, Meaning, Each, meant}
-use Rattle.tl_jobs.specs.Written.{all_jobs, jobs_of, turn_bytes, turns_bytes}
+use Rattle.tl_jobs.specs.Written.{all_jobs, jobs_of, turn_bytes}
+use Rattle.tl_watch.specs.declared.plans.WatchPlan.{WatchPlan}
+use Rattle.tl_watch.specs.Watches.{Watch}
 use Rattle.tl_command.specs.declared.stops.Stop.{Stop}
 use Rattle.tl_command.specs.declared.stops.Stop.TheVariants as stop
 use Rattle.tl_command.specs.Coming.{Coming, AnswersComing, BringsPhase, BringsNoMore, BringsFault, HaveCome, HasNotBegun}
 use Rattle.tl_command.specs.Jobs.{asked, phases_asked}
 use Rattle.tl_command.specs.Stops.{stop_for}
-use Rattle.tl_command.proofs.BytesLemmas.{Inside, turns_on, same_turns, each_grows, turns_inside}
+use Rattle.tl_command.proofs.BytesLemmas.{Inside, each_grows, turns_inside}
+use Rattle.tl_command.proofs.LentLemmas.{sessions_lent}
 use Rattle.tl_command.proofs.ComingLemmas.{rest_of, whole_told, all_told, none_come, one_more_come, at_the_end, all_read, closed_read, fault_read}
-use Rattle.tl_grouping.specs.Playing.{AddsBatch, Answers, HasFault, HasNoFaultSoFar, KeepsDisk, PlayStops, Played, PlaysJobs, PlaysOn, PlaysScript}
+use Rattle.tl_grouping.specs.Playing.{AddsBatch, Answers, AnswersJob, HasFault, HasNoFaultSoFar, KeepsDisk, PlayStops, Played, PlaysJobs, PlaysScript}
+use Rattle.tl_grouping.specs.Telling.{WatchesFor, told_behind, told_bytes, told_turn}
+use Rattle.tl_grouping.proofs.TellLemmas.{play_adds, play_told, play_within, told_later, told_more, told_now, told_on}
 
 -- THE DISK
 
@@ -62,7 +66,27 @@ keeps_on disks a b c x y =
       stands = λ h. y.stands (x.stands h);
     }
 
+-- a group that is given up hands its disk back as it is
+pub back_itself : {D : Type 0} (disks : DiskGhosts D) (g : group.Group D) (disk : D) → disk ≡ g.journal.disk → IsGivenBack disks.reads disks.may_leave disks.faults g disk
+back_itself disks g disk same =
+    record {
+      count_same = ap disks.faults same;
+      stands = λ h. subst (λ (d : _). (gate : ℕ) × DiskStandsFor disks.reads disks.may_leave d (journal_commits g) gate) (sym same) (g.journal.gate, h.on_disk);
+    }
+
+-- and so does one that was played before
+pub back_on : {D : Type 0} (disks : DiskGhosts D) (a b : group.Group D) (disk : D) → KeepsDisk disks a b → IsGivenBack disks.reads disks.may_leave disks.faults b disk → IsGivenBack disks.reads disks.may_leave disks.faults a disk
+back_on disks a b disk k x =
+    record {
+      count_same = x.count_same ∙ k.count_same;
+      stands = λ h. subst (λ (cs : List Commit). (gate : ℕ) × DiskStandsFor disks.reads disks.may_leave disk cs gate) k.journal_same (x.stands (k.stands h));
+    }
+
 -- ONE JOB
+
+-- a commit that waits is the last one
+pub waits_last : {D : Type 0} (old new : group.Group D) (c : Commit) → WaitsWith c old new → commits_in new ≡ commits_in old ++ c ∷ []
+waits_last old new c waits = ap commits_of waits.entries_are ∙ commits_more old.entries c
 
 -- a reading of a job that is answered is an act of a play
 pub acted : (author : ℕ) (job : Job) (read : JobReading) (v : ℕ) (told : ReplyBody) (old new : List Commit) → job.session ≡ author → Reads old job read → Answers author read v told old new → Acts meant job v told old new
@@ -78,16 +102,27 @@ acted author job (reading.Query answer) v told old new own reads (version, is, s
 acted author job (reading.Fault f) v told old new own reads (version, is, same) =
     subst (λ (b : ReplyBody). Acts meant job v b old new) (sym is) (version, inl reads, same)
 
--- a batch that waits is done, at the version that the snapshot then has
-pub add_done : {D : Type 0} (old new : group.Group D) (author version : ℕ) (batch : Batch) (c : Commit) → WaitsWith c old new → version ≡ length (commits_in new) → resolved old.limits (database_of (commits_in old)) author batch ≡ Ok c → old.limits ≡ standard_limits → AddsBatch author batch version body.Done (commits_in old) (commits_in new)
-add_done old new author version batch c waits number makes standard =
-    let is : commits_in new ≡ commits_in old ++ c ∷ [] = ap commits_of waits.entries_are ∙ commits_more old.entries c in
-    let count = length-append (commits_in old) (c ∷ []) in (
+-- a batch is done whose commit waits, at the version that the snapshot then has
+pub add_done : (limits : Limits) (old new : List Commit) (author : ℕ) (batch : Batch) (c : Commit) → new ≡ old ++ c ∷ [] → resolved limits (database_of old) author batch ≡ Ok c → limits ≡ standard_limits → AddsBatch author batch (length new) body.Done old new
+add_done limits old new author batch c is makes standard =
+    let count = length-append old (c ∷ []) in (
       c,
-      number ∙ (ap length is ∙ omega (arith, count)),
-      subst (λ (l : Limits). resolved l (database_of (commits_in old)) author batch ≡ Ok c) standard makes,
+      ap length is ∙ omega (arith, count),
+      subst (λ (l : Limits). resolved l (database_of old) author batch ≡ Ok c) standard makes,
       is,
     )
+
+-- what a job came to is told, where the watch stands for the commits
+pub job_told : {D : Type 0} (plan : Option WatchPlan) (name : List ℕ) (author : ℕ) (job : Job) (read : JobReading) (told : ReplyBody) (old : List Commit) (mid done : group.Group D) (before at after : List ℕ) (was watching : Option Watch)
+    → job.session ≡ author → Reads old job read → Answers author read (length (commits_in mid)) told old (commits_in mid) → WatchesFor plan (commits_in mid) was → at ≡ before
+    → done ≡ mid → watching ≡ was → after ≡ at ++ (body_bytes name (length (commits_in mid)) told ++ told_behind plan told (commits_in mid))
+    → AnswersJob plan name (Acts meant job) old (commits_in done) before after watching
+job_told {D} plan name author job read told old mid done before at after was watching own reads answers watches same same_group same_watch text =
+    let new = commits_in mid in
+    let it : AnswersJob plan name (Acts meant job) old new before after was =
+    record { version = length new; told = told; comes = acted author job read (length new) told old new own reads answers; text = text ∙ ap (λ b. b ++ (body_bytes name (length new) told ++ told_behind plan told new)) same; watches = watches } in
+    subst (λ (g : group.Group D). AnswersJob plan name (Acts meant job) old (commits_in g) before after watching) (sym same_group)
+    (subst (λ (w : Option Watch). AnswersJob plan name (Acts meant job) old new before after w) (sym same_watch) it)
 
 -- SOME JOBS
 
@@ -96,28 +131,35 @@ pub play_on : (m : Meaning) (old mid new : List Commit) (xs ys : List Turn) → 
 play_on m old mid new [] ys e h = subst (λ (cs : List Commit). IsPlay m cs ys new) e h
 play_on m old mid new (t ∷ xs) ys (next, acts, line, rest) h = (next, acts, line, play_on m next mid new xs ys rest h)
 
-pub plays_none : (names : List (List ℕ)) (cs : List Commit) (text : List ℕ) → PlaysJobs names [] cs cs text text
-plays_none names cs text = record { turns = []; these = refl; play = refl; text = sym (append-nil text) }
+pub plays_none : (plan : Option WatchPlan) (names : List (List ℕ)) (cs : List Commit) (text : List ℕ) (watching : Option Watch) → WatchesFor plan cs watching → PlaysJobs plan names [] cs cs text text watching
+plays_none plan names cs text watching watches = record { turns = []; these = refl; play = refl; text = sym (append-nil text); watches = watches }
 
 -- one job more
-plays_one : (names : List (List ℕ)) (jobs : List Job) (job : Job) (reply : Reply) (old mid new : List Commit) (before at after : List ℕ) → PlaysJobs names jobs old mid before at → reply.line ≡ job.line → Acts meant job reply.version reply.body mid new → after ≡ at ++ reply_bytes (get_or names job.session []) reply → PlaysJobs names (jobs ++ job ∷ []) old new before after
-plays_one names jobs job reply old mid new before at after p line acts text =
-    let turn : Turn = record { job = job; reply = reply } in
+plays_one : (plan : Option WatchPlan) (names : List (List ℕ)) (jobs : List Job) (job : Job) (old mid new : List Commit) (before at after : List ℕ) (was watching : Option Watch) → PlaysJobs plan names jobs old mid before at was → AnswersJob plan (get_or names job.session []) (Acts meant job) mid new at after watching → PlaysJobs plan names (jobs ++ job ∷ []) old new before after watching
+plays_one plan names jobs job old mid new before at after was watching p a =
+    let turn : Turn = record { job = job; reply = record { line = job.line; version = a.version; body = a.told } } in
+    let one : IsPlay meant mid (turn ∷ []) new = (new, a.comes, refl, refl) in
+    let adds = play_adds meant mid new (turn ∷ []) one in
+    let before_it : told_bytes plan names mid p.turns ≡ told_bytes plan names new p.turns = told_later plan names mid adds.0 p.turns (play_within meant old mid p.turns p.play) ∙ ap (λ cs. told_bytes plan names cs p.turns) (sym adds.1) in
+    let it : turn_bytes names turn ++ told_behind plan a.told new ≡ told_turn plan names new turn = ap (λ b. turn_bytes names turn ++ b) (sym (told_now plan meant job a.version a.told mid new a.comes)) in
     record {
       turns = p.turns ++ turn ∷ [];
       these = map-append (λ (t : Turn). t.job) p.turns (turn ∷ []) ∙ ap (λ js. js ++ job ∷ []) p.these;
-      play = play_on meant old mid new p.turns (turn ∷ []) p.play (new, acts, line, refl);
+      play = play_on meant old mid new p.turns (turn ∷ []) p.play one;
       text =
-          text ∙ (ap (λ b. b ++ turn_bytes names turn) p.text
-          ∙ (append_assoc before (turns_bytes names p.turns) (turn_bytes names turn)
-          ∙ ap (λ b. before ++ b) (sym (turns_on names p.turns (turn ∷ []) ∙ ap (λ b. turns_bytes names p.turns ++ b) (append-nil (turn_bytes names turn))))));
+          a.text ∙ (ap (λ b. b ++ (turn_bytes names turn ++ told_behind plan a.told new)) (p.text ∙ ap (λ b. before ++ b) before_it)
+          ∙ (ap (λ b. (before ++ told_bytes plan names new p.turns) ++ b) it
+          ∙ (append_assoc before (told_bytes plan names new p.turns) (told_turn plan names new turn)
+          ∙ ap (λ b. before ++ b) (sym (told_on plan names new p.turns (turn ∷ []) ∙ ap (λ b. told_bytes plan names new p.turns ++ b) (append-nil (told_turn plan names new turn)))))));
+      watches = a.watches;
     }
 
 -- one of lent jobs more
-pub plays_next : (names : List (List ℕ)) (jobs : List LentJob) (i : ℕ) (d : LentJob) (reply : Reply) (old mid new : List Commit) (before at after given name : List ℕ) → i < length jobs → PlaysJobs names (map job_of (take i jobs)) old mid before at → reply.line ≡ (get_or jobs i d).line → Acts meant (job_of (get_or jobs i d)) reply.version reply.body mid new → name ≡ get_or names (get_or jobs i d).session [] → given ≡ name → after ≡ at ++ reply_bytes given reply → PlaysJobs names (map job_of (take (i + 1) jobs)) old new before after
-plays_next names jobs i d reply old mid new before at after given name there p line acts name_is given_is text =
-    subst (λ (js : List Job). PlaysJobs names js old new before after) (sym (ap (map job_of) (take_more jobs i d there) ∙ map-append job_of (take i jobs) (get_or jobs i d ∷ [])))
-    (plays_one names (map job_of (take i jobs)) (job_of (get_or jobs i d)) reply old mid new before at after p line acts (text ∙ ap (λ n. at ++ reply_bytes n reply) (given_is ∙ name_is)))
+pub plays_next : (plan : Option WatchPlan) (names : List (List ℕ)) (jobs : List LentJob) (i : ℕ) (d : LentJob) (old mid new : List Commit) (before at after name : List ℕ) (was watching : Option Watch) → i < length jobs → PlaysJobs plan names (map job_of (take i jobs)) old mid before at was → name ≡ get_or names (get_or jobs i d).session [] → AnswersJob plan name (Acts meant (job_of (get_or jobs i d))) mid new at after watching → PlaysJobs plan names (map job_of (take (i + 1) jobs)) old new before after watching
+plays_next plan names jobs i d old mid new before at after name was watching there p name_is a =
+    subst (λ (js : List Job). PlaysJobs plan names js old new before after watching) (sym (ap (map job_of) (take_more jobs i d there) ∙ map-append job_of (take i jobs) (get_or jobs i d ∷ [])))
+    (plays_one plan names (map job_of (take i jobs)) (job_of (get_or jobs i d)) old mid new before at after was watching p
+    (subst (λ (n : List ℕ). AnswersJob plan n (Acts meant (job_of (get_or jobs i d))) mid new at after watching) name_is a))
 
 -- the block of a job is the one at its place
 pub block_here : (i : ℕ) (lent : List LentJob) (d : LentJob) (blocks : List (List ℕ)) (place : ℕ) → i < length lent → blocks ≡ blocks_of (map job_of lent) → place ≡ i → HasBlockAt (get_or lent i d) blocks place
@@ -127,20 +169,8 @@ block_here i lent d blocks place inside blocks_are place_is =
     ∙ ap (λ o. unwrap_or o []) (slice_get-map block (map job_of lent) i ∙ ap (option_map block) (slice_get-map job_of lent i ∙ ap (option_map job_of) (slice_get-get_or lent i d inside))))
 
 -- the jobs that are lent are of the same sessions
-each_lent : (n : ℕ) (lent : List LentJob) (jobs : List ScriptJob) → map job_of lent ≡ map asked jobs → All (λ job. job.session < n) jobs → All (λ job. job.session < n) lent
-each_lent n [] jobs e all k d inside = absurd (omega (arith, inside))
-each_lent n (l ∷ lent) [] e all k d inside = absurd (cc)
-each_lent n (l ∷ lent) (j ∷ jobs) e all zero d inside = subst (λ (s : ℕ). s < n) (sym (ap first_session e)) (all 0 j (omega arith)) where
-  first_session : List Job → ℕ
-  first_session [] = 0
-  first_session (x ∷ xs) = x.session
-each_lent n (l ∷ lent) (j ∷ jobs) e all (suc k) d inside = each_lent n lent jobs (ap tail e) (λ i x within. all (suc i) x (omega (arith, within))) k d (omega (arith, inside)) where
-  tail : List Job → List Job
-  tail [] = []
-  tail (x ∷ xs) = xs
-
-pub sessions_lent : (n : ℕ) (lent own : List LentJob) (jobs : List ScriptJob) → lent ≡ own → map job_of own ≡ map asked jobs → All (λ job. job.session < n) jobs → All (λ job. job.session < n) lent
-sessions_lent n lent own jobs same e all = subst (λ (ls : List LentJob). All (λ job. job.session < n) ls) (sym same) (each_lent n own jobs e all)
+pub same_sessions : (n : ℕ) (lent own : List LentJob) (jobs : List ScriptJob) → lent ≡ own → map job_of own ≡ map asked jobs → All (λ job. job.session < n) jobs → All (λ job. job.session < n) lent
+same_sessions n lent own jobs same e all = subst (λ (ls : List LentJob). All (λ job. job.session < n) ls) (sym same) (sessions_lent n own jobs e all)
 
 -- PHASES
 
@@ -156,8 +186,8 @@ each_on : (P : Turn → Type 0) (xs ys : List Turn) → Each P xs → Each P ys 
 each_on P [] ys h k = k
 each_on P (x ∷ xs) ys h k = (h.0, each_on P xs ys h.1 k)
 
-pub none_played : (first : Coming) (opening : List Commit) (begun : Option (List ℕ)) (count : ℕ) → HasNotBegun first → Played first opening begun count first opening [] begun count
-none_played first opening begun count fresh =
+pub none_played : (plan : Option WatchPlan) (first : Coming) (opening : List Commit) (watching : Option Watch) (begun : Option (List ℕ)) (count : ℕ) (text : List ℕ) → HasNotBegun first → WatchesFor plan opening watching → text ≡ [] → Played plan first opening begun count first opening text watching begun count
+none_played plan first opening watching begun count text fresh watches silent =
     record {
       bytes = [];
       phases = [];
@@ -167,7 +197,8 @@ none_played first opening begun count fresh =
       answers = refl;
       inside = tt;
       play = refl;
-      written = refl;
+      written = silent;
+      watches = watches;
       sure = refl;
     }
 
@@ -176,13 +207,16 @@ not_over : (old : Coming) (taken : List ℕ) (answer : Result (Option Phase) Nex
 not_over old taken answer idle other ended = other (idle ended).1
 
 -- a phase came, and was played
-pub phase_played : (first : Coming) (opening : List Commit) (begun : Option (List ℕ)) (count : ℕ) (old new : Coming) (mid all : List Commit) (at after : List ℕ) (left end : Option (List ℕ)) (faults last : ℕ) (phase : Phase)
-    → AnswersComing old left (Ok (Some phase)) new end → last ≡ faults → PlaysJobs new.names (map asked phase.jobs.items) mid all at after
-    → Played first opening begun count old mid at left faults → Played first opening begun count new all after end last
-phase_played first opening begun count old new mid all at after left end faults last phase h sure ran p =
+pub phase_played : (plan : Option WatchPlan) (first : Coming) (opening : List Commit) (begun : Option (List ℕ)) (count : ℕ) (old new : Coming) (mid all : List Commit) (at after : List ℕ) (was watching : Option Watch) (left end : Option (List ℕ)) (faults last : ℕ) (phase : Phase)
+    → AnswersComing old left (Ok (Some phase)) new end → last ≡ faults → PlaysJobs plan new.names (map asked phase.jobs.items) mid all at after watching
+    → Played plan first opening begun count old mid at was left faults → Played plan first opening begun count new all after watching end last
+phase_played plan first opening begun count old new mid all at after was watching left end faults last phase h sure ran p =
     let jobs = phase.jobs.items in
     let gives : BringsPhase old h.taken jobs new end = h.says in
     let grown : Each (Inside (length new.names)) p.turns = each_grows old.names new.names p.turns gives.names p.inside in
+    let adds = play_adds meant mid all ran.turns ran.play in
+    let front : told_bytes plan old.names mid p.turns ≡ told_bytes plan new.names all p.turns =
+    told_more plan old.names new.names mid adds.0 p.turns gives.names p.inside (play_within meant opening mid p.turns p.play) ∙ ap (λ cs. told_bytes plan new.names cs p.turns) (sym adds.1) in
     record {
       bytes = p.bytes ++ h.taken;
       phases = p.phases ++ jobs ∷ [];
@@ -192,44 +226,37 @@ phase_played first opening begun count old new mid all at after left end faults 
       answers = map-append (λ (t : Turn). t.job) p.turns ran.turns ∙ (ap (λ js. js ++ jobs_of ran.turns) p.answers ∙ (ap (λ js. all_jobs (phases_asked p.phases) ++ js) ran.these ∙ sym (jobs_more p.phases jobs)));
       inside = each_on (Inside (length new.names)) p.turns ran.turns grown (turns_inside (length new.names) jobs ran.turns gives.sessions ran.these);
       play = play_on meant opening mid all p.turns ran.turns p.play ran.play;
-      written =
-          ran.text ∙ (ap (λ b. b ++ turns_bytes new.names ran.turns) (p.written ∙ same_turns old.names new.names p.turns gives.names p.inside)
-          ∙ sym (turns_on new.names p.turns ran.turns));
+      written = ran.text ∙ (ap (λ b. b ++ told_bytes plan new.names all ran.turns) (p.written ∙ front) ∙ sym (told_on plan new.names all p.turns ran.turns));
+      watches = ran.watches;
       sure = sure ∙ p.sure;
     }
 
 -- no phase comes any more
-pub all_played : (first : Coming) (opening : List Commit) (begun : Option (List ℕ)) (count : ℕ) (old new : Coming) (all : List Commit) (text : List ℕ) (left end : Option (List ℕ)) (faults last : ℕ)
-    → AnswersComing old left (Ok None) new end → last ≡ faults
-    → Played first opening begun count old all text left faults → PlaysScript (first.reads true) opening all text begun end × (last ≡ count)
-all_played first opening begun count old new all text left end faults last h sure p =
+pub all_played : (plan : Option WatchPlan) (first : Coming) (opening : List Commit) (begun : Option (List ℕ)) (count : ℕ) (old new : Coming) (all : List Commit) (text : List ℕ) (watching : Option Watch) (left end : Option (List ℕ)) (faults : ℕ)
+    → AnswersComing old left (Ok None) new end
+    → Played plan first opening begun count old all text watching left faults → PlaysScript plan (first.reads true) opening all text begun end
+all_played plan first opening begun count old new all text watching left end faults h p =
     let gives : BringsNoMore old h.taken end = h.says in
     let idle : old.at_end ≡ true → h.taken ≡ [] = λ e. (h.idle e).0 in
     let read = all_read first begun p.bytes p.phases old left h.taken end p.come idle gives in
     let none = at_the_end first begun p.bytes p.phases old left h.taken end p.come h.order idle gives in
     let script = p.bytes ++ h.taken in
     let phases : (first.reads true script).phases ≡ p.phases = ap (λ (r : ScriptReading). r.phases) read ∙ append-nil p.phases in
-    let names : (first.reads true script).names ≡ old.names = ap (λ (r : ScriptReading). r.names) read in (
-      record {
-        script = script;
-        told = all_told begun end script (read_more begun left end p.bytes h.taken script p.come.order h.order refl) none;
-        faultless = ap (λ (r : ScriptReading). r.fault) read;
-        read = none;
-        play = (
-          p.turns,
-          p.answers ∙ ap (λ ps. all_jobs (phases_asked ps)) (sym phases),
-          p.play,
-          p.written ∙ ap (λ n. turns_bytes n p.turns) (sym names),
-        );
-      },
-      sure ∙ p.sure,
-    )
+    let names : (first.reads true script).names ≡ old.names = ap (λ (r : ScriptReading). r.names) read in
+    record {
+      script = script;
+      told = all_told begun end script (read_more begun left end p.bytes h.taken script p.come.order h.order refl) none;
+      faultless = ap (λ (r : ScriptReading). r.fault) read;
+      read = none;
+      play = play_told plan (first.reads true script).names (all_jobs (phases_asked (first.reads true script).phases)) opening all text p.turns
+          (p.answers ∙ ap (λ ps. all_jobs (phases_asked ps)) (sym phases)) p.play (p.written ∙ ap (λ n. told_bytes plan n all p.turns) (sym names));
+    }
 
 -- the next phase has a fault
-faulty : (first : Coming) (opening : List Commit) (begun : Option (List ℕ)) (count : ℕ) (old new : Coming) (all : List Commit) (text : List ℕ) (left end : Option (List ℕ)) (faults : ℕ) (f : ScriptFault)
+faulty : (plan : Option WatchPlan) (first : Coming) (opening : List Commit) (begun : Option (List ℕ)) (count : ℕ) (old new : Coming) (all : List Commit) (text : List ℕ) (watching : Option Watch) (left end : Option (List ℕ)) (faults : ℕ) (f : ScriptFault)
     → AnswersComing old left (Err (next.Fault f)) new end
-    → Played first opening begun count old all text left faults → HasFault (first.reads true) f begun
-faulty first opening begun count old new all text left end faults f h p =
+    → Played plan first opening begun count old all text watching left faults → HasFault (first.reads true) f begun
+faulty plan first opening begun count old new all text watching left end faults f h p =
     let gives : BringsFault old h.taken f end = h.says in
     let read = fault_read first begun p.bytes p.phases old left h.taken f end p.come (not_over old h.taken (Err (next.Fault f)) h.idle (λ e. cc)) gives in (
       (p.bytes ++ h.taken) ++ rest_of end,
@@ -238,10 +265,10 @@ faulty first opening begun count old new all text left end faults f h p =
     )
 
 -- the source failed before a fault was read
-not_faulty : (first : Coming) (opening : List Commit) (begun : Option (List ℕ)) (count : ℕ) (old new : Coming) (all : List Commit) (text : List ℕ) (left end : Option (List ℕ)) (faults n : ℕ)
+not_faulty : (plan : Option WatchPlan) (first : Coming) (opening : List Commit) (begun : Option (List ℕ)) (count : ℕ) (old new : Coming) (all : List Commit) (text : List ℕ) (watching : Option Watch) (left end : Option (List ℕ)) (faults n : ℕ)
     → AnswersComing old left (Err (next.Source n)) new end
-    → Played first opening begun count old all text left faults → HasNoFaultSoFar (first.reads false) begun end
-not_faulty first opening begun count old new all text left end faults n h p =
+    → Played plan first opening begun count old all text watching left faults → HasNoFaultSoFar (first.reads false) begun end
+not_faulty plan first opening begun count old new all text watching left end faults n h p =
     let none : old.reads false h.taken ≡ no_phase old.names = h.says in
     let read = closed_read first begun p.bytes p.phases old left h.taken p.come (not_over old h.taken (Err (next.Source n)) h.idle (λ e. cc)) none in (
       p.bytes ++ h.taken,
@@ -250,11 +277,11 @@ not_faulty first opening begun count old new all text left end faults n h p =
     )
 
 -- the phases stopped
-pub stop_played : (first : Coming) (opening : List Commit) (begun : Option (List ℕ)) (count : ℕ) (old new : Coming) (all : List Commit) (text : List ℕ) (left end : Option (List ℕ)) (faults last : ℕ) (e : NextError)
+pub stop_played : (plan : Option WatchPlan) (first : Coming) (opening : List Commit) (begun : Option (List ℕ)) (count : ℕ) (old new : Coming) (all : List Commit) (text : List ℕ) (watching : Option Watch) (left end : Option (List ℕ)) (faults last : ℕ) (e : NextError)
     → AnswersComing old left (Err e) new end → NextFaults e faults last
-    → Played first opening begun count old all text left faults → PlayStops first.reads opening all text (stop_for e) begun end count last
-stop_played first opening begun count old new all text left end faults last next.NoMemory h counts p = counts ∙ p.sure
-stop_played first opening begun count old new all text left end faults last (next.Source n) h counts p =
-    (not_faulty first opening begun count old new all text left end faults n h p, subst (λ (k : ℕ). Rose k last) p.sure counts.1, counts.0)
-stop_played first opening begun count old new all text left end faults last (next.Fault f) h counts p =
-    (faulty first opening begun count old new all text left end faults f h p, counts ∙ p.sure)
+    → Played plan first opening begun count old all text watching left faults → PlayStops first.reads (stop_for e) begun end count last
+stop_played plan first opening begun count old new all text watching left end faults last next.NoMemory h counts p = counts ∙ p.sure
+stop_played plan first opening begun count old new all text watching left end faults last (next.Source n) h counts p =
+    (not_faulty plan first opening begun count old new all text watching left end faults n h p, subst (λ (k : ℕ). Rose k last) p.sure counts.1, counts.0)
+stop_played plan first opening begun count old new all text watching left end faults last (next.Fault f) h counts p =
+    (faulty plan first opening begun count old new all text watching left end faults f h p, counts ∙ p.sure)

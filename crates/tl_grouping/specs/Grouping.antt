@@ -10,7 +10,7 @@
 --   DiskFault                 the closing line                     C, or C and G; where it came in
 --                                                                  opening, as for a run
 --   NotInitialised, Damaged   as for a run that is not opened
-use Rattle.std.specs.Prelude.{◌≡◌, ◌⊎◌, ℕ, Bool, true, false, List}
+use Rattle.std.specs.Prelude.{◌≡◌, ◌⊎◌, ℕ, Bool, true, false, List, Option, None}
 use Rattle.tl_types.specs.declared.commits.Commit.{Commit}
 use Rattle.tl_device.specs.Known.{Rose}
 use Rattle.tl_script.specs.Script.{ScriptReading}
@@ -20,13 +20,14 @@ use Rattle.tl_command.specs.Closing.{EndsRefused}
 use Rattle.tl_command.specs.Outside.{Outside, OpensWith}
 use Rattle.tl_grouping.specs.Leaving.{CutsGivenUp, IsGivenUp, LeavesBy}
 use Rattle.tl_grouping.specs.Playing.{PlaysScript, HasFault, HasNoFaultSoFar}
+use Rattle.tl_watch.specs.declared.plans.WatchPlan.{WatchPlan}
 
 -- the script was read to its end and has no fault; its jobs, done one after the other from the
--- commits of the opening to all, have these replies
-abbrev pub Plays : (Bool → List ℕ → ScriptReading) → List Commit → List Commit → List ℕ → Outside
-    → Outside → Type 0
-Plays reads opening all text before after =
-    PlaysScript (reads true) opening all text before.left after.left
+-- commits of the opening to all, have these replies, with what is told of a plan where there is one
+abbrev pub Plays : Option WatchPlan → (Bool → List ℕ → ScriptReading) → List Commit → List Commit
+    → List ℕ → Outside → Outside → Type 0
+Plays plan reads opening all text before after =
+    PlaysScript plan (reads true) opening all text before.left after.left
     × (after.source_faults ≡ before.source_faults)
 
 -- why a group was given up: the script has a fault, or the source failed before one was read
@@ -45,54 +46,58 @@ WhyGivenUp reads before after (status.NotInitialised len) = ⊥
 WhyGivenUp reads before after (status.AlreadyInitialised len) = ⊥
 WhyGivenUp reads before after (status.Damaged at) = ⊥
 WhyGivenUp reads before after (status.PacketFault at) = ⊥
+WhyGivenUp reads before after (status.WatchFault f) = ⊥
 
--- how a group ends that was opened with these commits
-abbrev pub GroupEndsBy : (Bool → List ℕ → ScriptReading) → List Commit → Outside → Outside → Status
-    → Type 0
-GroupEndsBy reads opening before after (status.ScriptFault f) =
+-- how a group ends that was opened with these commits, and of which a plan is told or none
+abbrev pub GroupEndsBy : Option WatchPlan → (Bool → List ℕ → ScriptReading) → List Commit → Outside
+    → Outside → Status → Type 0
+GroupEndsBy plan reads opening before after (status.ScriptFault f) =
     WhyGivenUp reads before after (status.ScriptFault f)
     × IsGivenUp opening (status.ScriptFault f) before after
-GroupEndsBy reads opening before after status.Done =
-    LeavesBy (λ all text. Plays reads opening all text before after) opening before after
-    status.Done
-GroupEndsBy reads opening before after status.NoMemory =
-    LeavesBy (λ all text. Plays reads opening all text before after) opening before after
-    status.NoMemory
-GroupEndsBy reads opening before after status.Usage =
-    LeavesBy (λ all text. Plays reads opening all text before after) opening before after
-    status.Usage
-GroupEndsBy reads opening before after (status.SourceFault faults) =
+GroupEndsBy plan reads opening before after (status.SourceFault faults) =
     WhyGivenUp reads before after (status.SourceFault faults)
     × IsGivenUp opening (status.SourceFault faults) before after
-GroupEndsBy reads opening before after (status.SinkFault faults) =
-    LeavesBy (λ all text. Plays reads opening all text before after) opening before after
+GroupEndsBy plan reads opening before after (status.SinkFault faults) =
+    LeavesBy (λ all text. Plays plan reads opening all text before after) opening before after
     (status.SinkFault faults)
     ⊎ ((faults ≡ after.sink_faults)
     × CutsGivenUp (WhyGivenUp reads before after) opening before after)
-GroupEndsBy reads opening before after (status.DiskFault faults) =
-    LeavesBy (λ all text. Plays reads opening all text before after) opening before after
+GroupEndsBy plan reads opening before after status.Done =
+    LeavesBy (λ all text. Plays plan reads opening all text before after) opening before after
+    status.Done
+GroupEndsBy plan reads opening before after status.NoMemory =
+    LeavesBy (λ all text. Plays plan reads opening all text before after) opening before after
+    status.NoMemory
+GroupEndsBy plan reads opening before after status.Usage =
+    LeavesBy (λ all text. Plays plan reads opening all text before after) opening before after
+    status.Usage
+GroupEndsBy plan reads opening before after (status.DiskFault faults) =
+    LeavesBy (λ all text. Plays plan reads opening all text before after) opening before after
     (status.DiskFault faults)
-GroupEndsBy reads opening before after (status.NotInitialised len) =
-    LeavesBy (λ all text. Plays reads opening all text before after) opening before after
+GroupEndsBy plan reads opening before after (status.NotInitialised len) =
+    LeavesBy (λ all text. Plays plan reads opening all text before after) opening before after
     (status.NotInitialised len)
-GroupEndsBy reads opening before after (status.AlreadyInitialised len) =
-    LeavesBy (λ all text. Plays reads opening all text before after) opening before after
+GroupEndsBy plan reads opening before after (status.AlreadyInitialised len) =
+    LeavesBy (λ all text. Plays plan reads opening all text before after) opening before after
     (status.AlreadyInitialised len)
-GroupEndsBy reads opening before after (status.Damaged at) =
-    LeavesBy (λ all text. Plays reads opening all text before after) opening before after
+GroupEndsBy plan reads opening before after (status.Damaged at) =
+    LeavesBy (λ all text. Plays plan reads opening all text before after) opening before after
     (status.Damaged at)
-GroupEndsBy reads opening before after (status.PacketFault at) =
-    LeavesBy (λ all text. Plays reads opening all text before after) opening before after
+GroupEndsBy plan reads opening before after (status.PacketFault at) =
+    LeavesBy (λ all text. Plays plan reads opening all text before after) opening before after
     (status.PacketFault at)
+GroupEndsBy plan reads opening before after (status.WatchFault f) =
+    LeavesBy (λ all text. Plays plan reads opening all text before after) opening before after
+    (status.WatchFault f)
 
 -- the same, with what was opened
-pub record GroupOpened (reads : Bool → List ℕ → ScriptReading) (opening : List Commit)
-    (before after : Outside) (ended : Status) : Type 0 where
+pub record GroupOpened (plan : Option WatchPlan) (reads : Bool → List ℕ → ScriptReading)
+    (opening : List Commit) (before after : Outside) (ended : Status) : Type 0 where
   pub opens : OpensWith opening before
-  pub ends : GroupEndsBy reads opening before after ended
+  pub ends : GroupEndsBy plan reads opening before after ended
 
--- how `group` ends: its journal is not opened, as for a run; or it is
+-- how `group` ends: its journal is not opened, as for a run; or it is, and no plan is told
 abbrev pub GroupEnds : (Bool → List ℕ → ScriptReading) → Outside → Outside → Status → Type 0
 GroupEnds reads before after ended =
     EndsRefused before after ended
-    ⊎ ((opening : List Commit) × GroupOpened reads opening before after ended)
+    ⊎ ((opening : List Commit) × GroupOpened None reads opening before after ended)

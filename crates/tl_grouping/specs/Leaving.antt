@@ -1,5 +1,5 @@
--- What a command leaves outside that appends a group of commits to its journal: C are the commits of
--- the opening, and all are these and those of the group. By status:
+-- What a command leaves outside that appends a group of commits to its journal: C are the commits
+-- of the opening, and all are these and those of the group. By status:
 --
 --   status       written                                      the disk stands for
 --   Done         the text                                     all, also in a crash
@@ -115,3 +115,4 @@ LeavesBy What opening before after (status.NotInitialised len) = ⊥
 LeavesBy What opening before after (status.AlreadyInitialised len) = ⊥
 LeavesBy What opening before after (status.Damaged at) = ⊥
 LeavesBy What opening before after (status.PacketFault at) = ⊥
+LeavesBy What opening before after (status.WatchFault f) = ⊥

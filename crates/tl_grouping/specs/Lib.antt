@@ -2,3 +2,5 @@ pub mod Appending
 pub mod Grouping
 pub mod Leaving
 pub mod Playing
+pub mod Telling
+pub mod Watching

@@ -1,5 +1,5 @@
 -- Jobs done one after the other over a group whose commits wait: what each is answered with, what
--- is read and done of a script, and what the disk keeps meanwhile.
+-- is told of a plan, what is read and done of a script, and what the disk keeps meanwhile.
 use Rattle.std.specs.Prelude.{◌≡◌, ℕ, ◌+◌, ◌<◌, Bool, true, false, List, [], ◌∷◌, ◌++◌, length, Option, Some, None, IfSome, Ok, Err}
 use Rattle.tl_types.specs.declared.batches.Batch.{Batch}
 use Rattle.tl_types.specs.declared.batches.BatchFault.{BatchFault}
@@ -19,12 +19,16 @@ use Rattle.tl_jobs.specs.declared.replies.ReplyBody.{ReplyBody}
 use Rattle.tl_jobs.specs.declared.replies.ReplyBody.TheVariants as body
 use Rattle.tl_jobs.specs.Jobs.{Job}
 use Rattle.tl_jobs.specs.Play.{IsPlay}
+use Rattle.tl_jobs.specs.Replies.{body_bytes}
 use Rattle.tl_jobs.specs.Turns.{Turn, Each, made, meant}
-use Rattle.tl_jobs.specs.Written.{IsPlayOf, all_jobs, jobs_of, turns_bytes}
+use Rattle.tl_jobs.specs.Written.{all_jobs, jobs_of}
+use Rattle.tl_watch.specs.declared.plans.WatchPlan.{WatchPlan}
+use Rattle.tl_watch.specs.Watches.{Watch}
 use Rattle.tl_command.specs.declared.stops.Stop.{Stop}
 use Rattle.tl_command.specs.declared.stops.Stop.TheVariants as stop
 use Rattle.tl_command.specs.Coming.{Coming, HaveCome}
 use Rattle.tl_command.specs.Jobs.{phases_asked}
+use Rattle.tl_grouping.specs.Telling.{IsPlayTold, WatchesFor, told_behind, told_bytes}
 
 -- THE DISK
 
@@ -59,23 +63,37 @@ Answers author (reading.Query answer) v told old new =
 Answers author (reading.Fault f) v told old new =
     (v ≡ length old) × (told ≡ body.Refused f) × (new ≡ old)
 
+-- what a job came to was told: its reply stands behind the text, and behind that what is told of a
+-- plan, of which the watch stands for the commits; `Comes` says of the version, the body and the
+-- commits before and after what they are
+pub record AnswersJob (plan : Option WatchPlan) (name : List ℕ)
+    (Comes : ℕ → ReplyBody → List Commit → List Commit → Type 0) (old new : List Commit)
+    (before after : List ℕ) (watching : Option Watch) : Type 0 where
+  pub version : ℕ
+  pub told : ReplyBody
+  pub comes : Comes version told old new
+  pub text : after ≡ before ++ (body_bytes name version told ++ told_behind plan told new)
+  pub watches : WatchesFor plan new watching
+
 -- SOME JOBS
 
--- these jobs were done one after the other, and the text of their replies stands behind what was
--- there; the sessions have these names
-pub record PlaysJobs (names : List (List ℕ)) (jobs : List Job) (old new : List Commit)
-    (before after : List ℕ) : Type 0 where
+-- these jobs were done one after the other; the text of their replies, with what is told of a plan,
+-- stands behind what was there, and the watch of the plan stands for the commits; the sessions have
+-- these names
+pub record PlaysJobs (plan : Option WatchPlan) (names : List (List ℕ)) (jobs : List Job)
+    (old new : List Commit) (before after : List ℕ) (watching : Option Watch) : Type 0 where
   pub turns : List Turn
   pub these : jobs_of turns ≡ jobs
   pub play : IsPlay meant old turns new
-  pub text : after ≡ before ++ turns_bytes names turns
+  pub text : after ≡ before ++ told_bytes plan names new turns
+  pub watches : WatchesFor plan new watching
 
 -- THE SCRIPT
 
 -- the phases that have come were played, of what a source had left and its count of faults
-pub record Played (first : Coming) (opening : List Commit) (begun : Option (List ℕ)) (count : ℕ)
-    (now : Coming) (all : List Commit) (text : List ℕ) (left : Option (List ℕ)) (faults : ℕ)
-    : Type 0 where
+pub record Played (plan : Option WatchPlan) (first : Coming) (opening : List Commit)
+    (begun : Option (List ℕ)) (count : ℕ) (now : Coming) (all : List Commit) (text : List ℕ)
+    (watching : Option Watch) (left : Option (List ℕ)) (faults : ℕ) : Type 0 where
   pub bytes : List ℕ
   pub phases : List (List ScriptJob)
   pub come : HaveCome first begun bytes phases now left
@@ -84,19 +102,20 @@ pub record Played (first : Coming) (opening : List Commit) (begun : Option (List
   pub answers : jobs_of turns ≡ all_jobs (phases_asked phases)
   pub inside : Each (λ t. t.job.session < length now.names) turns
   pub play : IsPlay meant opening turns all
-  pub written : text ≡ turns_bytes now.names turns
+  pub written : text ≡ told_bytes plan now.names all turns
+  pub watches : WatchesFor plan all watching
   pub sure : faults ≡ count
 
 -- the whole script was read, which has no fault, and its jobs were done one after the other; this
--- is the text of their replies
-pub record PlaysScript (reads : List ℕ → ScriptReading) (opening all : List Commit) (text : List ℕ)
-    (before after : Option (List ℕ)) : Type 0 where
+-- is the text of their replies, with what is told of a plan
+pub record PlaysScript (plan : Option WatchPlan) (reads : List ℕ → ScriptReading)
+    (opening all : List Commit) (text : List ℕ) (before after : Option (List ℕ)) : Type 0 where
   pub script : List ℕ
   pub told : IfSome before (λ left. left ≡ script)
   pub faultless : (reads script).fault ≡ None
   pub read : IsAtEnd after
-  pub play : IsPlayOf (reads script).names (all_jobs (phases_asked (reads script).phases)) opening
-      all text
+  pub play : IsPlayTold plan (reads script).names (all_jobs (phases_asked (reads script).phases))
+      opening all text
 
 -- the script has this fault
 abbrev pub HasFault : (List ℕ → ScriptReading) → ScriptFault → Option (List ℕ) → Type 0
@@ -108,23 +127,13 @@ abbrev pub HasNoFaultSoFar : (List ℕ → ScriptReading) → Option (List ℕ) 
 HasNoFaultSoFar closed before after =
     (taken : List ℕ) × (before ≡ prepend_known taken after) × ((closed taken).fault ≡ None)
 
--- what was done, by why no further phase is played; how a whole script is read, and the start of
--- one
-abbrev pub PlayStops : (Bool → List ℕ → ScriptReading) → List Commit → List Commit → List ℕ → Stop
-    → Option (List ℕ) → Option (List ℕ) → ℕ → ℕ → Type 0
-PlayStops reads opening all text stop.Ended before after first last =
-    PlaysScript (reads true) opening all text before after × (last ≡ first)
-PlayStops reads opening all text (stop.Fault f) before after first last =
+-- what was read, by why a script is given up; how a whole script is read, and the start of one
+abbrev pub PlayStops : (Bool → List ℕ → ScriptReading) → Stop → Option (List ℕ) → Option (List ℕ)
+    → ℕ → ℕ → Type 0
+PlayStops reads stop.Ended before after first last = ⊥
+PlayStops reads (stop.Fault f) before after first last =
     HasFault (reads true) f before × (last ≡ first)
-PlayStops reads opening all text (stop.Source faults) before after first last =
+PlayStops reads (stop.Source faults) before after first last =
     HasNoFaultSoFar (reads false) before after × Rose first last × (faults ≡ last)
-PlayStops reads opening all text (stop.Sink faults) before after first last = ⊥
-PlayStops reads opening all text stop.NoMemory before after first last = last ≡ first
-
--- the phases go on behind this one, or they stopped, and this was done by then
-abbrev pub PlaysOn : Coming → List Commit → Option (List ℕ) → ℕ → Coming → List Commit → List ℕ
-    → Option (List ℕ) → ℕ → Option Stop → Type 0
-PlaysOn first opening begun count now all text left faults None =
-    Played first opening begun count now all text left faults
-PlaysOn first opening begun count now all text left faults (Some why) =
-    PlayStops first.reads opening all text why begun left count faults
+PlayStops reads (stop.Sink faults) before after first last = ⊥
+PlayStops reads stop.NoMemory before after first last = last ≡ first

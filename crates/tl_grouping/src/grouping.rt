@@ -1,19 +1,23 @@
 //! The command `group`: the journal is opened, the script is played, and all its commits are
 //! appended at once before the first reply is written.
 ghost use Rattle.std.specs.Prelude.{◌≡◌, []};
+ghost use Rattle.std.specs.declared.option.Option.{Option};
 ghost use Rattle.tl_types.specs.Limits.{standard_limits};
 ghost use Rattle.tl_command.specs.Coming.{HasNotBegun, script_reads};
 ghost use Rattle.tl_command.specs.Outside.{outside};
 ghost use Rattle.tl_group.specs.Keeping.{commits_in};
 ghost use Rattle.tl_grouping.specs.Appending.{AppendsAndWrites, IsAttached};
 ghost use Rattle.tl_grouping.specs.Grouping.{GroupEnds, GroupEndsBy};
+ghost use Rattle.tl_grouping.specs.Telling.{IsWatched, WatchesFor};
+ghost use Rattle.tl_watch.specs.declared.plans.WatchPlan.{WatchPlan};
 
-use crate::playing::{Playing, play_phases};
+use crate::playing::{Means, Stopped, play_phases};
+use crate::steps::Playing;
 use std::sync::Wait;
 use std::thread::Threads;
-use tl_command::{Ending, Phases, Status, Stop, close_run, end_refused, write_ready};
+use tl_command::{Ending, Phases, Status, close_run, end_refused, write_ready};
 use tl_device::{Disk, Gate, Sink, Source};
-use tl_group::{Finished, Group};
+use tl_group::{Finished, Group, Waiting};
 use tl_jobs::Pace;
 use tl_journal::Refused;
 use tl_script::Script;
@@ -25,11 +29,11 @@ const DEVICE_LINE: &str = "! device\n";
 // The room that the sink needs for that line.
 const LINE_ROOM: u64 = 9;
 
-/// Appends all that waits as one group, once the sink's room is taken for a text and for the line of
-/// a disk that fails, and writes the text, or the line where the disk failed. `NoMemory`: there was
-/// no memory for the room, and the disk is as it was. `SinkFault`: the sink failed behind some
+/// Appends all that waits as one group, once the sink's room is taken for a text and for the line
+/// of a disk that fails, and writes the text, or the line where the disk failed. `NoMemory`: there
+/// was no memory for the room, and the disk is as it was. `SinkFault`: the sink failed behind some
 /// prefix of what was to be written.
-pub fn append<K: Sink, D: Disk>(group: Group<D>, text: &[u8], sink: &mut K) -> Ending<D>
+pub fn append<K: Sink, D: Disk>(group: Waiting<D>, text: &[u8], sink: &mut K) -> Ending<D>
     ensures { AppendsAndWrites K.Sink D.Disk group text.now sink.old sink.new result.disk
         result.status }
 {
@@ -52,36 +56,41 @@ pub fn append<K: Sink, D: Disk>(group: Group<D>, text: &[u8], sink: &mut K) -> E
     }
 }
 
-// Plays phases over a group as it was opened, and appends what waits then; where the script has a
-// fault, its source fails or memory runs out, the group is given up.
-fn play_group<
+/// Plays phases over a group as it was opened, of which a plan is told where one is watched, and
+/// appends what waits then; where the script has a fault, its source fails or memory runs out, the
+/// group is given up.
+pub(crate) fn play_group<
     R: AllocGlobal + Threads + Wait + Sync,
     S: Source,
     K: Sink,
     D: Disk,
     P: Phases<S>,
     G: Gate,
->(rt: &R, playing: Playing<D, P>, pace: &Pace, source: &mut S, sink: &mut K, gate: &G) -> Ending<D>
-    requires fresh { HasNotBegun (P.coming playing.phases) }
+>(
+    rt: &R,
+    playing: Playing<D>,
+    phases: P,
+    source: &mut S,
+    sink: &mut K,
+    means: &Means<'_, G>,
+) -> Ending<D>
+    requires fresh { HasNotBegun (P.coming phases) }
     requires standard { playing.group.limits ≡ standard_limits }
+    requires watched { IsWatched (commits_in playing.group) playing.watching }
     requires silent { playing.text.items ≡ [] }
-    ensures { (begun : D) → IsAttached D.Disk begun playing.group → GroupEndsBy
-        (P.coming playing.phases).reads (commits_in playing.group)
+    ensures { (plan : Option WatchPlan) (begun : D)
+        → WatchesFor plan (commits_in playing.group) playing.watching
+        → IsAttached D.Disk begun playing.group → GroupEndsBy plan
+        (P.coming phases).reads (commits_in playing.group)
         (outside S.Source K.Sink D.Disk source.old sink.old begun)
         (outside S.Source K.Sink D.Disk source.new sink.new result.disk) result.status }
 {
-    let mut playing = playing;
-    let stop = play_phases::<S, D, P, G, R>(rt, &mut playing, source, pace, gate);
-    let Playing {
-        group,
-        phases: _,
-        text,
-    } = playing;
-    match stop {
-        Stop::Ended => append(group, text.as_slice(), sink),
-        _ => Ending {
+    let mut phases = phases;
+    match play_phases::<S, D, P, G, R>(rt, playing, &mut phases, source, means) {
+        Ok(Playing { group, text, .. }) => append(group.without_keys(), text.as_slice(), sink),
+        Err(Stopped { stop, disk }) => Ending {
             status: close_run(rt.alloc(), sink, stop, false, 0),
-            disk: group.into_disk(),
+            disk,
         },
     }
 }
@@ -112,10 +121,12 @@ pub fn group<R: AllocGlobal + Threads + Wait + Sync, S: Source, K: Sink, D: Disk
         Ok(group) => {
             let playing = Playing {
                 group,
-                phases: Script::new(alloc, &limits),
                 text: Vec::new(alloc),
+                watching: None,
             };
-            play_group::<R, S, K, D, Script, G>(rt, playing, pace, source, sink, gate)
+            let phases = Script::new(alloc, &limits);
+            let means = Means { pace, gate };
+            play_group::<R, S, K, D, Script, G>(rt, playing, phases, source, sink, &means)
         }
     }
 }

@@ -1,108 +1,303 @@
 //! One job done over a group: it is read and answered as any job, over the snapshot of the group,
-//! and a batch becomes a commit that waits. The disk keeps what it had.
-ghost use Rattle.std.specs.Prelude.{◌≡◌, IfOk, IsTrue};
-ghost use Rattle.tl_types.specs.History.{database_of};
+//! and a batch becomes a commit that waits. Its reply is put behind the text, and behind a reply
+//! that is done the value of the plan, where one is watched. Where memory runs out the group is
+//! given up, and its disk handed back.
+ghost use Rattle.std.specs.Prelude.{◌≡◌, ◌++◌, ◌∷◌, [], ℕ, List, IsTrue, IfErr, IfOk, OnOk, length};
+ghost use Rattle.std.specs.declared.option.Option.{Option};
+ghost use Rattle.tl_types.specs.declared.commits.Commit.{Commit as CommitValue};
+ghost use Rattle.tl_types.specs.Entries.{commits_of};
+ghost use Rattle.tl_types.specs.History.{database_of, fits};
 ghost use Rattle.tl_types.specs.Limits.{standard_limits};
 ghost use Rattle.tl_batch.specs.Made.{batch_matches};
 ghost use Rattle.tl_group.specs.Keeping.{commits_in};
+ghost use Rattle.tl_group.specs.Standing.{IsGivenBack};
 ghost use Rattle.tl_jobs.specs.Jobs.{job_of};
 ghost use Rattle.tl_jobs.specs.Play.{Acts};
 ghost use Rattle.tl_jobs.specs.Reading.{DoesMatch, HasBlockAt};
+ghost use Rattle.tl_jobs.specs.Replies.{body_bytes, reply_bytes};
 ghost use Rattle.tl_jobs.specs.Turns.{meant};
-ghost use Rattle.tl_grouping.specs.Playing.{AddsBatch, Answers, KeepsDisk};
+ghost use Rattle.tl_watch.specs.declared.plans.WatchPlan.{WatchPlan};
+ghost use Rattle.tl_grouping.specs.Playing.{AddsBatch, Answers, AnswersJob, KeepsDisk};
+ghost use Rattle.tl_grouping.specs.Telling.{IsWatched, WatchesFor, told_behind};
 
-use std::alloc::{AllocError, Global};
+use std::alloc::Global;
 use std::thread::Threads;
+use tl_csv::AnswerWriter;
 use tl_device::{Disk, Gate, Place};
 use tl_group::Group;
-use tl_jobs::{Crew, JobReading, LentJob, Refusal, Reply, ReplyBody, read_job};
-use tl_types::{Batch, BatchFault, NoMemory};
+use tl_index::Snapshot;
+use tl_jobs::{Crew, JobReading, LentJob, Refusal, Reply, ReplyBody, put_reply, read_job};
+use tl_types::{Batch, BatchFault, Commit, NoMemory};
+use tl_watching::Watching;
 
-// What a batch is answered with, and at which version.
+/// What jobs are played over: the group in which their commits wait, the text of the replies so
+/// far, and the watch of a plan, where one is told.
 #[derive(Drop)]
-struct Settled {
-    version: u32,
+pub(crate) struct Playing<D: Disk> {
+    /// The journal, and the commits that wait.
+    pub group: Group<D>,
+    /// The replies so far, in the order of their jobs, with what is told of the plan.
+    pub text: Vec<u8>,
+    /// The watch of the plan, over all commits.
+    pub watching: Option<Watching>,
+}
+
+// The watch of a plan, where there is one, once a commit is taken in that fits the commits of a
+// snapshot. The error is `NoMemory`.
+fn followed(
+    watching: Option<Watching>,
+    before: &Snapshot,
+    commit: &Commit,
+) -> Result<Option<Watching>, NoMemory>
+    requires watched { IsWatched (commits_of before.now) watching }
+    requires fits { IsTrue
+        (fits standard_limits (database_of (commits_of before.now)) commit.now) }
+    ensures { (plan : Option WatchPlan) → WatchesFor plan (commits_of before.now) watching
+        → IfOk result (WatchesFor plan (commits_of before.now ++ commit.now ∷ [])) }
+{
+    let Some(watching) = watching else {
+        return Ok(None);
+    };
+    let watching = watching.follow(before, commit)?;
+    Ok(Some(watching))
+}
+
+// Makes a commit that fits wait behind the others, and takes it in where a plan is watched. The
+// error, for memory, is the disk.
+fn take_in<D: Disk>(alloc: Global, playing: Playing<D>, commit: &Commit) -> Result<Playing<D>, D>
+    requires standard { playing.group.limits ≡ standard_limits }
+    requires watched { IsWatched (commits_in playing.group) playing.watching }
+    requires fits { IsTrue
+        (fits standard_limits (database_of (commits_in playing.group)) commit.now) }
+    ensures text { IfOk result (λ done. done.text.items ≡ playing.text.items) }
+    ensures commits { IfOk result
+        (λ done. commits_in done.group ≡ commits_in playing.group ++ commit.now ∷ []) }
+    ensures watches { (plan : Option WatchPlan)
+        → WatchesFor plan (commits_in playing.group) playing.watching
+        → IfOk result (λ done. WatchesFor plan (commits_in done.group) done.watching) }
+    ensures keeps { IfOk result (λ done. KeepsDisk D.Disk playing.group done.group) }
+    ensures back { IfErr result (IsGivenBack D.reads D.may_leave D.faults playing.group) }
+{
+    let Playing {
+        group,
+        text,
+        watching,
+    } = playing;
+    let Ok(watching) = followed(watching, group.snapshot(), commit) else {
+        return Err(group.into_disk());
+    };
+    match group.follow(alloc, commit) {
+        Ok(group) => Ok(Playing {
+            group,
+            text,
+            watching,
+        }),
+        Err(disk) => Err(disk),
+    }
+}
+
+// Puts behind a text what is told of a plan, where one is watched, behind a reply over as many
+// commits as the reply's version says. The error is `NoMemory`.
+fn put_value(
+    alloc: Global,
+    text: &mut Vec<u8>,
+    watching: &Option<Watching>,
+    reply: &Reply,
+    writer: &mut AnswerWriter,
+) -> Result<(), NoMemory>
+    ensures { OnOk result ((plan : Option WatchPlan) (commits : List CommitValue)
+        → WatchesFor plan commits watching.now → reply.now.version ≡ length commits
+        → text.new.items ≡ text.old.items ++ told_behind plan reply.now.body commits) }
+{
+    match watching {
+        None => Ok(()),
+        Some(watching) => match &reply.body {
+            ReplyBody::Done => {
+                watching.tell(alloc, text, reply.version, writer)?;
+                Ok(())
+            }
+            ReplyBody::Rows(_) => Ok(()),
+            ReplyBody::Refused(_) => Ok(()),
+            ReplyBody::DeviceFault => Ok(()),
+            ReplyBody::BrokenJournal => Ok(()),
+        },
+    }
+}
+
+// Puts a reply behind a text, under the name of its session, and behind it what is told of a plan.
+// The error is `NoMemory`.
+fn put_told(
+    alloc: Global,
+    text: &mut Vec<u8>,
+    watching: &Option<Watching>,
+    name: &str,
+    reply: &Reply,
+    writer: &mut AnswerWriter,
+) -> Result<(), NoMemory>
+    ensures { OnOk result ((plan : Option WatchPlan) (commits : List CommitValue)
+        → WatchesFor plan commits watching.now → reply.now.version ≡ length commits
+        → text.new.items ≡ text.old.items
+        ++ (reply_bytes name.now reply.now ++ told_behind plan reply.now.body commits)) }
+{
+    put_reply(alloc, text, name.as_bytes(), reply)?;
+    put_value(alloc, text, watching, reply, writer)?;
+    Ok(())
+}
+
+// Puts the reply to a job with this body behind the text, at the version of the group's snapshot,
+// and what is told of the plan. The error, for memory, is the disk.
+fn tell<D: Disk>(
+    alloc: Global,
+    playing: Playing<D>,
+    name: &str,
+    line: u64,
+    body: ReplyBody,
+    writer: &mut AnswerWriter,
+) -> Result<Playing<D>, D>
+    ensures group { IfOk result (λ done. done.group ≡ playing.group) }
+    ensures watching { IfOk result (λ done. done.watching ≡ playing.watching) }
+    ensures text { (plan : Option WatchPlan)
+        → WatchesFor plan (commits_in playing.group) playing.watching
+        → IfOk result (λ done. done.text.items ≡ playing.text.items
+        ++ (body_bytes name.now (length (commits_in playing.group)) body
+        ++ told_behind plan body (commits_in playing.group))) }
+    ensures back { IfErr result (λ disk. disk ≡ playing.group.journal.disk) }
+{
+    let Playing {
+        group,
+        mut text,
+        watching,
+    } = playing;
+    let version = group.snapshot().store().versions();
+    let reply = Reply {
+        line,
+        version,
+        body,
+    };
+    match put_told(alloc, &mut text, &watching, name, &reply, writer) {
+        Ok(()) => Ok(Playing {
+            group,
+            text,
+            watching,
+        }),
+        Err(_) => Err(group.into_disk()),
+    }
+}
+
+// What a job is answered with, before that is told.
+#[derive(Drop)]
+struct Settled<D: Disk> {
+    playing: Playing<D>,
     body: ReplyBody,
 }
 
-// What a batch of an author is answered with: it is done, and waits, or it is refused.
+// What a batch of an author is answered with: it is done, and waits, or it is refused. The error,
+// for memory, is the disk.
 fn settle<D: Disk>(
     alloc: Global,
-    group: &mut Group<D>,
+    playing: Playing<D>,
     author: u32,
     batch: &Batch,
-) -> Result<Settled, NoMemory>
-    requires matching { IsTrue (batch_matches (database_of (commits_in group.old)) batch.now) }
-    requires standard { group.old.limits ≡ standard_limits }
-    ensures ok { IfOk result (λ s. AddsBatch author batch.now s.version s.body
-        (commits_in group.old) (commits_in group.new)) }
-    ensures keeps { KeepsDisk D.Disk group.old group.new }
+) -> Result<Settled<D>, D>
+    requires matching { IsTrue
+        (batch_matches (database_of (commits_in playing.group)) batch.now) }
+    requires standard { playing.group.limits ≡ standard_limits }
+    requires watched { IsWatched (commits_in playing.group) playing.watching }
+    ensures ok { IfOk result (λ s. AddsBatch author batch.now
+        (length (commits_in s.playing.group)) s.body
+        (commits_in playing.group) (commits_in s.playing.group)) }
+    ensures watches { (plan : Option WatchPlan)
+        → WatchesFor plan (commits_in playing.group) playing.watching
+        → IfOk result (λ s. WatchesFor plan (commits_in s.playing.group) s.playing.watching) }
+    ensures text { IfOk result (λ s. s.playing.text.items ≡ playing.text.items) }
+    ensures keeps { IfOk result (λ s. KeepsDisk D.Disk playing.group s.playing.group) }
+    ensures back { IfErr result (IsGivenBack D.reads D.may_leave D.faults playing.group) }
 {
-    let version = group.snapshot().store().versions();
-    match group.add(alloc, batch, author) {
-        Ok(version) => Ok(Settled {
-            version,
-            body: ReplyBody::Done,
-        }),
-        Err(BatchFault::NoMemory) => Err(AllocError),
+    match playing.group.resolve(alloc, batch, author) {
+        Ok(commit) => match take_in(alloc, playing, &commit) {
+            Ok(playing) => Ok(Settled {
+                playing,
+                body: ReplyBody::Done,
+            }),
+            Err(disk) => Err(disk),
+        },
+        Err(BatchFault::NoMemory) => Err(playing.group.into_disk()),
         Err(fault) => Ok(Settled {
-            version,
+            playing,
             body: ReplyBody::Refused(Refusal::BatchFault(fault)),
         }),
     }
 }
 
-// What a reading of a job of an author is answered with.
+// What a reading of a job of an author is answered with. The error, for memory, is the disk.
 fn answer<D: Disk>(
     alloc: Global,
-    group: &mut Group<D>,
+    playing: Playing<D>,
     author: u32,
     reading: JobReading,
-) -> Result<Settled, NoMemory>
-    requires matching { DoesMatch (database_of (commits_in group.old)) reading }
-    requires standard { group.old.limits ≡ standard_limits }
-    ensures ok { IfOk result (λ s. Answers author reading s.version s.body
-        (commits_in group.old) (commits_in group.new)) }
-    ensures keeps { KeepsDisk D.Disk group.old group.new }
+) -> Result<Settled<D>, D>
+    requires matching { DoesMatch (database_of (commits_in playing.group)) reading }
+    requires standard { playing.group.limits ≡ standard_limits }
+    requires watched { IsWatched (commits_in playing.group) playing.watching }
+    ensures ok { IfOk result (λ s. Answers author reading
+        (length (commits_in s.playing.group)) s.body
+        (commits_in playing.group) (commits_in s.playing.group)) }
+    ensures watches { (plan : Option WatchPlan)
+        → WatchesFor plan (commits_in playing.group) playing.watching
+        → IfOk result (λ s. WatchesFor plan (commits_in s.playing.group) s.playing.watching) }
+    ensures text { IfOk result (λ s. s.playing.text.items ≡ playing.text.items) }
+    ensures keeps { IfOk result (λ s. KeepsDisk D.Disk playing.group s.playing.group) }
+    ensures back { IfErr result (IsGivenBack D.reads D.may_leave D.faults playing.group) }
 {
-    let version = group.snapshot().store().versions();
     match reading {
-        JobReading::Loads(batch) => settle(alloc, group, author, &batch),
+        JobReading::Loads(batch) => settle(alloc, playing, author, &batch),
         JobReading::Query(answer) => Ok(Settled {
-            version,
+            playing,
             body: ReplyBody::Rows(answer),
         }),
         JobReading::Fault(refusal) => Ok(Settled {
-            version,
+            playing,
             body: ReplyBody::Refused(refusal),
         }),
     }
 }
 
-/// Does a job over a group, once the gate has let it pass, and answers its reply: a query is
-/// answered over the group's snapshot, a batch becomes a commit that waits, and a fault is told at
-/// the version of the snapshot. The block of the job is the one at the crew's place. The disk keeps
-/// what it had. The error is `NoMemory`, and the group is as it was.
+/// Does a job of the session with this name over a group, once the gate has let it pass, and puts
+/// its reply behind the text: a query is answered over the group's snapshot, a batch becomes a
+/// commit that waits, and a fault is told at the version of the snapshot. Behind a reply that is
+/// done stands the value of the plan, where one is watched. The block of the job is the one at the
+/// crew's place. The error, for memory, is the disk, which keeps what it had.
 pub(crate) fn play_job<D: Disk, G: Gate, R: AllocGlobal + Threads + Sync>(
     rt: &R,
-    group: &mut Group<D>,
+    playing: Playing<D>,
+    name: &str,
     job: &LentJob,
     crew: &mut Crew<'_, '_, G>,
-) -> Result<Reply, NoMemory>
-    requires standard { group.old.limits ≡ standard_limits }
+) -> Result<Playing<D>, D>
+    requires standard { playing.group.limits ≡ standard_limits }
+    requires watched { IsWatched (commits_in playing.group) playing.watching }
     requires block { HasBlockAt job.now crew.old.reader.blocks crew.old.place }
-    ensures ok { IfOk result (λ reply. (reply.line ≡ job.now.line)
-        × Acts meant (job_of job.now) reply.version reply.body
-        (commits_in group.old) (commits_in group.new)) }
-    ensures keeps { KeepsDisk D.Disk group.old group.new }
+    ensures ok { (plan : Option WatchPlan)
+        → WatchesFor plan (commits_in playing.group) playing.watching
+        → IfOk result (λ done. AnswersJob plan name.now (Acts meant (job_of job.now))
+        (commits_in playing.group) (commits_in done.group)
+        playing.text.items done.text.items done.watching) }
+    ensures keeps { IfOk result (λ done. KeepsDisk D.Disk playing.group done.group) }
+    ensures back { IfErr result (IsGivenBack D.reads D.may_leave D.faults playing.group) }
     ensures same { crew.new.reader.blocks ≡ crew.old.reader.blocks }
 {
     crew.gate.pass(Place::Statement(job.session));
-    let reading = read_job(rt, group.snapshot(), job.text, crew)?;
-    let Settled { version, body } = answer(rt.alloc(), group, job.session, reading)?;
-    Ok(Reply {
-        line: job.line,
-        version,
-        body,
-    })
+    let Ok(reading) = read_job(rt, playing.group.snapshot(), job.text, crew) else {
+        return Err(playing.group.into_disk());
+    };
+    let (alloc, line) = (rt.alloc(), job.line);
+    match answer(alloc, playing, job.session, reading) {
+        Ok(Settled { playing, body }) => {
+            match tell(alloc, playing, name, line, body, &mut crew.writer) {
+                Ok(done) => Ok(done),
+                Err(disk) => Err(disk),
+            }
+        }
+        Err(disk) => Err(disk),
+    }
 }

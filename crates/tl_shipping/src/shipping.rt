@@ -52,10 +52,10 @@ fn ship_opened<K: Sink, D: Disk>(
     Ending { status, disk }
 }
 
-/// Writes the commits of the journal on the disk with versions from `from` to `to`, both among them,
-/// as packets in order of version; nothing where there is none. The journal is opened as for a run,
-/// and keeps its commits. How it ends, and what is then written and on the disk, by status, is what
-/// `ShipEnds` says.
+/// Writes the commits of the journal on the disk with versions from `from` to `to`, both among
+/// them, as packets in order of version; nothing where there is none. The journal is opened as for
+/// a run, and keeps its commits. How it ends, and what is then written and on the disk, by status,
+/// is what `ShipEnds` says.
 pub fn ship<K: Sink, D: Disk>(alloc: Global, from: u32, to: u32, sink: &mut K, disk: D) -> Ending<D>
     ensures { (left : Option (List ℕ)) (faults : ℕ) → ShipEnds from to
         (outside_from K.Sink D.Disk left faults sink.old disk)

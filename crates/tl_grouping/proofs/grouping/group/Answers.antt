@@ -1,4 +1,4 @@
-use Rattle.std.proofs.Common.{◌∙◌, arith, ap, sym, subst, inl, inr}
+use Rattle.std.proofs.Common.{◌∙◌, arith, ap, None, sym, subst, inl, inr}
 use Rattle.tl_types.specs.Limits.{standard_limits}
 use Rattle.tl_script.specs.Reader.{ScriptState, new_state}
 use Rattle.tl_group.specs.Attaching.{as_history, history_of}
@@ -12,7 +12,7 @@ use Rattle.tl_grouping.proofs.OpenLemmas.{ends_refused, opens_with}
 use Rattle.tl_grouping.proofs.grouping.group.Goals as goal
 
 pub play_group-requires-clause-fresh : goal.play_group-requires-clause-fresh
-play_group-requires-clause-fresh g c κs within = subst (λ (s : ScriptState). HasNotBegun (script_coming s)) (sym (c.new.ensures ∙ ap new_state c.standard-limits.ensures)) (new_script_fresh standard_limits (omega arith))
+play_group-requires-clause-fresh g c κs within = subst (λ (s : ScriptState). HasNotBegun (script_coming s)) (sym (c.new-phases.ensures ∙ ap new_state c.standard-limits.ensures)) (new_script_fresh standard_limits (omega arith))
 
 pub returns-in-Err : goal.returns-in-Err
 returns-in-Err g c =
@@ -33,8 +33,8 @@ returns-in-Ok g c =
       commits_in group,
       record {
         opens = opens_with disks c.args.disk c.standard-limits.result (history_of disks.faults group) (source.left c.args.source.now) (sink.written c.args.sink.now) (source.faults c.args.source.now) (sink.faults c.args.sink.now) c.in-Ok.ensures.opens c.standard-limits.ensures;
-        ends = subst (λ (s : ScriptState). GroupEndsBy (script_coming s).reads (commits_in group) before after c.play_group.result.status) (c.new.ensures ∙ ap new_state c.standard-limits.ensures)
-            (c.play_group.ensures c.args.disk (record {
+        ends = subst (λ (s : ScriptState). GroupEndsBy None (script_coming s).reads (commits_in group) before after c.play_group.result.status) (c.new-phases.ensures ∙ ap new_state c.standard-limits.ensures)
+            (c.play_group.ensures None c.args.disk tt (record {
               journal_is = none_waiting group c.in-Ok.ensures.none_waits;
               count_same = c.in-Ok.ensures.opens.count.1;
               stands = c.in-Ok.ensures.stands;

@@ -1,17 +1,26 @@
-use Rattle.std.proofs.Common.{refl, subst, ℕ, List}
+use Rattle.std.proofs.Common.{List, refl, subst, ℕ}
+use Rattle.tl_types.specs.declared.commits.Entry.{Entry}
 use Rattle.tl_types.specs.Entries.{commits_of}
 use Rattle.tl_group.specs.Keeping.{commits_in}
 use Rattle.tl_csv.specs.LentBlocks.{block_at}
 use Rattle.tl_jobs.specs.Jobs.{job_of}
 use Rattle.tl_jobs.specs.Reading.{IsReading, Reads}
-use Rattle.tl_grouping.proofs.PlayLemmas.{acted}
+use Rattle.tl_grouping.proofs.PlayLemmas.{back_itself, back_on, job_told}
 use Rattle.tl_grouping.proofs.steps.play_job.Goals as goal
 
-pub returns-clause-ok : goal.returns-clause-ok
-returns-clause-ok g c =
-    let commits = commits_in c.args.group.now in
-    let read = c.in_ok-reading.reading in
+pub returns-in-Ok-tell-clause-ok : goal.returns-in-Ok-tell-clause-ok
+returns-in-Ok-tell-clause-ok g c = λ plan watches.
+    let old = commits_in c.args.playing.group in
+    let job = job_of c.args.job.now in
+    let read = c.in-Ok.reading in
+    let settled = c.in-Ok-answer in
     let block = block_at c.args.crew.now.reader.blocks c.args.crew.now.place in
-    let over : IsReading commits c.args.job.now.text.now block read = subst (λ es. IsReading (commits_of es) c.args.job.now.text.now block read) c.snapshot.ensures.value c.in_ok-reading.ensures.reads in
-    let reads : Reads commits (job_of c.args.job.now) read = subst (λ (b : List ℕ). IsReading commits c.args.job.now.text.now b read) c.requires.block over in
-    (refl, acted c.args.job.now.session (job_of c.args.job.now) read c.in_ok-version.field-0.version c.in_ok-version.field-0.body commits (commits_in c.answer.new.group) refl reads c.in_ok-version.ensures.ok)
+    let over : IsReading old c.args.job.now.text.now block read = subst (λ (es : List Entry). IsReading (commits_of es) c.args.job.now.text.now block read) c.snapshot.ensures.value c.in-Ok.ensures.reads in
+    let reads : Reads old job read = subst (λ (b : List ℕ). IsReading old c.args.job.now.text.now b read) c.requires.block over in
+    job_told plan c.args.name.now c.args.job.now.session job read settled.field-0.body old settled.field-0.playing.group c.in-Ok-tell.done.group c.args.playing.text.items settled.field-0.playing.text.items c.in-Ok-tell.done.text.items settled.field-0.playing.watching c.in-Ok-tell.done.watching refl reads
+    settled.ensures.ok (settled.ensures.watches plan watches) settled.ensures.text c.in-Ok-tell.ensures.group c.in-Ok-tell.ensures.watching (c.in-Ok-tell.ensures.text plan (settled.ensures.watches plan watches))
+
+pub returns-in-Err-tell-clause-back : goal.returns-in-Err-tell-clause-back
+returns-in-Err-tell-clause-back g c =
+    back_on g.D.Disk c.args.playing.group c.in-Ok-answer.field-0.playing.group c.in-Err-tell.disk c.in-Ok-answer.ensures.keeps
+    (back_itself g.D.Disk c.in-Ok-answer.field-0.playing.group c.in-Err-tell.disk c.in-Err-tell.ensures.back)

@@ -1,7 +1,7 @@
+use Rattle.tl_group.specs.Keeping.{commits_in}
 use Rattle.tl_grouping.proofs.PlayLemmas.{add_done}
 use Rattle.tl_grouping.proofs.steps.settle.Goals as goal
 
-pub returns-in-Ok-clause-ok : goal.returns-in-Ok-clause-ok
-returns-in-Ok-clause-ok g c =
-    let ok = c.in-Ok.ensures.ok in
-    add_done c.args.group.now c.add.new.self c.args.author c.in-Ok.version c.args.batch.now ok.0 ok.2 ok.3 ok.1 c.requires.standard
+pub returns-in-Ok-take_in-clause-ok : goal.returns-in-Ok-take_in-clause-ok
+returns-in-Ok-take_in-clause-ok g c =
+    add_done c.args.playing.group.limits (commits_in c.args.playing.group) (commits_in c.in-Ok-take_in.playing.group) c.args.author c.args.batch.now c.in-Ok.commit c.in-Ok-take_in.ensures.commits c.in-Ok.ensures.ok c.requires.standard

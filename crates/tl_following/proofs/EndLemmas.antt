@@ -1,24 +1,31 @@
 -- How a journal that follows packets ends.
-use Rattle.std.proofs.Common.{◌≡◌, ◌⊎◌, inl, inr, ℕ, List, [], ◌++◌, length, Some, None, refl, sym, ap, ◌∙◌, subst, append-nil}
+use Rattle.std.proofs.Common.{◌≡◌, inl, inr, ℕ, List, [], ◌++◌, length, map, Some, None, refl, sym, ap, ◌∙◌, subst, append-nil}
 use Rattle.std.specs.declared.option.Option.{Option}
 use Rattle.tl_types.specs.declared.commits.Commit.{Commit}
+use Rattle.tl_types.specs.declared.commits.Entry.{Entry}
+use Rattle.tl_types.specs.Entries.{commits_of}
 use Rattle.tl_device.specs.declared.disk.Disk.{Ghosts as DiskGhosts}
 use Rattle.tl_device.specs.declared.sink.Sink.{Ghosts as SinkGhosts}
+use Rattle.tl_device.specs.Disk.{Only}
 use Rattle.tl_device.specs.Known.{append_known}
-use Rattle.tl_group.specs.Keeping.{commits_in}
+use Rattle.tl_journal.specs.Image.{ImageStandsFor}
+use Rattle.tl_index.specs.Snapshots.{commit_entry}
+use Rattle.tl_group.specs.Keeping.{commits_in, journal_commits}
 use Rattle.tl_group.specs.Plain as group
+use Rattle.tl_group.specs.Standing.{DiskStandsForGroup, IsGivenBack, WaitsWithAll}
+use Rattle.tl_group.proofs.WaitLemmas.{commits_behind}
 use Rattle.tl_command.specs.declared.statuses.Status.{Status}
 use Rattle.tl_command.specs.declared.statuses.Status.TheVariants as status
 use Rattle.tl_command.specs.Closing.{Closes}
 use Rattle.tl_command.specs.Outside.{Outside, HoldsJournal}
 use Rattle.tl_command.specs.Status.{closing_line}
-use Rattle.tl_grouping.specs.Appending.{AppendsAndWrites, GivesUp, IsAttached}
+use Rattle.tl_grouping.specs.Appending.{AppendsAndWrites, IsAttached}
 use Rattle.tl_grouping.specs.Leaving.{LeavesBy}
 use Rattle.tl_grouping.specs.Playing.{KeepsDisk}
-use Rattle.tl_grouping.proofs.DiskLemmas.{holds_journal, left_image, left_count}
+use Rattle.tl_grouping.proofs.DiskLemmas.{holds_journal, left_image, left_count, stored_image}
 use Rattle.tl_grouping.proofs.EndLemmas.{appended}
 use Rattle.tl_grouping.proofs.PlayLemmas.{keeps_itself}
-use Rattle.tl_following.specs.Following.{Extends, FailsInput, FollowEndsBy, Follows, TakesCommits, follow_line}
+use Rattle.tl_following.specs.Following.{AppendsMore, Extends, FailsInput, FollowEndsBy, Follows, TakesCommits, follow_line}
 
 -- where the input has no fault
 as_follow : (opening : List Commit) (before after : Outside) (ended : Status) → LeavesBy (λ all text. Follows opening all text before after) opening before after ended → FollowEndsBy opening before after ended
@@ -33,11 +40,28 @@ as_follow opening before after (status.NotInitialised len) h = h
 as_follow opening before after (status.AlreadyInitialised len) h = h
 as_follow opening before after (status.Damaged at) h = h
 as_follow opening before after (status.PacketFault at) h = absurd h
+as_follow opening before after (status.WatchFault f) h = h
 
 -- nothing was written
 silent_line : (old new : Option (List ℕ)) → new ≡ append_known old [] → new ≡ old
 silent_line None new e = e
 silent_line (Some b) new e = e ∙ ap Some (append-nil b)
+
+-- a group that was extended by commits, and is appended with the line that tells how many there are
+pub extended_by : {K D : Type 0} (sinks : SinkGhosts K) (disks : DiskGhosts D) (first waiting later : group.Group D) (commits given : List Commit) (next : List Entry) (text : List ℕ) (old new : K) (disk : D) (ended : Status) → waiting ≡ first → given ≡ commits → next ≡ first.entries ++ map commit_entry commits → later.limits ≡ waiting.limits → WaitsWithAll given waiting later → disks.faults later.journal.disk ≡ disks.faults waiting.journal.disk → (DiskStandsForGroup disks.reads disks.may_leave waiting → DiskStandsForGroup disks.reads disks.may_leave later) → text ≡ follow_line (length (commits_of next)) → AppendsAndWrites sinks disks later text old new disk ended → AppendsMore sinks disks first commits old new disk ended
+extended_by {D = D} sinks disks first waiting later commits given next text old new disk ended is same next_is limits waits count stands line writes =
+    let w = subst (λ (g : group.Group D). WaitsWithAll commits g later) is (subst (λ (cs : List Commit). WaitsWithAll cs waiting later) same waits) in
+    record {
+      later = later;
+      keeps = record {
+        limits_same = limits ∙ ap (λ g. g.limits) is;
+        journal_same = w.journal_same;
+        count_same = count ∙ ap (λ g. disks.faults g.journal.disk) is;
+        stands = λ s. stands (subst (λ (g : group.Group D). DiskStandsForGroup disks.reads disks.may_leave g) (sym is) s);
+      };
+      all = ap commits_of w.entries_are ∙ commits_behind first.entries commits;
+      writes = subst (λ (t : List ℕ). AppendsAndWrites sinks disks later t old new disk ended) (line ∙ ap (λ es. follow_line (length (commits_of es))) (next_is ∙ sym w.entries_are)) writes;
+    }
 
 module _ {K D : Type 0} (sinks : SinkGhosts K) (disks : DiskGhosts D) (begun : D) (attached : group.Group D) (left end : Option (List ℕ)) (first last : ℕ) (old new : K) (disk : D) (ended : Status) (a : IsAttached disks begun attached) where
   abbrev pub before : Outside
@@ -49,16 +73,22 @@ module _ {K D : Type 0} (sinks : SinkGhosts K) (disks : DiskGhosts D) (begun : D
   holds : (later : group.Group D) → KeepsDisk disks attached later → disk ≡ later.journal.disk → HoldsJournal (commits_in attached) None before after
   holds later k same = holds_journal (commits_in attached) before after (left_count disks begun disk attached later a k same) (left_image disks begun disk attached later a k same)
 
+  held : IsGivenBack disks.reads disks.may_leave disks.faults attached disk → HoldsJournal (commits_in attached) None before after
+  held back = holds_journal (commits_in attached) before after (back.count_same ∙ a.count_same) by_bytes where
+    by_bytes : (b : List ℕ) → disks.reads begun ≡ Some b → (bytes : List ℕ) × (disks.reads disk ≡ Some bytes) × Only bytes (disks.may_leave disk) × ImageStandsFor (commits_in attached) bytes
+    by_bytes b told =
+        let s = back.stands (a.stands b told) in
+        subst (λ (cs : List Commit). (bytes : List ℕ) × (disks.reads disk ≡ Some bytes) × Only bytes (disks.may_leave disk) × ImageStandsFor cs bytes) a.journal_is
+        (stored_image disks disk (journal_commits attached) s.0 s.1)
+
   -- the commits were appended, or the group was given up
   pub extended : (commits : List Commit) → TakesCommits (commits_in attached) left end commits → last ≡ first → Extends sinks disks attached commits old new disk ended → FollowEndsBy (commits_in attached) before after ended
-  extended commits taken sure h = by_end h.ends where
-    by_end : (GivesUp sinks h.later old new disk ended ⊎ ((commits_in h.later ≡ commits_in attached ++ commits) × AppendsAndWrites sinks disks h.later (follow_line (length (commits_in h.later))) old new disk ended)) → FollowEndsBy (commits_in attached) before after ended
-    by_end (inl (e, same, written, faults)) =
-        subst (FollowEndsBy (commits_in attached) before after) (sym e) ((written, faults), holds h.later h.keeps same)
-    by_end (inr (all, writes)) =
-        as_follow (commits_in attached) before after ended
-        (appended sinks disks (λ all text. Follows (commits_in attached) all text before after) begun attached h.later (follow_line (length (commits_in h.later))) left end first last old new disk ended a h.keeps
-        (taken.0, taken.2.0, taken.1.1, taken.1.2, taken.2.1, taken.2.2, all ∙ taken.2.3.history, refl, sure) writes)
+  extended commits taken sure (inl (e, back, written, faults)) =
+      subst (FollowEndsBy (commits_in attached) before after) (sym e) ((written, faults), held back)
+  extended commits taken sure (inr more) =
+      as_follow (commits_in attached) before after ended
+      (appended sinks disks (λ all text. Follows (commits_in attached) all text before after) begun attached more.later (follow_line (length (commits_in more.later))) left end first last old new disk ended a more.keeps
+      (taken.0, taken.2.0, taken.1.1, taken.1.2, taken.2.1, taken.2.2, more.all ∙ taken.2.3.history, refl, sure) more.writes)
 
   -- no commits were made of the input
   pub not_extended : (wanted : Status) → FailsInput (commits_in attached) left first last wanted → disk ≡ attached.journal.disk → Closes [] wanted (sinks.written old) (sinks.written new) (sinks.faults old) (sinks.faults new) ended → FollowEndsBy (commits_in attached) before after ended
@@ -84,3 +114,4 @@ module _ {K D : Type 0} (sinks : SinkGhosts K) (disks : DiskGhosts D) (begun : D
     by_status (status.AlreadyInitialised n) h c = absurd h
     by_status (status.Damaged n) h c = absurd h
     by_status (status.PacketFault n) h c = cut (status.PacketFault n) h (λ written faults. (h.0, h.1, record { prints = (written, faults); holds = kept })) c
+    by_status (status.WatchFault f) h c = absurd h

@@ -38,6 +38,7 @@ none_made opening before first last (status.NotInitialised n) h = absurd h
 none_made opening before first last (status.AlreadyInitialised n) h = absurd h
 none_made opening before first last (status.Damaged n) h = absurd h
 none_made opening before first last (status.PacketFault n) (at, long, sure) = (inl (at, long), sure)
+none_made opening before first last (status.WatchFault f) h = absurd h
 
 -- the fault of an input that was taken whole
 pub input_faulty : (opening : List Commit) (before after : Option (List ℕ)) (bytes : List ℕ) (first last at : ℕ) → TakesBytes bytes before after → IsInputFault standard_limits opening bytes (packet.BadPacket at) → last ≡ first → FailsInput opening before first last (status.PacketFault at)

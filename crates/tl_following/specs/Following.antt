@@ -19,6 +19,7 @@ use Rattle.tl_device.specs.declared.sink.Sink.{Ghosts as SinkGhosts}
 use Rattle.tl_script.specs.Taking.{IsAtEnd}
 use Rattle.tl_group.specs.Keeping.{commits_in}
 use Rattle.tl_group.specs.Plain as group
+use Rattle.tl_group.specs.Standing.{IsGivenBack}
 use Rattle.tl_follow.specs.declared.inputs.TheConstants.{INPUT_LIMIT}
 use Rattle.tl_follow.specs.declared.packets.Packet.{Packet}
 use Rattle.tl_follow.specs.Following.{followed}
@@ -27,7 +28,7 @@ use Rattle.tl_command.specs.declared.statuses.Status.{Status}
 use Rattle.tl_command.specs.declared.statuses.Status.TheVariants as status
 use Rattle.tl_command.specs.Closing.{EndsRefused}
 use Rattle.tl_command.specs.Outside.{Outside, OpensWith}
-use Rattle.tl_grouping.specs.Appending.{AppendsAndWrites, GivesUp}
+use Rattle.tl_grouping.specs.Appending.{AppendsAndWrites}
 use Rattle.tl_grouping.specs.Leaving.{CutsGivenUp, IsGivenUp, LeavesBy}
 use Rattle.tl_grouping.specs.Playing.{KeepsDisk}
 
@@ -75,6 +76,7 @@ FailsBytes before first last (status.AlreadyInitialised len) = ⊥
 FailsBytes before first last (status.Damaged at) = ⊥
 FailsBytes before first last (status.PacketFault at) =
     (at ≡ INPUT_LIMIT) × IsTooLong before × (last ≡ first)
+FailsBytes before first last (status.WatchFault f) = ⊥
 
 -- why no commits were made of the input: memory ran out, the source failed, or it has a fault
 abbrev pub FailsInput : List Commit → Option (List ℕ) → ℕ → ℕ → Status → Type 0
@@ -91,20 +93,35 @@ FailsInput opening before first last (status.AlreadyInitialised len) = ⊥
 FailsInput opening before first last (status.Damaged at) = ⊥
 FailsInput opening before first last (status.PacketFault at) =
     HasInputFault opening at before × (last ≡ first)
+FailsInput opening before first last (status.WatchFault f) = ⊥
 
 -- THE GROUP
 
+-- memory ran out before the append: nothing is written, and the disk is handed back
+abbrev pub GivesBack : {K D : Type 0} → SinkGhosts K → DiskGhosts D → group.Group D → K → K → D
+    → Status → Type 0
+GivesBack sinks disks group old new disk ended =
+    (ended ≡ status.NoMemory)
+    × IsGivenBack disks.reads disks.may_leave disks.faults group disk
+    × (sinks.written new ≡ sinks.written old) × (sinks.faults new ≡ sinks.faults old)
+
 -- the commits wait behind those of a group, and are appended with the line that tells how many
--- there are then; or the group is given up for want of memory
-pub record Extends {K D : Type 0} (sinks : SinkGhosts K) (disks : DiskGhosts D)
+-- there are then
+pub record AppendsMore {K D : Type 0} (sinks : SinkGhosts K) (disks : DiskGhosts D)
     (first : group.Group D) (commits : List Commit) (old new : K) (disk : D) (ended : Status)
     : Type 0 where
   pub later : group.Group D
   pub keeps : KeepsDisk disks first later
-  pub ends : GivesUp sinks later old new disk ended
-      ⊎ ((commits_in later ≡ commits_in first ++ commits)
-      × AppendsAndWrites sinks disks later (follow_line (length (commits_in later))) old new disk
-      ended)
+  pub all : commits_in later ≡ commits_in first ++ commits
+  pub writes : AppendsAndWrites sinks disks later (follow_line (length (commits_in later))) old new
+      disk ended
+
+-- the group is given up for want of memory, or the commits are appended
+abbrev pub Extends : {K D : Type 0} → SinkGhosts K → DiskGhosts D → group.Group D → List Commit
+    → K → K → D → Status → Type 0
+Extends sinks disks first commits old new disk ended =
+    GivesBack sinks disks first old new disk ended
+    ⊎ AppendsMore sinks disks first commits old new disk ended
 
 -- THE COMMAND
 
@@ -154,6 +171,9 @@ FollowEndsBy opening before after (status.AlreadyInitialised len) =
 FollowEndsBy opening before after (status.Damaged at) =
     LeavesBy (λ all text. Follows opening all text before after) opening before after
     (status.Damaged at)
+FollowEndsBy opening before after (status.WatchFault f) =
+    LeavesBy (λ all text. Follows opening all text before after) opening before after
+    (status.WatchFault f)
 
 -- the same, with what was opened
 pub record FollowOpened (opening : List Commit) (before after : Outside) (ended : Status) : Type 0

@@ -1,26 +1,27 @@
 //! A journal is opened, the packets of the source make commits behind its own, and these are
 //! appended as one group. Where the input has a fault or fails, or memory runs out, the disk keeps
 //! what it had.
-ghost use Rattle.std.specs.Prelude.{◌≡◌, ◌++◌, length, IfErr, IfOk, OnOk};
+ghost use Rattle.std.specs.Prelude.{◌≡◌, ◌++◌, length, map, IfErr, IfOk, OnOk};
 ghost use Rattle.std.specs.String.{string_bytes};
+ghost use Rattle.tl_types.specs.Entries.{commits_of};
 ghost use Rattle.tl_types.specs.History.{database_of};
 ghost use Rattle.tl_types.specs.Legality.{FitFrom};
 ghost use Rattle.tl_types.specs.Limits.{standard_limits};
+ghost use Rattle.tl_index.specs.Snapshots.{commit_entry};
 ghost use Rattle.tl_command.specs.Outside.{outside};
 ghost use Rattle.tl_group.specs.Keeping.{commits_in};
 ghost use Rattle.tl_grouping.specs.Appending.{IsAttached};
-ghost use Rattle.tl_grouping.specs.Playing.{KeepsDisk};
 ghost use Rattle.tl_following.specs.Following.{Extends, FailsBytes, FailsInput, FollowEnds, FollowEndsBy, TakesBytes, TakesCommits, follow_line};
 
 use std::alloc::Global;
 use tl_command::{Ending, Status, close, end_refused};
 use tl_device::{Disk, Sink, Source};
-use tl_follow::{INPUT_LIMIT, PacketFault, follow_input};
+use tl_follow::{Followed, INPUT_LIMIT, PacketFault, follow_input};
 use tl_group::Group;
 use tl_grouping::append;
 use tl_journal::Refused;
 use tl_script::{NextError, read_block};
-use tl_types::{Bytes, Commit, Limits, NoMemory, Published, Seq};
+use tl_types::{Bytes, Limits, NoMemory, Published};
 
 // The bytes of the whole input, or why there are none.
 fn read_input<S: Source>(alloc: Global, source: &mut S) -> Result<Bytes, Status>
@@ -40,15 +41,17 @@ fn read_input<S: Source>(alloc: Global, source: &mut S) -> Result<Bytes, Status>
     }
 }
 
-// The commits that the packets of the whole input make behind those of a group, or why there are
-// none. The group stays as it is.
+// The commits that the packets of the whole input make behind those of a group, with the snapshot
+// that they make, or why there are none. The group stays as it is.
 fn take_input<S: Source, D: Disk>(
     alloc: Global,
     group: &Group<D>,
     source: &mut S,
-) -> Result<Seq<Commit>, Status>
-    ensures ok { IfOk result (TakesCommits (commits_in group.now) (S.left source.old)
-        (S.left source.new)) }
+) -> Result<Followed, Status>
+    ensures ok { IfOk result (λ f. TakesCommits (commits_in group.now) (S.left source.old)
+        (S.left source.new) f.commits) }
+    ensures next { IfOk result
+        (λ f. f.snapshot ≡ group.now.entries ++ map commit_entry f.commits) }
     ensures err { IfErr result (FailsInput (commits_in group.now) (S.left source.old)
         (S.faults source.old) (S.faults source.new)) }
     ensures sure { OnOk result (S.faults source.new ≡ S.faults source.old) }
@@ -61,44 +64,18 @@ fn take_input<S: Source, D: Disk>(
         return Err(Status::NoMemory);
     };
     match follow_input(alloc, snapshot, &Limits::standard(), bytes.as_slice()) {
-        Ok(commits) => Ok(commits),
+        Ok(followed) => Ok(followed),
         Err(PacketFault::BadPacket { at }) => Err(Status::PacketFault { at: at as u64 }),
         Err(PacketFault::NoMemory) => Err(Status::NoMemory),
     }
 }
 
-// Makes commits that fit one after the other wait behind those of a group. The error is `NoMemory`.
-fn push_all<D: Disk>(
-    alloc: Global,
-    group: &mut Group<D>,
-    commits: Seq<Commit>,
-) -> Result<(), NoMemory>
-    requires standard { group.old.limits ≡ standard_limits }
-    requires fit { FitFrom standard_limits (database_of (commits_in group.old)) commits }
-    ensures ok { OnOk result (commits_in group.new ≡ commits_in group.old ++ commits) }
-    ensures keeps { KeepsDisk D.Disk group.old group.new }
+// The line that tells how many commits there are. The error is `NoMemory`.
+fn line_of(alloc: Global, followed: &Followed) -> Result<String, NoMemory>
+    ensures { IfOk result (λ line. string_bytes line
+        ≡ follow_line (length (commits_of followed.now.snapshot))) }
 {
-    for commit in commits.into_vec() {
-        group.push(alloc, &commit)?;
-    }
-    Ok(())
-}
-
-// Makes the commits wait, and the line that tells how many there are then. The error is `NoMemory`.
-fn push_and_tell<D: Disk>(
-    alloc: Global,
-    group: &mut Group<D>,
-    commits: Seq<Commit>,
-) -> Result<String, NoMemory>
-    requires standard { group.old.limits ≡ standard_limits }
-    requires fit { FitFrom standard_limits (database_of (commits_in group.old)) commits }
-    ensures ok { OnOk result (commits_in group.new ≡ commits_in group.old ++ commits) }
-    ensures line { IfOk result
-        (λ line. string_bytes line ≡ follow_line (length (commits_in group.new))) }
-    ensures keeps { KeepsDisk D.Disk group.old group.new }
-{
-    push_all(alloc, group, commits)?;
-    let count = group.snapshot().store().versions();
+    let count = followed.snapshot.store().versions();
     format!(in alloc; "follow @{count}\n")
 }
 
@@ -106,21 +83,32 @@ fn push_and_tell<D: Disk>(
 fn extend<K: Sink, D: Disk>(
     alloc: Global,
     group: Group<D>,
-    commits: Seq<Commit>,
+    followed: Followed,
     sink: &mut K,
 ) -> Ending<D>
     requires standard { group.limits ≡ standard_limits }
-    requires fit { FitFrom standard_limits (database_of (commits_in group)) commits }
-    ensures { Extends K.Sink D.Disk group commits sink.old sink.new result.disk result.status }
+    requires fit { FitFrom standard_limits (database_of (commits_in group)) followed.commits }
+    requires next { followed.snapshot ≡ group.entries ++ map commit_entry followed.commits }
+    ensures { Extends K.Sink D.Disk group followed.commits sink.old sink.new
+        result.disk result.status }
 {
-    let mut group = group;
-    let Ok(line) = push_and_tell(alloc, &mut group, commits) else {
+    let Ok(line) = line_of(alloc, &followed) else {
         return Ending {
             status: Status::NoMemory,
             disk: group.into_disk(),
         };
     };
-    append(group, line.as_bytes(), sink)
+    let Followed { commits, snapshot } = followed;
+    match group
+        .without_keys()
+        .extend(alloc, commits.as_slice(), snapshot)
+    {
+        Ok(group) => append(group, line.as_bytes(), sink),
+        Err(disk) => Ending {
+            status: Status::NoMemory,
+            disk,
+        },
+    }
 }
 
 // Takes the input behind a group as it was opened, and appends what its packets make.
@@ -136,7 +124,7 @@ fn follow_over<S: Source, K: Sink, D: Disk>(
         (outside S.Source K.Sink D.Disk source.new sink.new result.disk) result.status }
 {
     match take_input(alloc, &group, source) {
-        Ok(commits) => extend(alloc, group, commits, sink),
+        Ok(followed) => extend(alloc, group, followed, sink),
         Err(ended) => Ending {
             status: close(alloc, sink, ended),
             disk: group.into_disk(),

@@ -2,8 +2,8 @@
 //!
 //! The journal is opened; the source is read to its end; the commits that its packets make behind
 //! the journal's are appended as one group. An input that is too long, that is not packets to its
-//! end, or whose packets come to a commit that does not fit, is refused as a whole, with the offset;
-//! the journal then keeps the commits that it had.
+//! end, or whose packets come to a commit that does not fit, is refused as a whole, with the
+//! offset; the journal then keeps the commits that it had.
 #![tactic(auto)]
 
 mod following;

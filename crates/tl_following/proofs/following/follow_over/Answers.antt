@@ -5,7 +5,7 @@ pub returns-in-Ok : goal.returns-in-Ok
 returns-in-Ok g c = λ begun attached.
     let source = g.S.Source in
     extended g.K.Sink g.D.Disk begun c.args.group (source.left c.args.source.now) (source.left c.take_input.new.source) (source.faults c.args.source.now) (source.faults c.take_input.new.source) c.args.sink.now c.extend.new.sink c.extend.result.disk c.extend.result.status attached
-    c.in-Ok.commits c.in-Ok.ensures.ok c.in-Ok.ensures.sure c.extend.ensures
+    c.in-Ok.followed.commits c.in-Ok.ensures.ok c.in-Ok.ensures.sure c.extend.ensures
 
 pub returns-in-Err : goal.returns-in-Err
 returns-in-Err g c = λ begun attached.

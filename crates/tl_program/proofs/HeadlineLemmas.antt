@@ -364,6 +364,7 @@ command_tells (Some (command.Sample lines start)) before after ended h = λ e. s
 command_tells (Some command.Group) before after ended h = tt
 command_tells (Some (command.Ship from to)) before after ended h = tt
 command_tells (Some command.Follow) before after ended h = tt
+command_tells (Some (command.Watch text)) before after ended h = tt
 
 -- out of memory
 pub memory_tells : (c : Option Command) (before : Outside) (ended : Status) → ended ≡ status.NoMemory → HeadlineBy c before before ended
@@ -375,3 +376,4 @@ memory_tells (Some (command.Sample lines start)) before ended e = λ done. absur
 memory_tells (Some command.Group) before ended e = tt
 memory_tells (Some (command.Ship from to)) before ended e = tt
 memory_tells (Some command.Follow) before ended e = tt
+memory_tells (Some (command.Watch text)) before ended e = tt

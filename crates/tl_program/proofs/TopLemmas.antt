@@ -1,5 +1,5 @@
 -- How a run ends, and when it is done.
-use Rattle.std.proofs.Common.{◌≡◌, ℕ, Bool, true, false, ◌≤◌, List, [], length, Some, None, is_some, IfSome, ◌⊎◌, ◌<◌, refl, ap, subst, sym, ◌∙◌, inl, inr, arith}
+use Rattle.std.proofs.Common.{◌≡◌, ℕ, Bool, true, false, ◌≤◌, List, [], length, Some, None, Result, Ok, is_some, IfSome, ◌⊎◌, ◌<◌, refl, ap, subst, sym, ◌∙◌, inl, inr, arith}
 use Rattle.std.specs.declared.option.Option.{Option}
 use Rattle.tl_types.specs.declared.commits.Commit.{Commit}
 use Rattle.tl_types.specs.Limits.{standard_limits}
@@ -22,7 +22,7 @@ use Rattle.tl_run.specs.Sample.{sample_reading}
 use Rattle.tl_run.specs.Stopping.{RunStops}
 use Rattle.tl_command.specs.Closing.{wanted_by, Writes, ClosesAfter, EndsFor, EndsRefused, NotMadeBy, InitEnds}
 use Rattle.tl_program.specs.Ending.{EndsBy}
-use Rattle.tl_program.specs.Headline.{IsDoneOrNoMemory, StaysSure, IsHonest, IsFaultless, IsFollowed, RunCompletes, CompletesBy}
+use Rattle.tl_program.specs.Headline.{IsDoneOrNoMemory, StaysSure, IsHonest, IsFaultless, IsFollowed, NamesPlan, RunCompletes, CompletesBy}
 use Rattle.tl_command.specs.Outside.{Outside, Streams, streams_of}
 use Rattle.tl_follow.specs.declared.inputs.TheConstants.{INPUT_LIMIT}
 use Rattle.tl_follow.specs.Inputs.{IsInput, input_fault}
@@ -31,6 +31,10 @@ use Rattle.tl_follow.proofs.InputLemmas.{one_input}
 use Rattle.tl_csv.proofs.NumberLemmas.{lt_true}
 use Rattle.tl_grouping.specs.Grouping.{GroupEnds, GroupEndsBy, Plays, WhyGivenUp}
 use Rattle.tl_grouping.specs.Leaving.{CutsGivenUp, LeavesBy}
+use Rattle.tl_grouping.specs.Watching.{WatchEnds, WatchEndsBy}
+use Rattle.tl_jobs.specs.declared.replies.Refusal.{Refusal}
+use Rattle.tl_watch.specs.declared.plans.WatchPlan.{WatchPlan}
+use Rattle.tl_watching.specs.Plans.{plan_reading}
 use Rattle.tl_shipping.specs.Shipping.{ShipEnds}
 use Rattle.tl_following.specs.Following.{FailsInput, FollowEnds, FollowEndsBy, Follows, HasInputFault}
 use Rattle.tl_run.proofs.EndLemmas.{no_rise, no_break, only_memory}
@@ -101,25 +105,33 @@ sink_rose What Why opening before after n (inl (same, inr h)) = h.prints.0
 sink_rose What Why opening before after n (inr (same, h)) = h.prints.0
 
 -- a group that was opened, with a script in which no fault is read
-group_opened : (opening : List Commit) (before after : Outside) (ended : Status) → GroupEndsBy script_reads opening before after ended → IsFaultless script_reads before → StaysSure before after → IsDoneOrNoMemory ended
-group_opened opening before after status.Done h faultless sure = inl refl
-group_opened opening before after status.NoMemory h faultless sure = inr refl
-group_opened opening before after status.Usage h faultless sure = absurd h
-group_opened opening before after (status.SourceFault n) h faultless sure = absurd (sure.source h.0.1)
-group_opened opening before after (status.SinkFault n) h faultless sure = absurd (sure.sink (sink_rose (λ all text. Plays script_reads opening all text before after) (WhyGivenUp script_reads before after) opening before after n h))
-group_opened opening before after (status.DiskFault n) h faultless sure = absurd (sure.disk h.1.holds.rose)
-group_opened opening before after (status.ScriptFault f) h faultless sure =
+group_opened : (plan : Option WatchPlan) (opening : List Commit) (before after : Outside) (ended : Status) → GroupEndsBy plan script_reads opening before after ended → IsFaultless script_reads before → StaysSure before after → IsDoneOrNoMemory ended
+group_opened plan opening before after status.Done h faultless sure = inl refl
+group_opened plan opening before after status.NoMemory h faultless sure = inr refl
+group_opened plan opening before after status.Usage h faultless sure = absurd h
+group_opened plan opening before after (status.SourceFault n) h faultless sure = absurd (sure.source h.0.1)
+group_opened plan opening before after (status.SinkFault n) h faultless sure = absurd (sure.sink (sink_rose (λ all text. Plays plan script_reads opening all text before after) (WhyGivenUp script_reads before after) opening before after n h))
+group_opened plan opening before after (status.DiskFault n) h faultless sure = absurd (sure.disk h.1.holds.rose)
+group_opened plan opening before after (status.ScriptFault f) h faultless sure =
     let script = h.0.0 in
     let own : script.0 ≡ faultless.script = sym (told_script before.left script.0 faultless.script faultless.told script.1) in
     absurd (let e : None ≡ Some f = sym faultless.whole ∙ (ap (λ s. (script_reads true s).fault) (sym own) ∙ script.2) in cc)
-group_opened opening before after (status.NotInitialised len) h faultless sure = absurd h
-group_opened opening before after (status.AlreadyInitialised len) h faultless sure = absurd h
-group_opened opening before after (status.Damaged at) h faultless sure = absurd h
-group_opened opening before after (status.PacketFault at) h faultless sure = absurd h
+group_opened plan opening before after (status.NotInitialised len) h faultless sure = absurd h
+group_opened plan opening before after (status.AlreadyInitialised len) h faultless sure = absurd h
+group_opened plan opening before after (status.Damaged at) h faultless sure = absurd h
+group_opened plan opening before after (status.PacketFault at) h faultless sure = absurd h
+group_opened plan opening before after (status.WatchFault f) h faultless sure = absurd h
 
 group_complete : (before after : Outside) (ended : Status) → GroupEnds script_reads before after ended → RunCompletes script_reads before after ended
 group_complete before after ended (inl refused) = λ honest faultless sure. refused_complete before after ended refused honest sure
-group_complete before after ended (inr (opening, h)) = λ honest faultless sure. group_opened opening before after ended h.ends faultless sure
+group_complete before after ended (inr (opening, h)) = λ honest faultless sure. group_opened None opening before after ended h.ends faultless sure
+
+watch_complete : (text : List ℕ) (before after : Outside) (ended : Status) → WatchEnds text script_reads before after ended → (honest : IsHonest before) → NamesPlan text honest.commits → IsFaultless script_reads before → StaysSure before after → IsDoneOrNoMemory ended
+watch_complete text before after ended (inl refused) honest names faultless sure = refused_complete before after ended refused honest sure
+watch_complete text before after ended (inr (opening, h)) honest (plan, names) faultless sure =
+    let same : honest.commits ≡ opening = (h.opens.stands honest.image honest.told).only honest.commits honest.stands in
+    let is : plan_reading opening text ≡ Ok plan = subst (λ (cs : List Commit). plan_reading cs text ≡ Ok plan) same names in
+    group_opened (Some plan) opening before after ended (subst (λ (r : Result WatchPlan Refusal). WatchEndsBy r script_reads opening before after ended) is h.ends) faultless sure
 
 ship_complete : (from to : ℕ) (before after : Outside) (ended : Status) → ShipEnds from to before after ended → IsHonest before → StaysSure before after → IsDoneOrNoMemory ended
 ship_complete from to before after ended (inl refused) honest sure = refused_complete before after ended refused honest sure
@@ -151,6 +163,7 @@ follow_opened opening before after (status.NotInitialised len) h followed sure =
 follow_opened opening before after (status.AlreadyInitialised len) h followed sure = absurd h
 follow_opened opening before after (status.Damaged at) h followed sure = absurd h
 follow_opened opening before after (status.PacketFault at) h followed sure = absurd (no_input_fault opening at before followed h.0)
+follow_opened opening before after (status.WatchFault f) h followed sure = absurd h
 
 follow_complete : (before after : Outside) (ended : Status) → FollowEnds before after ended → (honest : IsHonest before) → IsFollowed honest.commits before → StaysSure before after → IsDoneOrNoMemory ended
 follow_complete before after ended (inl refused) honest followed sure = refused_complete before after ended refused honest sure
@@ -167,6 +180,7 @@ command_completes (Some (command.Sample lines start)) before after ended h = λ 
 command_completes (Some command.Group) before after ended h = group_complete before after ended h
 command_completes (Some (command.Ship from to)) before after ended h = λ honest sure. ship_complete from to before after ended h.1 honest sure
 command_completes (Some command.Follow) before after ended h = λ honest followed sure. follow_complete before after ended h honest followed sure
+command_completes (Some (command.Watch text)) before after ended h = λ honest names faultless sure. watch_complete text before after ended h honest names faultless sure
 
 -- out of memory
 pub memory_completes : (c : Option Command) (before after : Outside) (ended : Status) → ended ≡ status.NoMemory → CompletesBy c before after ended
@@ -178,3 +192,4 @@ memory_completes (Some (command.Sample lines start)) before after ended e = λ s
 memory_completes (Some command.Group) before after ended e = λ honest faultless sure. inr e
 memory_completes (Some (command.Ship from to)) before after ended e = λ honest sure. inr e
 memory_completes (Some command.Follow) before after ended e = λ honest followed sure. inr e
+memory_completes (Some (command.Watch text)) before after ended e = λ honest names faultless sure. inr e

@@ -110,6 +110,12 @@ ship_settings (from ∷ to ∷ []) =
     with_pace (ship_of (version_by from) (version_by to)) (options_of [])
 ship_settings (from ∷ to ∷ word ∷ words) = nothing
 
+-- behind `watch`: one word, whatever it is, and no more words
+abbrev pub watch_settings : List (List ℕ) → Settings
+watch_settings [] = nothing
+watch_settings (text ∷ []) = with_pace (Some (command.Watch text)) (options_of [])
+watch_settings (text ∷ word ∷ words) = nothing
+
 -- behind `load`: a name, and options
 abbrev pub load_settings : List (List ℕ) → Settings
 load_settings [] = nothing
@@ -123,8 +129,9 @@ sample_settings (lines ∷ start ∷ options) =
     with_pace (sample_of (within 1 1000000 (spelled_number lines)) (spelled_number start))
     (options_of options)
 
--- what the words ask for: `init`, `group` or `follow`; `ship` and its two versions; or `run`,
--- `load` and a name, or `sample` and its two numbers, each of these three with options behind it
+-- what the words ask for: `init`, `group` or `follow`; `ship` and its two versions; `watch` and its
+-- text; or `run`, `load` and a name, or `sample` and its two numbers, each of these three with
+-- options behind it
 abbrev pub settings_of : List (List ℕ) → Settings
 settings_of [] = nothing
 settings_of (word ∷ words) =
@@ -134,13 +141,14 @@ settings_of (word ∷ words) =
     else (if same_bytes word (codes "sample") then sample_settings words
     else (if same_bytes word (codes "group") then alone command.Group words
     else (if same_bytes word (codes "ship") then ship_settings words
-    else (if same_bytes word (codes "follow") then alone command.Follow words else nothing))))))
+    else (if same_bytes word (codes "follow") then alone command.Follow words
+    else (if same_bytes word (codes "watch") then watch_settings words else nothing)))))))
 
 -- the command that the words are
 abbrev pub command_of : List (List ℕ) → Option Command
 command_of words = (settings_of words).command
 
--- the source is read by `run`, `load`, `group` and `follow` alone
+-- the source is read by `run`, `load`, `group`, `follow` and `watch` alone
 abbrev pub reads_source : Option Command → Bool
 reads_source None = false
 reads_source (Some command.Init) = false
@@ -150,6 +158,7 @@ reads_source (Some (command.Sample lines start)) = false
 reads_source (Some command.Group) = true
 reads_source (Some (command.Ship from to)) = false
 reads_source (Some command.Follow) = true
+reads_source (Some (command.Watch text)) = true
 
 -- the disk is used by all commands but `sample`
 abbrev pub uses_disk : Option Command → Bool
@@ -161,3 +170,4 @@ uses_disk (Some (command.Sample lines start)) = false
 uses_disk (Some command.Group) = true
 uses_disk (Some (command.Ship from to)) = true
 uses_disk (Some command.Follow) = true
+uses_disk (Some (command.Watch text)) = true

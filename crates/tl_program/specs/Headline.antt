@@ -14,7 +14,7 @@
 --   ScriptFault   script_fault  `PrintsToFault`                     Fault
 --
 -- Of Usage, NotInitialised, AlreadyInitialised and Damaged `Ends` says all.
-use Rattle.std.specs.Prelude.{◌≡◌, ◌⊎◌, ℕ, ◌≤◌, Bool, true, false, List, [], ◌∷◌, ◌++◌, length, take, map, Some, None, is_some}
+use Rattle.std.specs.Prelude.{◌≡◌, ◌⊎◌, ℕ, ◌≤◌, Bool, true, false, List, [], ◌∷◌, ◌++◌, length, take, map, Some, None, Ok, is_some}
 use Rattle.std.specs.declared.option.Option.{Option}
 use mathlib.Core.List.{IsPrefix}
 use Rattle.tl_types.specs.declared.commits.Commit.{Commit}
@@ -27,6 +27,8 @@ use Rattle.tl_jobs.specs.Play.{AreLonePhases}
 use Rattle.tl_session.specs.Transcript.{Transcript, IsTranscript}
 use Rattle.tl_jobs.specs.Turns.{Turn, meant}
 use Rattle.tl_jobs.specs.Written.{IsPlayOf, all_jobs, jobs_of, turns_bytes, transcript_bytes}
+use Rattle.tl_watch.specs.declared.plans.WatchPlan.{WatchPlan}
+use Rattle.tl_watching.specs.Plans.{plan_reading}
 use Rattle.tl_follow.specs.declared.packets.Packet.{Packet}
 use Rattle.tl_follow.specs.Inputs.{IsInput, input_fault}
 use Rattle.tl_journal.specs.Answers.{CountsFaults}
@@ -87,8 +89,12 @@ abbrev pub RunCompletes : (Bool → List ℕ → ScriptReading) → Outside → 
 RunCompletes reads before after ended =
     IsHonest before → IsFaultless reads before → StaysSure before after → IsDoneOrNoMemory ended
 
+-- the text names a plan over these commits
+abbrev pub NamesPlan : List ℕ → List Commit → Type 0
+NamesPlan text commits = (plan : WatchPlan) × (plan_reading commits text ≡ Ok plan)
+
 -- by what the words ask for: a journal is made of at most 17 bytes, a script is run to its end, and
--- so is a sample, which reads no script and uses no disk
+-- so is a sample, which reads no script and uses no disk; of a watch the text names a plan
 abbrev pub CompletesBy : Option Command → Outside → Outside → Status → Type 0
 CompletesBy None before after ended = Unit {0}
 CompletesBy (Some command.Init) before after ended =
@@ -107,6 +113,9 @@ CompletesBy (Some (command.Ship from to)) before after ended =
 CompletesBy (Some command.Follow) before after ended =
     (honest : IsHonest before) → IsFollowed honest.commits before → StaysSure before after
     → IsDoneOrNoMemory ended
+CompletesBy (Some (command.Watch text)) before after ended =
+    (honest : IsHonest before) → NamesPlan text honest.commits → IsFaultless script_reads before
+    → StaysSure before after → IsDoneOrNoMemory ended
 
 -- Completeness: with the words of a command, what it wants of the disk and the source, and no count
 -- that rises, the run is done, unless memory runs out.
@@ -329,6 +338,7 @@ HeadlineBy (Some (command.Sample lines start)) before after ended =
 HeadlineBy (Some command.Group) before after ended = Unit {0}
 HeadlineBy (Some (command.Ship from to)) before after ended = Unit {0}
 HeadlineBy (Some command.Follow) before after ended = Unit {0}
+HeadlineBy (Some (command.Watch text)) before after ended = Unit {0}
 
 abbrev pub Headline : List (List ℕ) → Outside → Outside → Status → Type 0
 Headline words before after ended = HeadlineBy (command_of words) before after ended

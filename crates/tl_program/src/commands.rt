@@ -3,11 +3,12 @@
 ghost use Rattle.std.specs.Prelude.{◌≡◌, ◌<◌, ◌≤◌, ◌^◌, ◌∷◌, IfOk, IfSome, Some, true};
 ghost use Rattle.std.specs.Char.{is_ascii_digit};
 ghost use Rattle.std.specs.List.{list_all};
-ghost use Rattle.tl_program.specs.Commands.{spelled_number, within, set_by, workers_by, every_by, pace_of, either, options_of, nothing, with_pace, load_of, sample_of, ship_of, version_by, alone, load_settings, sample_settings, ship_settings, settings_of, texts_of};
+ghost use Rattle.tl_program.specs.declared.commands.Command.TheVariants as command;
+ghost use Rattle.tl_program.specs.Commands.{spelled_number, within, set_by, workers_by, every_by, pace_of, either, options_of, nothing, with_pace, load_of, sample_of, ship_of, version_by, alone, load_settings, sample_settings, ship_settings, watch_settings, settings_of, texts_of};
 
 use std::alloc::Global;
 use tl_jobs::Pace;
-use tl_types::{NoMemory, Text, is_name};
+use tl_types::{Line, NoMemory, Text, is_name};
 
 /// What the words ask for.
 #[derive(Drop)]
@@ -38,6 +39,12 @@ pub enum Command {
         lines: u32,
         /// The number that its generator begins with.
         start: u64,
+    },
+    /// `watch TEXT`: the script that the source gives is run, its commits are appended at once, and
+    /// behind each reply `ok` the value of the plan is written that the text names.
+    Watch {
+        /// The text, of any length.
+        text: Line,
     },
 }
 
@@ -299,6 +306,27 @@ fn ship_settings(words: &[String]) -> Settings
     }
 }
 
+// The command to watch what a text names.
+fn watch_of(alloc: Global, text: &str) -> Result<Option<Command>, NoMemory>
+    ensures { IfOk result (λ c. c ≡ Some (command.Watch text.now)) }
+{
+    let text = Line::new(alloc, text)?;
+    Ok(Some(Command::Watch { text }))
+}
+
+// What the words behind `watch` set.
+fn watch_settings(alloc: Global, words: &[String]) -> Result<Settings, NoMemory>
+    ensures { IfOk result (λ settings. settings ≡ watch_settings (texts_of words.now)) }
+{
+    let [text, behind @ ..] = words else {
+        return Ok(nothing());
+    };
+    match behind {
+        [] => Ok(with_pace(watch_of(alloc, text.as_str())?, options_of(behind))),
+        _ => Ok(nothing()),
+    }
+}
+
 // What the words behind `load` set.
 fn load_settings(alloc: Global, words: &[String]) -> Result<Settings, NoMemory>
     ensures { IfOk result (λ settings. settings ≡ load_settings (texts_of words.now)) }
@@ -334,16 +362,18 @@ fn settings_by(alloc: Global, word: &str, words: &[String]) -> Result<Settings, 
         "group" => Ok(alone(Command::Group, words)),
         "ship" => Ok(ship_settings(words)),
         "follow" => Ok(alone(Command::Follow, words)),
+        "watch" => watch_settings(alloc, words),
         _ => Ok(nothing()),
     }
 }
 
 /// What the words set. A command is `init`; `run`; `load TABLE` with a name of the language;
 /// `sample N START` with N from 1 to 1,000,000 and START from 0 to 2^64 - 1; `group`; `ship V W`
-/// with V and W from 0 to 16,777,215; or `follow`. Behind `run`, `load TABLE` and `sample N START`
-/// may stand `--workers W` with W from 1 to 64, and `--every K` with K from 0 to 16,777,216, each
-/// at most once and in either order; else W is 4 and K is 4096. The numbers are spelled by ASCII
-/// digits alone. Any other words are no command. The error is `NoMemory`.
+/// with V and W from 0 to 16,777,215; `follow`; or `watch TEXT` with any one word. Behind `run`,
+/// `load TABLE` and `sample N START` may stand `--workers W` with W from 1 to 64, and `--every K`
+/// with K from 0 to 16,777,216, each at most once and in either order; else W is 4 and K is 4096.
+/// The numbers are spelled by ASCII digits alone. Any other words are no command. The error is
+/// `NoMemory`.
 pub(crate) fn settings_of(alloc: Global, words: &[String]) -> Result<Settings, NoMemory>
     ensures { IfOk result (λ settings. settings ≡ settings_of (texts_of words.now)) }
 {

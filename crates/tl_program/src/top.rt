@@ -15,7 +15,7 @@ use std::thread::Threads;
 use tl_command::{Ending, Status, close, end_refused};
 use tl_device::{Disk, Gate, Sink, Source};
 use tl_following::follow;
-use tl_grouping::group;
+use tl_grouping::{WatchText, group, watch};
 use tl_journal::{InitRun, Journal};
 use tl_run::{Paced, load, run_sample, run_script};
 use tl_shipping::ship;
@@ -73,6 +73,14 @@ fn do_command<R: AllocGlobal + Threads + Wait + Sync, S: Source, K: Sink, D: Dis
         Some(Command::Group) => group(rt, &pace, source, sink, disk, gate),
         Some(Command::Ship { from, to }) => ship(rt.alloc(), from, to, sink, disk),
         Some(Command::Follow) => follow(rt.alloc(), source, sink, disk),
+        Some(Command::Watch { text }) => {
+            let word = text.as_str();
+            let watched = WatchText {
+                text: word,
+                pace: &pace,
+            };
+            watch(rt, &watched, source, sink, disk, gate)
+        }
     }
 }
 
@@ -94,6 +102,9 @@ fn do_command<R: AllocGlobal + Threads + Wait + Sync, S: Source, K: Sink, D: Dis
 ///   16,777,215, as packets. The source is not used.
 /// - `follow` opens the journal, reads packets to the end of the source, appends the commits that
 ///   they make behind the journal's at once, and writes how many there are then.
+/// - `watch TEXT` opens the journal and does what `group` does, with one plan: TEXT is an aggregate
+///   `OVER SYSTEM ALL`, and behind each reply `ok` stand the line `watch @V rows N` and the N rows
+///   of its value at the version V of the reply. The range is not used.
 ///
 /// Behind `run`, `load TABLE` and `sample N START` may stand `--workers W` and `--every K`, in
 /// either order, each at most once. The work of a query may be shared by W workers, 1 to 64, and 4
@@ -101,12 +112,12 @@ fn do_command<R: AllocGlobal + Threads + Wait + Sync, S: Source, K: Sink, D: Dis
 /// from 0 to 16,777,216, and 4096 where it is not given; for 0 there are no marks. What is answered
 /// and kept is right for each of them.
 ///
-/// The order is, of `group` and `follow`: the words; opening; the source and what it has; the
-/// append; writing. Of a run it is: the words; opening; then for each phase reading the source, the
-/// faults of the script, running, writing. The sessions of a phase run at once, each its own jobs
-/// in order; their replies are written, in the order of the jobs' lines, before more of the source
-/// is read. The statuses of a run, each with its closing line but for `Done`, `NoMemory` and
-/// `SinkFault`:
+/// The order is, of `group`, `follow` and `watch`: the words; opening; the text of `watch`; the
+/// source and what it has; the append; writing. Of a run it is: the words; opening; then for each
+/// phase reading the source, the faults of the script, running, writing. The sessions of a phase
+/// run at once, each its own jobs in order; their replies are written, in the order of the jobs'
+/// lines, before more of the source is read. The statuses of a run, each with its closing line but
+/// for `Done`, `NoMemory` and `SinkFault`:
 /// - `Done`: the source was read to its end, and the bytes written are the replies to all jobs, a
 ///   transcript of the script's phases. The disk holds the journal of the commits that they end
 ///   with, also in a crash. Where each phase has jobs of one session, the replies are those of the
@@ -131,18 +142,22 @@ fn do_command<R: AllocGlobal + Threads + Wait + Sync, S: Source, K: Sink, D: Dis
 ///   closing line alone is written, the source is unread, and the disk reads as it did.
 /// - `PacketFault`: where what `follow` read is too long, no packets, or packets that come to a
 ///   commit that does not fit. The closing line alone is written, and the disk keeps its journal.
+/// - `WatchFault`: where the text of `watch` is no statement, another than an aggregate `OVER
+///   SYSTEM ALL`, or does not fit the tables that the journal's commits make. The closing line
+///   alone is written, the source is unread, and the disk keeps its journal.
 ///
-/// Of `group` and `follow` the disk keeps its journal, or holds this and all commits that were to
-/// be appended, and never a part of them: all at `Done`, the one or the other at `DiskFault` and
-/// `SinkFault`, and the journal alone else. At `Done` the replies are written, or the line that
-/// tells how many commits there are; at `SinkFault` a prefix of these or of the closing line; else
-/// the closing line alone, or nothing. `ship` keeps the journal as it is, and writes all packets at
-/// `Done`, and a prefix of them at `SinkFault`.
+/// Of `group`, `follow` and `watch` the disk keeps its journal, or holds this and all commits that
+/// were to be appended, and never a part of them: all at `Done`, the one or the other at
+/// `DiskFault` and `SinkFault`, and the journal alone else. At `Done` the replies are written, with
+/// what is told of the plan of `watch`, or the line that tells how many commits there are; at
+/// `SinkFault` a prefix of these or of the closing line; else the closing line alone, or nothing.
+/// `ship` keeps the journal as it is, and writes all packets at `Done`, and a prefix of them at
+/// `SinkFault`.
 ///
 /// With the words of a command, a disk whose bytes are a journal of commits that fit one after the
-/// other (for `init` at most 17 bytes), a script, or for `follow` packets, without a fault and no
-/// count that rises, the status is `Done` or `NoMemory`. The call may wait, and starts threads of
-/// its own, which end with it.
+/// other (for `init` at most 17 bytes), a script, or for `follow` packets, without a fault, for
+/// `watch` a text that names a plan over the journal's commits, and no count that rises, the status
+/// is `Done` or `NoMemory`. The call may wait, and starts threads of its own, which end with it.
 pub fn timeline<
     R: AllocGlobal + Threads + Wait + Sync,
     S: Source,

@@ -257,12 +257,12 @@ fn refuses(alloc: Global, refused: u8, call: Call, text: &[u8]) -> bool {
     fails(&mut disk, call) && disk.faults() == 1 && record.was(text)
 }
 
-// Whether a second call finds the file open, and its lock taken.
-fn asks_once(alloc: Global) -> bool {
+// Whether a second call finds the file open, and its lock taken: just this was then asked.
+fn asks_once(alloc: Global, first: Call, second: Call, text: &[u8]) -> bool {
     let record = Record::new(alloc, b'-');
     let files = Stands { record: &record };
     let mut disk = FileDisk::new(&files, String::new(alloc));
-    answers(&mut disk, Call::Sync) && answers(&mut disk, Call::Cut) && record.was(b"olyc3")
+    answers(&mut disk, first) && answers(&mut disk, second) && record.was(text)
 }
 
 #[test]
@@ -274,7 +274,17 @@ fn a_file_is_asked_in_order(rt: HostRuntime) -> Result<(), Fail> {
     assert!(rt; asks(alloc, Call::Write, b"ols2wabcwdefwgf"));
     assert!(rt; asks(alloc, Call::Cut, b"olc3"));
     assert!(rt; asks(alloc, Call::Sync, b"oly"));
-    assert!(rt; asks_once(alloc));
+    Ok(())
+}
+
+#[test]
+fn a_file_is_opened_once(rt: HostRuntime) -> Result<(), Fail> {
+    let alloc = rt.alloc();
+    assert!(rt; asks_once(alloc, Call::Sync, Call::Cut, b"olyc3"));
+    assert!(rt; asks_once(alloc, Call::Len, Call::Read, b"olms1rr"));
+    assert!(rt; asks_once(alloc, Call::Read, Call::Sync, b"ols1rry"));
+    assert!(rt; asks_once(alloc, Call::End, Call::Write, b"ols4rrs2wabcwdefwgf"));
+    assert!(rt; asks_once(alloc, Call::Write, Call::Len, b"ols2wabcwdefwgfm"));
     Ok(())
 }
 

@@ -408,6 +408,8 @@ def another_program_has_the_journal():
                 judge(f"{words} over a journal that another program has", is_right, found)
             with open(f"{room}/timeline.tlj", "rb") as journal:
                 judge("the journal that another program has", journal.read() == before, "")
+            listed = run(["log", "--csv"], room=room)
+            judge("a listing of a journal that another program has", listed[0] == 0 and listed[2] == "", listed)
             waiter = subprocess.Popen([TIMELINE, "--wait", "load", "t"], cwd=room, stdin=subprocess.PIPE,
                                       stdout=subprocess.PIPE, stderr=subprocess.PIPE, text=True)
             waiter.stdin.write("k\n1\n")

@@ -1,6 +1,7 @@
 #!/usr/bin/env python3
 """Runs the commands that stand around the program: ask, shell, import, sync, seal, and days. Ends with 1 where something
 is not as it should be, and says what."""
+import contextlib
 import fcntl
 import os
 import pty
@@ -92,10 +93,15 @@ class Terminal:
         os.write(self.terminal, text.encode())
         return self.until(wanted)
 
-    def end(self):
-        status = os.waitstatus_to_exitcode(os.waitpid(self.number, 0)[1])
+    def end(self, key=""):
+        """The status that it ends with. Until then a key is pressed again each second, where one is given: bash misses a
+        signal that comes just as it begins to wait for a line."""
+        while not (ended := os.waitpid(self.number, os.WNOHANG if key else 0))[0]:
+            time.sleep(1)
+            with contextlib.suppress(OSError):
+                os.write(self.terminal, key.encode())
         os.close(self.terminal)
-        return status
+        return os.waitstatus_to_exitcode(ended[1])
 
 
 def questions_in_one_line():
@@ -238,7 +244,7 @@ def a_prompt():
         terminal = Terminal(["shell"], room)
         terminal.until("timeline> ")
         terminal.type("SELECT \x03", "^C")
-        judge("Ctrl-C in a shell", terminal.end() == 130)
+        judge("Ctrl-C in a shell", terminal.end("\x03") == 130)
         # Without a terminal it reads the same, and prints CSV.
         found = run(["shell"], "SELECT id FROM staff\n WHERE id > 2;\nMOMENT 5;\nREMOVE staff;\nid\n4\n\\.\nCOUNT FROM staff OVER SYSTEM 8 TO 10;\n", room)
         judge("shell from a pipe", found == (0, "id\n4\n3\n@8 ok\n@9 ok\nfrom,to,value\n8,9,4\n9,10,3\n", ""), found)

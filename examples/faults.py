@@ -1,6 +1,7 @@
 #!/usr/bin/env python3
 """Runs the program where a script alone does not reach: an input, an output and a journal that fail in a phase or
-between two. `faults.py PROGRAM`; ends with 1 where one run is not as it should be."""
+between two, and the lock of the journal. `faults.py PROGRAM`; ends with 1 where one run is not as it should be."""
+import fcntl
 import os
 import resource
 import signal
@@ -103,6 +104,35 @@ def streams_not_open():
             judge(f"descriptor {number} is not open", found == (status, said, 0, ""), found)
 
 
+def is_free(room, kind):
+    """Whether the lock of the journal in a folder can be taken, at once and for as long as this looks."""
+    with open(f"{room}/timeline.tlj", "rb") as journal:
+        try:
+            fcntl.flock(journal, kind | fcntl.LOCK_NB)
+        except BlockingIOError:
+            return False
+    return True
+
+
+def the_lock_is_kept():
+    """A run has the lock of its journal, which it shares with nobody, from its first reply until it ends."""
+    with tempfile.TemporaryDirectory() as room:
+        init(room)
+        with subprocess.Popen([PROGRAM, "run"], cwd=room, stdin=subprocess.PIPE, stdout=subprocess.PIPE) as run:
+            run.stdin.write(TABLE.encode())
+            run.stdin.flush()
+            found = run.stdout.readline(), is_free(room, fcntl.LOCK_SH)
+            judge("the lock while a run goes on", found == (b"a @1 ok\n", False), found)
+            run.stdin.close()
+            run.wait()
+        judge("the lock once the run has ended", is_free(room, fcntl.LOCK_EX), "it is not free")
+        with open(f"{room}/timeline.tlj", "rb") as other:
+            fcntl.flock(other, fcntl.LOCK_SH)
+            done = subprocess.run([PROGRAM, "run"], cwd=room, input=ROWS, capture_output=True, text=True)
+            found = done.returncode, done.stdout
+            judge("a run beside a shared lock", found == (5, "! device\n"), found)
+
+
 # A run that does not end is not as it should be either.
 signal.alarm(300)
 input_fails("a> CREATE TABLE emp", "! source\n", "a @0 ! UnknownTable 14\n")
@@ -114,4 +144,5 @@ journal_fails(50, [broken.format("device", "broken"), broken.format("broken", "d
 full = "a @1 ok\nb @2 {}\nc @2 {}\na @2 rows 1\n{}\n! device\na @2 rows 1\n{}\n"
 journal_fails(70, [full.format("ok", "! device", 1, 1), full.format("! device", "ok", 2, 2)])
 streams_not_open()
+the_lock_is_kept()
 sys.exit(failed)

@@ -1,6 +1,6 @@
 #!/usr/bin/env python3
-"""Runs the commands group, ship and follow: a group is kept whole or not at all, and packets come in any order, are lost
-and come again. Ends with 1 where something is not as it should be."""
+"""Runs the commands group, ship, follow and watch: a group is kept whole or not at all, packets come in any order, are
+lost and come again, and what is watched is what asking anew says. Ends with 1 where something is not as it should be."""
 import fcntl
 import os
 import random
@@ -12,6 +12,8 @@ import sys
 import tempfile
 
 HERE = os.path.dirname(os.path.abspath(__file__))
+sys.path.insert(0, HERE)
+import watched
 
 TIMELINE = os.path.join(os.path.dirname(HERE), "timeline")
 PROGRAM = os.path.join(os.path.dirname(HERE), "crates/timeline/out/timeline")
@@ -194,9 +196,58 @@ def packets_come_as_they_like():
             judge(f"the words {words}", run(words, room=leader)[:2] == (2, b"! usage\n"))
 
 
+def totals_that_are_always_there():
+    """What is watched is what asking anew says: for each kind, by a number, a text and by none, with no test, one and
+    three, over a plain table and one with periods; and watched from the first commit on, from between, and near the end."""
+    draw = random.Random(SEED)
+    create = ("a> CREATE TABLE t (k INT, g INT, n TEXT, x INT) KEY k\na> CREATE TABLE u (k INT) KEY k\n"
+              "a> CREATE TABLE v (k INT, g INT, n TEXT, x INT) KEY k VALID\n")
+
+    def cells():
+        return f"{draw.randrange(4)},{draw.choice('pqrs')},{draw.choice((-5, 0, 0, 3, 9223372036854775807))}"
+
+    def period():
+        begin = draw.randrange(100)
+        return f"{begin},{begin + 1 + draw.randrange(40)}"
+
+    def commit(at):
+        keys, kind = draw.sample(range(40), 3), draw.randrange(9)
+        if kind < 3:
+            return put("t", [f"{key},{cells()}" for key in keys], "k,g,n,x")
+        if kind < 6:
+            return put("v", [f"{key % 8},{cells()},{period()}" for key in keys], "k,g,n,x,valid_from,valid_to")
+        if kind == 6:
+            return f"a> REMOVE t\nk\n{keys[0]}\n\\.\na> REMOVE v\nk,valid_from,valid_to\n{keys[1] % 8},{period()}\n\\.\n"
+        if kind == 7:
+            return f"a> MOMENT {at}\na> FORGET u BEFORE 1\n"
+        return put("u", [at], "k") + "a> SELECT k FROM t WHERE x = 3\n"
+
+    commits = [commit(at) for at in range(200)]
+    texts = [f"{front} FROM {table}{test}{by} OVER SYSTEM ALL" for table in "tv" for front in ("COUNT", "SUM x", "AVG x", "MIN x", "MAX x")
+             for by in ("", " BY g", " BY n") for test in ("", " WHERE x = 0", " WHERE g = 1 AND n <> 'p' OR x < 0")]
+    # All from the first commit on; and each of three begins later as well.
+    for cut, watched_texts in ((0, texts), (100, texts[::3]), (190, texts[1::3])):
+        with Room() as room:
+            judge("what comes before", run(["run"], create + "".join(commits[:cut]), room)[0] == 0)
+            for text in watched_texts:
+                number, wrong = watched.compare(text, "".join(commits[cut:]), f"{room}/timeline.tlj")
+                judge(f"watch {text} from {cut} on", number >= 200 - cut - 50 and not wrong, (number, wrong))
+    with Room(create) as room:
+        before = journal(room)
+        for text, words, told in (("SELECT * FROM t", "Unexpected 0", "SELECT * FROM t"), ("SUM n FROM t OVER SYSTEM ALL", "WrongType 4", "    ^"),
+                                  ("SUM x FROM t OVER VALID 0 TO 1", "", ""), ("COUNT FROM nothing OVER SYSTEM ALL", "UnknownTable 11", "           ^"), ("", "Unexpected 0", "")):
+            status, printed, said = run(["--explain", "watch", text], put("t", ["1,1,p,1"], "k,g,n,x"), room)
+            judge(f"watch {text}", status == 11 and re.fullmatch(rf"! watch {words or '.*'}\n", printed.decode()) and told in said, (status, printed, said))
+        judge("what is not watched is not run", journal(room) == before)
+        found = run(["--strict", "watch", "COUNT FROM u OVER SYSTEM ALL"], put("u", [1], "k") + put("u", ["x"], "k") + put("u", [2], "k"), room)
+        judge("--strict watch", found == (20, b"a @4 ok\nwatch @4 rows 1\n1,1\na @4 ! NotInt 2 1\na @5 ok\nwatch @5 rows 1\n2,2\n",
+                                          "timeline: 1 of 3 statements was refused\n"), found)
+
+
 # A command that does not end is not as it should be either.
 signal.alarm(500)
 a_group_is_kept_whole()
 a_group_waits_twice()
 packets_come_as_they_like()
+totals_that_are_always_there()
 sys.exit(failed)

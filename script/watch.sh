@@ -11,17 +11,18 @@ live_awk() {
 
 # Reads replies, and prints of each that is refused its number and itself, then closing lines, and last how many
 # statements were answered and how many of them refused. Rows are passed over: one ends with a line in which no quote is
-# open. Each commit adds a byte to a file.
+# open; so is what `watch` writes behind each commit. Each commit adds a byte to a file.
 watch_replies() {
-    live_awk -v commits="$room/commits" '
+    live_awk -v commits="$room/commits" -v watches="${watched_text:+yes}" '
         left > 0 {
             if (index($0, "\"")) quotes += gsub(/"/, "\"")
             if (quotes % 2 == 0) { left--; quotes = 0 }
             next
         }
         /^! / { print "closing " $0; fflush(); next }
+        committed { committed = 0; left = $4 + 0; next }
         $3 == "rows" { answered++; left = $4 + 0 }
-        $3 == "ok" { answered++; printf "." >commits; fflush(commits) }
+        $3 == "ok" { answered++; committed = watches == "yes"; printf "." >commits; fflush(commits) }
         $3 == "!" {
             answered++
             if ($4 != "device" && $4 != "broken") refused++
@@ -51,6 +52,13 @@ explain_closing() {
             words=${words% *}
             ;;
         'journal '* | 'packet '*) words=${words% *} ;;
+        'watch '*)
+            # The text that is watched is shown as a statement is.
+            printf 'watch> %s\n' "$watched_text" >"$room/script"
+            script=$room/script start=0 bytes=0 line=1 seen=0 in_block=0
+            explain_refusal 1 "${words#watch }" >/dev/null
+            return
+            ;;
     esac
     { [[ -n $line ]] && tail -c +$((start + 1)) "$script" 2>/dev/null | sed -n "$line{p;q}"; } | tr '\0' '\1' |
         awk -v table="$root/docs/FORMATS.md" -v reply="$words" -v is_closing=1 -f "$root/script/explain.awk"

@@ -1,8 +1,8 @@
 #!/usr/bin/env python3
-"""Refuses memory to the program: each allocation of seven runs in turn, alone and with all behind it, by the library
+"""Refuses memory to the program: each allocation of nine runs in turn, alone and with all behind it, by the library
 that refuse.c makes. Each run has to give the usual result; or status 1, and then the replies of its first phases, whole,
-and a journal that opens and has at least the commits that were answered. Of `group`, `ship` and `follow` it is the usual
-result, or status 1, nothing that is written, and the journal as it was. `memory.py PROGRAM`; it prints a row for each
+and a journal that opens and has at least the commits that were answered. Of `group`, `ship`, `follow` and `watch` it is the
+usual result, or status 1, nothing that is written, and the journal as it was. `memory.py PROGRAM`; it prints a row for each
 run, `name, tried, wrong`, and says what was wrong."""
 import os
 import re
@@ -36,6 +36,11 @@ TOLD = [
 ]
 SAMPLE = [(None, "sample @1 ok\n"), (None, "sample @2 ok\n"), (None, "sample @2 rows 2\n0,2,\n2,3,9806\n"),
           (None, "sample @2 rows 2\n0,2,\n2,3,19564\n"), (None, "sample @2 rows 2\n4,2,3,19564\n6,2,3,9806\n")]
+
+# What is watched of the grouped script, and the rows behind each of its commits.
+LONG = "a text of more than sixteen bytes,2,1"
+WATCHED = [("MIN id FROM emp BY dept OVER SYSTEM ALL", [[LONG, "ops,1,1"]] * 2 + [[LONG, "dev,1,1"]] * 2),
+           ("COUNT FROM emp WHERE dept <> 'dev' OVER SYSTEM ALL", [["2,2"]] * 2 + [["1,1"]] * 2)]
 
 
 def called(words, given, room, library, **around):
@@ -96,6 +101,17 @@ def grouped():
     return first, script.encode(), b"a @2 ok\na @3 ok\na @4 ok\na @5 ok\na @5 rows 1\n1\n"
 
 
+def watched(replies, behind):
+    """The replies with what is watched behind each commit."""
+    lines, behind = [], iter(behind)
+    for line in replies.decode().splitlines():
+        lines.append(line)
+        if line.endswith(" ok"):
+            rows = next(behind)
+            lines += [f"watch {line.split()[1]} rows {len(rows)}", *rows]
+    return "".join(f"{it}\n" for it in lines).encode()
+
+
 def journal_of(phases):
     """The bytes of a journal of these phases."""
     with tempfile.TemporaryDirectory(dir=JOURNALS) as room:
@@ -147,11 +163,12 @@ def main():
         worked, empty = journal_of(WORKED), b"timeline journal\0"
         packets = over(["ship", "0", "16777215"], b"", worked)[1]
         for words, given, journal, wanted in (["group"], script, first, replies), (["ship", "0", "16777215"], b"", worked, packets), \
-                (["follow"], packets, empty, b"follow @5\n"):
+                (["follow"], packets, empty, b"follow @5\n"), \
+                *((["watch", text], script, first, watched(replies, behind)) for text, behind in WATCHED):
             status, written, left, _ = over(words, given, journal)
             if (status, written) != (0, wanted):
                 sys.exit(f"{words[0]}: status {status}, {written!r}")
-            runs[words[0]] = lambda refusal, it=(words, given, journal, (status, written, left)): all_or_nothing(*it, library, refusal)
+            runs[" ".join(words)[:30]] = lambda refusal, it=(words, given, journal, (status, written, left)): all_or_nothing(*it, library, refusal)
         for name, attempt in runs.items():
             tried = wrong = 0
             for refused, refusal in refusals():

@@ -12,5 +12,7 @@ pub mod WalkLemmas
 pub mod ValidEventOrder
 pub mod MarkLemmas
 pub mod TextLemmas
+mod KeywordLemmas
+mod KindLemmas
 mod Examples
 pub mod EventCounts

@@ -14,3 +14,4 @@ pub mod WellFormed
 pub mod Walks
 pub mod Marks
 pub mod Results
+pub mod Kinds

@@ -1,7 +1,7 @@
 //! The keywords of the language, how each is spelled, and which words are names: words of 1 to 64
 //! letters, digits and `_` that do not begin with a digit and are no keyword.
-ghost use Rattle.std.specs.Prelude.{◌≡◌};
-ghost use Rattle.std.specs.List.{list_all};
+ghost use Rattle.std.specs.Prelude.{◌≡◌, ◌==◌, length};
+ghost use Rattle.std.specs.List.{filter, find, list_all};
 ghost use Rattle.tl_types.specs.Names.{
   begins_word,
   continues_word,
@@ -10,6 +10,7 @@ ghost use Rattle.tl_types.specs.Names.{
   is_name,
   keyword_of,
   keywords,
+  same_bytes,
   spelling_of,
 };
 
@@ -82,40 +83,102 @@ pub enum Keyword {
     ValidTo,
 }
 
-const KEYWORDS: [Keyword; 32] = [
-    Keyword::Create,
-    Keyword::Table,
-    Keyword::Key,
-    Keyword::Valid,
-    Keyword::Int,
-    Keyword::Text,
-    Keyword::Put,
-    Keyword::Remove,
-    Keyword::Select,
-    Keyword::From,
-    Keyword::Where,
-    Keyword::And,
+// The keywords by how many letters they have, each list in the order above.
+const OF_TWO: [Keyword; 7] = [
     Keyword::Or,
     Keyword::As,
     Keyword::Of,
     Keyword::At,
-    Keyword::Count,
+    Keyword::By,
+    Keyword::To,
+    Keyword::On,
+];
+
+const OF_THREE: [Keyword; 9] = [
+    Keyword::Key,
+    Keyword::Int,
+    Keyword::Put,
+    Keyword::And,
     Keyword::Sum,
     Keyword::Avg,
     Keyword::Min,
     Keyword::Max,
-    Keyword::By,
-    Keyword::Over,
-    Keyword::System,
     Keyword::All,
-    Keyword::To,
+];
+
+const OF_FOUR: [Keyword; 5] = [
+    Keyword::Text,
+    Keyword::From,
+    Keyword::Over,
     Keyword::Join,
     Keyword::With,
-    Keyword::On,
-    Keyword::Forever,
-    Keyword::ValidFrom,
-    Keyword::ValidTo,
 ];
+
+const OF_FIVE: [Keyword; 4] = [
+    Keyword::Table,
+    Keyword::Valid,
+    Keyword::Where,
+    Keyword::Count,
+];
+
+const OF_SIX: [Keyword; 4] = [
+    Keyword::Create,
+    Keyword::Remove,
+    Keyword::Select,
+    Keyword::System,
+];
+
+const OF_SEVEN: [Keyword; 1] = [Keyword::Forever];
+
+const OF_EIGHT: [Keyword; 1] = [Keyword::ValidTo];
+
+const OF_TEN: [Keyword; 1] = [Keyword::ValidFrom];
+
+// The keywords of so many letters.
+#[tactic(auto, using(crate::proofs::KeywordLemmas::none_of_length), unfolding(crate::specs::Names::keywords, crate::specs::Names::spelling_of))]
+fn of_length(letters: usize) -> &'static [Keyword]
+    ensures { result.now ≡ filter (λ k. length (spelling_of k) == letters) keywords }
+{
+    match letters {
+        2 => OF_TWO.as_slice(),
+        3 => OF_THREE.as_slice(),
+        4 => OF_FOUR.as_slice(),
+        5 => OF_FIVE.as_slice(),
+        6 => OF_SIX.as_slice(),
+        7 => OF_SEVEN.as_slice(),
+        8 => OF_EIGHT.as_slice(),
+        10 => OF_TEN.as_slice(),
+        _ => &[],
+    }
+}
+
+// Whether two texts are the same. Most that are compared differ in their first byte.
+#[tactic(auto, using(crate::proofs::KeywordLemmas::other_first))]
+#[inline(always)]
+fn is_same(spelled: &str, word: &str) -> bool
+    ensures { result ≡ same_bytes spelled.now word.now }
+{
+    let [first, ..] = spelled.as_bytes() else {
+        return word.is_empty();
+    };
+    let [other, ..] = word.as_bytes() else {
+        return false;
+    };
+    if *first != *other {
+        return false;
+    }
+    spelled == word
+}
+
+// The keyword among these that a word is, or `None` where it is none of them.
+fn spelled_so(keywords: &[Keyword], word: &str) -> Option<Keyword>
+    ensures { result ≡ find (λ k. same_bytes (spelling_of k) word.now) keywords.now }
+{
+    keywords
+        .iter()
+        .copied()
+        .find(|keyword| is_same(keyword.spelling(), word))
+}
 
 impl Keyword {
     /// How the keyword is spelled.
@@ -160,14 +223,10 @@ impl Keyword {
     }
 
     /// The keyword that a word is, or `None` where the word is no keyword.
-    #[tactic(auto, unfolding(crate::specs::Names::keywords))]
     pub fn of(word: &str) -> Option<Keyword>
         ensures { result ≡ keyword_of word.now }
     {
-        KEYWORDS
-            .iter()
-            .copied()
-            .find(|keyword| keyword.spelling() == word)
+        spelled_so(of_length(word.len()), word)
     }
 }
 

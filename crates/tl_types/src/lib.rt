@@ -43,7 +43,7 @@ pub use schemas::{Column, Schema};
 pub use sequences::Seq;
 pub use small_sequences::SmallSeq;
 pub use steps::Steps;
-pub use texts::{Text, as_text, text_place};
+pub use texts::{Text, as_text, ascii_text, text_place};
 
 /// Out of memory, where that is the whole error of a call.
 pub type NoMemory = std::alloc::AllocError;

@@ -1,7 +1,7 @@
 //! Short texts of at most 65,535 bytes: names, and the cells of TEXT columns. A text of at most 16
 //! bytes stands in its value. Bytes become a text exactly where they are UTF-8.
 ghost use Rattle.std.specs.Prelude.{◌≡◌, ◌≤◌, ◌<◌, length, true, false, IfOk, IfSome, IfNone, IsUtf8, Some, refl, nat_eq};
-ghost use Rattle.std.specs.Str.{is_utf8};
+ghost use Rattle.std.specs.Str.{is_utf8, IsAscii};
 ghost use Rattle.std.specs.Ordering.{nat_cmp};
 ghost use Rattle.std.specs.Cmp.Lexicographic.{pointwise, slice_cmp, nat_list_eq_equiv, nat_list_cmp_total, texts_ties, texts_po};
 ghost use Rattle.std.specs.Cmp.{partial_equiv_from_equiv};
@@ -27,14 +27,22 @@ const SPREAD: u32 = 2654435769;
 /// of 32 bits: for tables in which a text is looked for at one place, by the number's upper bits.
 /// Other texts may have the same, so what stands at a place is compared, and any number is right.
 pub fn text_place(text: &str) -> u32 {
-    let mixed = match text.as_bytes() {
+    let bytes = text.as_bytes();
+    let mixed = match bytes {
         [first, .., third, second, last] => u32::from_le_bytes([*last, *second, *third, *first]),
+        _ => few_mixed(bytes),
+    };
+    mixed.wrapping_mul(SPREAD)
+}
+
+// The same bytes of a text of at most three.
+fn few_mixed(bytes: &[u8]) -> u32 {
+    match bytes {
         [first, second, last] => u32::from_le_bytes([*last, *second, 0, *first]),
         [first, last] => u32::from_le_bytes([*last, 0, 0, *first]),
         [only] => u32::from(*only),
-        [] => 0,
-    };
-    mixed.wrapping_mul(SPREAD)
+        _ => 0,
+    }
 }
 
 // Bytes that are not all ASCII as a text, where they are UTF-8.
@@ -50,16 +58,26 @@ fn as_wide_text(bytes: &[u8]) -> Option<&str>
     }
 }
 
+/// Bytes that are ASCII as a text, without a further look at them.
+#[tactic(auto, using(crate::proofs::TextLemmas::ascii_yes, crate::proofs::TextLemmas::ascii_test))]
+#[inline(always)]
+pub fn ascii_text(bytes: &[u8]) -> &str
+    requires { IsAscii bytes.now }
+    ensures text { result.now ≡ bytes.now }
+    ensures whole { is_utf8 bytes.now ≡ true }
+{
+    unsafe { str::from_utf8_unchecked(bytes) }
+}
+
 /// Bytes as a text, where they are UTF-8. Most texts are ASCII, for which one pass over the bytes
 /// is enough.
-#[tactic(auto, using(crate::proofs::TextLemmas::ascii_yes, crate::proofs::TextLemmas::ascii_test))]
 #[inline]
 pub fn as_text(bytes: &[u8]) -> Option<&str>
     ensures some { IfSome result (λ text. (text.now ≡ bytes.now) × (is_utf8 bytes.now ≡ true)) }
     ensures none { IfNone result (is_utf8 bytes.now ≡ false) }
 {
     if bytes.is_ascii() {
-        return Some(unsafe { str::from_utf8_unchecked(bytes) });
+        return Some(ascii_text(bytes));
     }
     as_wide_text(bytes)
 }
@@ -93,6 +111,7 @@ impl Model for Text {
 
 impl Text {
     /// A copy of a text of at most 65,535 bytes. The error is `NoMemory`.
+    #[inline(always)]
     pub fn new(alloc: Global, text: &str) -> Result<Text, NoMemory>
         requires { length text.now ≤ 65535 }
         ensures { IfOk result (λ t. t ≡ text.now) }

@@ -1,11 +1,11 @@
 -- The bits of a mask, one by one.
-use Rattle.std.proofs.Common.{◌≡◌, ◌≢◌, ℕ, zero, ◌*◌, ◌/◌, ◌%◌, ◌^◌, ◌≤◌, ◌<◌, ◌==◌, ◌⊎◌, List, Bool, true, false, length, get_or, set, replicate, refl, sym, ◌∙◌, ap, arith, inl, inr}
-use Rattle.std.specs.Int.{bit_not, w64}
+use Rattle.std.proofs.Common.{◌≡◌, ◌≢◌, ℕ, zero, suc, min, ◌&&◌, ◌*◌, ◌/◌, ◌%◌, ◌^◌, ◌≤◌, ◌<◌, ◌==◌, ◌⊎◌, List, Bool, true, false, length, get_or, set, replicate, refl, sym, ◌∙◌, ap, arith, inl, inr}
+use Rattle.std.specs.Int.{bit_at, bit_not, w64}
 use Rattle.std.specs.Prelude.{bit_and, bit_or}
 use Rattle.std.proofs.lemmas.Bool.{cases_eq, cases_lt}
 use Rattle.std.proofs.lemmas.List.{get_or-set_same, get_or-set_other, get_or_past, get_or-replicate, length-replicate}
 use Rattle.std.proofs.lemmas.List.FromFn.{get_or-map-range_with_len, length-map-range_with_len, fill_by_all}
-use Rattle.std.proofs.lemmas.Nat.Bits.{bit_at_set_same, bit_at_set_other, bit_at_clear_same, bit_at_clear_other, bit_at-zero}
+use Rattle.std.proofs.lemmas.Nat.Bits.{bit_at_set_same, bit_at_set_other, bit_at_clear_same, bit_at_clear_other, bit_at-zero, bit_at_and, bit_at-lt}
 use Rattle.tl_lanes.specs.Masks.{is_bit, bit_of, bits_of}
 
 -- no bit from `n` on is set
@@ -92,3 +92,19 @@ bit_of_zeros n j = by_place (cases_lt (j / 64) n) where
   by_place : (j / 64 < n) ⊎ (n ≤ j / 64) → bit_of (zeros n) j ≡ false
   by_place (inl below) = is_zero (get_or-replicate n (j / 64) zero zero below)
   by_place (inr past) = is_zero (get_or_past (zeros n) (j / 64) zero (let e = length-replicate n zero in omega arith))
+
+-- a word of two others, bit by bit
+pub bit_of_and : (a b k : ℕ) → is_bit (bit_and a b) k ≡ (is_bit a k && is_bit b k)
+bit_of_and a b k =
+    let e = bit_at_and a b k in
+    let f = bit_at-lt a k in
+    let g = bit_at-lt b k in
+    ap (λ n. n == 1) e ∙ least (bit_at a k) (bit_at b k) f g where
+      least : (m n : ℕ) → m < 2 → n < 2 → (min m n == 1) ≡ ((m == 1) && (n == 1))
+      least zero zero f g = refl
+      least zero (suc zero) f g = refl
+      least zero (suc (suc n)) f g = absurd (omega arith)
+      least (suc zero) zero f g = refl
+      least (suc zero) (suc zero) f g = refl
+      least (suc zero) (suc (suc n)) f g = absurd (omega arith)
+      least (suc (suc m)) n f g = absurd (omega arith)

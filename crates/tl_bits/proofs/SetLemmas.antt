@@ -15,7 +15,7 @@ use Rattle.std.specs.Simd.Lanes.{mask_l}
 use Rattle.std.specs.Int.{bit_at, bit_not, w64, trailing_zeros}
 use Rattle.std.specs.Int.Bits.{or_zero_r}
 use mir.Val.{bool_byte}
-use Rattle.std.proofs.lemmas.List.{set-set}
+use Rattle.std.proofs.lemmas.List.{set-set, take_all, replicate-append-replicate}
 use Rattle.std.specs.Prelude.{bit_and, bit_or}
 use Rattle.tl_bits.specs.Sets.{is_member, IsNext, IsNextBit, IsFirstBit}
 use Rattle.tl_lanes.specs.Masks.{words_for, is_bit, bit_of, bits_of, word_of}
@@ -349,3 +349,12 @@ count_of_set n words lent set s =
     let grown = set_of_grown n all 0 words set s.is s.none (omega arith) in
     ap (λ ws. set_bits (bits_of all ws)) (s.lends ∙ sym (append-nil words)) ∙ ap set_bits grown
     ∙ set_bits-append set (replicate (all - length set) false) ∙ ap (λ n. set_bits set + n) (set_bits-none (all - length set)) ∙ omega arith
+
+-- zeros up to a place, and then up to one behind it
+pub more_zeros : (old new : List ℕ) (i n : ℕ) → old ≡ replicate i 0 → i ≤ n
+    → new ≡ take n old ++ replicate (n - length old) 0 → new ≡ replicate n 0
+more_zeros old new i n e le f =
+    let long : length old ≡ i = ap length e ∙ length-replicate i 0 in
+    let whole : take n old ≡ old = take_all n old (omega arith) in
+    let all : i + (n - i) ≡ n = omega arith in
+    f ∙ rw (whole, long, e, replicate-append-replicate, all) refl

@@ -1,9 +1,11 @@
 //! Multisets of whole numbers, each number with how often it is there. The least and the greatest
 //! are at hand, and a number that is not there cannot be taken out.
-ghost use Rattle.std.specs.Prelude.{◌≡◌, ℕ, ◌+◌, ◌-◌, ◌<◌, ℤ, IfSome, IfNone, OnOk, OnErr, Some, None, if◌then◌else◌, nat_le, unwrap_or};
-ghost use Rattle.std.specs.BTreeMap.{get, Updates, IsUnchanged};
+ghost use Rattle.std.specs.Prelude.{◌≡◌, ℕ, ◌+◌, ◌-◌, ◌<◌, ℤ, IfOk, IfSome, IfNone, OnOk, OnErr, Some, None, if◌then◌else◌, length, nat_le, slice_get, unwrap_or};
+ghost use Rattle.std.specs.BTreeMap.{get, Updates, IsUnchanged, IsFromIterResult};
+ghost use Rattle.std.specs.List.{count_by};
+ghost use Rattle.std.specs.List.Sorted.{IsSorted};
 ghost use Rattle.std.specs.Ordering.{int_cmp, int_eq};
-ghost use Rattle.tl_bits.specs.Bags.{times, AddsOne, IsLeast, IsGreatest};
+ghost use Rattle.tl_bits.specs.Bags.{times, AddsOne, AreCounts, IsLeast, IsGreatest};
 
 use std::alloc::{AllocError, Global};
 use std::collections::BTreeMap;
@@ -85,6 +87,47 @@ fn number(value: &i64) -> i64
     *value
 }
 
+// The number at a place.
+fn number_at(numbers: &[i64], place: usize) -> i64
+    requires { place < length numbers.now }
+    ensures { slice_get numbers.now place ≡ Some result }
+{
+    numbers[place]
+}
+
+// Each number of an ascending list once, with how often it is there.
+fn counted(alloc: Global, numbers: &[i64]) -> Result<Vec<(i64, u64)>, NoMemory>
+    requires { IsSorted int_cmp numbers.now }
+    ensures { IfOk result (λ counts. AreCounts counts.items numbers.now) }
+{
+    let mut counts = Vec::new(alloc);
+    if numbers.is_empty() {
+        return Ok(counts);
+    }
+    let mut last = number_at(numbers, 0);
+    let mut many = 1;
+    'numbers: for i in 1..numbers.len() {
+        let value = number_at(numbers, i);
+        if value == last {
+            many += 1;
+        } else {
+            counts.push((last, many))?;
+            last = value;
+            many = 1;
+        }
+    }
+    counts.push((last, many))?;
+    Ok(counts)
+}
+
+// The map of pairs, of which a later one of a value takes the place of an earlier one.
+fn map_of(alloc: Global, counts: Vec<(i64, u64)>) -> Result<BTreeMap<i64, u64>, NoMemory>
+    ensures { IfOk result (IsFromIterResult int_cmp counts.items) }
+{
+    let map = counts.into_iter().collect(alloc)?;
+    Ok(map)
+}
+
 impl Bag {
     /// The bag of no value. It takes no memory.
     pub fn none(alloc: Global) -> Bag
@@ -93,6 +136,19 @@ impl Bag {
         Bag {
             counts: BTreeMap::new(alloc),
         }
+    }
+
+    /// The bag of these numbers, which are put in order here, so that it is made in one go. The
+    /// error is `NoMemory`.
+    pub fn of_numbers(alloc: Global, numbers: Vec<i64>) -> Result<Bag, NoMemory>
+        ensures { IfOk result
+            (λ bag. (v : ℤ) → times bag v ≡ count_by (int_eq v) numbers.items) }
+    {
+        let mut numbers = numbers;
+        numbers.sort_unstable();
+        let counted = counted(alloc, numbers.as_slice())?;
+        let counts = map_of(alloc, counted)?;
+        Ok(Bag { counts })
     }
 
     /// Puts the value into the bag, once more where it is there. `NoMemory` comes where

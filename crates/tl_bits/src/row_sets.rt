@@ -41,11 +41,22 @@ fn word_count(rows: u32) -> usize
     (rows as usize + 63) / 64
 }
 
-// So many words with no bit set.
+// How many words are cleared at a time: few enough that stores of vectors do it.
+const PIECE: usize = 128;
+
+// So many words with no bit set, cleared piece by piece.
+#[tactic(auto, using(crate::proofs::SetLemmas::more_zeros))]
 fn zero_words(alloc: Global, count: usize) -> Result<Vec<u64>, NoMemory>
     ensures { IfOk result (λ words. words.items ≡ replicate count 0) }
 {
-    vec![in alloc; 0; count]
+    let mut words = Vec::with_capacity(alloc, count)?;
+    let mut done = 0;
+    while done < count {
+        let next = done + (count - done).min(PIECE);
+        words.resize(next, 0)?;
+        done = next;
+    }
+    Ok(words)
 }
 
 // The words and then words with no bit set, so many in all.

@@ -1,9 +1,11 @@
 -- Names and texts, seen as what tests say of their bytes.
-use Rattle.std.proofs.Common.{◌≡◌, ℕ, zero, suc, ◌<◌, ◌≤◌, Bool, true, false, ◌&&◌, not, nat_le, List, [], ◌∷◌, length, get_or, refl, arith}
-use Rattle.std.specs.Str.{IsUtf8, is_utf8}
+use Rattle.std.proofs.Common.{◌≡◌, ℕ, zero, suc, ◌<◌, ◌≤◌, Bool, true, false, ◌&&◌, not, nat_le, List, [], ◌∷◌, length, take, get_or, refl, arith, inl, inr}
+use Rattle.std.specs.Str.{IsAscii, IsUtf8, is_utf8}
 use Rattle.std.specs.List.{list_all, list_any}
 use Rattle.std.proofs.lemmas.Str.{IsUtf8-from_is_utf8, is_utf8-from_IsUtf8, IsUtf8-from_ascii}
+use Rattle.std.proofs.lemmas.Bool.{cases_lt}
 use Rattle.std.proofs.lemmas.Bool.Decides.{nat_tests}
+use Rattle.std.proofs.lemmas.List.{get_or-take, get_or_past, length-take}
 use Rattle.tl_types.specs.declared.schemas.Column.{Column}
 use Rattle.tl_types.specs.Facts.{names_of}
 use Rattle.tl_types.specs.Names.{begins_word, continues_word, is_word, is_name, is_keyword, same_bytes}
@@ -78,3 +80,14 @@ new_name_short columns name e = let s = (is_new columns name e).short in omega (
 
 -- a new name is a text, and short
 pub ruleset new_names = (new_name_is_text, new_name_short)
+
+-- so many of bytes that are ASCII up to a place behind them
+pub few_ascii : (n : ℕ) (bytes : List ℕ) → n ≤ 8 → ((k : ℕ) → k < 8 → get_or bytes k 0 < 128)
+    → IsAscii (take n bytes)
+few_ascii n bytes few h k =
+    elim (cases_lt k n) [
+      | inl inside ↦ rw (get_or-take n bytes k 0 inside) (h k (omega arith))
+      | inr outside ↦
+          let past : length (take n bytes) ≤ k = omega (arith, length-take n bytes) in
+          rw (get_or_past (take n bytes) k 0 past) (omega arith)
+    ]

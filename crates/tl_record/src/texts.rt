@@ -1,8 +1,8 @@
 //! Names and texts of a record: a length, and bytes in UTF-8. A text that is cut is `Short` where
 //! it can still become one, and what is no text or no new name is `Bad`.
-ghost use Rattle.std.specs.Prelude.{◌≡◌, ◌≤◌, ◌++◌, length, replicate, IfOk};
+ghost use Rattle.std.specs.Prelude.{◌≡◌, ◌≤◌, ◌<◌, ◌++◌, ℕ, true, false, length, replicate, take, slice_index, IsTrue, IfOk, IfSome, IfNone};
 ghost use Rattle.std.specs.List.{list_all, list_any};
-ghost use Rattle.std.specs.Str.{is_utf8};
+ghost use Rattle.std.specs.Str.{is_utf8, IsAscii};
 ghost use Rattle.tl_types.specs.Names.{continues_word, same_bytes};
 ghost use Rattle.tl_types.specs.Facts.{names_of};
 ghost use Rattle.tl_record.specs.Reading.{
@@ -23,7 +23,8 @@ ghost use Rattle.tl_record.specs.Reading.{
 use crate::faults::{Fault, ReadError, rare_error};
 use crate::numbers;
 use std::alloc::Global;
-use tl_types::{Column, NoMemory, Text, as_text, begins_word, continues_word, is_name};
+use std::simd::prelude::*;
+use tl_types::{Column, NoMemory, Text, as_text, ascii_text, begins_word, continues_word, is_name};
 
 fn all_continue(bytes: &[u8]) -> bool
     ensures { result ≡ list_all continues_word bytes.now }
@@ -152,17 +153,68 @@ fn begins_text(alloc: Global, count: usize, bytes: &[u8]) -> Result<bool, NoMemo
     Ok(by_none || by_one || by_two || by_three)
 }
 
-// A text of the bytes in front, where they are UTF-8, and the rest.
+// Whether the first eight bytes are ASCII, by lanes.
+#[inline(always)]
+fn begins_as_ascii(bytes: &[u8]) -> bool
+    requires { 8 ≤ length bytes.now }
+    ensures { IsTrue result → (k : ℕ) → k < 8 → slice_index bytes.now k < 128 }
+{
+    let lanes = u8x8::from_slice(bytes);
+    lanes.simd_ge(u8x8::splat(128)).to_bitmask() == 0
+}
+
+// Whether so few bytes in front are ASCII, as is seen at once where those behind them are too.
+#[tactic(auto, using(crate::proofs::Letters::few_ascii))]
+#[inline(always)]
+fn are_few_ascii(count: usize, bytes: &[u8]) -> bool
+    ensures { IsTrue result → IsAscii (take count bytes.now) }
+{
+    if count > 8 {
+        return false;
+    }
+    if bytes.len() < 8 {
+        return false;
+    }
+    begins_as_ascii(bytes)
+}
+
+// The bytes in front as a text, where they are UTF-8.
+#[inline(never)]
+fn longer_text(front: &[u8]) -> Option<&str>
+    ensures some { IfSome result (λ text. (text.now ≡ front.now) × (is_utf8 front.now ≡ true)) }
+    ensures none { IfNone result (is_utf8 front.now ≡ false) }
+{
+    as_text(front)
+}
+
+// The same, of so many bytes in front of others.
+#[inline(always)]
+fn front_text<'a>(count: usize, bytes: &[u8], front: &'a [u8]) -> Option<&'a str>
+    requires { front.now ≡ take count bytes.now }
+    ensures some { IfSome result (λ text. (text.now ≡ front.now) × (is_utf8 front.now ≡ true)) }
+    ensures none { IfNone result (is_utf8 front.now ≡ false) }
+{
+    let few_ascii = are_few_ascii(count, bytes);
+    if few_ascii {
+        return Some(ascii_text(front));
+    }
+    longer_text(front)
+}
+
+// A text of the bytes in front, so many of all, where they are UTF-8, and the rest.
 #[inline(always)]
 fn whole_text<'a>(
     alloc: Global,
+    count: usize,
+    bytes: &[u8],
     front: &[u8],
     rest: &'a [u8],
 ) -> Result<(Text, &'a [u8]), ReadError>
-    requires { length front.now ≤ 65535 }
+    requires short { length front.now ≤ 65535 }
+    requires front { front.now ≡ take count bytes.now }
     ensures { Gives (λ x. (x.0, x.1.now)) result (judged (is_utf8 front.now) front.now rest.now) }
 {
-    let Some(text) = as_text(front) else {
+    let Some(text) = front_text(count, bytes, front) else {
         return Err(rare_error(ReadError::Fault(Fault::Bad)));
     };
     match Text::new(alloc, text) {
@@ -192,7 +244,7 @@ fn text_of(alloc: Global, count: usize, bytes: &[u8]) -> Result<(Text, &[u8]), R
 {
     if count <= bytes.len() {
         let (front, rest) = bytes.split_at(count);
-        return whole_text(alloc, front, rest);
+        return whole_text(alloc, count, bytes, front, rest);
     }
     Err(cut_text(alloc, count, bytes))
 }

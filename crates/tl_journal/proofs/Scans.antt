@@ -135,6 +135,10 @@ read_on found c at end image was g is = record {
     further : (n at end a b r : ℕ) → n ≡ at + a → a ≡ (1 + r) + b → end ≡ at + (1 + r) → n ≡ end + b
     further n at end a b r p q is = omega (arith, p, q, is)
 
+-- the record behind a gate
+pub behind_gate : (image : List ℕ) (c : Commit) (at end : ℕ) → IsGateBefore (drop at image) c (drop end image) → drop (at + 1) image ≡ spelling c ++ drop end image
+behind_gate image c at end g = sym (drop-drop 1 at image) ∙ ap (λ l. drop 1 l) g.rest_is
+
 -- at the closed gate the image is a journal's
 pub closed_image : (found : List Commit) (at : ℕ) (image tail : List ℕ) → HasReadTo found at image → drop at image ≡ 0 ∷ tail → ImageStandsOnlyFor found image
 closed_image found at image tail was e = record {

@@ -2,7 +2,7 @@
 use Rattle.std.specs.Prelude.{◌≡◌, ◌+◌, ◌<◌, ℕ, List, [], ◌∷◌, ◌++◌, length, drop, IfSome}
 use Rattle.std.specs.declared.option.Option.{Option}
 use Rattle.tl_types.specs.declared.commits.Commit.{Commit}
-use Rattle.tl_record.specs.Spelling.{spelling}
+use Rattle.tl_record.specs.Spelling.{spelling, IsCommit}
 use Rattle.tl_journal.specs.Image.{header, OpenGates, size_of, Carries, ImageStandsFor, BreaksAt, HasBrokenGate}
 use Rattle.tl_journal.specs.declared.found.Found.{Found}
 use Rattle.tl_journal.specs.Plain as plain
@@ -28,6 +28,13 @@ HasRead found opening = HasReadTo found opening.at opening.image
 -- the closed gate comes next
 abbrev pub IsAtClosedGate : {D : Type 0} → plain.FoundCommits D → Type 0
 IsAtClosedGate opening = (tail : List ℕ) × (drop opening.at opening.image ≡ 0 ∷ tail)
+
+-- behind the gate at a place stands the record of this commit, and behind it the next gate
+pub record HasRecordAt {D : Type 0} (at : ℕ) (commit : Commit) (opening : plain.FoundCommits D)
+    : Type 0 where
+  pub fits : IsCommit commit
+  pub behind : drop (at + 1) opening.image ≡ spelling commit ++ drop opening.at opening.image
+  pub next_is : opening.at ≡ at + (1 + length (spelling commit))
 
 -- what every opening keeps: a gate comes next, the bytes are the disk's where it tells them, and
 -- the disk's room is taken for a cut and a sync

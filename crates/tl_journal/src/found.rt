@@ -6,7 +6,7 @@ ghost use Rattle.tl_record.specs.Spelling.{spelling};
 ghost use Rattle.tl_device.specs.Disk.{IsStored};
 ghost use Rattle.tl_journal.specs.Image.{ImageStandsFor, ImageStandsOnlyFor, IsDamagedOnlyAt};
 ghost use Rattle.tl_journal.specs.Moments.{EachMoment};
-ghost use Rattle.tl_journal.specs.Opening.{HasRead, IsAtClosedGate, IsOpening};
+ghost use Rattle.tl_journal.specs.Opening.{HasRead, IsAtClosedGate, IsOpening, HasRecordAt};
 ghost use Rattle.tl_journal.specs.Stands.{JournalStandsFor, SameOrTrimmed};
 ghost use Rattle.tl_journal.specs.Answers.{disk_opened, CountsFaults, IsDevice, IsDeviceOrMemory, IsDamagedOrMemory};
 ghost use Rattle.tl_journal.specs.declared.faults.JournalFault.TheVariants as fault;
@@ -15,7 +15,7 @@ use crate::faults::JournalFault;
 use crate::journal::Journal;
 use crate::opening::Refused;
 use crate::reading::device_fault;
-use crate::records::commit_at;
+use crate::records::{bytes_between, commit_at};
 use crate::trimming::trim;
 use std::alloc::Global;
 use std::marker::Model;
@@ -83,6 +83,7 @@ impl<D: Disk> FoundCommits<D> {
         ensures within { IfOk result (λ o. IfSome o (λ f. self.new.at < length self.new.image)) }
         ensures found { (found : List CommitValue) → HasRead found self.old →
             IfOk result (λ o. IfSome o (λ f. HasRead (found ++ f.commit ∷ []) self.new)) }
+        ensures recorded { IfOk result (λ o. IfSome o (λ f. HasRecordAt f.at f.commit self.new)) }
         ensures end { result ≡ Ok None → (self.new ≡ self.old) × IsAtClosedGate self.new }
         ensures all { (found : List CommitValue) → HasRead found self.old → result ≡ Ok None →
             ImageStandsOnlyFor found self.old.image }
@@ -100,6 +101,15 @@ impl<D: Disk> FoundCommits<D> {
             commit: decoded.commit,
             at,
         }))
+    }
+
+    /// The record of the commit that was handed out last, whose gate is at this offset, as it
+    /// stands among the bytes: the commit's spelling.
+    pub fn record_behind(&self, at: u64) -> &[u8]
+        requires { (c : CommitValue) × HasRecordAt at c self.now }
+        ensures { (c : CommitValue) → HasRecordAt at c self.now → result.now ≡ spelling c }
+    {
+        bytes_between(&self.image, at as usize + 1, self.at)
     }
 
     /// The journal, once all its commits were handed out: the closed gate comes next. What stands

@@ -8,6 +8,7 @@ ghost use Rattle.tl_journal.specs.declared.faults.JournalFault.TheVariants as fa
 use crate::faults::JournalFault;
 use std::alloc::Global;
 use tl_device::Disk;
+use tl_types::NoMemory;
 
 // The fault of a call of the disk that has just failed.
 pub(crate) fn device_fault<D: Disk>(disk: &D) -> JournalFault
@@ -89,12 +90,29 @@ pub(crate) fn settle<D: Disk>(disk: &mut D, bytes: u64, calls: u32) -> Result<()
     Ok(())
 }
 
+// How many bytes are cleared at a time: few enough that the compiler's stores of vectors do it.
+const PIECE: usize = 1024;
+
+// So many bytes, cleared piece by piece.
+fn cleared(alloc: Global, len: usize) -> Result<Vec<u8>, NoMemory>
+    ensures { IfOk result (λ v. length v.items ≡ len) }
+{
+    let mut bytes = Vec::with_capacity(alloc, len)?;
+    let mut left = len;
+    while left > 0 {
+        let piece = left.min(PIECE);
+        bytes.resize(bytes.len() + piece, 0)?;
+        left -= piece;
+    }
+    Ok(bytes)
+}
+
 // So many bytes, to be read into.
 fn buffer(alloc: Global, len: u64) -> Result<Vec<u8>, JournalFault>
     ensures len { IfOk result (λ v. length v.items ≡ len) }
     ensures kinds { IfErr result (λ e. e ≡ fault.NoMemory) }
 {
-    let Ok(bytes) = vec![in alloc; 0; len as usize] else {
+    let Ok(bytes) = cleared(alloc, len as usize) else {
         return Err(JournalFault::NoMemory);
     };
     Ok(bytes)

@@ -1,6 +1,6 @@
 //! Records among the bytes of a journal: the next one behind an open gate, or none behind a closed
 //! one. An open gate without a whole record and a further byte is refused.
-ghost use Rattle.std.specs.Prelude.{◌≡◌, ◌≢◌, ◌+◌, ◌≤◌, ◌<◌, ◌∷◌, ℕ, List, length, take, drop, IfSome, IfOk, IfErr, Ok, Err, None, true, false};
+ghost use Rattle.std.specs.Prelude.{◌≡◌, ◌≢◌, ◌+◌, ◌≤◌, ◌<◌, ◌++◌, ◌∷◌, ℕ, List, length, take, drop, IfSome, IfOk, IfErr, Ok, Err, None, true, false};
 ghost use Rattle.tl_record.specs.Spelling.{spelling};
 ghost use Rattle.tl_record.specs.Decoding.{BeginsWith};
 ghost use Rattle.tl_journal.specs.Image.{header, NoRecord};
@@ -46,6 +46,18 @@ fn record_at(alloc: Global, bytes: &[u8], at: usize) -> Result<Option<Decoded>, 
         Err(RecordFault::NoMemory) => Err(AllocError),
         Err(_) => Ok(None),
     }
+}
+
+// The bytes from one place to another.
+pub(crate) fn bytes_between(bytes: &[u8], from: usize, to: usize) -> &[u8]
+    requires order { from ≤ to }
+    requires within { to ≤ length bytes.now }
+    ensures { (r rest : List ℕ) → drop from bytes.now ≡ r ++ rest → to ≡ from + length r →
+        result.now ≡ r }
+{
+    let (_, behind) = bytes.split_at(from);
+    let (between, _) = behind.split_at(to - from);
+    between
 }
 
 // The gate at a place.

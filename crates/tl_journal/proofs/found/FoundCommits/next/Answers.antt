@@ -3,7 +3,7 @@ use Rattle.tl_record.specs.Spelling.{spelling}
 use Rattle.tl_journal.specs.Image.{IsDamagedOnlyAt}
 use Rattle.tl_journal.specs.Records.{IsGateBefore, IsBrokenHere}
 use Rattle.tl_journal.specs.declared.faults.JournalFault.TheVariants as fault
-use Rattle.tl_journal.proofs.Scans.{read_on, closed_image, broken_image}
+use Rattle.tl_journal.proofs.Scans.{read_on, behind_gate, closed_image, broken_image}
 use Rattle.tl_journal.proofs.found.FoundCommits.next.Goals as goal
 
 pub returns-in_err-decoded-clause-damaged : goal.returns-in_err-decoded-clause-damaged
@@ -24,3 +24,13 @@ returns-clause-found g c = rw (← c.self.view_is) (λ found was.
     let gate : IsGateBefore (drop c.self.inside.at c.self.inside.image.items) c.in-Some.decoded.commit (drop c.in-Some.decoded.end c.self.inside.image.items) = search rules in
     let end : c.in-Some.decoded.end ≡ c.self.inside.at + (1 + length (spelling c.in-Some.decoded.commit)) = search rules in
     read_on found c.in-Some.decoded.commit c.self.inside.at c.in-Some.decoded.end c.self.inside.image.items was gate end)
+
+pub returns-clause-recorded : goal.returns-clause-recorded
+returns-clause-recorded g c =
+    let gate : IsGateBefore (drop c.self.inside.at c.self.inside.image.items) c.in-Some.decoded.commit (drop c.in-Some.decoded.end c.self.inside.image.items) = search rules in
+    let end : c.in-Some.decoded.end ≡ c.self.inside.at + (1 + length (spelling c.in-Some.decoded.commit)) = search rules in
+    record {
+      fits = gate.fits;
+      behind = behind_gate c.self.inside.image.items c.in-Some.decoded.commit c.self.inside.at c.in-Some.decoded.end gate;
+      next_is = end;
+    }

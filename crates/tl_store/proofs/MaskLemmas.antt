@@ -204,6 +204,15 @@ module _ (tables : List Kept) (log : List LogEntry) (stamps : List plain.Stamp) 
         let none : length (columns_of (database_of commits) number) ≡ 0 = ap (λ t. length (columns_of_table t)) (missing past) in
         absurd (omega (arith, none, some))
 
+  -- one that has rows is there
+  pub rows_there : 0 < length (rows_of (database_of commits) number) → number < length tables
+  rows_there some = by_place (cases_lt number (length tables)) where
+    by_place : (number < length tables) ⊎ (length tables ≤ number) → number < length tables
+    by_place (inl below) = below
+    by_place (inr past) =
+        let none : length (rows_of (database_of commits) number) ≡ 0 = rw (missing past) refl in
+        absurd (omega (arith, none, some))
+
   pub table_shown : (shared kept : Kept) → number < length tables → shared ≡ get_or tables number shared → kept ≡ shared → Shown commits number kept
   table_shown shared kept there read same =
       let found : slice_get (database_of commits).tables number ≡ Some (table_of kept) =

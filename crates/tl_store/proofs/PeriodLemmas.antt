@@ -1,10 +1,13 @@
 -- Periods by their two ends.
-use Rattle.std.proofs.Common.{◌≡◌, ℕ, zero, suc, ◌+◌, ◌<◌, ℤ, ◌<ℤ◌, List, [], ◌∷◌, ◌++◌, length, get_or, take, Option, Some, None, refl, sym, ap, ◌∙◌, arith, slice_get}
+use Rattle.std.proofs.Common.{◌≡◌, ℕ, zero, suc, ◌+◌, ◌<◌, ℤ, ◌<ℤ◌, false, ◌&&◌, List, [], ◌∷◌, ◌++◌, length, map, get_or, take, Option, Some, None, refl, sym, ap, ◌∙◌, arith, slice_get}
 use Rattle.std.proofs.lemmas.List.{take_more}
 use Rattle.std.proofs.lemmas.List.Elements.{filter_map-append}
 use Rattle.std.specs.Option.{option_to_list}
 use Rattle.std.specs.List.{cons_option}
+use Rattle.tl_types.specs.History.{is_within}
 use Rattle.tl_types.specs.Plain as plain
+use Rattle.tl_lanes.specs.Masks.{passes}
+use Rattle.tl_lanes.specs.declared.masks.LaneCmp.TheVariants.{Le, Gt}
 use Rattle.tl_store.specs.Columns.{periods_of, periods_in, AreEnds}
 
 pub periods_of-append : (ss es more_ss more_es : List ℤ) → AreEnds ss es → periods_of (ss ++ more_ss) (es ++ more_es) ≡ periods_of ss es ++ periods_of more_ss more_es
@@ -49,3 +52,17 @@ periods_more opens i x period h is same =
     ap periods_in (take_more opens i x h ∙ ap (λ t. take i opens ++ t ∷ []) (sym is))
     ∙ filter_map-append (λ o. o.period) (take i opens) (x ∷ [])
     ∙ ap (λ t. periods_in (take i opens) ++ t) (one x.period ∙ ap option_to_list (sym same))
+
+-- whether the period at a place holds a moment, by its two ends
+pub holds_at : (ss es : List ℤ) (j : ℕ) (moment : ℤ) → AreEnds ss es
+    → is_within moment (slice_get (periods_of ss es) j) ≡ (get_or (map (λ s. passes Le s moment) ss) j false && get_or (map (λ e. passes Gt e moment) es) j false)
+holds_at [] [] zero moment h = refl
+holds_at [] [] (suc j) moment h = refl
+holds_at [] (e ∷ es) j moment h = absurd h
+holds_at (s ∷ ss) [] j moment h = absurd h
+holds_at (s ∷ ss) (e ∷ es) zero moment h = refl
+holds_at (s ∷ ss) (e ∷ es) (suc j) moment h = holds_at ss es j moment h.1
+
+-- the period of a row that is shown
+pub period_shown : (r shown : plain.Row) → Some r ≡ Some shown → shown.period ≡ r.period
+period_shown r shown same = let e : shown ≡ r = cc in ap (λ (x : plain.Row). x.period) e

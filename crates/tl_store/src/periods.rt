@@ -1,14 +1,17 @@
 //! The valid periods of a table's rows, their two ends each in a column. A table without valid
 //! time has none.
-ghost use Rattle.std.specs.Prelude.{◌≡◌, ◌<◌, ◌++◌, Some, [], length, slice_get, IfOk};
+ghost use Rattle.std.specs.Prelude.{◌≡◌, ◌+◌, ◌*◌, ◌<◌, ◌++◌, ℕ, Some, [], length, map, slice_get, IfOk};
 ghost use Rattle.std.specs.Option.{option_to_list};
+ghost use Rattle.tl_types.specs.History.{is_within};
+ghost use Rattle.tl_lanes.specs.Masks.{is_bit, passes, IsWordOf};
+ghost use Rattle.tl_lanes.specs.declared.masks.LaneCmp.TheVariants.{Le, Gt};
 ghost use Rattle.tl_store.specs.Columns.{periods_of, periods_in, AreEnds};
 
 use std::alloc::Global;
 use std::marker::Model;
 use tl_column::IntColumn;
 use tl_shared::Shareable;
-use tl_types::{NoMemory, Opened, Period};
+use tl_types::{Cmp, NoMemory, Opened, Period};
 
 /// A list of periods, their two ends each in a column of its own. Contracts see the list of
 /// periods.
@@ -73,6 +76,29 @@ impl PeriodList {
             None
         }
     }
+
+    /// Word `i` of the mask of the periods that hold a moment: bit j tells of the period at place
+    /// 64 i + j, and is 0 where there are not so many.
+    pub fn mask_word(&self, i: u32, moment: i64) -> u64
+        ensures { (k : ℕ) → k < 64
+            → is_bit result k ≡ is_within moment (slice_get self.now (64 * i + k)) }
+    {
+        begun_word(&self.starts, i, moment) & lasting_word(&self.ends, i, moment)
+    }
+}
+
+// Word `i` of the mask of the starts that have come at a moment.
+fn begun_word(starts: &IntColumn, i: u32, moment: i64) -> u64
+    ensures { IsWordOf (map (λ start. passes Le start moment) starts.now) i result }
+{
+    starts.mask_word(i, Cmp::Le, moment)
+}
+
+// Word `i` of the mask of the ends that are still to come at a moment.
+fn lasting_word(ends: &IntColumn, i: u32, moment: i64) -> u64
+    ensures { IsWordOf (map (λ end. passes Gt end moment) ends.now) i result }
+{
+    ends.mask_word(i, Cmp::Gt, moment)
 }
 
 impl Shareable for PeriodList {

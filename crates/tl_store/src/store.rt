@@ -1,14 +1,15 @@
 //! The store: its commits by their log, its tables by columns. It refuses no commit that fits, but
 //! for want of memory; whether one fits is asked first, by `fits`.
-ghost use Rattle.std.specs.Prelude.{◌≡◌, ℕ, ◌+◌, ◌-◌, ◌%◌, ◌<◌, ◌≤◌, ◌++◌, ◌∷◌, [], IsTrue, IfOk, IfSome, Some, length, map, take, drop, option_map, slice_get};
+ghost use Rattle.std.specs.Prelude.{◌≡◌, ℕ, ◌+◌, ◌-◌, ◌*◌, ◌/◌, ◌%◌, ◌<◌, ◌≤◌, ◌++◌, ◌∷◌, [], IsTrue, IfOk, IfSome, Some, length, map, take, drop, option_map, slice_get};
 ghost use Rattle.std.specs.List.{list_any, position_from};
 ghost use Rattle.tl_types.specs.declared.commits.Body.TheVariants as body;
-ghost use Rattle.tl_types.specs.History.{database_of, database_at, fits, fits_body, fits_floor, floor_of, has_name, last_moment, rows_of, version_at_moment};
+ghost use Rattle.tl_types.specs.History.{database_of, database_at, fits, fits_body, fits_floor, floor_of, has_name, is_within, last_moment, rows_of, version_at_moment};
 ghost use Rattle.tl_types.specs.Resolving.{find_table};
 ghost use Rattle.tl_types.specs.Limits.{standard_limits};
 ghost use Rattle.tl_types.specs.Facts.{IsChange};
 ghost use Rattle.tl_types.specs.WellFormed.{HasTimes};
-ghost use Rattle.tl_lanes.specs.Masks.{IsWordOf};
+ghost use Rattle.tl_types.specs.Plain as plain;
+ghost use Rattle.tl_lanes.specs.Masks.{is_bit, IsWordOf};
 ghost use Rattle.tl_store.specs.Kept.{table_of};
 ghost use Rattle.tl_store.specs.Log.{body_of, database_with, deed_of, kept_at, IsDeed};
 ghost use Rattle.tl_store.specs.Reading.{columns_of, has_periods, row_of, cell_of, cell_shown, IsShort, system_period, rows_changed, column_cells, rows_passing, IsIntColumn, some_int};
@@ -422,6 +423,27 @@ impl Store {
     {
         steps.tick();
         self.tables[table as usize].get().valid_at(row)
+    }
+
+    /// The word, of the mask of the rows of a table whose valid period holds a moment, in which a
+    /// row stands: bit j tells of the row with id 64 (row / 64) + j. It ticks once.
+    pub fn valid_word<L: Ledger>(
+        &self,
+        table: u16,
+        row: u32,
+        moment: i64,
+        steps: &mut Steps<L>,
+    ) -> u64
+        requires { row < length (rows_of (database_of self.now) table) }
+        ensures bits { (k : ℕ) (r : plain.Row) → k < 64
+            → row_of (database_of self.now) table (64 * (row / 64) + k) ≡ Some r
+            → is_bit result k ≡ is_within moment r.period }
+        ensures ticks { steps.new ≡ steps.old + 1 }
+    {
+        steps.tick();
+        self.tables[table as usize]
+            .get()
+            .valid_word(row / 64, moment)
     }
 
     /// The commit that made a version, from 1. The error is `NoMemory`. Where there is none, it

@@ -1,9 +1,11 @@
 //! One table, kept by columns: its cells, the valid periods, the versions at which each row
 //! stands, and the closed ids in their order. A table after a change shares with the older one
 //! what the change leaves.
-ghost use Rattle.std.specs.Prelude.{◌≡◌, ◌+◌, ◌-◌, ◌%◌, ◌<◌, ◌≤◌, IsTrue, IfOk, Some, length, map, take, drop, slice_get, All, option_map, replicate};
+ghost use Rattle.std.specs.Prelude.{◌≡◌, ℕ, ◌+◌, ◌-◌, ◌*◌, ◌%◌, ◌<◌, ◌≤◌, IsTrue, IfOk, Some, length, map, take, drop, slice_get, All, option_map, replicate};
 ghost use Rattle.std.specs.List.{list_all};
-ghost use Rattle.tl_types.specs.History.{fits_table, fits_floor, has_name, is_open_at, cell_at};
+ghost use Rattle.tl_types.specs.History.{fits_table, fits_floor, has_name, is_open_at, is_within, cell_at};
+ghost use Rattle.tl_types.specs.Plain as plain;
+ghost use Rattle.tl_lanes.specs.Masks.{is_bit};
 ghost use Rattle.tl_types.specs.Limits.{standard_limits};
 ghost use Rattle.tl_store.specs.Columns.{empty_column, column_length, cell_in};
 ghost use Rattle.tl_store.specs.Kept.{table_of, kept_new, kept_after, kept_floored};
@@ -240,6 +242,15 @@ impl TableData {
         ensures { Some (Some result) ≡ option_map (λ r. r.period) (slice_get self.now.rows row) }
     {
         self.periods.at(row)
+    }
+
+    /// Word `i` of the mask of the rows whose valid period holds a moment: bit j tells of the row
+    /// with id 64 i + j.
+    pub fn valid_word(&self, i: u32, moment: i64) -> u64
+        ensures { (k : ℕ) (r : plain.Row) → k < 64 → slice_get self.now.rows (64 * i + k) ≡ Some r
+            → is_bit result k ≡ is_within moment r.period }
+    {
+        self.periods.mask_word(i, moment)
     }
 
     /// The cells of a row, one for each column, as values of their own.

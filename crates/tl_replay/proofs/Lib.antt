@@ -1,0 +1,3 @@
+pub mod FitLemmas
+pub mod ReadLemmas
+pub mod OpenLemmas

@@ -1,0 +1,3 @@
+pub mod Applying
+pub mod Fitting
+pub mod Opening

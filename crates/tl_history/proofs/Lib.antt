@@ -3,7 +3,6 @@ pub mod MarkLemmas
 pub mod BuildLemmas
 pub mod PaceLemmas
 pub mod FitLemmas
-pub mod ReadLemmas
 pub mod MomentLemmas
 pub mod StandingLemmas
 pub mod OpenLemmas

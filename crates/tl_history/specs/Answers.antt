@@ -22,7 +22,7 @@ use Rattle.tl_journal.specs.declared.opening.Refused.{Refused}
 use Rattle.tl_history.specs.declared.faults.CommitFault.{CommitFault}
 use Rattle.tl_history.specs.declared.faults.CommitFault.TheVariants as fault
 use Rattle.tl_types.specs.Legality.{FitInTurn}
-use Rattle.tl_history.specs.Fitting.{IsDamaged}
+use Rattle.tl_replay.specs.Fitting.{IsDamaged}
 use Rattle.tl_history.specs.Plain as plain
 use Rattle.tl_history.specs.Standing.{HasRoomAlone, DiskStandsForHistory}
 

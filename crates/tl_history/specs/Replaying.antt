@@ -1,16 +1,13 @@
--- The commits of a journal while they are applied.
-use Rattle.std.specs.Prelude.{◌≡◌, ℕ, ◌+◌, Bool, true, false, IsTrue, List, [], ◌∷◌, ◌++◌}
+-- The commits of a journal while they are applied to a history.
+use Rattle.std.specs.Prelude.{◌≡◌, ℕ, Bool, true, false, IsTrue, List}
 use Rattle.tl_types.specs.declared.commits.Commit.{Commit}
 use Rattle.tl_types.specs.declared.commits.Entry.{Entry}
 use Rattle.tl_types.specs.declared.limits.Limits.{Limits}
 use Rattle.tl_types.specs.Entries.{commits_of, has_break}
 use Rattle.tl_types.specs.History.{database_of, fits}
-use Rattle.tl_types.specs.Marks.{paced_step}
+use Rattle.tl_types.specs.Marks.{paced, paced_step}
 use Rattle.tl_batch.specs.KeyIndex.{IdsByKey}
 use Rattle.tl_batch.specs.Standing.{StandFor}
-use Rattle.tl_journal.specs.Image.{size_of}
-use Rattle.tl_journal.specs.Opening.{HasRead}
-use Rattle.tl_journal.specs.Plain as journal
 
 -- there is no break among the entries, and the keys stand for their tables
 pub record IsReplay (entries : List Entry) (keys : List IdsByKey) : Type 0 where
@@ -26,10 +23,8 @@ IsApplied limits k old new commit true =
 IsApplied limits k old new commit false =
     (fits limits (database_of (commits_of old)) commit ≡ false) × (new ≡ old)
 
--- after these commits, one was read that does not fit them; its gate is at the offset
-pub record IsFirstUnfit {D : Type 0} (limits : Limits) (before : List Commit)
-    (found_commits : journal.FoundCommits D) (at : ℕ) : Type 0 where
-  pub commit : Commit
-  pub read : HasRead (before ++ commit ∷ []) found_commits
-  pub unfit : fits limits (database_of before) commit ≡ false
-  pub at_is : at ≡ 16 + size_of before
+-- the entries of these commits, each with its mark where that is due by the first pace
+pub record IsPaced (first_pace : ℕ) (commits : List Commit) (entries : List Entry) (pace : ℕ)
+    : Type 0 where
+  pub entries_are : entries ≡ paced commits first_pace
+  pub pace_same : pace ≡ first_pace

@@ -24,14 +24,14 @@ ghost use Rattle.tl_history.specs.Standing.{IsCount, ImageStandsForEntries, HasR
 
 use crate::committing::{Draft, append, draft_of, resolve};
 use crate::faults::CommitFault;
-use crate::opening::{Begun, begin};
-use crate::replaying::Replay;
+use crate::replaying::{PacedReplay, Replay};
 use std::alloc::Global;
 use std::marker::Model;
 use tl_batch::Keys;
 use tl_device::Disk;
 use tl_index::Snapshot;
-use tl_journal::{Journal, Refused};
+use tl_journal::{Journal, JournalFault, Refused};
+use tl_replay::{Opened, open_journal};
 use tl_store::Store;
 use tl_types::{Batch, Limits};
 
@@ -109,8 +109,17 @@ impl<D: Disk> History<D> {
         ensures { Opens D.reads D.may_leave D.moment D.left_since D.faults limits.now k disk
             result }
     {
-        match begin(alloc, disk, limits, k) {
-            Ok(begun) => finish(begun, *limits, k),
+        let Ok(replay) = Replay::new(alloc) else {
+            return Err(Refused {
+                fault: JournalFault::NoMemory,
+                disk,
+            });
+        };
+        match open_journal(alloc, disk, PacedReplay { replay, k }, limits) {
+            Ok(opened) => {
+                let Opened { journal, applied } = opened;
+                Ok(History::over(journal, applied.replay, *limits))
+            }
             Err(refused) => Err(refused),
         }
     }
@@ -339,43 +348,5 @@ impl<D: Disk> History<D> {
             snapshot,
             disk: journal.into_disk(),
         }
-    }
-}
-
-// The history once all commits of its journal were applied: what stands past the closed gate is cut
-// off the disk.
-fn finish<D: Disk>(begun: Begun<D>, limits: Limits, k: u32) -> Result<History<D>, Refused<D>>
-    requires pace { begun.replay ≡ paced (commits_of begun.replay) k }
-    requires within { AreWithin limits standard_limits }
-    requires read { HasRead (commits_of begun.replay) begun.found_commits }
-    requires end { IsAtClosedGate begun.found_commits }
-    requires fitting { FitInTurn limits (commits_of begun.replay) }
-    ensures opened { IfOk result (IsOpened k) }
-    ensures entries { IfOk result (λ h. h.entries ≡ begun.replay) }
-    ensures limits { IfOk result (λ h. h.limits ≡ limits) }
-    ensures stands { IsStored D.reads D.may_leave begun.found_commits.disk
-        begun.found_commits.image → IfOk result (DiskStandsForHistory D.reads D.may_leave) }
-    ensures any_moment { IsStored D.reads D.may_leave begun.found_commits.disk
-        begun.found_commits.image →
-        EachMoment D.moment D.left_since begun.found_commits.disk (disk_opened result)
-        (ImageStandsFor (commits_of begun.replay)) }
-    ensures now { IsStored D.reads D.may_leave begun.found_commits.disk begun.found_commits.image →
-        (c : List ℕ) → D.may_leave (disk_opened result) c →
-        ImageStandsFor (commits_of begun.replay) c }
-    ensures reads { (b : List ℕ) → D.reads begun.found_commits.disk ≡ Some b → (c : List ℕ)
-        × (D.reads (disk_opened result) ≡ Some c) × SameOrTrimmed b c }
-    ensures count { IfOk result (λ h. (h.first_count ≡ D.faults begun.found_commits.disk)
-        × (D.faults h.journal.disk ≡ D.faults begun.found_commits.disk)) }
-    ensures faults { IfErr result (λ r.
-        CountsFaults r.fault (D.faults begun.found_commits.disk) (D.faults r.disk)) }
-    ensures kinds { IfErr result (λ r. IsDevice r.fault) }
-{
-    let Begun {
-        found_commits,
-        replay,
-    } = begun;
-    match found_commits.finish() {
-        Ok(journal) => Ok(History::over(journal, replay, limits)),
-        Err(refused) => Err(refused),
     }
 }

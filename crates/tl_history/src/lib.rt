@@ -19,7 +19,6 @@ mod building;
 mod committing;
 mod faults;
 mod histories;
-mod opening;
 mod replaying;
 
 pub use building::build_checkpoint;

@@ -1,29 +1,22 @@
-//! The commits of a journal, applied one by one while it is opened, each with its mark where that
-//! is due. The first that does not fit those before it ends this, with the offset of its gate.
-ghost use Rattle.std.specs.Prelude.{◌≡◌, ◌+◌, ◌<◌, ◌++◌, ◌∷◌, [], ℕ, length, List, Ok, Err, None, true, false, IsTrue, IfSome, IfOk, IfErr, OnOk, Some};
-ghost use Rattle.tl_types.specs.declared.commits.Commit.{Commit as CommitValue};
+//! The commits of a journal, applied one by one to a snapshot and the keys while it is opened, each
+//! with its mark where that is due.
+ghost use Rattle.std.specs.Prelude.{◌≡◌, ◌<◌, ◌++◌, ◌∷◌, [], length, List, false, IsTrue, IfOk, Some};
 ghost use Rattle.tl_types.specs.declared.commits.Entry.{Entry};
 ghost use Rattle.tl_types.specs.Entries.{commits_of, has_break};
 ghost use Rattle.tl_types.specs.History.{database_of, fits};
-ghost use Rattle.tl_types.specs.Legality.{FitInTurn, has_mark};
+ghost use Rattle.tl_types.specs.Legality.{has_mark};
 ghost use Rattle.tl_types.specs.Limits.{standard_limits};
-ghost use Rattle.tl_types.specs.Marks.{paced, paced_step, table_in, with_due};
+ghost use Rattle.tl_types.specs.Marks.{paced_step, table_in, with_due};
 ghost use Rattle.tl_batch.specs.Made.{AreWithin};
 ghost use Rattle.tl_index.specs.Snapshots.{mark_entry};
-ghost use Rattle.tl_journal.specs.Answers.{IsDamagedOrMemoryThere};
-ghost use Rattle.tl_journal.specs.Image.{ImageStandsOnlyFor, IsDamagedOnlyAt};
-ghost use Rattle.tl_journal.specs.Opening.{HasRead, IsAtClosedGate};
-ghost use Rattle.tl_journal.specs.declared.faults.JournalFault.TheVariants as journal_fault;
-ghost use Rattle.tl_history.specs.Fitting.{IsDamaged};
-ghost use Rattle.tl_history.specs.Replaying.{IsApplied, IsFirstUnfit};
+ghost use Rattle.tl_history.specs.Replaying.{IsApplied, IsPaced};
 
 use crate::building::build_checkpoint;
 use std::alloc::Global;
 use std::marker::Model;
 use tl_batch::Keys;
-use tl_device::Disk;
 use tl_index::Snapshot;
-use tl_journal::{FoundCommits, JournalFault};
+use tl_replay::Applies;
 use tl_store::Store;
 use tl_types::{Body, Commit, Limits, NoMemory};
 
@@ -143,99 +136,28 @@ impl Replay {
     }
 }
 
-// Applies the commits, each with its mark where that is due, up to the first one that does not fit
-// with the limits, and answers what was applied and the offset of that one's gate, or `None` where
-// all are applied.
-fn replay_fitting<D: Disk>(
-    alloc: Global,
-    found_commits: &mut FoundCommits<D>,
-    replay: Replay,
-    limits: &Limits,
-    k: u32,
-) -> Result<(Replay, Option<u64>), JournalFault>
-    requires pace { replay ≡ paced (commits_of replay) k }
-    requires within { AreWithin limits.now standard_limits }
-    requires read { HasRead (commits_of replay) found_commits.old }
-    requires fitting { FitInTurn limits.now (commits_of replay) }
-    ensures disk { found_commits.new.disk ≡ found_commits.old.disk }
-    ensures image { found_commits.new.image ≡ found_commits.old.image }
-    ensures pace { IfOk result (λ r. r.0 ≡ paced (commits_of r.0) k) }
-    ensures fitting { IfOk result (λ r. FitInTurn limits.now (commits_of r.0)) }
-    ensures read { IfOk result (λ r. r.1 ≡ None → HasRead (commits_of r.0) found_commits.new) }
-    ensures end { IfOk result (λ r. r.1 ≡ None → IsAtClosedGate found_commits.new) }
-    ensures whole { IfOk result (λ r. r.1 ≡ None →
-        ImageStandsOnlyFor (commits_of r.0) found_commits.old.image) }
-    ensures unfit { IfOk result (λ r. IfSome r.1
-        (IsFirstUnfit limits.now (commits_of r.0) found_commits.new)) }
-    ensures damaged { (at : ℕ) → result ≡ Err (journal_fault.Damaged at) →
-        IsDamagedOnlyAt at found_commits.old.image }
-    ensures kinds { IfErr result IsDamagedOrMemoryThere }
-{
-    let mut replay = replay;
-    'commits: while let Some(found) = found_commits.next(alloc)? {
-        let Ok((next, fits)) = replay.push_fitting(alloc, &found.commit, limits, k) else {
-            return Err(JournalFault::NoMemory);
-        };
-        replay = next;
-        if !fits {
-            return Ok((replay, Some(found.at)));
-        }
-    }
-    Ok((replay, None))
+/// A replay at a pace: behind a commit comes the mark of its table, where this has `k` events or
+/// more after its last mark, and none where `k` is 0.
+#[derive(Drop)]
+pub(crate) struct PacedReplay {
+    pub(crate) replay: Replay,
+    pub(crate) k: u32,
 }
 
-// Passes over the commits that are left, so that a gate that no record follows is found.
-fn pass_over<D: Disk>(
-    alloc: Global,
-    found_commits: &mut FoundCommits<D>,
-) -> Result<(), JournalFault>
-    requires { (found : List CommitValue) × HasRead found found_commits.old }
-    ensures disk { found_commits.new.disk ≡ found_commits.old.disk }
-    ensures image { found_commits.new.image ≡ found_commits.old.image }
-    ensures whole { (found : List CommitValue) → HasRead found found_commits.old →
-        OnOk result ((later : List CommitValue)
-        × ImageStandsOnlyFor (found ++ later) found_commits.old.image) }
-    ensures damaged { (at : ℕ) → result ≡ Err (journal_fault.Damaged at) →
-        IsDamagedOnlyAt at found_commits.old.image }
-    ensures kinds { IfErr result IsDamagedOrMemoryThere }
-{
-    'commits: while let Some(found) = found_commits.next(alloc)? {
-        let _at = found.at;
-    }
-    Ok(())
-}
+impl Applies for PacedReplay {
+    ghost can_apply = { λ limits. AreWithin limits standard_limits };
 
-/// Applies all commits of the journal that is opened, each with its mark where that is due by `k`.
-/// `Damaged` comes where a gate is damaged, and else where a commit does not fit those before it
-/// with the limits, at the first such gate. `NoMemory`: memory ran out. The disk stays as it is.
-pub(crate) fn replay_all<D: Disk>(
-    alloc: Global,
-    found_commits: &mut FoundCommits<D>,
-    limits: &Limits,
-    k: u32,
-) -> Result<Replay, JournalFault>
-    requires within { AreWithin limits.now standard_limits }
-    requires read { HasRead [] found_commits.old }
-    ensures disk { found_commits.new.disk ≡ found_commits.old.disk }
-    ensures image { found_commits.new.image ≡ found_commits.old.image }
-    ensures read { IfOk result (λ r. HasRead (commits_of r) found_commits.new) }
-    ensures end { OnOk result (IsAtClosedGate found_commits.new) }
-    ensures whole { IfOk result (λ r. ImageStandsOnlyFor (commits_of r) found_commits.old.image) }
-    ensures pace { IfOk result (λ r. r ≡ paced (commits_of r) k) }
-    ensures fitting { IfOk result (λ r. FitInTurn limits.now (commits_of r)) }
-    ensures damaged { (at : ℕ) → result ≡ Err (journal_fault.Damaged at) →
-        IsDamaged limits.now at found_commits.old.image }
-    ensures kinds { IfErr result IsDamagedOrMemoryThere }
-{
-    let Ok(replay) = Replay::new(alloc) else {
-        return Err(JournalFault::NoMemory);
-    };
-    let (replay, unfit) = replay_fitting(alloc, found_commits, replay, limits, k)?;
-    match unfit {
-        None => Ok(replay),
-        Some(at) => {
-            pass_over(alloc, found_commits)?;
-            Err(JournalFault::Damaged { at })
-        }
+    ghost makes = { λ first commits last. IsPaced first.k commits last.replay last.k };
+
+    fn apply(
+        self,
+        alloc: Global,
+        commit: &Commit,
+        _spelled: &[u8],
+        limits: &Limits,
+    ) -> Result<(PacedReplay, bool), NoMemory> {
+        let PacedReplay { replay, k } = self;
+        let (replay, fits) = replay.push_fitting(alloc, commit, limits, k)?;
+        Ok((PacedReplay { replay, k }, fits))
     }
 }

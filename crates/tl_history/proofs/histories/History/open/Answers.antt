@@ -1,74 +1,20 @@
--- The commits that were read are those that the disk stood for.
-use Rattle.std.proofs.Common.{◌≡◌, ◌∙◌, inl, refl, subst}
-use Rattle.std.specs.Prelude.{IfOk, IfErr}
-use Rattle.tl_types.specs.Entries.{commits_of}
-use Rattle.tl_journal.specs.Answers.{CountsFaults}
-use Rattle.tl_journal.specs.declared.faults.JournalFault.TheVariants as fault
-use Rattle.tl_history.specs.Answers.{disk_opened}
-use Rattle.tl_history.proofs.OpenLemmas.{found_there, some_there, now_there, opened_moments, image_found, device_or_memory, keeps_whole, other_fault, not_short, not_damaged, not_memory, not_long}
-use Rattle.tl_history.proofs.FitLemmas.{fit_within}
-use Rattle.tl_history.proofs.ReadLemmas.{honest_fault}
+-- What the opening of the journal says is said of the history that is made.
+use Rattle.tl_history.proofs.FitLemmas.{paces}
+use Rattle.tl_history.proofs.OpenLemmas.{nothing_done, refused_there, opened_there}
 use Rattle.tl_history.proofs.histories.History.open.Goals as goal
 
-pub returns-in-Ok : goal.returns-in-Ok
-returns-in-Ok g c =
-    let read = g.D.Disk.reads in
-    let may_leave = g.D.Disk.may_leave in
-    let moment = g.D.Disk.moment in
-    let left_since = g.D.Disk.left_since in
-    let fault_count = g.D.Disk.faults in
-    let disk = c.args.disk in
-    let answer = c.finish.result in
-    let found_commits = c.in-Ok.begun.found_commits in
-    let found = commits_of c.in-Ok.begun.replay in
-    let begun = c.in-Ok.ensures in
-    let made = c.finish.ensures in
-    record {
-      opened = made.opened;
-      limits = made.limits;
-      count = subst (λ n. IfOk answer (λ h. (h.first_count ≡ n) × (fault_count h.journal.disk ≡ n))) begun.sure made.count;
-      stands = λ b told. made.stands (begun.image b told).stored;
-      image = λ b told. image_found read may_leave moment left_since fault_count answer c.in-Ok.begun.replay found_commits.image b made.entries begun.whole (begun.image b told).same;
-      honest = λ b cs smaller told stands within fitting. device_or_memory read may_leave moment left_since fault_count answer made.kinds;
-      any_moment = λ b cs told stands.
-          let same = found_there read may_leave found_commits found cs b begun.whole (begun.image b told) stands in
-          opened_moments read may_leave moment left_since disk (disk_opened answer) found_commits found cs begun.image g.met.D.Disk.also_now same begun.any_moment (made.any_moment (begun.image b told).stored);
-      no_journal = λ b told none. absurd (none found (some_there read may_leave found_commits found b begun.whole (begun.image b told)));
-      no_journal_now = λ b told none. absurd (none found (some_there read may_leave found_commits found b begun.whole (begun.image b told)));
-      now = λ b cs told stands image left.
-          let same = found_there read may_leave found_commits found cs b begun.whole (begun.image b told) stands in
-          now_there read may_leave (disk_opened answer) found cs (may_leave disk) same (made.now (begun.image b told).stored) image left;
-      reads = λ b told. made.reads b (begun.untouched.reads_same ∙ told);
-      faults = subst (λ n. IfErr answer (λ r. CountsFaults r.fault n (fault_count r.disk))) begun.sure made.faults;
-      no_less = λ len. other_fault read may_leave moment left_since fault_count answer (fault.NotInitialised len) _ (not_short len) made.kinds;
-      too_short = λ len. other_fault read may_leave moment left_since fault_count answer (fault.NotInitialised len) _ (not_short len) made.kinds;
-      damaged = λ at. other_fault read may_leave moment left_since fault_count answer (fault.Damaged at) _ (not_damaged at) made.kinds;
-      durable = λ at. other_fault read may_leave moment left_since fault_count answer (fault.Damaged at) _ (not_damaged at) made.kinds;
-      no_memory = other_fault read may_leave moment left_since fault_count answer fault.NoMemory _ not_memory made.kinds;
-      not_long = λ len. other_fault read may_leave moment left_since fault_count answer (fault.AlreadyInitialised len) _ (not_long len) made.kinds;
-    }
+pub returns-in_default : goal.returns-in_default
+returns-in_default g c =
+    nothing_done g.D.Disk.reads g.D.Disk.may_leave g.D.Disk.moment g.D.Disk.left_since g.D.Disk.faults c.args.limits.now c.args.k c.args.disk (g.met.D.Disk.only_now c.args.disk)
+
+pub over-requires-clause-unbroken : goal.over-requires-clause-unbroken
+over-requires-clause-unbroken g c = c.in-Ok-open_journal.ensures.opened.1.unbroken
+
+pub returns-in-Ok-open_journal : goal.returns-in-Ok-open_journal
+returns-in-Ok-open_journal g c =
+    opened_there g.D.Disk.reads g.D.Disk.may_leave g.D.Disk.moment g.D.Disk.left_since g.D.Disk.faults (record { replay = c.in-Ok.replay; k = c.args.k }) c.args.limits.now c.args.disk c.in-Ok-open_journal.opened c.over.result
+    c.over.ensures.value c.over.ensures.whole c.in-Ok-open_journal.ensures
 
 pub returns-in-Err : goal.returns-in-Err
 returns-in-Err g c =
-    let begun = c.in-Err.ensures in
-    record {
-      opened = tt;
-      limits = tt;
-      count = tt;
-      stands = λ b told. tt;
-      image = λ b told. tt;
-      honest = λ b cs smaller told stands within fitting.
-          honest_fault c.args.limits.now c.in-Err.refused.fault (g.D.Disk.reads c.args.disk) b cs told stands (fit_within smaller c.args.limits.now cs within fitting) begun.too_short begun.damaged begun.not_long;
-      any_moment = λ b cs told stands. inl begun.any_moment;
-      no_journal = λ b told none. begun.any_moment;
-      no_journal_now = λ b told none. begun.untouched;
-      now = λ b cs told stands image left. inl (begun.untouched.no_more image left);
-      reads = λ b told. (b, begun.untouched.reads_same ∙ told, inl refl);
-      faults = begun.faults;
-      no_less = begun.no_less;
-      too_short = λ len e. let s = begun.too_short len e in (s.0, s.1, begun.untouched);
-      damaged = λ at e. (begun.damaged at e, begun.untouched);
-      durable = begun.durable;
-      no_memory = λ e. keeps_whole g.D.Disk.reads g.D.Disk.may_leave c.args.disk c.in-Err.refused.disk (begun.no_memory e);
-      not_long = begun.not_long;
-    }
+    refused_there g.D.Disk.reads g.D.Disk.may_leave g.D.Disk.moment g.D.Disk.left_since g.D.Disk.faults paces (record { replay = c.in-Ok.replay; k = c.args.k }) c.args.limits.now c.args.k c.args.disk c.in-Err.refused c.in-Err.ensures

@@ -9,7 +9,7 @@ use Rattle.std.proofs.Math.Pow.{pow_mono}
 use Rattle.tl_types.specs.Plain as plain
 use Rattle.tl_lanes.specs.Masks.{is_bit, word_of}
 use Rattle.tl_bits.specs.Sets.{is_member}
-use Rattle.tl_filter.proofs.WordLemmas.{bit_of_and}
+use Rattle.tl_lanes.proofs.MaskBits.{bit_of_and}
 
 -- a word of a set has no bit past its rows
 word_small : (set : List Bool) (i : ℕ) → word_of set i < 2 ^ (length set - 64 * i)

@@ -1,16 +1,18 @@
 -- What is shown of the rows of a set.
-use Rattle.std.proofs.Common.{◌≡◌, ℕ, zero, suc, ◌+◌, ◌-◌, ◌*◌, ◌/◌, ◌<◌, ◌≤◌, Bool, true, false, cond, ℤ, List, [], ◌∷◌, ◌++◌, length, map, take, get_or, Option, Some, slice_get, refl, ap, sym, ◌∙◌, arith}
+use Rattle.std.proofs.Common.{◌≡◌, ℕ, zero, suc, ◌+◌, ◌-◌, ◌*◌, ◌/◌, ◌<◌, ◌≤◌, Bool, true, false, cond, ℤ, List, [], ◌∷◌, ◌++◌, length, map, take, get_or, Option, None, Some, slice_get, refl, ap, sym, ◌∙◌, arith}
 use Rattle.std.proofs.lemmas.List.{append_assoc, take_more, map-append, length-append, take_all}
 use Rattle.std.proofs.lemmas.Nat.{mul-le}
 use Rattle.tl_lanes.specs.Masks.{words_for}
 use Rattle.std.proofs.lemmas.List.Elements.{filter-append}
+use Rattle.std.proofs.lemmas.Option.{slice_get_within}
 use Rattle.std.specs.List.{filter}
 use Rattle.tl_types.specs.declared.answers.Field.{Field}
+use Rattle.tl_types.specs.History.{rows_of}
 use Rattle.tl_types.specs.Plain as plain
 use Rattle.tl_query.specs.declared.typed_queries.TypedItem.{TypedItem}
 use Rattle.tl_query.specs.Fields.{row_fields}
 use Rattle.tl_bits.specs.Sets.{is_member, IsFree}
-use Rattle.tl_exec.specs.Shown.{rows_in_set, is_valid_at, fields_in_set, fields_if_valid}
+use Rattle.tl_exec.specs.Shown.{TellsAsked, rows_in_set, is_valid_at, fields_in_set, fields_if_valid}
 
 -- one item more
 pub item_more : {X Y : Type 0} (f : X → Y) → (xs : List X) (i : ℕ) (d : X) (out new : List Y) (y : Y) → i < length xs → out ≡ map f (take i xs) → new ≡ out ++ y ∷ [] → y ≡ f (get_or xs i d)
@@ -134,3 +136,11 @@ pub steps_to_end : (start before after from len i n all : ℕ) → before ≤ st
 steps_to_end start before after from len i n all so_far steps within less =
     let e : (i + 2) * n ≤ (i + 2) * all = mul-le (i + 2) n (i + 2) all (omega arith) less in
     omega arith
+
+-- a word past all rows tells of none
+pub none_tells : (db : plain.Database) (table : ℕ) (valid_at : Option ℤ) (at bits : ℕ) → length (rows_of db table) ≤ 16777216 → at ≡ 4294967295 → TellsAsked db table valid_at at bits
+none_tells db table None at bits few is = tt
+none_tells db table (Some moment) at bits few is =
+    λ k r small there.
+    let within = slice_get_within (rows_of db table) (64 * at + k) r there in
+    absurd (omega (arith, few, is, within))

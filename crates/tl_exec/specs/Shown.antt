@@ -1,5 +1,5 @@
 -- Rows of a table that are shown as the rows of an answer.
-use Rattle.std.specs.Prelude.{ℕ, ℤ, ◌<◌, Bool, true, IsTrue, List, [], ◌∷◌, length, map, Option, None, Some, if◌then◌else◌}
+use Rattle.std.specs.Prelude.{◌≡◌, ℕ, ◌+◌, ◌*◌, ℤ, ◌<◌, Bool, true, IsTrue, List, [], ◌∷◌, length, map, Option, None, Some, if◌then◌else◌}
 use Rattle.std.specs.List.{filter, All}
 use Rattle.tl_types.specs.declared.answers.Field.{Field}
 use Rattle.tl_types.specs.History.{is_within}
@@ -7,7 +7,8 @@ use Rattle.tl_types.specs.Plain as plain
 use Rattle.tl_query.specs.declared.typed_queries.TypedItem.{TypedItem}
 use Rattle.tl_query.specs.declared.typed_queries.TypedItem.TheVariants as item
 use Rattle.tl_query.specs.Fields.{row_fields}
-use Rattle.tl_store.specs.Reading.{columns_of, has_periods}
+use Rattle.tl_lanes.specs.Masks.{is_bit}
+use Rattle.tl_store.specs.Reading.{columns_of, has_periods, row_of}
 
 -- the rows of a table that are in a set, in order of id
 abbrev pub rows_in_set : List Bool → List plain.Row → List plain.Row
@@ -46,3 +47,14 @@ HasItems db table items = All (HasItem db table) items
 abbrev pub HasMoment : plain.Database → ℕ → Option ℤ → Type 0
 HasMoment db table None = Unit {0}
 HasMoment db table (Some moment) = IsTrue (has_periods db table)
+
+-- the bits of a word tell which rows of a table are valid at a moment, from id 64 `at` on
+abbrev pub TellsValid : plain.Database → ℕ → ℤ → ℕ → ℕ → Type 0
+TellsValid db table moment at bits =
+    (k : ℕ) (r : plain.Row) → k < 64 → row_of db table (64 * at + k) ≡ Some r
+    → is_bit bits k ≡ is_within moment r.period
+
+-- the same, where a moment is asked
+abbrev pub TellsAsked : plain.Database → ℕ → Option ℤ → ℕ → ℕ → Type 0
+TellsAsked db table None at bits = Unit {0}
+TellsAsked db table (Some moment) at bits = TellsValid db table moment at bits

@@ -1,32 +1,17 @@
 -- The bits of words.
-use Rattle.std.proofs.Common.{◌≡◌, ℕ, zero, suc, ◌+◌, ◌-◌, ◌^◌, ◌<◌, ◌≤◌, ◌==◌, ◌⊎◌, inl, inr, false, ◌&&◌, ◌||◌, not, nat_lt, min, max, List, length, get_or, set, refl, ap, sym, subst, ◌∙◌, arith}
+use Rattle.std.proofs.Common.{◌≡◌, ℕ, zero, suc, ◌+◌, ◌-◌, ◌^◌, ◌<◌, ◌≤◌, ◌==◌, ◌⊎◌, inl, inr, false, ◌&&◌, ◌||◌, not, nat_lt, max, List, length, get_or, set, refl, ap, sym, subst, ◌∙◌, arith}
 use Rattle.std.specs.Int.{bit_at, bit_not, w64}
 use Rattle.std.specs.Prelude.{bit_and, bit_or}
 use Rattle.std.proofs.lemmas.Bool.{cases_lt, cases_eq}
 use Rattle.std.proofs.lemmas.List.{get_or-set_same, get_or-set_other}
 use Rattle.std.proofs.lemmas.Bool.Decides.{nat_tests}
-use Rattle.std.proofs.lemmas.Nat.Bits.{bit_at_and, bit_at_or, bit_at_not, bit_at-lt, bit_at-zero, bit_at_ones, bit_at_ones_above}
+use Rattle.std.proofs.lemmas.Nat.Bits.{bit_at_or, bit_at_not, bit_at-lt, bit_at-zero, bit_at_ones, bit_at_ones_above}
 use Rattle.std.proofs.lemmas.Simd.{get_or-zip2, length-zip2}
 use lib.Lanes.{zip2}
 use Rattle.tl_lanes.specs.Masks.{is_bit}
 use Rattle.tl_lanes.specs.Words.{and_not}
+use Rattle.tl_lanes.proofs.MaskBits.{bit_of_and}
 use Rattle.tl_filter.specs.Words.{AreJoined, AreLeft}
-
--- a word of two others, bit by bit
-pub bit_of_and : (a b k : ℕ) → is_bit (bit_and a b) k ≡ (is_bit a k && is_bit b k)
-bit_of_and a b k =
-    let e = bit_at_and a b k in
-    let f = bit_at-lt a k in
-    let g = bit_at-lt b k in
-    ap (λ n. n == 1) e ∙ least (bit_at a k) (bit_at b k) f g where
-      least : (m n : ℕ) → m < 2 → n < 2 → (min m n == 1) ≡ ((m == 1) && (n == 1))
-      least zero zero f g = refl
-      least zero (suc zero) f g = refl
-      least zero (suc (suc n)) f g = absurd (omega arith)
-      least (suc zero) zero f g = refl
-      least (suc zero) (suc zero) f g = refl
-      least (suc zero) (suc (suc n)) f g = absurd (omega arith)
-      least (suc (suc m)) n f g = absurd (omega arith)
 
 pub bit_of_or : (a b k : ℕ) → is_bit (bit_or a b) k ≡ (is_bit a k || is_bit b k)
 bit_of_or a b k =

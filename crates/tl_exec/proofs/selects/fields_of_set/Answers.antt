@@ -15,15 +15,16 @@ members-preserved g c =
     record {
       within = omega arith;
       rows = shown_more c.args.asked.items.now c.args.asked.valid_at set rows c.members.from c.in-Some.row there.0 c.members.rows.rows c.add_row.new.rows.rows
-          next.not_below next.least next.member there.1 c.members.invariant.rows (c.in_ok-add_row.ensures.value there.0 there.1);
-      between = c.in_ok-add_row.ensures.between;
+          next.not_below next.least next.member there.1 c.members.invariant.rows (c.in_ok-seen.ensures.value there.0 there.1);
+      between = c.in_ok-seen.ensures.between;
+      word = c.in_ok-seen.ensures.tells;
       steps = member_steps c.args.steps.now c.members.steps c.next.new.steps c.add_row.new.steps c.members.from c.in-Some.row (length c.args.asked.items.now)
           (count_to set rows c.members.from) (count_to set rows (c.in-Some.row + 1)) c.members.invariant.steps c.in-Some.ensures.steps_found c.add_row.ensures.steps
           (count_more set rows c.members.from c.in-Some.row there.0 next.not_below next.least next.member there.1);
     }
 
-pub returns-in_err-add_row-clause-steps : goal.returns-in_err-add_row-clause-steps
-returns-in_err-add_row-clause-steps g c =
+pub returns-in_err-seen-clause-steps : goal.returns-in_err-seen-clause-steps
+returns-in_err-seen-clause-steps g c =
     let rows = rows_of (database_of c.args.asked.store.now) c.args.asked.table in
     let set = c.args.set.now in
     let next = c.in-Some.ensures.found in

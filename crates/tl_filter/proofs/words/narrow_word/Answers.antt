@@ -1,6 +1,7 @@
 use Rattle.std.proofs.Common.{◌≡◌, ◌+◌, ◌*◌, false, ◌&&◌, ap, sym, ◌∙◌, slice_index_or}
 use Rattle.tl_lanes.specs.Masks.{is_bit}
-use Rattle.tl_filter.proofs.WordLemmas.{bit_of_and, bit_of_zero}
+use Rattle.tl_lanes.proofs.MaskBits.{bit_of_and}
+use Rattle.tl_filter.proofs.WordLemmas.{bit_of_zero}
 use Rattle.tl_filter.proofs.words.narrow_word.Goals as goal
 
 pub returns-then-word-eq0-clause-bits : goal.returns-then-word-eq0-clause-bits

@@ -12,7 +12,7 @@ use tl_store::{CellRef, IntsRef};
 use tl_types::Steps;
 
 /// The numbers of the rows in a column of numbers, where one is asked for.
-pub(crate) fn numbers<'a>(table: &TimedTable<'a>, column: Option<u8>) -> Option<IntsRef<'a>>
+pub fn numbers<'a>(table: &TimedTable<'a>, column: Option<u8>) -> Option<IntsRef<'a>>
     requires { IfSome column
         (λ place. IsIntColumn (columns_of table.now.db table.now.number) place) }
     ensures { AreNumbers (rows_in table.now) column result }
@@ -35,7 +35,7 @@ fn ints_in<'a>(table: &TimedTable<'a>, place: u8) -> Option<IntsRef<'a>>
 }
 
 /// The numbers of the rows in a column, where one is asked for and it is one of numbers.
-pub(crate) fn int_keys<'a>(table: &TimedTable<'a>, column: Option<u8>) -> Option<IntsRef<'a>>
+pub fn int_keys<'a>(table: &TimedTable<'a>, column: Option<u8>) -> Option<IntsRef<'a>>
     ensures { AreKeys (rows_in table.now) column result }
 {
     match column {
@@ -45,7 +45,7 @@ pub(crate) fn int_keys<'a>(table: &TimedTable<'a>, column: Option<u8>) -> Option
 }
 
 /// The value of a row in a column. It takes one step.
-pub(crate) fn key_at<'a, L: Ledger>(
+pub fn key_at<'a, L: Ledger>(
     table: &TimedTable<'a>,
     column: u8,
     row: u32,

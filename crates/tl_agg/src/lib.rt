@@ -5,7 +5,7 @@
 
 mod aggregates;
 mod all_groups;
-mod columns;
+pub mod columns;
 mod groups;
 mod kept;
 pub mod laws;

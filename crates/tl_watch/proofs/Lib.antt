@@ -14,4 +14,7 @@ pub mod ReadyLemmas
 pub mod WatchLemmas
 pub mod PlanLemmas
 pub mod StartLemmas
+pub mod NumberedLemmas
+pub mod GatherLemmas
+pub mod ReaderLemmas
 pub mod CallLemmas

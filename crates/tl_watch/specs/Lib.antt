@@ -5,5 +5,6 @@ pub mod States
 pub mod Reading
 pub mod Sums
 pub mod Follows
+pub mod Gathering
 pub mod Watches
 pub mod Calls

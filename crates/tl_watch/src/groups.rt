@@ -2,12 +2,14 @@
 //! group that loses its last row is left out; a number that a group has not cannot go.
 ghost use Rattle.std.specs.Prelude.{◌≡◌, [], None, IfOk, OnOk, map};
 ghost use Rattle.tl_types.specs.declared.cells.Cell.{Cell};
+ghost use Rattle.tl_watch.specs.Gathering.{KeepsAsAt};
 ghost use Rattle.tl_watch.specs.Groups.{group_of, HasRoomAt, CanLeaveAt, EntersGroup, LessensGroup, LeavesGroup, TellsGroup, TellGroups};
 ghost use Rattle.tl_query.specs.Ordered.{Rises};
 ghost use Rattle.tl_running.specs.Standing.{Enters};
 
 use crate::numbers::Numbers;
 use crate::standings::Standing;
+use crate::value_numbers::ValueNumbers;
 use std::alloc::Global;
 use std::collections::BTreeMap;
 use std::marker::Model;
@@ -92,6 +94,20 @@ fn leave_in(by: &mut BTreeMap<Cell, Numbers>, value: &Cell, number: i64)
     let _ = by.remove(value);
 }
 
+// The groups by their values. Where two are of one value, the first of them counts.
+fn sorted(alloc: Global, values: Vec<ValueNumbers<'_>>) -> Result<BTreeMap<Cell, Numbers>, NoMemory>
+    ensures { IfOk result (λ sorted. (x : Cell)
+        → KeepsAsAt (group_of values.entry.items x) (group_of sorted.entries x)) }
+{
+    let mut values = values;
+    let mut sorted = BTreeMap::new(alloc);
+    'values: while let Some(group) = values.pop() {
+        let (value, numbers) = group.into_parts(alloc)?;
+        sorted.insert(value, numbers)?;
+    }
+    Ok(sorted)
+}
+
 // What is told of the group of a value.
 fn told(value: &Cell, numbers: &Numbers) -> Result<Standing, NoMemory>
     ensures { IfOk result (TellsGroup (value.now, numbers.now)) }
@@ -123,6 +139,19 @@ impl Groups {
         Groups {
             by: BTreeMap::new(alloc),
         }
+    }
+
+    /// The groups of these values, of which the first counts where two are of one value. The error
+    /// is `NoMemory`.
+    pub(crate) fn of_values(
+        alloc: Global,
+        values: Vec<ValueNumbers<'_>>,
+    ) -> Result<Groups, NoMemory>
+        ensures { IfOk result (λ groups. (x : Cell)
+            → KeepsAsAt (group_of values.entry.items x) (group_of groups x)) }
+    {
+        let by = sorted(alloc, values)?;
+        Ok(Groups { by })
     }
 
     /// A number comes into the group of a value. The error is `NoMemory`.

@@ -5,15 +5,19 @@
 mod closing;
 mod comparing;
 mod follows;
+mod gathered;
+mod gathering;
 mod groups;
 pub mod laws;
 mod numbers;
 mod opening;
 mod plans;
+mod row_readers;
 mod standings;
 mod starts;
 mod states;
 mod sums;
+mod value_numbers;
 mod watch;
 mod watched;
 

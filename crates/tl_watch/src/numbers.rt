@@ -1,7 +1,7 @@
 //! What is kept of the numbers of rows: how many there are, their sum, and for a least or greatest
 //! number each of them with how often it is there, so that the memory is in proportion to the rows
 //! that stand. A number that is not there cannot go.
-ghost use Rattle.std.specs.Prelude.{◌≡◌, ℕ, ◌+◌, ◌-◌, ◌^◌, ◌<◌, ℤ, pos, neg_ℤ, ◌+ℤ◌, ◌≤ℤ◌, true, false, Option, List, [], length, map, OnOk};
+ghost use Rattle.std.specs.Prelude.{◌≡◌, ℕ, ◌+◌, ◌-◌, ◌^◌, ◌<◌, ℤ, pos, neg_ℤ, ◌+ℤ◌, ◌≤ℤ◌, true, false, Option, List, [], length, map, IfOk, OnOk};
 ghost use Rattle.std.specs.List.{count_by};
 ghost use Rattle.std.specs.Ordering.{int_eq};
 ghost use Rattle.tl_types.specs.declared.answers.Field.TheVariants as field;
@@ -9,6 +9,7 @@ ghost use Rattle.tl_types.specs.Plain as plain;
 ghost use Rattle.tl_bits.specs.Bags.{times, AddsOne};
 ghost use Rattle.tl_query.specs.Aggregates.{least_field, greatest_field};
 ghost use Rattle.tl_running.specs.Standing.{is_ordered, number_in, StandsFor, HasRoom, CanLeave, Enters, summing};
+ghost use Rattle.tl_watch.specs.Gathering.{gathered_of, KeepsAs};
 ghost use Rattle.tl_watch.specs.Groups.{TellsValue};
 ghost use Rattle.tl_watch.specs.Numbers.{counted_as};
 ghost use Rattle.tl_watch.specs.Sums.{AddsUp};
@@ -54,8 +55,9 @@ fn counted_as(kind: AggKind) -> AggKind
     }
 }
 
-// Whether the kind asks for the order of the numbers.
-fn is_ordered(kind: AggKind) -> bool
+/// Whether the kind asks for the order of the numbers.
+#[inline]
+pub(crate) fn is_ordered(kind: AggKind) -> bool
     ensures { result ≡ is_ordered kind }
 {
     matches!(kind, AggKind::Min | AggKind::Max)
@@ -124,6 +126,18 @@ fn count_in(counted: &mut Running, number: i64)
     counted.set_sums(count, sum);
 }
 
+// The numbers as a bag, where the kind asks for their order, else the bag of none.
+fn bag_of(alloc: Global, kind: AggKind, numbers: Vec<i64>) -> Result<Bag, NoMemory>
+    ensures { IfOk result (λ bag. is_ordered kind ≡ true
+        → (v : ℤ) → times bag v ≡ count_by (int_eq v) numbers.items) }
+{
+    if !is_ordered(kind) {
+        return Ok(Bag::none(alloc));
+    }
+    let bag = Bag::of_numbers(alloc, numbers)?;
+    Ok(bag)
+}
+
 impl Numbers {
     /// What is kept of no number for a kind. It takes no memory.
     pub(crate) fn none(alloc: Global, kind: AggKind) -> Numbers
@@ -153,6 +167,25 @@ impl Numbers {
             counted,
             bag: Bag::none(alloc),
         }
+    }
+
+    /// What is kept of numbers that were counted and added elsewhere, and put into a list where the
+    /// kind asks for their order. The error is `NoMemory`.
+    #[tactic(auto, using(crate::proofs::NumberLemmas::kind_counted))]
+    pub(crate) fn of_gathered(
+        alloc: Global,
+        kind: AggKind,
+        count: u32,
+        sum: i128,
+        numbers: Vec<i64>,
+    ) -> Result<Numbers, NoMemory>
+        ensures { IfOk result
+            (λ kept. KeepsAs (gathered_of kind count sum numbers.items) kept) }
+    {
+        let bag = bag_of(alloc, kind, numbers)?;
+        let mut counted = Running::none(alloc, counted_as(kind));
+        counted.set_sums(count, sum);
+        Ok(Numbers { kind, counted, bag })
     }
 
     /// A number comes. The error is `NoMemory`, and leaves all as it was.

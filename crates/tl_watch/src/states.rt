@@ -49,15 +49,11 @@ fn tell_one(alloc: Global, numbers: &Numbers) -> Result<Vec<Standing>, NoMemory>
 }
 
 impl State {
-    /// What is kept of no row. It takes no memory.
-    pub(crate) fn none(alloc: Global, kind: AggKind) -> State
-        ensures { (plan : WatchPlan) → plan.kind ≡ kind → Stands plan result [] }
+    /// What is kept of all rows at once, and of each group.
+    pub(crate) fn of_parts(alloc: Global, all: Numbers, groups: Groups) -> State
+        ensures { result ≡ record { all = all; groups = groups } }
     {
-        State {
-            alloc,
-            all: Numbers::none(alloc, kind),
-            groups: Groups::none(alloc),
-        }
+        State { alloc, all, groups }
     }
 
     /// What is kept of all rows at once, whose number and sum of numbers were made elsewhere, for a

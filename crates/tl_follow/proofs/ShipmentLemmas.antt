@@ -1,7 +1,8 @@
 -- What is shipped of a history, version by version, and where it leads.
-use Rattle.std.proofs.Common.{◌≡◌, ℕ, zero, suc, ◌+◌, ◌-◌, ◌<◌, ◌≤◌, Bool, true, false, ◌&&◌, cond, min, nat_le, ◌==◌, List, [], ◌∷◌, ◌++◌, length, Option, Some, None, IsSome, is_some, slice_get, refl, sym, ap, ◌∙◌, subst, arith, append_assoc, append-nil, length-append}
+use Rattle.std.proofs.Common.{◌≡◌, ℕ, zero, suc, ◌+◌, ◌-◌, ◌<◌, ◌≤◌, Bool, true, false, ◌&&◌, cond, nat_le, ◌==◌, List, [], ◌∷◌, ◌++◌, length, Some, None, IsSome, is_some, slice_get, refl, sym, ap, ◌∙◌, arith, append_assoc, append-nil, length-append}
 use Rattle.std.specs.List.{AllByRecursion, filter}
 use Rattle.std.proofs.lemmas.Grind.{flat_map-append}
+use Rattle.std.proofs.lemmas.List.Elements.{filter-append}
 use Rattle.std.proofs.lemmas.Bool.Decides.{nat_tests}
 use Rattle.tl_types.specs.declared.commits.Commit.{Commit}
 use Rattle.tl_types.specs.declared.limits.Limits.{Limits}
@@ -11,7 +12,7 @@ use Rattle.tl_follow.specs.Packets.{packet_spelling, IsPacket}
 use Rattle.tl_follow.specs.Following.{IsPrefixOf, first_of, followed}
 use Rattle.tl_follow.specs.Leading.{IsOf, AreFrom}
 use Rattle.tl_follow.specs.Inputs.{input_of, IsInput}
-use Rattle.tl_follow.specs.Shipping.{packet_of, packets_from, packets_between, shipment, PutsVersion}
+use Rattle.tl_follow.specs.Shipping.{packet_of, packets_from, packets_between, shipment}
 use Rattle.tl_follow.proofs.Growing.{prefix_length, grown_prefix}
 use Rattle.tl_follow.proofs.Led.{is_led, get_past}
 use Rattle.tl_follow.proofs.InputLemmas.{no_packet_in_none}
@@ -71,10 +72,6 @@ none_past from to last k (c ∷ cs) h l =
 pub shipment_none : (commits : List Commit) (from to : ℕ) → to < from → shipment from to commits ≡ []
 shipment_none commits from to h = ap input_of (none_for from to 1 commits h)
 
-pub shipment_start : (commits : List Commit) (from to : ℕ) → to ≤ from - 1 → shipment from to commits ≡ []
-shipment_start commits zero to h = let over : to < 1 = omega (arith, h) in ap input_of (none_over zero to 1 commits over)
-shipment_start commits (suc from) to h = let less : to < suc from = omega (arith, h) in shipment_none commits (suc from) to less
-
 pub shipment_more : (commits : List Commit) (c : Commit) (from to : ℕ) → from ≤ to + 1 → slice_get commits to ≡ Some c → shipment from (to + 1) commits ≡ shipment from to commits ++ packet_spelling (packet_of (to + 1) c)
 shipment_more commits c from to f g =
     let e : 1 + to ≡ to + 1 = omega arith in
@@ -87,26 +84,26 @@ shipment_end commits from to h =
     let e : 1 + length commits ≤ length commits + 1 = omega arith in
     ap input_of (none_past from to (length commits) 1 commits e h)
 
--- one packet more, behind those before it
-pub shipped_on : (commits : List Commit) (from before : ℕ) (out new : List ℕ) → out ≡ shipment from before commits → PutsVersion commits (before + 1) out new → from ≤ before + 1 → new ≡ shipment from (before + 1) commits
-shipped_on commits from before out new is p f =
-    let e : before + 1 - 1 ≡ before = omega arith in
-    let g : slice_get commits before ≡ Some p.0 = ap (slice_get commits) (sym e) ∙ p.1 in
-    p.2 ∙ ap (λ l. l ++ packet_spelling (packet_of (before + 1) p.0)) is ∙ sym (shipment_more commits p.0 from before f g)
+-- one commit more: its packet, where its version is one of those
+packets_next : (k n : ℕ) (cs : List Commit) (c : Commit) → n ≡ k + length cs → packets_from k (cs ++ c ∷ []) ≡ packets_from k cs ++ packet_of n c ∷ []
+packets_next k n [] c e =
+    let same : k ≡ n = omega (arith, e) in
+    ap (λ v. packet_of v c ∷ []) same
+packets_next k n (d ∷ cs) c e =
+    let on : n ≡ k + 1 + length cs = omega (arith, e) in
+    ap (λ ps. packet_of k d ∷ ps) (packets_next (k + 1) n cs c on)
 
--- up to the last of them
-pub shipped_until : (commits : List Commit) (from to until : ℕ) → until ≡ min to (length commits) → shipment from until commits ≡ shipment from to commits
-shipped_until commits from to until u = by_test (nat_le to (length commits)) refl where
-  by_test : (t : Bool) → nat_le to (length commits) ≡ t → shipment from until commits ≡ shipment from to commits
-  by_test true t =
-      let l : to ≤ length commits = grind (arith, nat_tests) in
-      let e : until ≡ to = omega (arith, u, l) in
-      ap (λ k. shipment from k commits) e
-  by_test false t =
-      let l : length commits < to = grind (arith, nat_tests) in
-      let e : until ≡ length commits = omega (arith, u, l) in
-      let past : length commits ≤ to = omega (arith, l) in
-      ap (λ k. shipment from k commits) e ∙ sym (shipment_end commits from to past)
+spelled_where : (b : Bool) (p : Packet) → input_of (cond b (p ∷ []) []) ≡ cond b (packet_spelling p) []
+spelled_where true p = append-nil (packet_spelling p)
+spelled_where false p = refl
+
+pub shipment_next : (commits : List Commit) (c : Commit) (from to n : ℕ) → n ≡ length commits + 1 → shipment from to (commits ++ c ∷ []) ≡ shipment from to commits ++ cond (nat_le from n && nat_le n to) (packet_spelling (packet_of n c)) []
+shipment_next commits c from to n e =
+    let on : n ≡ 1 + length commits = omega (arith, e) in
+    ap (λ ps. input_of (filter (is_between from to) ps)) (packets_next 1 n commits c on)
+    ∙ ap input_of (filter-append (is_between from to) (packets_from 1 commits) (packet_of n c ∷ []))
+    ∙ flat_map-append packet_spelling (packets_between from to commits) (cond (nat_le from n && nat_le n to) (packet_of n c ∷ []) [])
+    ∙ ap (λ l. shipment from to commits ++ l) (spelled_where (nat_le from n && nat_le n to) (packet_of n c))
 
 -- WHERE THEY LEAD
 

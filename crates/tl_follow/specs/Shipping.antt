@@ -1,20 +1,13 @@
 -- What is shipped of a history.
-use Rattle.std.specs.Prelude.{◌≡◌, ℕ, ◌+◌, ◌-◌, ◌&&◌, nat_le, List, [], ◌∷◌, ◌++◌, Some, slice_get}
+use Rattle.std.specs.Prelude.{ℕ, ◌+◌, ◌&&◌, nat_le, List, [], ◌∷◌}
 use Rattle.std.specs.List.{filter}
 use Rattle.tl_types.specs.declared.commits.Commit.{Commit}
 use Rattle.tl_follow.specs.declared.packets.Packet.{Packet}
-use Rattle.tl_follow.specs.Packets.{packet_spelling}
 use Rattle.tl_follow.specs.Inputs.{input_of}
 
 -- a commit with a version
 abbrev pub packet_of : ℕ → Commit → Packet
 packet_of version commit = record { version = version; commit = commit }
-
--- the bytes get the packet of the commit that made a version behind them
-abbrev pub PutsVersion : List Commit → ℕ → List ℕ → List ℕ → Type 0
-PutsVersion commits version old new =
-    (c : Commit) × (slice_get commits (version - 1) ≡ Some c)
-    × (new ≡ old ++ packet_spelling (packet_of version c))
 
 -- commits as packets, the first of which has this version
 abbrev pub packets_from : ℕ → List Commit → List Packet

@@ -28,4 +28,4 @@ pub use in_place::Followed;
 pub use inputs::{INPUT_LIMIT, find_packet, follow_input, read_all};
 pub use packets::{Packet, Taken};
 pub use reading::{ReadPacket, read_packet};
-pub use shipping::{packet_bytes, put_packet, shipment_bytes};
+pub use shipping::{packet_bytes, put_packet};

@@ -1,7 +1,9 @@
 pub mod BytesLemmas
 pub mod ClosingLemmas
 pub mod ComingLemmas
+pub mod HeldLemmas
 pub mod LentLemmas
 pub mod NamesLemmas
+pub mod OpenedLemmas
 pub mod OpeningLemmas
 pub mod ScriptComing

@@ -4,7 +4,7 @@ use Rattle.tl_types.specs.Limits.{standard_limits}
 use Rattle.tl_journal.specs.Answers.{IsTooShort, IsTooLong}
 use Rattle.tl_journal.specs.declared.faults.JournalFault.{JournalFault}
 use Rattle.tl_journal.specs.declared.faults.JournalFault.TheVariants as journal
-use Rattle.tl_history.specs.Fitting.{IsDamaged}
+use Rattle.tl_replay.specs.Fitting.{IsDamaged}
 use Rattle.tl_command.specs.Closing.{RefusedBy, NotMadeBy, MayBeShort}
 use Rattle.tl_command.specs.Outside.{Outside, IsSameDisk, LeavesNoLess, DiskAsBefore, DiskDurable, DiskTrimmed}
 

@@ -22,7 +22,8 @@ use Rattle.tl_command.specs.Status.{closing_line}
 use Rattle.tl_grouping.specs.Appending.{AppendsAndWrites, IsAttached}
 use Rattle.tl_grouping.specs.Leaving.{LeavesBy}
 use Rattle.tl_grouping.specs.Playing.{KeepsDisk}
-use Rattle.tl_grouping.proofs.DiskLemmas.{holds_journal, left_image, left_count, stored_image}
+use Rattle.tl_command.proofs.HeldLemmas.{holds_journal, stored_image}
+use Rattle.tl_grouping.proofs.DiskLemmas.{left_image, left_count}
 use Rattle.tl_grouping.proofs.EndLemmas.{appended}
 use Rattle.tl_grouping.proofs.PlayLemmas.{keeps_itself}
 use Rattle.tl_following.specs.Following.{AppendsMore, Extends, FailsInput, FollowEndsBy, Follows, TakesCommits, follow_line}

@@ -1,37 +1,19 @@
 -- What the disk holds once a group is appended or given up.
-use Rattle.std.proofs.Common.{◌≡◌, inl, inr, ℕ, List, [], ◌∷◌, ◌++◌, take, drop, Some, None, refl, sym, ap, ◌∙◌, subst, append-nil, take-append-drop}
+use Rattle.std.proofs.Common.{◌≡◌, inl, inr, ℕ, List, [], ◌++◌, Some, None, sym, ap, ◌∙◌, subst, append-nil, take-append-drop}
 use Rattle.std.specs.declared.option.Option.{Option}
 use Rattle.tl_types.specs.declared.commits.Commit.{Commit}
 use Rattle.tl_device.specs.Disk.{Only}
 use Rattle.tl_device.specs.Known.{Rose}
 use Rattle.tl_device.specs.declared.disk.Disk.{Ghosts as DiskGhosts}
-use Rattle.tl_journal.specs.Image.{header, ImageStandsFor, NoneOrAll}
-use Rattle.tl_journal.specs.Stands.{DiskStandsFor}
+use Rattle.tl_journal.specs.Image.{ImageStandsFor, NoneOrAll}
 use Rattle.tl_group.specs.Keeping.{commits_in, journal_commits, waiting_commits}
 use Rattle.tl_group.specs.Plain as group
 use Rattle.tl_group.specs.Standing.{IsGivenBack}
-use Rattle.tl_command.specs.Outside.{Outside, HoldsJournal}
+use Rattle.tl_command.specs.Outside.{HoldsJournal}
+use Rattle.tl_command.proofs.HeldLemmas.{holds_journal, stored_image}
 use Rattle.tl_grouping.specs.Appending.{IsAttached, IsAppended, IsInDoubt}
 use Rattle.tl_grouping.specs.Leaving.{HoldsEither, StandsForEither}
 use Rattle.tl_grouping.specs.Playing.{KeepsDisk}
-
--- a read gives the journal of the commits, and a crash leaves just that
-abbrev pub Holds : Outside → List Commit → Type 0
-Holds after commits = (bytes : List ℕ) × (after.reads ≡ Some bytes) × Only bytes after.may_leave × ImageStandsFor commits bytes
-
--- an outside whose disk does so holds the journal
-pub holds_journal : (commits : List Commit) (before after : Outside) → after.disk_faults ≡ before.disk_faults → ((b : List ℕ) → before.reads ≡ Some b → Holds after commits) → HoldsJournal commits None before after
-holds_journal commits before after count holds =
-    record {
-      counts = count;
-      leaves = λ b told image left. let h = holds b told in subst (ImageStandsFor commits) (sym (h.2 image left)) h.3;
-      reads = λ b told. let h = holds b told in (h.0, h.1, h.3);
-      settled = λ b told none. let h = holds b told in (h.0, h.1, h.2);
-    }
-
--- the image of a disk that stands for commits
-pub stored_image : {D : Type 0} (disks : DiskGhosts D) (disk : D) (commits : List Commit) (gate : ℕ) → DiskStandsFor disks.reads disks.may_leave disk commits gate → (bytes : List ℕ) × (disks.reads disk ≡ Some bytes) × Only bytes (disks.may_leave disk) × ImageStandsFor commits bytes
-stored_image disks disk commits gate h = ((header ++ h.front) ++ 0 ∷ [], h.stored.reads_as, h.stored.only, (h.front, h.opens, ([], refl)))
 
 -- the journal of a group that was attached and played has the commits that it had
 pub commits_kept : {D : Type 0} (disks : DiskGhosts D) (begun : D) (attached later : group.Group D) → IsAttached disks begun attached → KeepsDisk disks attached later → journal_commits later ≡ commits_in attached

@@ -21,7 +21,8 @@ use Rattle.tl_grouping.specs.Appending.{AppendsAndWrites, IsAttached}
 use Rattle.tl_grouping.specs.Grouping.{GroupEndsBy, Plays, WhyGivenUp}
 use Rattle.tl_grouping.specs.Leaving.{LeavesBy}
 use Rattle.tl_grouping.specs.Playing.{KeepsDisk, PlayStops}
-use Rattle.tl_grouping.proofs.DiskLemmas.{holds_journal, left_image, left_count, appended_image, back_held, doubt_held}
+use Rattle.tl_command.proofs.HeldLemmas.{holds_journal}
+use Rattle.tl_grouping.proofs.DiskLemmas.{left_image, left_count, appended_image, back_held, doubt_held}
 
 -- what is written once there is room, from before the room was taken
 pub ready_from : (bytes : List ℕ) (wanted : Status) (old mid new : Option (List ℕ)) (before at after : ℕ) (ended : Status) → mid ≡ old → at ≡ before → WritesReady bytes wanted mid new at after ended → WritesReady bytes wanted old new before after ended

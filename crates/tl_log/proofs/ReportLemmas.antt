@@ -5,7 +5,7 @@ use Rattle.tl_types.specs.Limits.{standard_limits}
 use Rattle.tl_journal.specs.Answers.{IsTooShort}
 use Rattle.tl_journal.specs.declared.faults.JournalFault.{JournalFault}
 use Rattle.tl_journal.specs.declared.faults.JournalFault.TheVariants as journal
-use Rattle.tl_history.specs.Fitting.{IsDamaged}
+use Rattle.tl_replay.specs.Fitting.{IsDamaged}
 use Rattle.tl_log.specs.declared.reports.ListFault.{ListFault}
 use Rattle.tl_log.specs.declared.reports.ListFault.TheVariants as fault
 use Rattle.tl_log.specs.Reading.{IsRefusedFor}

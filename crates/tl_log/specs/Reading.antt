@@ -6,7 +6,7 @@ use Rattle.tl_types.specs.Legality.{FitInTurn}
 use Rattle.tl_types.specs.Limits.{standard_limits}
 use Rattle.tl_journal.specs.Answers.{IsTooShort}
 use Rattle.tl_journal.specs.Image.{ImageStandsOnlyFor}
-use Rattle.tl_history.specs.Fitting.{IsDamaged}
+use Rattle.tl_replay.specs.Fitting.{IsDamaged}
 use Rattle.tl_log.specs.declared.listings.Listing.{Listing}
 use Rattle.tl_log.specs.declared.listings.Listing.TheVariants as listing
 use Rattle.tl_log.specs.declared.reports.ListFault.{ListFault}

@@ -2,7 +2,7 @@ use Rattle.std.proofs.Common.{inl, inr, ap}
 use Rattle.tl_group.specs.Attaching.{as_history, history_of}
 use Rattle.tl_group.specs.Keeping.{commits_in}
 use Rattle.tl_grouping.proofs.DiskLemmas.{none_waiting}
-use Rattle.tl_grouping.proofs.OpenLemmas.{ends_refused, opens_with}
+use Rattle.tl_command.proofs.OpenedLemmas.{ends_refused, opens_with}
 use Rattle.tl_following.proofs.following.follow.Goals as goal
 
 pub returns-in-Err : goal.returns-in-Err

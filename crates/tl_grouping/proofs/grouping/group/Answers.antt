@@ -8,7 +8,7 @@ use Rattle.tl_command.specs.Outside.{outside}
 use Rattle.tl_command.proofs.ScriptComing.{new_script_fresh}
 use Rattle.tl_grouping.specs.Grouping.{GroupEndsBy}
 use Rattle.tl_grouping.proofs.DiskLemmas.{none_waiting}
-use Rattle.tl_grouping.proofs.OpenLemmas.{ends_refused, opens_with}
+use Rattle.tl_command.proofs.OpenedLemmas.{ends_refused, opens_with}
 use Rattle.tl_grouping.proofs.grouping.group.Goals as goal
 
 pub play_group-requires-clause-fresh : goal.play_group-requires-clause-fresh

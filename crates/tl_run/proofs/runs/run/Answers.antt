@@ -2,7 +2,7 @@ use Rattle.std.proofs.Common.{◌∙◌, sym, subst, IfSome, inl, inr, refl, le_
 use Rattle.tl_types.specs.declared.limits.Limits.{Limits}
 use Rattle.tl_types.specs.Entries.{commits_of}
 use Rattle.tl_types.specs.Legality.{FitInTurn}
-use Rattle.tl_history.specs.Fitting.{IsDamaged}
+use Rattle.tl_replay.specs.Fitting.{IsDamaged}
 use Rattle.tl_command.specs.Outside.{outside, OpensWith}
 use Rattle.tl_run.proofs.EndLemmas.{opened_ends}
 use Rattle.tl_command.proofs.OpeningLemmas.{either_of, refused_by}

@@ -1,5 +1,5 @@
 -- A journal that is not opened, or is: what a command that opens one without marks says of it.
-use Rattle.std.proofs.Common.{◌≡◌, ℕ, List, Some, IfSome, Result, Ok, Err, refl, sym, ap, ◌∙◌, subst, le_refl}
+use Rattle.std.proofs.Common.{◌≡◌, ℕ, List, IfSome, Result, Ok, Err, refl, sym, ◌∙◌, subst, le_refl}
 use Rattle.std.specs.declared.option.Option.{Option}
 use Rattle.tl_types.specs.declared.limits.Limits.{Limits}
 use Rattle.tl_types.specs.Entries.{commits_of}
@@ -8,7 +8,7 @@ use Rattle.tl_types.specs.Limits.{standard_limits}
 use Rattle.tl_device.specs.declared.disk.Disk.{Ghosts as DiskGhosts}
 use Rattle.tl_journal.specs.declared.opening.Refused.{Refused}
 use Rattle.tl_history.specs.Answers.{Opens}
-use Rattle.tl_history.specs.Fitting.{IsDamaged}
+use Rattle.tl_replay.specs.Fitting.{IsDamaged}
 use Rattle.tl_history.specs.Plain as history
 use Rattle.tl_command.specs.declared.statuses.Status.{Status}
 use Rattle.tl_command.specs.Closing.{EndsFor, EndsRefused}

@@ -1,1 +1,2 @@
+pub mod Shipments
 pub mod Shipping

@@ -1,6 +1,5 @@
-use Rattle.std.proofs.Common.{◌≡◌, ◌-◌, ◌<◌, length, sym, ap, ◌∙◌, subst, arith}
+use Rattle.std.proofs.Common.{◌-◌, ◌<◌, length, sym, ap, ◌∙◌, subst, arith}
 use Rattle.std.proofs.lemmas.List.{length-map}
-use Rattle.tl_store.specs.Kept.{Kept}
 use Rattle.tl_store.specs.Log.{commit_of, body_of, kept_at, IsDeed}
 use Rattle.tl_store.proofs.LogLemmas.{entry_at, commit_there}
 use Rattle.tl_store.proofs.store.Store.commit_at.Goals as goal

@@ -5,7 +5,6 @@ use Rattle.tl_types.specs.declared.commits.Commit.{Commit}
 use Rattle.tl_types.specs.declared.commits.Body.TheVariants as body
 use Rattle.tl_types.specs.History.{database_of, fits}
 use Rattle.tl_types.specs.Limits.{standard_limits}
-use Rattle.tl_types.specs.Plain as plain
 use Rattle.tl_store.specs.declared.log.Deed.TheVariants as deed
 use Rattle.tl_store.specs.declared.log.LogEntry.{LogEntry}
 use Rattle.tl_store.specs.Log.{history_of, commit_of, IsHistory}

@@ -1,8 +1,6 @@
-use Rattle.std.proofs.Common.{rules, subst, ◌≡◌, Some, ◌+◌, ◌*◌, ◌<◌, length, ap, sym, ◌∙◌, arith, slice_get}
+use Rattle.std.proofs.Common.{rules, subst, ◌≡◌, ◌+◌, ◌*◌, ap, sym, ◌∙◌, arith, slice_get}
 use Rattle.std.proofs.lemmas.Option.{slice_get_within}
-use Rattle.std.specs.Option.{option_map}
 use Rattle.tl_types.specs.History.{is_within}
-use Rattle.tl_types.specs.Plain as plain
 use Rattle.tl_store.specs.Kept.{Kept}
 use Rattle.std.proofs.lemmas.Int.{to_z-of_z}
 use mir.Syntax.{w64}

@@ -27,7 +27,8 @@ use Rattle.tl_query.specs.Passing.{compare_cells}
 use Rattle.tl_agg.proofs.StartLemmas.{next_turns, next_below, rest_below}
 use Rattle.tl_running.specs.Standing.{IsShort}
 use Rattle.tl_agg.specs.Columns.{HasKey}
-use Rattle.tl_agg.specs.Scans.{IsNextEntry, ScanOf, IsScan, wanted_of, keep_with, Turns, set_after, Groups, group_of, AreNumbered, HasPlace, CanMoveAt, MovesAt, TrackBy, AllTrack, IsReady, TakesEvent}
+use Rattle.tl_keys.specs.Numbered.{AreNumbered}
+use Rattle.tl_agg.specs.Scans.{IsNextEntry, ScanOf, IsScan, wanted_of, keep_with, Turns, set_after, Groups, group_of, HasPlace, CanMoveAt, MovesAt, TrackBy, AllTrack, IsReady, TakesEvent}
 use Rattle.tl_index.specs.Tables.{TableOf, rows_in}
 use Rattle.tl_running.specs.Telling.{TellsNumber}
 use Rattle.tl_agg.specs.Groups.{Wanted, State, IsNone, IsOne, HoldsIn, Tracks, Advances, Shifts, MovesRow, CanMoveRow}

@@ -21,7 +21,8 @@ use Rattle.tl_index.specs.Tables.{TableOf, rows_in}
 use Rattle.tl_agg.specs.Kept.{both}
 use Rattle.tl_agg.specs.Groups.{Wanted, Tracks, State, IsNone, IsOne, HoldsIn, Moves, AreAdvanced, recounted, summed}
 use Rattle.tl_query.specs.Ordered.{Rises}
-use Rattle.tl_keys.specs.Keys.{KeyNumbers, number_in, AreApart}
+use Rattle.tl_keys.specs.Keys.{KeyNumbers}
+use Rattle.tl_keys.specs.Numbered.{AreNumbered}
 use Rattle.tl_running.specs.Standing.{CanChange}
 use Rattle.tl_types.specs.declared.runs.Run.{Run}
 
@@ -119,13 +120,6 @@ all_summed groups count sum = record groups { all = summed groups.all count sum 
 -- the group of a value, where there is one
 abbrev pub group_of : Groups → Cell → Option State
 group_of groups value = lookup (same_cell value) groups.by
-
--- each group stands at the number of its value
-pub record AreNumbered (keys : KeyNumbers) (by : List (Cell × State)) : Type 0 where
-  pub apart : AreApart keys
-  pub many : length by ≡ keys.count
-  pub each : (n : ℕ) (value : Cell) (group : State) → slice_get by n ≡ Some (value, group)
-      → number_in keys value ≡ Some n
 
 -- groups of no rows since a version
 pub record AreNone (groups : Groups) (kind : AggKind) (gaps : Bool) (since : ℕ) : Type 0 where

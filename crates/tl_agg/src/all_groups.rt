@@ -9,7 +9,8 @@ ghost use Rattle.tl_store.specs.Reading.{IsShort, cell_shown};
 ghost use Rattle.tl_running.specs.Standing.{CanChange};
 ghost use Rattle.tl_agg.specs.Groups.{IsAdvanced, AreAdvanced, Advances, Shifts};
 ghost use Rattle.tl_query.specs.Aggregates.{in_group};
-ghost use Rattle.tl_agg.specs.Scans.{AreNone, AreNumbered, HasPlace, CanMoveAt, MovesAt, AreAllAdvanced, all_recounted, all_summed};
+ghost use Rattle.tl_keys.specs.Numbered.{AreNumbered};
+ghost use Rattle.tl_agg.specs.Scans.{AreNone, HasPlace, CanMoveAt, MovesAt, AreAllAdvanced, all_recounted, all_summed};
 ghost use Rattle.tl_query.specs.Ordered.{Rises};
 
 use crate::groups::Group;

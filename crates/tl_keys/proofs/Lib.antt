@@ -1,3 +1,4 @@
 pub mod KeyLemmas
 pub mod SmallLemmas
 pub mod TextLemmas
+pub mod NumberedLemmas

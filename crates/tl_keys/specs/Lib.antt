@@ -1,3 +1,4 @@
 pub mod Keys
 pub mod Placed
 pub mod Small
+pub mod Numbered

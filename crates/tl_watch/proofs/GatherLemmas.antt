@@ -21,7 +21,8 @@ use Rattle.tl_running.proofs.HeapLemmas.{left_times}
 use Rattle.tl_agg.specs.Kept.{picked}
 use Rattle.tl_watch.specs.declared.plans.WatchPlan.{WatchPlan}
 use Rattle.tl_watch.specs.Follows.{IsBeginning, IsTaking, rows_begun}
-use Rattle.tl_watch.specs.Gathering.{RowsOf, row_at, AreOfPlan, gathered_of, KeepsAs, KeepsAsAt, GatheringOf, AreNumbered, Gathers, GathersRow, IsGathering}
+use Rattle.tl_keys.specs.Numbered.{AreNumbered}
+use Rattle.tl_watch.specs.Gathering.{RowsOf, row_at, AreOfPlan, gathered_of, KeepsAs, KeepsAsAt, GatheringOf, Gathers, GathersRow, IsGathering}
 use Rattle.tl_watch.specs.Groups.{group_of, HoldsRows}
 use Rattle.tl_watch.specs.Numbers.{kept_of}
 use Rattle.tl_watch.specs.Reading.{RowAt, IsRow}

@@ -8,7 +8,8 @@ use Rattle.tl_query.specs.declared.ast.AggKind.{AggKind}
 use Rattle.tl_running.specs.Heaps.{left_of}
 use Rattle.tl_running.specs.Standing.{Kept, is_ordered, HasRoom, Enters}
 use Rattle.tl_index.specs.Tables.{TableOf, rows_in}
-use Rattle.tl_keys.specs.Keys.{KeyNumbers, number_in, AreApart}
+use Rattle.tl_keys.specs.Keys.{KeyNumbers}
+use Rattle.tl_keys.specs.Numbered.{AreNumbered}
 use Rattle.tl_agg.specs.Columns.{AreNumbers, AreKeys}
 use Rattle.tl_watch.specs.declared.plans.WatchPlan.{WatchPlan}
 use Rattle.tl_watch.specs.Groups.{group_of, IsOne}
@@ -67,13 +68,6 @@ pub record GatheringOf : Type 0 where
   pub kind : AggKind
   pub state : State
   pub keys : KeyNumbers
-
--- each group stands at the number of its value
-pub record AreNumbered (keys : KeyNumbers) (groups : List (Cell × Kept)) : Type 0 where
-  pub apart : AreApart keys
-  pub many : length groups ≡ keys.count
-  pub each : (n : ℕ) (value : Cell) (kept : Kept) → slice_get groups n ≡ Some (value, kept)
-      → number_in keys value ≡ Some n
 
 -- a value has this number and a group: the one that it had, or one of no rows
 pub record HasPlace (old new : GatheringOf) (value : Cell) (n : ℕ) : Type 0 where

@@ -14,7 +14,8 @@ ghost use Rattle.tl_travel.specs.Bounds.{events_after_mark, begun_words, map_dig
 ghost use Rattle.tl_filter.specs.Selecting.{IsTypedPredFor};
 ghost use Rattle.tl_index.specs.Tables.{rows_in};
 ghost use Rattle.tl_watch.specs.Follows.{IsBeginning, rows_begun, IsTaking};
-ghost use Rattle.tl_watch.specs.Gathering.{row_at, AreOfPlan, AreNumbered, GathersRow, IsGathering};
+ghost use Rattle.tl_keys.specs.Numbered.{AreNumbered};
+ghost use Rattle.tl_watch.specs.Gathering.{row_at, AreOfPlan, GathersRow, IsGathering};
 ghost use Rattle.tl_watch.specs.Reading.{IsWithin};
 ghost use Rattle.tl_watch.specs.Standings.{standing_rows, tests_in};
 ghost use Rattle.tl_watch.specs.States.{Stands};

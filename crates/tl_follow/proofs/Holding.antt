@@ -1,5 +1,5 @@
 -- What a follower holds, and what taking a packet keeps of it.
-use Rattle.std.proofs.Common.{◌≡◌, ℕ, ◌+◌, ◌<◌, Bool, true, false, ◌&&◌, not, cond, nat_lt, ◌==◌, if◌then◌else◌, List, [], ◌∷◌, ◌++◌, length, map, Option, Some, None, is_some, Result, Ok, Err, OnOk, OnErr, refl, sym, ap, ◌∙◌, subst, arith, append_assoc, append-nil, Ordering, Less, Equal, Greater, nat_cmp}
+use Rattle.std.proofs.Common.{◌≡◌, ℕ, ◌<◌, Bool, true, false, ◌&&◌, not, cond, nat_lt, ◌==◌, if◌then◌else◌, List, [], ◌∷◌, ◌++◌, length, map, Option, Some, None, is_some, Result, Ok, Err, OnOk, OnErr, refl, sym, ap, ◌∙◌, subst, arith, append_assoc, append-nil, Ordering, Less, Equal, Greater, nat_cmp}
 use Rattle.std.specs.Map.{lookup, remove_entry}
 use Rattle.std.specs.BTreeMap.{is_at, insert_entry}
 use Rattle.std.proofs.lemmas.List.{map-append}
@@ -7,9 +7,8 @@ use Rattle.std.proofs.lemmas.Bool.Decides.{nat_tests}
 use Rattle.tl_types.specs.declared.commits.Commit.{Commit}
 use Rattle.tl_types.specs.declared.commits.Entry.{Entry}
 use Rattle.tl_types.specs.declared.limits.Limits.{Limits}
-use Rattle.tl_types.specs.Entries.{commits_of, has_break}
+use Rattle.tl_types.specs.Entries.{commits_of}
 use Rattle.tl_types.proofs.EntryLemmas.{commits_of-append}
-use Rattle.tl_types.proofs.MarkLemmas.{break_with_commit}
 use Rattle.tl_index.specs.Snapshots.{commit_entry}
 use Rattle.tl_follow.specs.declared.packets.Packet.{Packet}
 use Rattle.tl_follow.specs.Following.{IsPrefixOf, first_of, commits_after, followed, Following, commits_in, held_at, AddsCommits, IsFollowing}
@@ -98,7 +97,7 @@ and_not true true h = absurd (cc)
 and_not true false h = refl
 and_not false b h = absurd (cc)
 
-not_and : (a b : Bool) → (a && not b) ≡ false → a ≡ true → b ≡ true
+pub not_and : (a b : Bool) → (a && not b) ≡ false → a ≡ true → b ≡ true
 not_and a true h e = refl
 not_and true false h e = absurd (cc)
 not_and false false h e = absurd (cc)

@@ -6,5 +6,8 @@ pub mod Led
 pub mod Numbers
 pub mod PacketsRead
 pub mod InputLemmas
+pub mod FrontLemmas
+pub mod PlaceLemmas
+pub mod ReaderLemmas
 pub mod ShipmentLemmas
 pub mod Examples

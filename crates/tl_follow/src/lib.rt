@@ -11,21 +11,20 @@
 //! commit of a version does not fit.
 #![tactic(auto)]
 
-mod all_packets;
 mod faults;
 mod follower;
 mod in_place;
 mod inputs;
 pub mod laws;
 mod packets;
+mod places;
 mod reading;
 mod shipping;
 
-pub use all_packets::follow_all;
 pub use faults::{FollowFault, PacketFault};
 pub use follower::Follower;
 pub use in_place::Followed;
-pub use inputs::{INPUT_LIMIT, find_packet, follow_input, read_all};
+pub use inputs::{INPUT_LIMIT, PacketReader};
 pub use packets::{Packet, Taken};
 pub use reading::{ReadPacket, read_packet};
 pub use shipping::{packet_bytes, put_packet};

@@ -1,15 +1,17 @@
 //! Packets from bytes: one packet from an offset on, and where it ends. A packet is its version (4
 //! bytes, big-endian, from 1 to 16,777,215) and then the record of its commit; what is neither is
-//! refused with its offset.
+//! refused with its offset. Bytes that are cut within a packet are told from those that no packet
+//! begins with, whatever follows.
 ghost use Rattle.std.specs.Prelude.{◌≡◌, ◌≢◌, ℕ, ◌+◌, ◌<◌, ◌≤◌, List, ◌++◌, length, drop, IfOk, IfErr, IfSome, IfNone};
 ghost use Rattle.tl_record.specs.Spelling.{number};
 ghost use Rattle.tl_follow.specs.declared.packets.Packet.{Packet as PacketValue};
-ghost use Rattle.tl_follow.specs.Packets.{IsVersion, packet_spelling, BeginsWithPacket, FindsPacket, IsBadAt, packet_read};
+ghost use Rattle.tl_follow.specs.Packets.{IsVersion, packet_spelling, BeginsWithPacket, FindsPacket, IsBadAt, IsFront, front_read, packet_read};
 
 use crate::faults::PacketFault;
 use crate::packets::Packet;
-use std::alloc::Global;
+use std::alloc::{AllocError, Global};
 use tl_record::{Decoded, RecordFault, decode};
+use tl_types::NoMemory;
 
 /// A packet that was read, and where it ends.
 #[derive(Debug, Drop)]
@@ -47,21 +49,57 @@ fn version_of(bytes: &[u8]) -> Option<u32>
     Some(version)
 }
 
+/// What stands at an offset of bytes.
+#[derive(Drop)]
+pub(crate) enum Front {
+    /// A packet, and where it ends.
+    Whole(ReadPacket),
+    /// The start of a packet, or fewer bytes than its version has; more bytes may complete it.
+    Cut,
+    /// What no packet begins with, whatever follows.
+    Never,
+}
+
 // What a version and what was read behind it make.
-fn packet_read(
-    at: usize,
-    version: u32,
-    decoded: Result<Decoded, RecordFault>,
-) -> Result<ReadPacket, PacketFault>
-    ensures { result ≡ packet_read at version decoded }
+fn front_read(version: u32, decoded: Result<Decoded, RecordFault>) -> Result<Front, NoMemory>
+    ensures { result ≡ front_read version decoded }
 {
     match decoded {
-        Ok(Decoded { commit, end }) => Ok(ReadPacket {
+        Ok(Decoded { commit, end }) => Ok(Front::Whole(ReadPacket {
             packet: Packet { version, commit },
             end,
-        }),
-        Err(RecordFault::NoMemory) => Err(PacketFault::NoMemory),
-        Err(_) => Err(PacketFault::BadPacket { at }),
+        })),
+        Err(RecordFault::Short { .. }) => Ok(Front::Cut),
+        Err(RecordFault::Bad { .. }) => Ok(Front::Never),
+        Err(RecordFault::NoMemory) => Err(AllocError),
+    }
+}
+
+/// What stands at the byte offset `at`, which is at most the number of bytes. The error is
+/// `NoMemory`.
+pub(crate) fn read_front(alloc: Global, bytes: &[u8], at: usize) -> Result<Front, NoMemory>
+    requires { at ≤ length bytes.now }
+    ensures { IfOk result (IsFront bytes.now at) }
+{
+    let (_, behind) = bytes.split_at(at);
+    if behind.len() < 4 {
+        return Ok(Front::Cut);
+    }
+    let Some(version) = version_of(behind) else {
+        return Ok(Front::Never);
+    };
+    front_read(version, decode(alloc, bytes, at + 4))
+}
+
+// A packet of what stands at an offset, where it is one.
+fn packet_read(at: usize, front: Result<Front, NoMemory>) -> Result<ReadPacket, PacketFault>
+    ensures { result ≡ packet_read at front }
+{
+    match front {
+        Ok(Front::Whole(read)) => Ok(read),
+        Ok(Front::Cut) => Err(PacketFault::BadPacket { at }),
+        Ok(Front::Never) => Err(PacketFault::BadPacket { at }),
+        Err(_) => Err(PacketFault::NoMemory),
     }
 }
 
@@ -80,9 +118,5 @@ pub fn read_packet(alloc: Global, bytes: &[u8], at: usize) -> Result<ReadPacket,
         → FindsPacket p result }
     ensures bad { IfErr result (IsBadAt at (drop at bytes.now)) }
 {
-    let (_, behind) = bytes.split_at(at);
-    let Some(version) = version_of(behind) else {
-        return Err(PacketFault::BadPacket { at });
-    };
-    packet_read(at, version, decode(alloc, bytes, at + 4))
+    packet_read(at, read_front(alloc, bytes, at))
 }

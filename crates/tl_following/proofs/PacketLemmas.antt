@@ -1,44 +1,57 @@
 -- What was taken of an input of packets.
-use Rattle.std.proofs.Common.{◌≡◌, inl, inr, ◌⊎◌, ℕ, ◌<◌, ◌≤◌, List, length, Option, Some, None, IfSome, sym, subst, arith, length-append}
+use Rattle.std.proofs.Common.{◌≡◌, inl, inr, ◌⊎◌, ℕ, ◌+◌, ◌-◌, ◌<◌, ◌≤◌, List, [], ◌++◌, length, Option, Some, None, refl, sym, ap, ◌∙◌, subst, arith, append_assoc, length-append}
 use Rattle.tl_types.specs.declared.commits.Commit.{Commit}
+use Rattle.tl_types.specs.declared.commits.Entry.{Entry}
 use Rattle.tl_types.specs.Limits.{standard_limits}
+use Rattle.tl_device.specs.Known.{prepend_known}
 use Rattle.tl_script.specs.Reader.{TakesBlock}
 use Rattle.tl_script.specs.Taking.{IsAtEnd}
 use Rattle.tl_follow.specs.declared.inputs.TheConstants.{INPUT_LIMIT}
 use Rattle.tl_follow.specs.declared.faults.PacketFault.TheVariants as packet
+use Rattle.tl_follow.specs.declared.inputs.PacketReader.{PacketReader}
 use Rattle.tl_follow.specs.Inputs.{IsInputFault}
-use Rattle.tl_command.specs.declared.statuses.Status.{Status}
+use Rattle.tl_follow.specs.Readers.{ReadsOn, count_of}
 use Rattle.tl_command.specs.declared.statuses.Status.TheVariants as status
 use Rattle.tl_command.proofs.ComingLemmas.{all_told}
-use Rattle.tl_following.specs.Following.{TakesBytes, IsTooLong, FailsBytes, FailsInput}
+use Rattle.tl_following.specs.Following.{TakesBytes, IsTooLong, FailsInput, ReadsFront, ReadsWhole}
 
--- a block that is no longer than an input may be is all that there was
-pub whole_input : (before after : Option (List ℕ)) (bytes : List ℕ) → TakesBlock INPUT_LIMIT before bytes after → length bytes ≤ INPUT_LIMIT → TakesBytes bytes before after
-whole_input before after bytes h short = by_end h.ends where
-  by_end : ((INPUT_LIMIT < length bytes) ⊎ IsAtEnd after) → TakesBytes bytes before after
+-- some bytes and then some more before what is left
+prepend_both : (xs ys : List ℕ) (o : Option (List ℕ)) → prepend_known xs (prepend_known ys o) ≡ prepend_known (xs ++ ys) o
+prepend_both xs ys None = refl
+prepend_both xs ys (Some rest) = ap (λ l. Some l) (sym (append_assoc xs ys rest))
+
+-- one piece more
+pub front_more : (entries : List Entry) (before mid after : Option (List ℕ)) (most : ℕ) (old new : PacketReader) (piece : List ℕ) → ReadsFront entries before old mid → TakesBlock most mid piece after → ReadsOn piece old new → ReadsFront entries before new after
+front_more entries before mid after most old new piece (bytes, read, order) block on =
+    (bytes ++ piece, on standard_limits entries bytes read, order ∙ ap (prepend_known bytes) block.order ∙ prepend_both bytes piece after)
+
+-- a piece of no more bytes than were asked for is the last one
+pub at_end : (most : ℕ) (before after : Option (List ℕ)) (piece : List ℕ) → TakesBlock most before piece after → length piece ≤ most → IsAtEnd after
+at_end most before after piece h short = by_end h.ends where
+  by_end : ((most < length piece) ⊎ IsAtEnd after) → IsAtEnd after
   by_end (inl long) = absurd (omega (arith, long, short))
-  by_end (inr ended) = (short, all_told before after bytes h.order ended, ended)
+  by_end (inr ended) = ended
 
--- a longer one shows that the input is too long
-pub long_input : (before after : Option (List ℕ)) (bytes : List ℕ) → TakesBlock INPUT_LIMIT before bytes after → INPUT_LIMIT < length bytes → IsTooLong before
-long_input before None bytes h long = subst (λ (o : Option (List ℕ)). IfSome o (λ left. INPUT_LIMIT < length left)) (sym h.order) tt
-long_input before (Some rest) bytes h long =
-    subst (λ (o : Option (List ℕ)). IfSome o (λ left. INPUT_LIMIT < length left)) (sym h.order) (let n = length-append bytes rest in omega (arith, long, n))
+-- a piece for which there is room
+pub short_more : (old new : PacketReader) (piece : List ℕ) (count len : ℕ) → count_of old ≤ INPUT_LIMIT → count ≡ count_of old → len ≡ length piece → len ≤ INPUT_LIMIT - count → count_of new ≡ count_of old + length piece → count_of new ≤ INPUT_LIMIT
+short_more old new piece count len short is number room more = omega (arith, short, is, number, room, more)
 
--- bytes that were not taken make no commits
-pub none_made : (opening : List Commit) (before : Option (List ℕ)) (first last : ℕ) (ended : Status) → FailsBytes before first last ended → FailsInput opening before first last ended
-none_made opening before first last status.Done h = absurd h
-none_made opening before first last status.NoMemory h = h
-none_made opening before first last status.Usage h = absurd h
-none_made opening before first last (status.SourceFault n) h = h
-none_made opening before first last (status.SinkFault n) h = absurd h
-none_made opening before first last (status.DiskFault n) h = absurd h
-none_made opening before first last (status.ScriptFault f) h = absurd h
-none_made opening before first last (status.NotInitialised n) h = absurd h
-none_made opening before first last (status.AlreadyInitialised n) h = absurd h
-none_made opening before first last (status.Damaged n) h = absurd h
-none_made opening before first last (status.PacketFault n) (at, long, sure) = (inl (at, long), sure)
-none_made opening before first last (status.WatchFault f) h = absurd h
+-- a piece for which there is no room shows that the input is too long
+pub long_piece : (entries : List Entry) (before mid after : Option (List ℕ)) (most : ℕ) (reader : PacketReader) (piece : List ℕ) (count len : ℕ) → ReadsFront entries before reader mid → TakesBlock most mid piece after → count_of reader ≤ INPUT_LIMIT → count ≡ count_of reader → len ≡ length piece → INPUT_LIMIT - count < len → IsTooLong before
+long_piece entries before mid after most reader piece count len (bytes, read, order) block short is number long =
+    subst IsTooLong (sym (order ∙ ap (prepend_known bytes) block.order ∙ prepend_both bytes piece after)) (told after) where
+      told : (o : Option (List ℕ)) → IsTooLong (prepend_known (bytes ++ piece) o)
+      told None = tt
+      told (Some rest) =
+          let all = length-append (bytes ++ piece) rest in
+          let both = length-append bytes piece in
+          let given = read.count_is in
+          omega (arith, all, both, given, short, is, number, long)
+
+-- what was given is all that there was
+pub whole_front : (entries : List Entry) (before after : Option (List ℕ)) (reader : PacketReader) → ReadsFront entries before reader after → count_of reader ≤ INPUT_LIMIT → IsAtEnd after → ReadsWhole entries before reader after
+whole_front entries before after reader (bytes, read, order) short ended =
+    (bytes, read, (subst (λ n. n ≤ INPUT_LIMIT) read.count_is short, all_told before after bytes order ended, ended))
 
 -- the fault of an input that was taken whole
 pub input_faulty : (opening : List Commit) (before after : Option (List ℕ)) (bytes : List ℕ) (first last at : ℕ) → TakesBytes bytes before after → IsInputFault standard_limits opening bytes (packet.BadPacket at) → last ≡ first → FailsInput opening before first last (status.PacketFault at)

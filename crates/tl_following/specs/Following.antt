@@ -12,8 +12,9 @@
 use Rattle.std.specs.Prelude.{◌≡◌, ◌⊎◌, ℕ, ◌<◌, ◌≤◌, List, [], ◌++◌, length, codes, Option, Some, None, IfSome}
 use Rattle.std.specs.Fmt.{decimal}
 use Rattle.tl_types.specs.declared.commits.Commit.{Commit}
+use Rattle.tl_types.specs.declared.commits.Entry.{Entry}
 use Rattle.tl_types.specs.Limits.{standard_limits}
-use Rattle.tl_device.specs.Known.{Rose}
+use Rattle.tl_device.specs.Known.{Rose, prepend_known}
 use Rattle.tl_device.specs.declared.disk.Disk.{Ghosts as DiskGhosts}
 use Rattle.tl_device.specs.declared.sink.Sink.{Ghosts as SinkGhosts}
 use Rattle.tl_script.specs.Taking.{IsAtEnd}
@@ -21,9 +22,11 @@ use Rattle.tl_group.specs.Keeping.{commits_in}
 use Rattle.tl_group.specs.Plain as group
 use Rattle.tl_group.specs.Standing.{IsGivenBack}
 use Rattle.tl_follow.specs.declared.inputs.TheConstants.{INPUT_LIMIT}
+use Rattle.tl_follow.specs.declared.inputs.PacketReader.{PacketReader}
 use Rattle.tl_follow.specs.declared.packets.Packet.{Packet}
 use Rattle.tl_follow.specs.Following.{followed}
 use Rattle.tl_follow.specs.Inputs.{IsInput, FollowsInput, input_fault}
+use Rattle.tl_follow.specs.Readers.{IsRead}
 use Rattle.tl_command.specs.declared.statuses.Status.{Status}
 use Rattle.tl_command.specs.declared.statuses.Status.TheVariants as status
 use Rattle.tl_command.specs.Closing.{EndsRefused}
@@ -60,6 +63,33 @@ HasInputFault opening at before =
     ⊎ ((bytes : List ℕ) × (packets : List Packet) × (rest : List ℕ)
     × IfSome before (λ left. left ≡ bytes) × IsInput bytes packets rest
     × (input_fault standard_limits opening bytes packets rest ≡ Some at))
+
+-- a reader was given what the source had and has no more
+abbrev pub ReadsFront : List Entry → Option (List ℕ) → PacketReader → Option (List ℕ) → Type 0
+ReadsFront entries before reader after =
+    (bytes : List ℕ) × IsRead standard_limits entries bytes reader
+    × (before ≡ prepend_known bytes after)
+
+-- a reader was given the whole input
+abbrev pub ReadsWhole : List Entry → Option (List ℕ) → PacketReader → Option (List ℕ) → Type 0
+ReadsWhole entries before reader after =
+    (bytes : List ℕ) × IsRead standard_limits entries bytes reader
+    × TakesBytes bytes before after
+
+-- why no piece of the input was taken: memory ran out, or the source failed
+abbrev pub FailsPiece : ℕ → ℕ → Status → Type 0
+FailsPiece first last status.Done = ⊥
+FailsPiece first last status.NoMemory = last ≡ first
+FailsPiece first last status.Usage = ⊥
+FailsPiece first last (status.SourceFault faults) = (faults ≡ last) × Rose first last
+FailsPiece first last (status.SinkFault faults) = ⊥
+FailsPiece first last (status.DiskFault faults) = ⊥
+FailsPiece first last (status.ScriptFault f) = ⊥
+FailsPiece first last (status.NotInitialised len) = ⊥
+FailsPiece first last (status.AlreadyInitialised len) = ⊥
+FailsPiece first last (status.Damaged at) = ⊥
+FailsPiece first last (status.PacketFault at) = ⊥
+FailsPiece first last (status.WatchFault f) = ⊥
 
 -- why the bytes of the input were not taken: memory ran out, the source failed, or there are more
 -- than there may be

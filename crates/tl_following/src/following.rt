@@ -1,48 +1,109 @@
 //! A journal is opened, the packets of the source make commits behind its own, and these are
 //! appended as one group. Where the input has a fault or fails, or memory runs out, the disk keeps
 //! what it had.
-ghost use Rattle.std.specs.Prelude.{◌≡◌, ◌++◌, length, map, IfErr, IfOk, OnOk};
+ghost use Rattle.std.specs.Prelude.{◌≡◌, ◌++◌, length, map, false, IfErr, IfOk, OnOk};
 ghost use Rattle.std.specs.String.{string_bytes};
-ghost use Rattle.tl_types.specs.Entries.{commits_of};
+ghost use Rattle.tl_types.specs.Entries.{commits_of, has_break};
 ghost use Rattle.tl_types.specs.History.{database_of};
 ghost use Rattle.tl_types.specs.Legality.{FitFrom};
 ghost use Rattle.tl_types.specs.Limits.{standard_limits};
 ghost use Rattle.tl_index.specs.Snapshots.{commit_entry};
+ghost use Rattle.tl_script.specs.Reader.{TakesBlock};
 ghost use Rattle.tl_command.specs.Outside.{outside};
 ghost use Rattle.tl_group.specs.Keeping.{commits_in};
 ghost use Rattle.tl_grouping.specs.Appending.{IsAttached};
-ghost use Rattle.tl_following.specs.Following.{Extends, FailsBytes, FailsInput, FollowEnds, FollowEndsBy, TakesBytes, TakesCommits, follow_line};
+ghost use Rattle.tl_following.specs.Following.{Extends, FailsBytes, FailsInput, FailsPiece, FollowEnds, FollowEndsBy, ReadsWhole, TakesCommits, follow_line};
 
 use std::alloc::Global;
 use tl_command::{Ending, Status, close, end_refused};
 use tl_device::{Disk, Sink, Source};
-use tl_follow::{Followed, INPUT_LIMIT, PacketFault, follow_input};
+use tl_follow::{Followed, INPUT_LIMIT, PacketFault, PacketReader};
 use tl_group::Group;
 use tl_grouping::append;
+use tl_index::Snapshot;
 use tl_journal::Refused;
 use tl_script::{NextError, read_block};
 use tl_types::{Bytes, Limits, NoMemory, Published};
 
-// The bytes of the whole input, or why there are none.
-fn read_input<S: Source>(alloc: Global, source: &mut S) -> Result<Bytes, Status>
-    ensures ok { IfOk result (λ bytes. TakesBytes bytes (S.left source.old) (S.left source.new)) }
-    ensures err { IfErr result (λ ended. FailsBytes (S.left source.old) (S.faults source.old)
-        (S.faults source.new) ended) }
+// A piece of at most so many bytes that is the rest of the input, or one of more. It answers why
+// there is none.
+fn next_piece<S: Source>(alloc: Global, source: &mut S, most: usize) -> Result<Bytes, Status>
+    ensures takes { IfOk result
+        (λ piece. TakesBlock most (S.left source.old) piece (S.left source.new)) }
+    ensures err { IfErr result (FailsPiece (S.faults source.old) (S.faults source.new)) }
     ensures sure { OnOk result (S.faults source.new ≡ S.faults source.old) }
 {
-    match read_block(alloc, source, INPUT_LIMIT as u64) {
-        Ok(bytes) if bytes.len() > INPUT_LIMIT => Err(Status::PacketFault {
-            at: INPUT_LIMIT as u64,
-        }),
-        Ok(bytes) => Ok(bytes),
+    match read_block(alloc, source, most as u64) {
+        Ok(piece) => Ok(piece),
         Err(NextError::NoMemory) => Err(Status::NoMemory),
         Err(NextError::Source { faults }) => Err(Status::SourceFault { faults }),
         Err(NextError::Fault(_)) => unreachable!(),
     }
 }
 
-// The commits that the packets of the whole input make behind those of a group, with the snapshot
-// that they make, or why there are none. The group stays as it is.
+// A reader that was given the whole input behind a history, or why there is none.
+fn read_input<S: Source>(
+    alloc: Global,
+    snapshot: Snapshot,
+    source: &mut S,
+) -> Result<PacketReader, Status>
+    requires whole { has_break snapshot ≡ false }
+    ensures ok { IfOk result (λ r. ReadsWhole snapshot (S.left source.old) r (S.left source.new)) }
+    ensures err { IfErr result (FailsBytes (S.left source.old) (S.faults source.old)
+        (S.faults source.new)) }
+    ensures sure { OnOk result (S.faults source.new ≡ S.faults source.old) }
+{
+    let mut reader = PacketReader::start(alloc, snapshot, &Limits::standard());
+    'reading: loop {
+        let room = INPUT_LIMIT - reader.count();
+        let most = reader.next_size().min(room);
+        let piece = match next_piece(alloc, source, most) {
+            Ok(piece) => piece,
+            Err(ended) => return Err(ended),
+        };
+        if piece.len() > room {
+            return Err(Status::PacketFault {
+                at: INPUT_LIMIT as u64,
+            });
+        }
+        let is_last = piece.len() <= most;
+        let Ok(next) = reader.read(alloc, piece) else {
+            return Err(Status::NoMemory);
+        };
+        reader = next;
+        if is_last {
+            return Ok(reader);
+        }
+    }
+}
+
+// The commits that the packets of the whole input make behind those of a snapshot, with the
+// snapshot that they make, or why there are none.
+fn follow_source<S: Source>(
+    alloc: Global,
+    snapshot: Snapshot,
+    source: &mut S,
+) -> Result<Followed, Status>
+    requires whole { has_break snapshot ≡ false }
+    ensures ok { IfOk result (λ f. TakesCommits (commits_of snapshot) (S.left source.old)
+        (S.left source.new) f.commits) }
+    ensures next { IfOk result (λ f. f.snapshot ≡ snapshot ++ map commit_entry f.commits) }
+    ensures err { IfErr result (FailsInput (commits_of snapshot) (S.left source.old)
+        (S.faults source.old) (S.faults source.new)) }
+    ensures sure { OnOk result (S.faults source.new ≡ S.faults source.old) }
+{
+    let reader = match read_input(alloc, snapshot, source) {
+        Ok(reader) => reader,
+        Err(ended) => return Err(ended),
+    };
+    match reader.finish() {
+        Ok(followed) => Ok(followed),
+        Err(PacketFault::BadPacket { at }) => Err(Status::PacketFault { at: at as u64 }),
+        Err(PacketFault::NoMemory) => Err(Status::NoMemory),
+    }
+}
+
+// The same behind a group, which stays as it is.
 fn take_input<S: Source, D: Disk>(
     alloc: Global,
     group: &Group<D>,
@@ -56,17 +117,12 @@ fn take_input<S: Source, D: Disk>(
         (S.faults source.old) (S.faults source.new)) }
     ensures sure { OnOk result (S.faults source.new ≡ S.faults source.old) }
 {
-    let bytes = match read_input(alloc, source) {
-        Ok(bytes) => bytes,
-        Err(ended) => return Err(ended),
-    };
     let Ok(snapshot) = group.snapshot().share() else {
         return Err(Status::NoMemory);
     };
-    match follow_input(alloc, snapshot, &Limits::standard(), bytes.as_slice()) {
+    match follow_source(alloc, snapshot, source) {
         Ok(followed) => Ok(followed),
-        Err(PacketFault::BadPacket { at }) => Err(Status::PacketFault { at: at as u64 }),
-        Err(PacketFault::NoMemory) => Err(Status::NoMemory),
+        Err(ended) => Err(ended),
     }
 }
 

@@ -1,8 +1,8 @@
 #!/usr/bin/env python3
 """Runs the program over more than a few of everything: groups, letters, marks, commits, rows of one key that hold one
-after the other; and over keys far apart. Each run has a limit of memory and of processor time, several times what it
-takes, so that work or room that grows as the square of what is given does not pass. `sizes.py PROGRAM`; ends with 1
-where one run is not as it should be."""
+after the other, packets; and over keys far apart. Each run has a limit of memory and of processor time, several times
+what it takes, so that work or room that grows as the square of what is given does not pass. `sizes.py PROGRAM`; ends
+with 1 where one run is not as it should be."""
 import os
 import resource
 import subprocess
@@ -20,18 +20,31 @@ failed = 0
 
 def run(name, script, wanted, megabytes=1024, seconds=20, words=()):
     """Runs a script over an empty journal, with one worker where no words say otherwise; it prints what is wanted."""
-    global failed
+    with tempfile.TemporaryDirectory(dir=JOURNALS) as room:
+        init(room)
+        done = subprocess.run([PROGRAM, "run", *(words or ("--workers", "1"))], cwd=room, input=script, capture_output=True,
+                              text=True, preexec_fn=limits(megabytes, seconds))
+    judge(name, done, 0, wanted)
 
+
+def init(room):
+    subprocess.run([PROGRAM, "init"], cwd=room, stdin=subprocess.DEVNULL, check=True)
+
+
+def limits(megabytes, seconds):
+    """What sets a program's limits before it begins."""
     def limit():
         resource.setrlimit(resource.RLIMIT_CPU, (seconds, seconds))
         if LIMITED:
             resource.setrlimit(resource.RLIMIT_AS, (megabytes * MEGABYTE, megabytes * MEGABYTE))
 
-    with tempfile.TemporaryDirectory(dir=JOURNALS) as room:
-        subprocess.run([PROGRAM, "init"], cwd=room, stdin=subprocess.DEVNULL, check=True)
-        done = subprocess.run([PROGRAM, "run", *(words or ("--workers", "1"))], cwd=room, input=script, capture_output=True,
-                              text=True, preexec_fn=limit)
-    if (done.returncode, done.stdout) != (0, wanted):
+    return limit
+
+
+def judge(name, done, status, wanted):
+    """A run has ended with the status that is wanted, and printed what is wanted."""
+    global failed
+    if (done.returncode, done.stdout) != (status, wanted):
         failed = 1
         print(f"{name}: status {done.returncode}, {len(done.stdout)} bytes that begin {done.stdout[:200]!r}, "
               f"in place of {len(wanted)} that begin {wanted[:200]!r}")
@@ -146,7 +159,53 @@ def long_answer():
     run("an answer of 4 MB", script, done(1, 2) + rows(2, lines), 160)
 
 
+def follow(name, given, status, wanted, megabytes, seconds=20):
+    """Follows an input, whose writer is given its file, onto an empty journal."""
+    with tempfile.TemporaryDirectory(dir=JOURNALS) as room:
+        init(room)
+        with open(f"{room}/input", "w+b") as file:
+            given(file)
+            file.seek(0)
+            done = subprocess.run([PROGRAM, "follow"], cwd=room, stdin=file, capture_output=True, text=True,
+                                  preexec_fn=limits(megabytes, seconds))
+    judge(name, done, status, wanted)
+
+
+def long_inputs():
+    """An input of packets is not kept: not that of 3 GB which is none, nor what stands behind a place where no packet
+    begins, nor packets that came before. A packet may be longer than a piece, and the place of one past the first."""
+    if not LIMITED:
+        return
+    with tempfile.TemporaryDirectory(dir=JOURNALS) as room:
+        init(room)
+        script = "a> CREATE TABLE t (k INT, x INT) KEY k\n" + put("t", "k,x", [f"{it},{it}" for it in range(1000)])
+        script += "GO\n" + put("t", "k,x", [f"{it},{it}" for it in range(1000, 200_000)]) + "a> CREATE TABLE u (k INT) KEY k\n"
+        subprocess.run([PROGRAM, "run"], cwd=room, input=script, capture_output=True, text=True, check=True)
+        first, second, third, last = (subprocess.run([PROGRAM, "ship", it, it], cwd=room, capture_output=True, check=True).stdout
+                                      for it in "1234")
+
+    def holed(size):
+        def given(file):
+            file.write(first)
+            file.truncate(size)
+
+        return given
+
+    def packets(*each):
+        return lambda file: file.writelines(each)
+
+    follow("an input of 3 GB", lambda file: file.truncate(3 << 30), 10, "! packet 2147483648\n", 24)
+    follow("a packet and 3 GB", holed(3 << 30), 10, "! packet 2147483648\n", 24)
+    follow("a packet and 200 MB", holed(200 * MEGABYTE), 10, f"! packet {len(first)}\n", 24)
+    follow("packets that came before", packets(*[first, second] * (64 * MEGABYTE // len(second))), 0, "follow @2\n", 24)
+    follow("a packet of many pieces", packets(first, last, third, second), 0, "follow @4\n", 160)
+    cut = packets(first, second, third[:-1])
+    follow("a packet of many pieces, cut", cut, 10, f"! packet {len(first + second)}\n", 160)
+    again = last[:4] + first[4:]
+    follow("a place past many pieces", packets(third, second, again, first), 10, f"! packet {len(third + second)}\n", 160)
+
+
 for it in (many_groups, long_texts, many_marks, keys_far_apart, one_after_the_other, many_commits, many_marks_of_periods,
-           long_answer):
+           long_answer, long_inputs):
     it()
 sys.exit(failed)

@@ -21,7 +21,8 @@ pub record WaitsWith {D : Type 0} (commit : Commit) (old new : plain.Group D) : 
   pub journal_same : journal_commits new ≡ journal_commits old
 
 -- the same with several commits
-pub record WaitsWithAll {D : Type 0} (commits : List Commit) (old new : plain.Group D) : Type 0 where
+pub record WaitsWithAll {D : Type 0} (commits : List Commit) (old new : plain.Group D)
+    : Type 0 where
   pub entries_are : new.entries ≡ old.entries ++ map commit_entry commits
   pub waiting_are : waiting_commits new ≡ waiting_commits old ++ commits
   pub journal_same : journal_commits new ≡ journal_commits old

@@ -141,7 +141,7 @@ module _ (commits : List Commit) (c : Commit) (change : plain.Change) (ts : List
       }
 
 -- the same over what the code has read
-pub record Asked (commits : List Commit) (c : Commit) (ts : List Timeline) (x : Timeline) (i versions first : ℕ) (closes : List ℕ) (opens : List plain.Opened) : Type 0 where
+pub record FollowsAt (commits : List Commit) (c : Commit) (ts : List Timeline) (x : Timeline) (i versions first : ℕ) (closes : List ℕ) (opens : List plain.Opened) : Type 0 where
   pub few : length x.events + (length closes + length opens) < 2 ^ 32
   pub later : 0 < length closes + length opens → IsAfter x.ends (versions + 1) (length x.events + (length closes + length opens))
   pub within : i < length ts
@@ -151,7 +151,7 @@ pub asked : (commits : List Commit) (c : Commit) (change : plain.Change) (ts : L
     → FitInTurn standard_limits commits → IsTrue (fits standard_limits (database_of commits) c) → ts ≡ timelines_of commits → c.body ≡ body.Change change
     → y ≡ get_or ts i y → x ≡ y → i ≡ change.table → j ≡ change.table → closes ≡ change.closes → opens ≡ change.opens → IsChange change
     → first ≡ length (rows_of (database_of commits) j) → versions ≡ (database_of commits).version
-    → Asked commits c ts x i versions first closes opens
+    → FollowsAt commits c ts x i versions first closes opens
 asked commits c change ts x y i j versions first closes opens fitting fit is what read same at at2 closed opened kept many present =
     let here : x ≡ get_or ts change.table x = same ∙ read ∙ ap (λ k. get_or ts k y) at ∙ ap (λ z. get_or ts change.table z) (sym same) in
     let all = asks commits c change ts fitting fit is what x (versions + 1) first here kept (many ∙ ap (λ k. length (rows_of (database_of commits) k)) at2) (ap (λ n. n + 1) present) in

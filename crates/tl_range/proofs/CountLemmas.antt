@@ -4,7 +4,8 @@ use Rattle.std.specs.List.{filter, AllByRecursion}
 use Rattle.std.proofs.lemmas.Bool.Decides.{nat_tests}
 use Rattle.tl_types.specs.Checkpoints.{Checkpoint}
 use Rattle.tl_types.proofs.Lists.{and_left}
-use Rattle.tl_range.specs.Dividing.{inside, is_inside, ClimbStrictly}
+use Rattle.tl_ckpt.specs.Marks.{ClimbStrictly}
+use Rattle.tl_range.specs.Dividing.{inside, is_inside}
 
 abbrev AllAfter : ℕ → List Checkpoint → Type 0
 AllAfter low marks = AllByRecursion (λ (mark : Checkpoint). low < mark.version) marks

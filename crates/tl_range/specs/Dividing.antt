@@ -1,6 +1,5 @@
 -- A range of versions, divided at marks.
 use Rattle.std.specs.Prelude.{◌≡◌, ℕ, ◌+◌, ◌<◌, ◌&&◌, nat_lt, List, [], ◌∷◌, ◌++◌, length, min, Some, slice_get, if◌then◌else◌, Bool}
-use Rattle.std.specs.List.{AllByRecursion}
 use Rattle.tl_types.specs.Checkpoints.{Checkpoint}
 use Rattle.tl_types.specs.declared.runs.Piece.{Piece}
 
@@ -70,9 +69,3 @@ last_pushed after version before =
 -- the mark is after one version and before another
 abbrev pub is_inside : ℕ → ℕ → Checkpoint → Bool
 is_inside after before mark = nat_lt after mark.version && nat_lt mark.version before
-
--- the marks are in order of version, and no two have one version
-abbrev pub ClimbStrictly : List Checkpoint → Type 0
-ClimbStrictly [] = Unit {0}
-ClimbStrictly (mark ∷ marks) =
-    AllByRecursion (λ later. mark.version < later.version) marks × ClimbStrictly marks

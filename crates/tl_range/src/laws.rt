@@ -3,7 +3,8 @@
 ghost use Rattle.std.specs.Prelude.{◌≡◌, ℕ, List, length};
 ghost use Rattle.std.specs.List.{filter};
 ghost use Rattle.tl_types.specs.Checkpoints.{Checkpoint};
-ghost use Rattle.tl_range.specs.Dividing.{inside, is_inside, ClimbStrictly};
+ghost use Rattle.tl_ckpt.specs.Marks.{ClimbStrictly};
+ghost use Rattle.tl_range.specs.Dividing.{inside, is_inside};
 
 /// Carries a law in its contract, and does nothing: where no two marks of a table have one version,
 /// as many versions with marks are inside a range as there are marks inside it.

@@ -1,7 +1,7 @@
 //! The records of the journal: the one spelling of each commit as bytes, and back.
 //!
-//! A record is the commit's author (4 bytes), then 1 and a new table, or 2 and a change. Numbers
-//! are big-endian, signed ones in two's complement:
+//! A record is the commit's author (4 bytes), then 1 and a new table, 2 and a change, 4 and a
+//! moment, or 5 and a floor. Numbers are big-endian, signed ones in two's complement:
 //!
 //! - a new table: its name, 1 where its rows have a valid period, else 0, the number of its columns
 //!   (1 byte), the columns, and the place of its key among them (1 byte);
@@ -9,6 +9,8 @@
 //!   texts;
 //! - a change: the table's number (2 bytes), the number of closed ids (4 bytes) and the ids (4
 //!   bytes each), the number of opened rows (4 bytes) and the rows;
+//! - a moment: 8 bytes, signed; a floor: the table's number (2 bytes), and the first version that
+//!   may still be asked of it (4 bytes);
 //! - a row: the number of its cells (1 byte), the cells, and 0, or 1 and both ends of its valid
 //!   period (8 bytes each);
 //! - a cell: 1 and a number (8 bytes), or 2, a length (2 bytes) and so many bytes of text.

@@ -1,5 +1,5 @@
 -- What is gathered of rows that come, while none goes.
-use Rattle.std.specs.Prelude.{◌≡◌, ℕ, ℤ, true, List, [], length, Option, None, Some, slice_get, slice_set, if◌then◌else◌}
+use Rattle.std.specs.Prelude.{◌≡◌, ℕ, ℤ, true, List, [], Option, None, Some, slice_get, slice_set, if◌then◌else◌}
 use Rattle.tl_types.specs.declared.cells.Cell.{Cell}
 use Rattle.tl_types.specs.History.{same_cell}
 use Rattle.tl_types.specs.Plain as plain

@@ -3,11 +3,10 @@
 //! group that no row has is not there.
 ghost use Rattle.std.specs.Prelude.{◌≡◌, [], None, Some, List, IfOk, OnOk};
 ghost use Rattle.tl_types.specs.Plain as plain;
-ghost use Rattle.tl_running.specs.Standing.{HasRoom, Enters};
 ghost use Rattle.tl_store.specs.Reading.{IsShort, cell_shown};
 ghost use Rattle.tl_watch.specs.declared.plans.WatchPlan.{WatchPlan};
 ghost use Rattle.tl_keys.specs.Numbered.{AreNumbered};
-ghost use Rattle.tl_watch.specs.Gathering.{KeepsAs, HasPlace, CanEnterAt, EntersAt, Gathers, IsGathering};
+ghost use Rattle.tl_watch.specs.Gathering.{HasPlace, CanEnterAt, EntersAt, Gathers, IsGathering};
 ghost use Rattle.tl_watch.specs.States.{Stands, CanCome};
 
 use crate::gathered::Gathered;

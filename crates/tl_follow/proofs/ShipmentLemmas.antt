@@ -1,21 +1,27 @@
 -- What is shipped of a history, version by version, and where it leads.
-use Rattle.std.proofs.Common.{◌≡◌, ℕ, zero, suc, ◌+◌, ◌-◌, ◌<◌, ◌≤◌, Bool, true, false, ◌&&◌, cond, nat_le, ◌==◌, List, [], ◌∷◌, ◌++◌, length, Some, None, IsSome, is_some, slice_get, refl, sym, ap, ◌∙◌, arith, append_assoc, append-nil, length-append}
+use Rattle.std.proofs.Common.{◌≡◌, ℕ, zero, suc, ◌+◌, ◌-◌, ◌<◌, ◌≤◌, Bool, true, false, ◌&&◌, cond, nat_le, nat_lt, ◌==◌, List, [], ◌∷◌, ◌++◌, length, Some, None, IsSome, is_some, slice_get, refl, sym, ap, ◌∙◌, arith, append_assoc, append-nil, length-append}
 use Rattle.std.specs.List.{AllByRecursion, filter}
 use Rattle.std.proofs.lemmas.Grind.{flat_map-append}
 use Rattle.std.proofs.lemmas.List.Elements.{filter-append}
 use Rattle.std.proofs.lemmas.Bool.Decides.{nat_tests}
 use Rattle.tl_types.specs.declared.commits.Commit.{Commit}
 use Rattle.tl_types.specs.declared.limits.Limits.{Limits}
-use Rattle.tl_types.specs.Legality.{FitInTurn}
+use Rattle.tl_types.specs.History.{nothing, after_commit, fits_body}
+use Rattle.tl_types.specs.Legality.{FitFrom, FitInTurn}
+use Rattle.tl_types.specs.Limits.{standard_limits}
+use Rattle.tl_types.specs.Plain as plain
+use Rattle.tl_types.proofs.Lists.{and_left}
+use Rattle.tl_record.specs.Spelling.{IsCommit}
+use Rattle.tl_follow.specs.declared.inputs.TheConstants.{INPUT_LIMIT}
 use Rattle.tl_follow.specs.declared.packets.Packet.{Packet}
 use Rattle.tl_follow.specs.Packets.{packet_spelling, IsPacket}
 use Rattle.tl_follow.specs.Following.{IsPrefixOf, first_of, followed}
 use Rattle.tl_follow.specs.Leading.{IsOf, AreFrom}
-use Rattle.tl_follow.specs.Inputs.{input_of, IsInput}
+use Rattle.tl_follow.specs.Inputs.{input_of, IsInput, input_fault}
 use Rattle.tl_follow.specs.Shipping.{packet_of, packets_from, packets_between, shipment}
 use Rattle.tl_follow.proofs.Growing.{prefix_length, grown_prefix}
 use Rattle.tl_follow.proofs.Led.{is_led, get_past}
-use Rattle.tl_follow.proofs.InputLemmas.{no_packet_in_none}
+use Rattle.tl_follow.proofs.InputLemmas.{no_packet_in_none, place_none, whole_fault}
 
 abbrev is_between : ℕ → ℕ → Packet → Bool
 is_between from to p = nat_le from p.version && nat_le p.version to
@@ -147,11 +153,17 @@ whole_front : (leader front : List Commit) → IsPrefixOf front leader → lengt
 whole_front leader front ([], e) l = sym (e ∙ append-nil front)
 whole_front leader front (c ∷ more, e) l = absurd (let k = ap length e in let m = length-append front (c ∷ more) in omega (arith, k, m, l))
 
+shipment_from : (limits : Limits) (leader start : List Commit) (from to : ℕ) → FitInTurn limits leader → IsPrefixOf start leader → AreFrom limits leader start (packets_between from to leader)
+shipment_from limits leader start from to fit begins = record {
+  fit = fit;
+  begins = begins;
+  each = all_filtered (IsOf leader) (is_between from to) (packets_from 1 leader) (all_of leader [] leader 1 refl refl);
+}
+
 pub shipment_leads : (limits : Limits) (leader start : List Commit) (from to : ℕ) → FitInTurn limits leader → IsPrefixOf start leader → from ≤ length start + 1 → length leader ≤ to → followed limits start (packets_between from to leader) ≡ leader
 shipment_leads limits leader start from to fit begins f t =
     let packets = packets_between from to leader in
-    let each : AllByRecursion (IsOf leader) packets = all_filtered (IsOf leader) (is_between from to) (packets_from 1 leader) (all_of leader [] leader 1 refl refl) in
-    let come_from : AreFrom limits leader start packets = record { fit = fit; begins = begins; each = each } in
+    let come_from = shipment_from limits leader start from to fit begins in
     let led = is_led limits leader start packets come_from in
     let end = followed limits start packets in
     let s = prefix_length start end (grown_prefix limits packets (length packets) start) in
@@ -167,3 +179,23 @@ shipment_leads limits leader start from to fit begins f t =
           let e : 1 + n ≡ n + 1 = omega arith in
           let there = first_there from to (n + 1) 1 n leader e less (omega (arith, f, s)) (omega (arith, less, t)) in
           absurd (let o : is_some (first_of (n + 1) (packets_between from to leader)) ≡ false = ap is_some next in let q = sym o ∙ there in cc)
+
+-- WHAT A LEADER SHIPS CAN BE SPELLED, AND HAS NO FAULT
+
+packets_all : (k : ℕ) (db : plain.Database) (cs : List Commit) → k ≡ db.version + 1 → FitFrom standard_limits db cs → AllByRecursion IsCommit cs → AllByRecursion IsPacket (packets_from k cs)
+packets_all k db [] e fit all = tt
+packets_all k db (c ∷ cs) e fit all =
+    let room : nat_lt db.version 16777215 ≡ true = and_left (nat_lt db.version 16777215) (fits_body standard_limits db c.body) fit.0 in
+    let one : 1 ≤ k = omega (arith, e) in
+    let few : k ≤ 16777215 = grind (arith, nat_tests) in
+    let on : k + 1 ≡ (after_commit db c).version + 1 = ap (λ n. n + 1) e in
+    (((one, few), all.0), packets_all (k + 1) (after_commit db c) cs on fit.1 all.1)
+
+pub shipment_packets : (commits : List Commit) (from to : ℕ) → FitInTurn standard_limits commits → AllByRecursion IsCommit commits → AllByRecursion IsPacket (packets_between from to commits)
+shipment_packets commits from to fit all = all_filtered IsPacket (is_between from to) (packets_from 1 commits) (packets_all 1 nothing commits refl fit all)
+
+pub shipment_no_fault : (limits : Limits) (leader start : List Commit) (from to : ℕ) → FitInTurn limits leader → IsPrefixOf start leader → length (shipment from to leader) ≤ INPUT_LIMIT → input_fault limits start (shipment from to leader) (packets_between from to leader) [] ≡ None
+shipment_no_fault limits leader start from to fit begins short =
+    let packets = packets_between from to leader in
+    let led = is_led limits leader start packets (shipment_from limits leader start from to fit begins) in
+    whole_fault limits start (shipment from to leader) packets short ∙ place_none (length (followed limits start packets) + 1) packets led.next

@@ -8,14 +8,17 @@ ghost use Rattle.tl_types.specs.declared.limits.Limits.{Limits};
 ghost use Rattle.tl_types.specs.Entries.{commits_of};
 ghost use Rattle.tl_types.specs.History.{database_of, database_at};
 ghost use Rattle.tl_types.specs.Legality.{FitInTurn};
+ghost use Rattle.tl_types.specs.Limits.{standard_limits};
 ghost use Rattle.tl_query.specs.declared.typed_queries.Typed.{Typed};
 ghost use Rattle.tl_query.specs.Answers.{answer_of};
+ghost use Rattle.tl_record.specs.Spelling.{IsCommit};
+ghost use Rattle.tl_follow.specs.declared.inputs.TheConstants.{INPUT_LIMIT};
 ghost use Rattle.tl_follow.specs.declared.packets.Packet.{Packet};
 ghost use Rattle.tl_follow.specs.Following.{Following, IsFollowing, IsPrefixOf, commits_in, next_held, next_of, followed};
 ghost use Rattle.tl_follow.specs.Calls.{Call, follower_of, after_calls, packets_of};
 ghost use Rattle.tl_follow.specs.Leading.{AreFrom, IsLed};
 ghost use Rattle.tl_follow.specs.Packets.{packet_spelling, IsPacket};
-ghost use Rattle.tl_follow.specs.Inputs.{IsInput};
+ghost use Rattle.tl_follow.specs.Inputs.{IsInput, input_fault};
 ghost use Rattle.tl_follow.specs.Shipping.{packet_of, packets_between, shipment};
 
 /// Carries a law in its contract, and does nothing: what packets make of commits ends, since no
@@ -90,11 +93,16 @@ pub fn shipments_grow()
         → shipment from to commits ≡ shipment from (length commits) commits }
 {}
 
-/// Carries a law in its contract, and does nothing: where what a leader ships are packets that can
-/// be spelled, it is an input of just these; and where the leader's commits fit one after the other
-/// by the follower's limits, the follower begins with the first ones of them, and all those behind
-/// them are shipped, these lead the follower to all of the leader's commits.
+/// Carries a law in its contract, and does nothing: the commits of a history that fit one after the
+/// other, and can be spelled, are shipped as packets that can be spelled, and what is shipped is an
+/// input of just these; and where the leader's commits fit one after the other by the follower's
+/// limits, the follower begins with the first ones of them, and all those behind them are shipped,
+/// these lead the follower to all of the leader's commits, and the input, where it is no longer
+/// than one may be, has no fault.
 pub fn shipments_lead()
+    ensures packets { (commits : List Commit) (from to : ℕ)
+        → FitInTurn standard_limits commits → AllByRecursion IsCommit commits
+        → AllByRecursion IsPacket (packets_between from to commits) }
     ensures input { (commits : List Commit) (from to : ℕ)
         → AllByRecursion IsPacket (packets_between from to commits)
         → IsInput (shipment from to commits) (packets_between from to commits) [] }
@@ -102,4 +110,9 @@ pub fn shipments_lead()
         → FitInTurn limits leader → IsPrefixOf start leader → from ≤ length start + 1
         → length leader ≤ to
         → followed limits start (packets_between from to leader) ≡ leader }
+    ensures whole { (limits : Limits) (leader start : List Commit) (from to : ℕ)
+        → FitInTurn limits leader → IsPrefixOf start leader
+        → length (shipment from to leader) ≤ INPUT_LIMIT
+        → input_fault limits start (shipment from to leader) (packets_between from to leader) []
+        ≡ None }
 {}

@@ -6,7 +6,7 @@ use tl_types::Commit;
 pub struct Packet {
     /// The version, from 1.
     pub version: u32,
-    /// The commit.
+    /// The commit. It makes this version where it fits the commits before it.
     pub commit: Commit,
 }
 

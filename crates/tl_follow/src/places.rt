@@ -24,7 +24,7 @@ use tl_types::{Limits, NoMemory, Seq};
 pub(crate) struct Place {
     /// The version, from 1.
     pub(crate) version: u32,
-    /// The byte offset.
+    /// The byte offset of the packet in the input, from 0.
     pub(crate) at: usize,
 }
 

@@ -16,9 +16,9 @@ use tl_types::NoMemory;
 /// A packet that was read, and where it ends.
 #[derive(Debug, Drop)]
 pub struct ReadPacket {
-    /// The packet.
+    /// The packet that is spelled there. Whether its commit fits is not asked.
     pub packet: Packet,
-    /// The byte offset behind it.
+    /// The byte offset behind it in the bytes that are read, from 0.
     pub end: usize,
 }
 

@@ -27,7 +27,7 @@ pub(crate) struct KeyGroup {
 pub(crate) struct KeyColumn<'a> {
     /// The store that has the rows.
     pub store: &'a Store,
-    /// The table's number.
+    /// The table's number: its place in the order of creation, from 0.
     pub table: u16,
     /// The place of the column, from 0.
     pub column: u8,

@@ -60,7 +60,8 @@ const LOADER: &str = "load";
 /// The one phase that puts all that a source gives as the block of a statement.
 #[derive(Drop)]
 pub struct BlockPhase<'a> {
-    /// The statement's text.
+    /// The text of the statement whose block is all that the source gives: `PUT` and a table's
+    /// name.
     pub text: &'a str,
     /// Whether the phase has come.
     pub given: bool,

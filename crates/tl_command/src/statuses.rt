@@ -39,18 +39,18 @@ pub enum Status {
     ScriptFault(ScriptFault),
     /// The disk has `len` bytes, which are too few for a journal.
     NotInitialised {
-        /// The number of bytes.
+        /// How many bytes the disk has, fewer than 17.
         len: u64,
     },
     /// The disk has `len` bytes already, more than the empty journal.
     AlreadyInitialised {
-        /// The number of bytes.
+        /// How many bytes the disk has, more than 17.
         len: u64,
     },
     /// The disk's bytes are no journal, or one with a commit that does not fit those before it.
     /// `at` is the offset where they are damaged, or of the gate before that commit.
     Damaged {
-        /// The byte offset.
+        /// The byte offset in the journal, from 0.
         at: u64,
     },
     /// The source's bytes are no packets that make a history of the journal's commits: it has more
@@ -58,7 +58,7 @@ pub enum Status {
     /// the first packet of the version that comes next, at that offset, has a commit that does not
     /// fit.
     PacketFault {
-        /// The byte offset.
+        /// The byte offset in what the source gave, from 0.
         at: u64,
     },
     /// The text that was to name what is watched has this fault over the journal's commits: it is

@@ -13,7 +13,7 @@ pub enum Step {
     },
     /// A commit is appended.
     Publish {
-        /// The commit.
+        /// The commit, which has to fit those before it.
         commit: Commit,
     },
     /// A pass sees all entries, and begins the checkpoint of a table on them. A build that it had
@@ -31,7 +31,7 @@ pub enum Step {
     },
     /// The break with a commit whose append failed is appended.
     Break {
-        /// The commit.
+        /// The commit, which has to fit those before it; the journal may hold it or not.
         commit: Commit,
     },
 }

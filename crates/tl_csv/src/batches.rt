@@ -185,7 +185,8 @@ fn key_lines(alloc: Global, rows: &[Opened]) -> Result<Seq<KeyLine>, NoMemory>
     Ok(Seq::from_vec(lines))
 }
 
-/// The batch of these rows.
+/// The batch that puts these rows into the schema's table, or that removes the keys which are their
+/// first cells. The error is `NoMemory`.
 pub fn batch_with(
     alloc: Global,
     schema: &Schema,

@@ -17,9 +17,9 @@ use tl_types::{Cell, ColumnKind, Limits, Period, Text};
 /// Where a field stands: the number of its record, and its place there, from 0.
 #[derive(Clone, Copy)]
 pub struct Spot {
-    /// The number of the record.
+    /// The record's number: its place behind the header, from 0, plus 2.
     pub rec: u32,
-    /// The place in the record.
+    /// The field's place in its record, from 0.
     pub place: usize,
 }
 

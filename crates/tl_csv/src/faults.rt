@@ -12,7 +12,7 @@ pub enum CsvFault {
     NotUtf8 {
         /// The record's number, 1 for the header.
         rec: u32,
-        /// The field's place in its record.
+        /// The field's place in its record, from 1.
         column: u64,
     },
     /// A column that the batch needs is not named in the header, or there is no record and so no
@@ -25,37 +25,37 @@ pub enum CsvFault {
     },
     /// A field of the header names no column that the batch needs.
     HeaderName {
-        /// The field's place in the header.
+        /// The field's place in the header, from 1.
         column: u64,
     },
     /// A field of the header names the column that a field before it names.
     HeaderTwice {
-        /// The field's place in the header.
+        /// The field's place in the header, from 1.
         column: u64,
     },
     /// A record has not as many fields as the header.
     FieldCount {
-        /// The record's number.
+        /// The record's number: its place behind the header, from 0, plus 2.
         rec: u32,
     },
     /// A field of an INT column, or an end of a period, is not a whole number of 64 bits: an
     /// optional `-` or `+` and one or more digits. At `valid_to` `FOREVER` is none of these faults.
     NotInt {
-        /// The record's number.
+        /// The record's number: its place behind the header, from 0, plus 2.
         rec: u32,
-        /// The field's place in its record.
+        /// The field's place in its record, from 1.
         column: u64,
     },
     /// A field of a TEXT column has more bytes than `limits.text`.
     TextTooLong {
-        /// The record's number.
+        /// The record's number: its place behind the header, from 0, plus 2.
         rec: u32,
-        /// The field's place in its record.
+        /// The field's place in its record, from 1.
         column: u64,
     },
     /// The `valid_from` of a row or a removal is not less than its `valid_to`.
     EmptyPeriod {
-        /// The record's number.
+        /// The record's number: its place behind the header, from 0, plus 2.
         rec: u32,
     },
     /// There are more records behind the header than `limits.batch`.

@@ -62,7 +62,8 @@ impl Model for Layout {
 }
 
 impl Layout {
-    /// The layout of these parts.
+    /// The layout of records whose fields are of these kinds, with the columns' cells at these
+    /// places and the ends of the period at these, counted from 0.
     pub fn new(kinds: Seq<FieldKind>, columns: Seq<usize>, period: Option<PeriodPlaces>) -> Layout
         requires { IsLayout (record { kinds = kinds; columns = columns; period = period }) }
         ensures { result ≡ record { kinds = kinds; columns = columns; period = period } }

@@ -49,10 +49,10 @@ fn is_plain(block: &[u8]) -> bool
     block.len() <= LONGEST && begins_plain(block) && ends_line(block) && !has_quote(block)
 }
 
-/// A block that is lent.
+/// A block that is lent, and whether it may stand with others in one text.
 #[derive(Drop)]
 pub struct LentBlock<'a> {
-    /// Its bytes.
+    /// Its bytes as they came, with any byte order marks at their start.
     pub bytes: &'a [u8],
     /// It stands with others in one text.
     pub is_plain: bool,

@@ -19,7 +19,7 @@ pub enum BatchKind {
 /// What a field of a record is.
 #[derive(Clone, Copy)]
 pub enum FieldKind {
-    /// A cell of a column.
+    /// A cell of a column of this kind.
     Cell(ColumnKind),
     /// The first valid time of a period.
     From,

@@ -199,9 +199,9 @@ fn period_beside(
 /// The rows of records, one for each, and room for the cells of one record.
 #[derive(Drop)]
 pub(crate) struct Lines {
-    /// The rows.
+    /// The rows of the records so far, in order.
     pub(crate) rows: Vec<Opened>,
-    /// The room.
+    /// Room for cells of one record, which take the place of those of the record before.
     pub(crate) cells: Vec<Cell>,
 }
 

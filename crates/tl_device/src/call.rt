@@ -12,6 +12,6 @@ pub enum Call {
     Cut(u64, usize),
     /// A failed cut, after which a read gives what it gave: the length that it wanted.
     MayCut(u64),
-    /// A sync.
+    /// A sync: a crash undoes no call before it.
     Synced,
 }

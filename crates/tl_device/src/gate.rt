@@ -4,9 +4,9 @@
 /// What is about to start.
 #[derive(Clone, Copy)]
 pub enum Place {
-    /// A statement of the session with this number.
+    /// A statement of the session with this number, from 0.
     Statement(u32),
-    /// The range piece with this number.
+    /// The range piece with this number, from 0.
     Piece(u32),
 }
 

@@ -55,14 +55,14 @@ impl Kept {
         }
     }
 
-    /// The bytes.
+    /// The bytes as a read gives them; a crash may leave others.
     pub fn bytes(&self) -> &[u8]
         ensures { result.now ≡ self.now.bytes }
     {
         &self.bytes
     }
 
-    /// The number of the bytes.
+    /// How many bytes there are; room for more is not counted.
     pub fn len(&self) -> u64
         ensures { result ≡ length self.now.bytes }
     {

@@ -47,7 +47,7 @@ where
         Ok(self.file.insert(file))
     }
 
-    /// The number of bytes.
+    /// How many bytes the file has. It is opened for that, unless it is open.
     pub fn len(&mut self) -> io::Result<u64> {
         Ok(self.open()?.metadata()?.len())
     }

@@ -32,7 +32,7 @@ impl SureSink {
         }
     }
 
-    /// The bytes written.
+    /// All bytes written so far, in the order of the writes; none at first.
     pub fn bytes(&self) -> &[u8]
         ensures { result.now ≡ self.now.bytes }
     {

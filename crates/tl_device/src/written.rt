@@ -36,7 +36,7 @@ impl Written {
         }
     }
 
-    /// The bytes written so far.
+    /// All bytes written so far, in the order of the writes; none at first.
     pub fn bytes(&self) -> &[u8]
         ensures { result.now ≡ self.now.bytes }
     {

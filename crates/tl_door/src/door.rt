@@ -39,9 +39,10 @@ impl<V: Published> Model for Door<V> {
 
 /// A new door, with the seat of its writer.
 pub struct NewDoor<V: Published> {
-    /// The door.
+    /// The door, with the value at home and no ticket drawn.
     pub door: Door<V>,
-    /// The writer's seat.
+    /// The writer's seat: the one with which entries are written. It has seen all that the value
+    /// stands for.
     pub seat: DoorSeat<V>,
 }
 

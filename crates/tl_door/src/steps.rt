@@ -26,10 +26,10 @@ const SERVING: usize = 1;
 /// The number of the word that counts the entries.
 const HISTORY: usize = 2;
 
-/// The number of the slot.
+/// The number of the slot in which the value lies between two turns.
 const SLOT: usize = 0;
 
-/// A seat of the table.
+/// A seat of a door's table, which a `DoorSeat` has within.
 pub(crate) type TableSeat<V> = Seat<Option<V>, View>;
 
 impl<V: Published> Door<V> {

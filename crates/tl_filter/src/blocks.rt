@@ -23,11 +23,11 @@ pub(crate) const WORDS: usize = 128;
 /// Where a block stands: in the masks of a table, from a word on, and which of its rows are asked.
 #[derive(Clone, Copy)]
 pub(crate) struct Block {
-    /// The table's number.
+    /// The table's number: its place in the order of creation, from 0.
     pub(crate) table: u16,
-    /// How many rows it has.
+    /// How many rows the table has.
     pub(crate) rows: u32,
-    /// The block's first word.
+    /// The place of the block's first word in the masks, from 0; a word has 64 rows.
     pub(crate) first: u32,
     /// Whether all of its rows are asked, and not only those in a set.
     pub(crate) whole: bool,

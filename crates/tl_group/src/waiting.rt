@@ -66,7 +66,7 @@ impl<D: Disk> Model for Waiting<D> {
 pub struct Finished<D> {
     /// The disk's count of faults, where the disk failed in the append.
     pub faults: Option<u64>,
-    /// The disk.
+    /// The disk that the journal was on, handed back.
     pub disk: D,
 }
 

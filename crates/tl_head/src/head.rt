@@ -28,9 +28,9 @@ impl<V: Published> Model for Head<V> {
 
 /// A new head, with the pass of its writer.
 pub struct NewHead<V: Published> {
-    /// The head.
+    /// The head, from which the value is read.
     pub head: Head<V>,
-    /// The writer's pass.
+    /// The one pass with which the head is written. `reader` makes those of readers from it.
     pub writer: WriterPass<V>,
 }
 

@@ -24,11 +24,11 @@ use tl_types::{Event, NoMemory, Period, Steps, ValidEvent};
 /// their events end.
 #[derive(Clone, Copy)]
 pub(crate) struct Lapse {
-    /// The older version.
+    /// The older version: the number of commits that it stands for, from 0.
     pub old: u32,
     /// How many events there are up to it.
     pub from: u32,
-    /// The newer version.
+    /// The newer version, which is the older one or a later one.
     pub new: u32,
     /// How many events there are up to it.
     pub to: u32,

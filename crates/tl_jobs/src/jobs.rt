@@ -10,7 +10,7 @@ pub struct LentJob<'a> {
     pub session: u32,
     /// The number of the line that it stands on, from 1.
     pub line: u64,
-    /// The statement's text.
+    /// The statement's text, without the session's name and the spaces and tabs around it.
     pub text: &'a str,
     /// The bytes of its block, where it has one.
     pub block: Option<&'a [u8]>,

@@ -27,11 +27,11 @@ use tl_types::{NoMemory, Piece, Steps};
 pub(crate) struct Side<'a> {
     /// The store that has the rows.
     pub store: &'a Store,
-    /// The table's number.
+    /// The table's number: its place in the order of creation, from 0.
     pub table: u16,
     /// The place of the column, from 0.
     pub column: u8,
-    /// The table's events.
+    /// The table's events, version by version: its rows begin to stand, or end.
     pub events: &'a EventList,
     /// The versions that have events, with where these end.
     pub ends: &'a VersionMap,

@@ -15,7 +15,7 @@ use tl_types::Seq;
 /// A journal, and the commits that it holds.
 #[derive(Drop)]
 pub struct Attached<D: Disk> {
-    /// The journal.
+    /// The journal, which is not broken and has no room for an append yet.
     pub journal: Journal<D>,
     /// Its commits, in order, each with the offset of its gate.
     pub found: Seq<Found>,

@@ -17,7 +17,7 @@ use tl_device::{Disk, Failed};
 pub struct InitRun<D> {
     /// Whether the journal was made.
     pub done: Result<(), JournalFault>,
-    /// The disk.
+    /// The disk that was handed in. It has the journal of no commit where that was made.
     pub disk: D,
 }
 

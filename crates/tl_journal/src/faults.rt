@@ -5,7 +5,7 @@ use thiserror::Error;
 /// Why a journal cannot be made or opened.
 #[derive(Debug, Drop, PartialEq, Eq, Error)]
 pub enum JournalFault {
-    /// The disk failed.
+    /// The disk failed while the journal was made or opened.
     #[error("the disk failed; it has {faults} faults so far")]
     Device {
         /// The disk's count of faults, which rose.
@@ -14,13 +14,13 @@ pub enum JournalFault {
     /// The disk is too short for a journal.
     #[error("the disk has {len} bytes, and a journal has 17 at least")]
     NotInitialised {
-        /// How many bytes the disk has.
+        /// How many bytes the disk has, fewer than 17.
         len: u64,
     },
     /// The disk has more than an empty journal.
     #[error("the disk has {len} bytes, and a journal is made only where there are at most 17")]
     AlreadyInitialised {
-        /// How many bytes the disk has.
+        /// How many bytes the disk has, more than 17.
         len: u64,
     },
     /// The bytes are no journal.

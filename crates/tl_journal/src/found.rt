@@ -25,9 +25,9 @@ use tl_types::Commit;
 /// A commit of the journal.
 #[derive(Drop)]
 pub struct Found {
-    /// The commit.
+    /// The commit that its record spells. Whether it fits is not asked.
     pub commit: Commit,
-    /// The byte offset of the gate before its record.
+    /// The byte offset in the journal, from 0, of the gate before its record.
     pub at: u64,
 }
 

@@ -324,7 +324,7 @@ impl<D: Disk> Journal<D> {
         Ok(())
     }
 
-    /// The disk.
+    /// The disk that the journal is on, lent.
     pub fn disk(&self) -> &D
         ensures { result.now ≡ self.now.disk }
     {

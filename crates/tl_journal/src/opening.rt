@@ -16,9 +16,9 @@ use tl_device::Disk;
 /// A disk that was not opened as a journal, and why.
 #[derive(Drop)]
 pub struct Refused<D> {
-    /// Why.
+    /// Why it was not opened.
     pub fault: JournalFault,
-    /// The disk.
+    /// The disk that was to be opened, handed back.
     pub disk: D,
 }
 

@@ -76,7 +76,7 @@ impl Table {
         self.floor < floor && floor <= now
     }
 
-    /// Sets the floor.
+    /// Sets the least version that may be asked of the table.
     pub fn set_floor(&mut self, floor: u32)
         ensures { self.new ≡ with_floor floor self.old }
     {

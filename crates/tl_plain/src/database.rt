@@ -56,7 +56,7 @@ impl Tables {
         self.version
     }
 
-    /// The number of tables.
+    /// How many tables there are.
     pub fn tables(&self) -> u16
         ensures number { result ≡ length self.now.tables }
         ensures few { result ≤ 64 }

@@ -24,9 +24,9 @@ use tl_types::{Field, NoMemory, Pair, Seq};
 /// One side of a join: the rows of a table, what they pass, and a column.
 #[derive(Clone, Copy)]
 pub(crate) struct Side<'a> {
-    /// The table's rows.
+    /// All rows of the table, ended ones too, each at the place that is its id.
     pub rows: &'a [Row],
-    /// What they pass.
+    /// What a row has to pass to stand in a pair.
     pub pred: &'a TypedPred,
     /// The place of the column whose cells are equal to the other side's.
     pub on: u8,

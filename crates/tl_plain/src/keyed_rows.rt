@@ -17,13 +17,13 @@ use tl_types::{Cell, NoMemory};
 pub(crate) struct KeyedRow<'a> {
     /// The row's cell in the column.
     pub key: &'a Cell,
-    /// The row's id.
+    /// The row's id: its place among all rows of its table, from 0.
     pub id: u32,
     /// The row itself, open or ended.
     pub row: &'a Row,
 }
 
-/// Whether two cells are the same.
+/// Whether two cells are the same: of one kind, and equal.
 #[tactic(auto, using(tl_query::proofs::CellOrder::same_cells))]
 pub(crate) fn same_cell(first: &Cell, second: &Cell) -> bool
     ensures { result ≡ same_cell first.now second.now }

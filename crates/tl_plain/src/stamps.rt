@@ -23,7 +23,7 @@ impl Model for Stamp {
 }
 
 impl Stamp {
-    /// The stamp of a version.
+    /// The stamp of a moment that is stated at this version.
     pub fn new(version: u32, moment: i64) -> Stamp
         ensures { result ≡ record { version = version; moment = moment } }
     {

@@ -27,7 +27,7 @@ impl Model for Times {
 }
 
 impl Times {
-    /// The first moment.
+    /// The first moment: a version or a valid time.
     pub fn from(&self) -> i64
         ensures { result ≡ self.now.from }
     {

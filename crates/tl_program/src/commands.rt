@@ -30,7 +30,7 @@ pub enum Command {
     Follow,
     /// `load TABLE`: all that the source gives is put as one block.
     Load {
-        /// The table's name.
+        /// The table's name: a name of the language, 1 to 64 bytes.
         table: Text,
     },
     /// `sample N START`: the jobs of the sample are run.

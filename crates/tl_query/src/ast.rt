@@ -7,7 +7,7 @@ use tl_types::{Cell, Cmp, ColumnKind, Seq, Text};
 pub struct Name {
     /// The name: 1 to 64 bytes.
     pub text: Text,
-    /// Its byte offset.
+    /// The byte offset of its first byte in the statement's text, from 0.
     pub at: u32,
 }
 
@@ -16,11 +16,11 @@ pub struct Name {
 pub struct Stamp {
     /// The number: a version, a moment or a valid time.
     pub value: i64,
-    /// Its byte offset.
+    /// The byte offset of its first byte in the statement's text, from 0.
     pub at: u32,
 }
 
-/// One statement.
+/// One statement, as its text spells it.
 #[derive(Drop)]
 pub enum Statement {
     /// `CREATE TABLE`: makes a table.
@@ -37,7 +37,7 @@ pub enum Statement {
     /// `FORGET name BEFORE version`: from then on no version before this one may be asked of the
     /// named table.
     Forget {
-        /// The table's name.
+        /// The table, by the name that stands behind FORGET.
         table: Name,
         /// The version below which nothing is to be asked, and its byte offset.
         floor: Stamp,
@@ -47,7 +47,7 @@ pub enum Statement {
 /// What follows `AS OF`.
 #[derive(Clone, Copy)]
 pub enum AsOf {
-    /// A version.
+    /// `version`: the tables as they were after so many commits.
     Version(Stamp),
     /// `MOMENT number`: the last version before a greater moment was stated.
     Moment(Stamp),
@@ -57,7 +57,7 @@ pub enum AsOf {
 /// have a valid period.
 #[derive(Drop)]
 pub struct CreateForm {
-    /// The table's name.
+    /// The name of the new table, which no other table may have.
     pub name: Name,
     /// Its columns in order: 1 to 16.
     pub columns: Seq<ColumnForm>,
@@ -70,20 +70,21 @@ pub struct CreateForm {
 /// One column of a new table.
 #[derive(Drop)]
 pub struct ColumnForm {
-    /// The column's name.
+    /// The name of the column, which no other column of the table may have.
     pub name: Name,
     /// What its cells are.
     pub kind: ColumnKind,
 }
 
-/// A query.
+/// A query as it is written: what is asked for, of which tables, and over which time.
 #[derive(Drop)]
 pub enum Query {
-    /// Rows of one table.
+    /// `SELECT`: rows of one table, at one version.
     Select(SelectForm),
-    /// An aggregate over time.
+    /// `COUNT`, `SUM`, `AVG`, `MIN` or `MAX`: a value of the rows of one table over a range of
+    /// time.
     Agg(AggForm),
-    /// A join over time.
+    /// `JOIN`: the pairs of rows of two tables that exist at one time, over a range of time.
     Join(JoinForm),
 }
 
@@ -109,7 +110,7 @@ pub struct SelectForm {
     pub items: Seq<Item>,
     /// The table, by the name that stands behind FROM.
     pub table: Name,
-    /// Which rows.
+    /// Which rows are taken: those that pass what follows `WHERE`, and all without it.
     pub pred: Pred,
     /// The valid time at which rows have to be valid, where it is given.
     pub valid_at: Option<ValidPoint>,
@@ -175,7 +176,7 @@ pub struct AggForm {
     pub column: Option<Name>,
     /// The table, by the name that stands behind FROM.
     pub table: Name,
-    /// Which rows.
+    /// Which rows are taken: those that pass what follows `WHERE`, and all without it.
     pub pred: Pred,
     /// The column whose values separate the rows into groups.
     pub by: Option<Name>,
@@ -187,15 +188,15 @@ pub struct AggForm {
 /// each with `WHERE` where its rows are tested, `ON column = column`, and the range.
 #[derive(Drop)]
 pub struct JoinForm {
-    /// The left table.
+    /// The left table, by the name that stands behind JOIN.
     pub left: Name,
-    /// Which of its rows.
+    /// Which of its rows are taken: those that pass what follows its `WHERE`, and all without it.
     pub left_pred: Pred,
-    /// The right table.
+    /// The right table, by the name that stands behind WITH.
     pub right: Name,
-    /// Which of its rows.
+    /// Which of its rows are taken: those that pass what follows its `WHERE`, and all without it.
     pub right_pred: Pred,
-    /// The column of the left table.
+    /// The column of the left table that is compared.
     pub left_on: Name,
     /// The column of the right table that has to be equal.
     pub right_on: Name,

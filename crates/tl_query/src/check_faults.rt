@@ -20,7 +20,7 @@ pub enum CheckFault {
     },
     /// A comparison, a constant or a column is not of the kind that is wanted there.
     WrongType {
-        /// The byte offset.
+        /// The byte offset of the comparison, the constant or the column's name.
         at: u32,
     },
     /// The table has no valid time.

@@ -7,7 +7,6 @@ use tl_types::Keyword;
 /// A keyword or a symbol. `spelling` says how it is written.
 #[derive(Clone, Copy, PartialEq, Eq)]
 pub(crate) enum Terminal {
-    /// A keyword.
     Keyword(Keyword),
     /// `(`.
     Open,

@@ -2,12 +2,12 @@
 use crate::terminals::Terminal;
 use tl_types::Text;
 
-/// A token.
+/// What a statement's text is cut into, but for the spaces and tabs between.
 #[derive(Drop)]
 pub(crate) enum Token {
     /// A keyword or a symbol.
     Fixed(Terminal),
-    /// A name.
+    /// A name: a word of 1 to 64 bytes that is no keyword.
     Word(Text),
     /// A number spelled without `-`.
     Number(i64),

@@ -22,9 +22,9 @@ use tl_types::{Body, Commit};
 /// A commit that was read, and where its record ends.
 #[derive(Debug, Drop)]
 pub struct Decoded {
-    /// The commit.
+    /// The commit that the record spells. Whether it fits is not asked.
     pub commit: Commit,
-    /// The byte offset behind its record.
+    /// The byte offset behind its record in the bytes that are read, from 0.
     pub end: usize,
 }
 

@@ -24,7 +24,7 @@ use tl_types::Limits;
 /// A journal that was opened, and what was made of its commits.
 #[derive(Drop)]
 pub struct Opened<D: Disk, A> {
-    /// The journal.
+    /// The journal, which is not broken and has no room for an append yet.
     pub journal: Journal<D>,
     /// What was made of its commits.
     pub applied: A,

@@ -12,7 +12,7 @@ pub struct Job {
     pub session: u32,
     /// The number of the line that it stands on, from 1.
     pub line: u64,
-    /// The statement's text.
+    /// The statement's text, without the session's name and the spaces and tabs around it.
     pub text: Line,
     /// The bytes of its block, where its first word is `PUT` or `REMOVE`.
     pub block: Option<Bytes>,

@@ -25,7 +25,7 @@ impl Model for SessionNames {
 }
 
 impl SessionNames {
-    /// No names.
+    /// No names. It takes no memory.
     pub(crate) fn new(alloc: Global) -> SessionNames
         ensures { result ≡ [] }
     {

@@ -8,7 +8,7 @@ use tl_types::Pair;
 /// A row of one side: when it begins and ends, and the number of its key.
 #[derive(Clone, Copy)]
 pub struct Entry {
-    /// The row's id.
+    /// The row's id: its place among all rows of its table, from 0.
     pub id: u32,
     /// The number of its key: equal for equal keys of both sides, from 0 on.
     pub code: u32,

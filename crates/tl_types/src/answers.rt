@@ -7,9 +7,9 @@ use crate::texts::Text;
 /// One field of an answer.
 #[derive(Debug, Drop, PartialEq, Eq)]
 pub enum Field {
-    /// A whole number.
+    /// A whole number: an INT cell, a version, a time, a count or a sum.
     Number(i128),
-    /// A text.
+    /// A text: a TEXT cell.
     Text(Text),
     /// A sum over a count, not reduced.
     Ratio {

@@ -19,12 +19,12 @@ pub struct KeyLine {
 /// One loaded batch, which becomes one commit or one fault.
 #[derive(Debug, Drop, PartialEq, Eq)]
 pub enum Batch {
-    /// A new table.
+    /// A new table with this schema, which has no rows yet.
     Create(Schema),
     /// Rows that take the place of what the open rows of their keys say: of all of it, or, where
     /// the table has valid time, of the part within their valid periods.
     Put {
-        /// The table's name.
+        /// The name of the table that it is for; `UnknownTable` where no table has it.
         table: Text,
         /// The rows, in order.
         lines: Seq<Opened>,
@@ -32,7 +32,7 @@ pub enum Batch {
     /// Keys whose open rows are closed: wholly, or, where the table has valid time, within these
     /// valid periods.
     Remove {
-        /// The table's name.
+        /// The name of the table that it is for; `UnknownTable` where no table has it.
         table: Text,
         /// The keys, in order.
         lines: Seq<KeyLine>,
@@ -44,7 +44,7 @@ pub enum Batch {
     },
     /// The least version that may be asked of a table from then on.
     Forget {
-        /// The table's name.
+        /// The name of the table that it is for; `UnknownTable` where no table has it.
         table: Text,
         /// The version before which nothing may be asked of the table from then on.
         floor: i64,
@@ -63,13 +63,13 @@ pub enum BatchFault {
     TablesFull,
     /// The key stood in an earlier line of the batch, and the table has no valid time.
     KeyTwice {
-        /// The record number.
+        /// The record number of the line: its place in the batch, from 0, plus 2.
         rec: u32,
     },
     /// A removal finds no open row of its key, or, where the table has valid time, none whose valid
     /// period overlaps the line's, after the lines before it.
     NoRow {
-        /// The record number.
+        /// The record number of the line: its place in the batch, from 0, plus 2.
         rec: u32,
     },
     /// The table would have more rows than the limits allow.

@@ -37,23 +37,23 @@ impl Clone for Cell {
 pub enum ColumnKind {
     /// Signed whole numbers of 64 bits.
     IntKind,
-    /// Texts.
+    /// Texts of at most 65,535 bytes each.
     TextKind,
 }
 
 /// A comparison of a cell with a constant. Texts are compared by `Eq` and `Ne` alone.
 #[derive(Clone, Copy, Debug, PartialEq, Eq)]
 pub enum Cmp {
-    /// Equal.
+    /// `=`: the cell is equal to the constant.
     Eq,
-    /// Not equal.
+    /// `<>`: the cell is not equal to the constant.
     Ne,
-    /// Less.
+    /// `<`: the cell is less than the constant.
     Lt,
-    /// Less or equal.
+    /// `<=`: the cell is less than the constant or equal to it.
     Le,
-    /// Greater.
+    /// `>`: the cell is greater than the constant.
     Gt,
-    /// Greater or equal.
+    /// `>=`: the cell is greater than the constant or equal to it.
     Ge,
 }

@@ -89,9 +89,9 @@ impl Clone for Change {
 /// What a commit does.
 #[derive(Debug, Drop, PartialEq, Eq)]
 pub enum Body {
-    /// It creates a table.
+    /// It creates a table with this schema. Its number is how many tables there were before it.
     Create(Schema),
-    /// It changes a table.
+    /// It changes a table: it ends rows and opens rows, none or more of each.
     Change(Change),
     /// It states which moment it is. No table changes.
     Moment {
@@ -146,7 +146,7 @@ impl Clone for Commit {
 /// An entry of the history.
 #[derive(Debug, Drop, PartialEq, Eq)]
 pub enum Entry {
-    /// A commit.
+    /// A commit. The i-th commit of a history, from 1 on, makes version i.
     Commit(Commit),
     /// A checkpoint of a table at a version.
     Mark {

@@ -6,7 +6,7 @@ ghost use Rattle.tl_types.specs.Checkpoints.{comes_before};
 /// One event of a table: at its version a row begins to stand, or ends.
 #[derive(Clone, Copy, Debug, PartialEq, Eq)]
 pub struct Event {
-    /// The id of the row.
+    /// The row's id: its place among all rows of its table, from 0.
     pub row: u32,
     /// Whether the row begins to stand (an activation), or ends (an invalidation).
     pub opens: bool,
@@ -20,7 +20,7 @@ pub struct ValidEvent {
     pub time: i64,
     /// Whether the period begins (an activation), or ends (an invalidation).
     pub opens: bool,
-    /// The id of the row.
+    /// The row's id: its place among all rows of its table, from 0.
     pub row: u32,
 }
 

@@ -27,7 +27,7 @@ pub struct Run {
     pub from: i64,
     /// The moment after the last.
     pub to: i64,
-    /// The aggregate's value.
+    /// The value that the aggregate has at each of them; `Empty` over no row, but a count is 0.
     pub value: Field,
 }
 
@@ -38,9 +38,9 @@ pub struct Pair {
     pub from: i64,
     /// The moment after the last.
     pub to: i64,
-    /// The id of the left row.
+    /// The left row's id: its place among all rows of its table, from 0.
     pub left: u32,
-    /// The id of the right row.
+    /// The right row's id: its place among all rows of its table, from 0.
     pub right: u32,
 }
 

@@ -98,7 +98,7 @@ impl Schema {
         }
     }
 
-    /// The table's name.
+    /// The table's name: a name of the language, 1 to 64 bytes.
     pub fn name(&self) -> &Text
         ensures value { result.now ≡ self.now.name }
         ensures kept { IsTrue (is_schema self.now) }
@@ -106,7 +106,7 @@ impl Schema {
         &self.name
     }
 
-    /// The columns, in order.
+    /// The columns in order, 1 to 16 of them.
     pub fn columns(&self) -> &[Column]
         ensures value { result.now ≡ self.now.columns }
         ensures some { 1 ≤ length self.now.columns }

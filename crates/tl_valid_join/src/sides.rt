@@ -28,7 +28,7 @@ use tl_types::{NoMemory, Steps, ValidEvent};
 pub(crate) struct Side<'a> {
     /// The store that has the rows.
     pub store: &'a Store,
-    /// The table's number.
+    /// The table's number: its place in the order of creation, from 0.
     pub table: u16,
     /// The place of the column, from 0.
     pub column: u8,

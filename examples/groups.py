@@ -13,6 +13,7 @@ import tempfile
 
 HERE = os.path.dirname(os.path.abspath(__file__))
 sys.path.insert(0, HERE)
+import followed
 import watched
 
 TIMELINE = os.path.join(os.path.dirname(HERE), "timeline")
@@ -164,21 +165,19 @@ def packets_come_as_they_like():
         begin()
         for upto in range(0, last + 7, 7):
             follow("catching up", b"".join(each[max(0, upto - 9):upto]), (0, f"follow @{min(upto, last)}\n".encode()))
-        # Cut at each byte of the first packets, and with one byte changed at each place.
-        stream, starts = b"".join(each[:8]), [sum(len(it) for it in each[:at]) for at in range(9)]
-        for cut in range(len(stream)):
+        # Cut at each byte of the first packets, and with one byte changed at each place, in order and backwards: what is
+        # written and kept is what working it out anew says.
+        stream, starts = b"".join(each[:20]), [sum(len(it) for it in each[:at]) for at in range(5)]
+        judge("so many bytes", len(stream) >= 500, len(stream))
+        inputs = [(f"cut at byte {cut}", stream[:cut]) for cut in range(len(stream))]
+        for name, text in (("in order", stream), ("backwards", b"".join(each[19::-1]))):
+            for at in range(len(text)):
+                inputs.append((f"a byte changed at {at}, {name}", text[:at] + bytes([text[at] ^ (1 << draw.randrange(8))]) + text[at + 1:]))
+        for name, text in inputs:
             begin()
-            whole_ones = [at for at in range(9) if starts[at] <= cut][-1]
-            wanted = (0, f"follow @{whole_ones}\n".encode()) if starts[whole_ones] == cut else (10, f"! packet {starts[whole_ones]}\n".encode())
-            found = run(["follow"], stream[:cut], room, PROGRAM)
-            judge(f"cut at byte {cut}", found[:2] == wanted and (wanted[0] == 0 or journal(room) == EMPTY), (found, wanted))
-        for at in range(min(500, len(stream))):
-            begin()
-            changed = stream[:at] + bytes([stream[at] ^ (1 << draw.randrange(8))]) + stream[at + 1:]
-            status, printed, _ = run(["follow"], changed, room, PROGRAM)
-            is_right = (status == 10 and re.fullmatch(rb"! packet \d+\n", printed) and journal(room) == EMPTY) or (status == 0 and printed.startswith(b"follow @"))
-            judge(f"a byte changed at {at}", is_right, (status, printed))
-            judge(f"the journal behind it, {at}", run(["run"], b"", room, PROGRAM)[0] == 0)
+            wanted = followed.follow(text)
+            found = (*run(["follow"], text, room, PROGRAM)[:2], journal(room))
+            judge(name, found == wanted, (found, wanted))
         # A copy that took a commit of its own follows as far as the leader's commits fit it, which is not to the fifth.
         begin()
         follow("the first", each[0], (0, b"follow @1\n"))
@@ -188,12 +187,56 @@ def packets_come_as_they_like():
         judge("stuck", (status, printed) == (10, f"! packet {starts[4]}\n".encode()) and journal(room) == before, (status, printed))
         judge("what is said of it", said.startswith(f"timeline: the run ended: ! packet {starts[4]}\n    At this byte"), said)
         judge("--stamp follow", run(["--stamp", "follow"], b"", room)[:2] == (2, b"! usage\n"))
-        # While a program writes to the leader.
+        # While a program has the leader's lock; and where the journal cannot be synced, nothing is shipped.
         with open(f"{leader}/timeline.tlj", "rb") as other:
             fcntl.flock(other, fcntl.LOCK_EX)
             judge("ship beside a writer", run(["ship", "1", "2"], room=leader) == (0, b"".join(each[:2]), ""))
+        with open(f"{room}/sync", "w") as file:
+            file.write('#!/bin/sh\necho "$@" >>"${0%/*}/synced"\nexit 1\n')
+        os.chmod(f"{room}/sync", 0o755)
+        found = run(["ship"], room=leader, env={**os.environ, "PATH": f"{room}:{os.environ['PATH']}"})
+        judge("ship with a sync that fails", found[:2] == (5, b"! device\n"), found)
+        with open(f"{room}/synced") as file:
+            judge("what is synced", file.read() == "-d timeline.tlj\n")
         for words in (["ship", "x"], ["ship", "16777216"], ["ship", "1", "2", "3"], ["ship", "-1"], ["follow", "no file"]):
             judge(f"the words {words}", run(words, room=leader)[:2] == (2, b"! usage\n"))
+
+
+def packets_of_the_worked_journal():
+    """The packet of the worked journal's version 4; and of two packets of one version the first counts, also where their
+    commits differ and the version is still to come."""
+    with open(os.path.join(HERE, "cases/script_b.hex")) as file:
+        records = [bytes.fromhex(line)[1:] for line in file.read().split("\n")[1:6]]
+    with Room() as room:
+        with open(f"{room}/timeline.tlj", "wb") as file:
+            file.write(EMPTY[:-1] + b"".join(b"\1" + it for it in records) + b"\0")
+        for command in (TIMELINE, PROGRAM):
+            found = run(["ship", "4", "4"], room=room, command=command)
+            judge("version 4", found == (0, b"\0\0\0\4" + records[3], "") and len(records[3]) == 19, found)
+    create = "a> CREATE TABLE t (k INT, x INT) KEY k\n"
+    with Room(create + put("t", ["1,1"])) as one, Room(create + put("t", ["2,2"])) as other, Room() as room:
+        first, second = packets(one, 2)
+        found = run(["follow"], second + packets(other, 2)[1] + first, room)
+        judge("the first of two packets", found[:2] == (0, b"follow @2\n") and journal(room) == journal(one), found)
+
+
+def a_journal_is_shipped_while_it_grows():
+    """What is shipped beside a program that commits are the first commits, whole ones, and all that were answered."""
+    script = "a> CREATE TABLE t (k INT, x INT) KEY k\n"
+    phases = [script + "GO\n"] + [put("t", [f"{100 * at + it},{it}" for it in range(at)]) + "GO\n" for at in range(1, 40)]
+    with Room() as room, subprocess.Popen([PROGRAM, "run"], cwd=room, stdin=subprocess.PIPE, stdout=subprocess.PIPE) as writer:
+        shipped = []
+        for at, phase in enumerate(phases):
+            writer.stdin.write(phase.encode())
+            writer.stdin.flush()
+            shipped.append((at, run(["ship"], room=room)))
+            judge("a commit is answered", writer.stdout.readline() == f"a @{at + 1} ok\n".encode(), at)
+        writer.stdin.close()
+        judge("the writer ends", writer.wait(60) == 0)
+        each = packets(room, len(phases))
+        for answered, (status, given, said) in shipped:
+            fronts = [b"".join(each[:it]) for it in range(answered, answered + 2)]
+            judge(f"shipped while commit {answered + 1} is made", status == 0 and given in fronts and not said, (status, len(given), said))
 
 
 def totals_that_are_always_there():
@@ -249,5 +292,7 @@ signal.alarm(500)
 a_group_is_kept_whole()
 a_group_waits_twice()
 packets_come_as_they_like()
+packets_of_the_worked_journal()
+a_journal_is_shipped_while_it_grows()
 totals_that_are_always_there()
 sys.exit(failed)

@@ -17,6 +17,8 @@ mod marks;
 #[cfg(test)]
 mod meetings;
 #[cfg(test)]
+mod moments;
+#[cfg(test)]
 mod offers;
 #[cfg(test)]
 mod pieces;

@@ -16,7 +16,7 @@ use std::thread::Threads;
 use tl_bits::RowSet;
 use tl_csv::Sample;
 use tl_device::MemoryDisk;
-use tl_engine::{Engine, Named, Opening, Started};
+use tl_engine::{Closed, Engine, Named, Opening, Started};
 use tl_index::Snapshot;
 use tl_travel::visible;
 use tl_types::{Limits, NoMemory, Steps};
@@ -80,8 +80,8 @@ fn sees_rows<L: Ledger>(alloc: Global, snapshot: &Snapshot, blank: Blank) -> boo
     }
 }
 
-// The same of what an opening finds.
-fn opened<J: Named, R: AllocGlobal + Wait>(rt: &R, opening: Opening<MemoryDisk>) -> bool
+// The snapshot of what an opening finds, once its engine is closed.
+fn opened<J: Named, R: AllocGlobal + Wait>(rt: &R, opening: Opening<MemoryDisk>) -> Snapshot
     requires names { IsNameOf J.table J.first_entries J.first_count J.limits opening }
     requires ledger { (opening.ledger ≡ J.name) × (opening.parts ≡ J.parts) }
     requires untold { J.told ≡ false }
@@ -91,22 +91,31 @@ fn opened<J: Named, R: AllocGlobal + Wait>(rt: &R, opening: Opening<MemoryDisk>)
         pass,
         share,
     } = opening.start::<J>();
-    let closed = engine.close(rt, pass, share);
-    sees_rows::<Brand>(rt.alloc(), &closed.snapshot, Blank::new(1))
+    let Closed { snapshot, .. } = engine.close(rt, pass, share);
+    snapshot
 }
 
 // The same of an opening whose names are picked here.
-fn opened_by_brand<R: AllocGlobal + Wait>(rt: &R, opening: Opening<MemoryDisk>) -> bool
+fn opened_by_brand<R: AllocGlobal + Wait>(rt: &R, opening: Opening<MemoryDisk>) -> Snapshot
     requires { opening.parts ≡ 65536 }
 {
     opened::<Brand, R>(rt, opening)
 }
 
-// The same of a disk, which is opened with a mark at each version.
-fn sees_on<R: AllocGlobal + Wait>(rt: &R, disk: MemoryDisk) -> bool {
+/// The snapshot of what a disk's journal has, which is opened with a mark at each version. `None`
+/// where it is not opened.
+pub(crate) fn snapshot_on<R: AllocGlobal + Wait>(rt: &R, disk: MemoryDisk) -> Option<Snapshot> {
     match Engine::attach(rt.alloc(), disk, &Limits::standard(), 1) {
-        Ok(opening) => opened_by_brand(rt, opening),
-        Err(_) => false,
+        Ok(opening) => Some(opened_by_brand(rt, opening)),
+        Err(_) => None,
+    }
+}
+
+// Whether 25,000 rows of the sample are visible at version 5 of what a disk's journal has.
+fn sees_on<R: AllocGlobal + Wait>(rt: &R, disk: MemoryDisk) -> bool {
+    match snapshot_on(rt, disk) {
+        Some(snapshot) => sees_rows::<Brand>(rt.alloc(), &snapshot, Blank::new(1)),
+        None => false,
     }
 }
 

@@ -1,5 +1,5 @@
 -- What is shipped of a history, version by version, and where it leads.
-use Rattle.std.proofs.Common.{◌≡◌, ℕ, zero, suc, ◌+◌, ◌-◌, ◌<◌, ◌≤◌, Bool, true, false, ◌&&◌, cond, nat_le, nat_lt, ◌==◌, List, [], ◌∷◌, ◌++◌, length, Some, None, IsSome, is_some, slice_get, refl, sym, ap, ◌∙◌, arith, append_assoc, append-nil, length-append}
+use Rattle.std.proofs.Common.{◌≡◌, ℕ, zero, suc, ◌+◌, ◌-◌, ◌<◌, ◌≤◌, Bool, true, false, ◌&&◌, cond, nat_le, nat_lt, ◌==◌, List, [], ◌∷◌, ◌++◌, length, Some, None, IsSome, is_some, slice_get, refl, sym, ap, ap₂, ◌∙◌, arith, append_assoc, append-nil, length-append}
 use Rattle.std.specs.List.{AllByRecursion, filter}
 use Rattle.std.proofs.lemmas.Grind.{flat_map-append}
 use Rattle.std.proofs.lemmas.List.Elements.{filter-append}
@@ -17,11 +17,13 @@ use Rattle.tl_follow.specs.declared.packets.Packet.{Packet}
 use Rattle.tl_follow.specs.Packets.{packet_spelling, IsPacket}
 use Rattle.tl_follow.specs.Following.{IsPrefixOf, first_of, followed}
 use Rattle.tl_follow.specs.Leading.{IsOf, AreFrom}
-use Rattle.tl_follow.specs.Inputs.{input_of, IsInput, input_fault}
+use Rattle.tl_follow.specs.declared.faults.PacketFault.{PacketFault}
+use Rattle.tl_follow.specs.declared.faults.PacketFault.TheVariants as fault
+use Rattle.tl_follow.specs.Inputs.{input_of, IsInput, input_fault, FollowsInput, IsInputFault}
 use Rattle.tl_follow.specs.Shipping.{packet_of, packets_from, packets_between, shipment}
 use Rattle.tl_follow.proofs.Growing.{prefix_length, grown_prefix}
 use Rattle.tl_follow.proofs.Led.{is_led, get_past}
-use Rattle.tl_follow.proofs.InputLemmas.{no_packet_in_none, place_none, whole_fault}
+use Rattle.tl_follow.proofs.InputLemmas.{no_packet_in_none, one_input, place_none, whole_fault}
 
 abbrev is_between : ℕ → ℕ → Packet → Bool
 is_between from to p = nat_le from p.version && nat_le p.version to
@@ -199,3 +201,19 @@ shipment_no_fault limits leader start from to fit begins short =
     let packets = packets_between from to leader in
     let led = is_led limits leader start packets (shipment_from limits leader start from to fit begins) in
     whole_fault limits start (shipment from to leader) packets short ∙ place_none (length (followed limits start packets) + 1) packets led.next
+
+-- WHO FOLLOWS WHAT A LEADER SHIPS
+
+pub shipment_copies : (limits : Limits) (leader start commits : List Commit) (from to : ℕ) → AllByRecursion IsPacket (packets_between from to leader) → FitInTurn limits leader → IsPrefixOf start leader → from ≤ length start + 1 → length leader ≤ to → FollowsInput limits start (shipment from to leader) commits → start ++ commits ≡ leader
+shipment_copies limits leader start commits from to all fit begins f t (packets, i, none, h) =
+    let one = one_input (shipment from to leader) packets (packets_between from to leader) [] [] i (shipment_is_input leader from to all) in
+    h.history ∙ ap (followed limits start) one.0 ∙ shipment_leads limits leader start from to fit begins f t
+
+pub shipment_no_bad : (limits : Limits) (leader start : List Commit) (from to : ℕ) (e : PacketFault) → AllByRecursion IsPacket (packets_between from to leader) → FitInTurn limits leader → IsPrefixOf start leader → length (shipment from to leader) ≤ INPUT_LIMIT → IsInputFault limits start (shipment from to leader) e → e ≡ fault.NoMemory
+shipment_no_bad limits leader start from to (fault.BadPacket at) all fit begins short (packets, rest, i, bad) =
+    let bytes = shipment from to leader in
+    let one = one_input bytes packets (packets_between from to leader) rest [] i (shipment_is_input leader from to all) in
+    let none = shipment_no_fault limits leader start from to fit begins short in
+    let same = ap₂ (λ (ps : List Packet) (r : List ℕ). input_fault limits start bytes ps r) one.0 one.1 in
+    absurd (let q = sym bad ∙ same ∙ none in cc)
+shipment_no_bad limits leader start from to fault.NoMemory all fit begins short bad = refl

@@ -18,7 +18,9 @@ ghost use Rattle.tl_follow.specs.Following.{Following, IsFollowing, IsPrefixOf, 
 ghost use Rattle.tl_follow.specs.Calls.{Call, follower_of, after_calls, packets_of};
 ghost use Rattle.tl_follow.specs.Leading.{AreFrom, IsLed};
 ghost use Rattle.tl_follow.specs.Packets.{packet_spelling, IsPacket};
-ghost use Rattle.tl_follow.specs.Inputs.{IsInput, input_fault};
+ghost use Rattle.tl_follow.specs.declared.faults.PacketFault.{PacketFault};
+ghost use Rattle.tl_follow.specs.declared.faults.PacketFault.TheVariants as fault;
+ghost use Rattle.tl_follow.specs.Inputs.{FollowsInput, IsInput, IsInputFault, input_fault};
 ghost use Rattle.tl_follow.specs.Shipping.{packet_of, packets_between, shipment};
 
 /// Carries a law in its contract, and does nothing: what packets make of commits ends, since no
@@ -98,7 +100,8 @@ pub fn shipments_grow()
 /// input of just these; and where the leader's commits fit one after the other by the follower's
 /// limits, the follower begins with the first ones of them, and all those behind them are shipped,
 /// these lead the follower to all of the leader's commits, and the input, where it is no longer
-/// than one may be, has no fault.
+/// than one may be, has no fault. So who follows that input has the leader's commits in the end, and
+/// the input is not blamed.
 pub fn shipments_lead()
     ensures packets { (commits : List Commit) (from to : ℕ)
         → FitInTurn standard_limits commits → AllByRecursion IsCommit commits
@@ -115,4 +118,15 @@ pub fn shipments_lead()
         → length (shipment from to leader) ≤ INPUT_LIMIT
         → input_fault limits start (shipment from to leader) (packets_between from to leader) []
         ≡ None }
+    ensures copies { (limits : Limits) (leader start commits : List Commit) (from to : ℕ)
+        → AllByRecursion IsPacket (packets_between from to leader) → FitInTurn limits leader
+        → IsPrefixOf start leader → from ≤ length start + 1 → length leader ≤ to
+        → FollowsInput limits start (shipment from to leader) commits
+        → start ++ commits ≡ leader }
+    ensures sound { (limits : Limits) (leader start : List Commit) (from to : ℕ)
+        (found : PacketFault) → AllByRecursion IsPacket (packets_between from to leader)
+        → FitInTurn limits leader → IsPrefixOf start leader
+        → length (shipment from to leader) ≤ INPUT_LIMIT
+        → IsInputFault limits start (shipment from to leader) found
+        → found ≡ fault.NoMemory }
 {}

@@ -1,4 +1,4 @@
-use Rattle.tl_follow.proofs.ShipmentLemmas.{shipment_is_input, shipment_leads, shipment_no_fault, shipment_packets}
+use Rattle.tl_follow.proofs.ShipmentLemmas.{shipment_copies, shipment_is_input, shipment_leads, shipment_no_bad, shipment_no_fault, shipment_packets}
 use Rattle.tl_follow.proofs.laws.shipments_lead.Goals as goal
 
 pub returns-clause-packets : goal.returns-clause-packets
@@ -12,3 +12,9 @@ returns-clause-leads c = shipment_leads
 
 pub returns-clause-whole : goal.returns-clause-whole
 returns-clause-whole c = shipment_no_fault
+
+pub returns-clause-copies : goal.returns-clause-copies
+returns-clause-copies c = shipment_copies
+
+pub returns-clause-sound : goal.returns-clause-sound
+returns-clause-sound c = shipment_no_bad

@@ -31,7 +31,7 @@ impl From<NoMemory> for FollowFault {
 pub enum PacketFault {
     /// At this offset no packet begins; or, of a whole input, its commit does not fit.
     BadPacket {
-        /// The byte offset in the bytes that are read, from 0.
+        /// The byte offset in the bytes that are read, or in the whole input, from 0.
         at: usize,
     },
     /// Out of memory.

@@ -95,29 +95,34 @@ pub fn shipments_grow()
         → shipment from to commits ≡ shipment from (length commits) commits }
 {}
 
-/// Carries a law in its contract, and does nothing: the commits of a history that fit one after the
-/// other, and can be spelled, are shipped as packets that can be spelled, and what is shipped is an
-/// input of just these; and where the leader's commits fit one after the other by the follower's
-/// limits, the follower begins with the first ones of them, and all those behind them are shipped,
-/// these lead the follower to all of the leader's commits, and the input, where it is no longer
-/// than one may be, has no fault. So who follows that input has the leader's commits in the end, and
-/// the input is not blamed.
-pub fn shipments_lead()
+/// Carries a law in its contract, and does nothing: commits that fit one after the other, and can
+/// be spelled, are shipped as packets that can be spelled; what is shipped is an input of just
+/// these; and where the follower begins with the first ones of the leader's commits, which fit by
+/// its limits, that input has no fault, if it is no longer than one may be.
+pub fn shipments_are_inputs()
     ensures packets { (commits : List Commit) (from to : ℕ)
         → FitInTurn standard_limits commits → AllByRecursion IsCommit commits
         → AllByRecursion IsPacket (packets_between from to commits) }
     ensures input { (commits : List Commit) (from to : ℕ)
         → AllByRecursion IsPacket (packets_between from to commits)
         → IsInput (shipment from to commits) (packets_between from to commits) [] }
-    ensures leads { (limits : Limits) (leader start : List Commit) (from to : ℕ)
-        → FitInTurn limits leader → IsPrefixOf start leader → from ≤ length start + 1
-        → length leader ≤ to
-        → followed limits start (packets_between from to leader) ≡ leader }
     ensures whole { (limits : Limits) (leader start : List Commit) (from to : ℕ)
         → FitInTurn limits leader → IsPrefixOf start leader
         → length (shipment from to leader) ≤ INPUT_LIMIT
         → input_fault limits start (shipment from to leader) (packets_between from to leader) []
         ≡ None }
+{}
+
+/// Carries a law in its contract, and does nothing: where the leader's commits fit one after the
+/// other by the follower's limits, the follower begins with the first ones of them, and all those
+/// behind them are shipped, what is shipped leads the follower to all of the leader's commits; so
+/// who follows that input ends with these. And whatever is shipped, no byte of it is named as a
+/// fault, if it is no longer than an input may be.
+pub fn shipments_lead()
+    ensures leads { (limits : Limits) (leader start : List Commit) (from to : ℕ)
+        → FitInTurn limits leader → IsPrefixOf start leader → from ≤ length start + 1
+        → length leader ≤ to
+        → followed limits start (packets_between from to leader) ≡ leader }
     ensures copies { (limits : Limits) (leader start commits : List Commit) (from to : ℕ)
         → AllByRecursion IsPacket (packets_between from to leader) → FitInTurn limits leader
         → IsPrefixOf start leader → from ≤ length start + 1 → length leader ≤ to

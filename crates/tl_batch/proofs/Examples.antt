@@ -17,7 +17,7 @@ use Rattle.tl_types.specs.Resolving.{resolved}
 abbrev column : List ℕ → Column
 column name = record { name = name; kind = IntKind }
 
-abbrev change : List ℕ → List plain.Opened → Commit
+abbrev pub change : List ℕ → List plain.Opened → Commit
 change closes opens = record { author = 7; body = body.Change (record { table = 0; closes = closes; opens = opens }) }
 
 abbrev create : plain.Schema → Commit
@@ -28,7 +28,7 @@ create schema = record { author = 7; body = body.Create schema }
 abbrev emp : plain.Schema
 emp = record { name = codes "emp"; columns = column (codes "id") ∷ column (codes "pay") ∷ []; key = 0; valid = false }
 
-abbrev row : ℕ → ℕ → plain.Opened
+abbrev pub row : ℕ → ℕ → plain.Opened
 row id pay = record { cells = cell.Int (pos id) ∷ cell.Int (pos pay) ∷ []; period = None }
 
 abbrev key : ℕ → KeyLine
@@ -37,7 +37,7 @@ key id = record { key = cell.Int (pos id); period = None }
 abbrev of_emp : List plain.Opened → Batch
 of_emp lines = batch.Put (codes "emp") lines
 
-abbrev emp_2 : plain.Database
+abbrev pub emp_2 : plain.Database
 emp_2 = database_of (create emp ∷ change [] (row 1 100 ∷ row 2 50 ∷ []) ∷ [])
 
 pub key_twice : resolved standard_limits emp_2 7 (of_emp (row 1 1 ∷ row 1 2 ∷ [])) ≡ Err (fault.KeyTwice 3)
@@ -81,7 +81,7 @@ timed = record { name = codes "q"; columns = column (codes "k") ∷ column (code
 abbrev from_to : ℕ → ℕ → ℤ → ℤ → plain.Opened
 from_to k x from to = record { cells = cell.Int (pos k) ∷ cell.Int (pos x) ∷ []; period = Some (record { from = from; to = to }) }
 
-abbrev part : ℕ → ℕ → ℕ → ℕ → plain.Opened
+abbrev pub part : ℕ → ℕ → ℕ → ℕ → plain.Opened
 part k x from to = from_to k x (pos from) (pos to)
 
 abbrev key_in : ℕ → ℕ → ℕ → KeyLine
@@ -90,7 +90,7 @@ key_in k from to = record { key = cell.Int (pos k); period = Some (record { from
 abbrev of_q : List plain.Opened → Batch
 of_q lines = batch.Put (codes "q") lines
 
-abbrev timed_2 : plain.Database
+abbrev pub timed_2 : plain.Database
 timed_2 = database_of (create timed ∷ change [] (part 1 5 0 100 ∷ []) ∷ [])
 
 abbrev inside : Commit
@@ -100,7 +100,7 @@ inside = change (0 ∷ []) (part 1 5 0 10 ∷ part 1 5 20 50 ∷ part 1 5 60 100
 pub put_inside : resolved standard_limits timed_2 7 (of_q (part 1 6 10 20 ∷ part 1 7 50 60 ∷ [])) ≡ Ok inside
 put_inside = refl
 
-abbrev timed_3 : plain.Database
+abbrev pub timed_3 : plain.Database
 timed_3 = after_commit timed_2 inside
 
 -- the left end of a row is taken away

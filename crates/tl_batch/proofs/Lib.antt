@@ -29,6 +29,7 @@ pub mod RowIds
 pub mod Rows
 pub mod SmallLemmas
 pub mod SwapLemmas
+pub mod SyncExamples
 pub mod RowChangesLemmas
 pub mod LineFaultLemmas
 pub mod UntimedLemmas

@@ -15,11 +15,12 @@ use Rattle.tl_batch.specs.Pieces.{affected_ids, old_pieces, put_pieces}
 use Rattle.tl_batch.specs.Faults.{fault_from}
 use Rattle.tl_batch.specs.declared.changing.RowChanges.{RowChanges}
 
--- a batch that puts or removes rows names a table that is there
+-- a batch that puts, removes or syncs rows names a table that is there
 abbrev pub names_table : plain.Database → Batch → Bool
 names_table db (batch.Create schema) = true
 names_table db (batch.Put name lines) = is_some (find_table name db.tables)
 names_table db (batch.Remove name lines) = is_some (find_table name db.tables)
+names_table db (batch.Sync name lines) = is_some (find_table name db.tables)
 names_table db (batch.Moment moment) = true
 names_table db (batch.Forget name floor) = true
 
@@ -89,11 +90,12 @@ abbrev pub rows_fit_found : List plain.Opened → Option (ℕ × plain.Table) �
 rows_fit_found lines None = true
 rows_fit_found lines (Some found) = list_all (matches found.1.schema) lines
 
--- the rows that the batch puts match the schema of its table, where there is one
+-- the rows that the batch puts or syncs match the schema of its table, where there is one
 abbrev pub batch_matches : plain.Database → Batch → Bool
 batch_matches db (batch.Create schema) = true
 batch_matches db (batch.Put name lines) = rows_fit_found lines (find_table name db.tables)
 batch_matches db (batch.Remove name lines) = true
+batch_matches db (batch.Sync name lines) = rows_fit_found lines (find_table name db.tables)
 batch_matches db (batch.Moment moment) = true
 batch_matches db (batch.Forget name floor) = true
 

@@ -113,6 +113,7 @@ impl Keys {
                 let tables = OpenTables::new(store, self.tables.as_slice());
                 resolve_remove(alloc, &tables, author, table, lines, limits)
             }
+            Batch::Sync { .. } => Err(BatchFault::NoMemory),
             Batch::Moment { moment } => resolve_moment(store, author, *moment, limits),
             Batch::Forget { table, floor } => resolve_floor(store, author, table, *floor, limits),
         }
@@ -150,6 +151,7 @@ impl Keys {
                 let tables = OpenTables::new(store, self.tables.as_slice());
                 resolve_remove(alloc, &tables, author, &table, lines, limits)
             }
+            Batch::Sync { .. } => Err(BatchFault::NoMemory),
             Batch::Moment { moment } => resolve_moment(store, author, moment, limits),
             Batch::Forget { table, floor } => resolve_floor(store, author, &table, floor, limits),
         }

@@ -11,7 +11,7 @@ use Rattle.tl_types.specs.Limits.{standard_limits}
 use Rattle.tl_types.specs.Plain as plain
 use Rattle.tl_csv.specs.declared.faults.CsvFault.{CsvFault}
 use Rattle.tl_csv.specs.declared.faults.CsvFault.TheVariants as fault
-use Rattle.tl_csv.specs.declared.needs.BatchKind.TheVariants.{PutKind, RemoveKind}
+use Rattle.tl_csv.specs.declared.needs.BatchKind.TheVariants.{PutKind, RemoveKind, SyncKind}
 use Rattle.tl_csv.specs.ByteOrderMarks.{past_byte_order_marks}
 use Rattle.tl_csv.specs.Faults.{◌>>=◌}
 use Rattle.tl_csv.specs.Block.{batch_with, rows_of}
@@ -147,6 +147,16 @@ removal : (rows_of standard_limits timed RemoveKind ((codes "valid_to" ∷ codes
     ≡ Ok (batch.Remove (codes "q") (record { key = cell.Int (pos 1); period = Some (record { from = pos 0; to = pos 5 }) } ∷ []))
 unfolding timed is_utf8 chars encode
 removal = refl
+
+-- all rows of a table name what a row needs
+whole : (rows_of standard_limits timed SyncKind ((codes "valid_to" ∷ codes "x" ∷ codes "k" ∷ codes "valid_from" ∷ []) ∷ (codes "5" ∷ codes "7" ∷ codes "1" ∷ codes "0" ∷ []) ∷ []) >>= λ rows. Ok (batch_with timed SyncKind rows))
+    ≡ Ok (batch.Sync (codes "q") (record { cells = cell.Int (pos 1) ∷ cell.Int (pos 7) ∷ []; period = Some (record { from = pos 0; to = pos 5 }) } ∷ []))
+unfolding timed is_utf8 chars encode
+whole = refl
+
+key_alone : rows_of standard_limits timed SyncKind ((codes "k" ∷ codes "valid_from" ∷ codes "valid_to" ∷ []) ∷ []) ≡ Err (fault.HeaderMissing 2)
+unfolding timed is_utf8 chars encode
+key_alone = refl
 
 two_marks : past_byte_order_marks (239 ∷ 187 ∷ 191 ∷ 239 ∷ 187 ∷ 191 ∷ codes "id") ≡ codes "id"
 two_marks = refl

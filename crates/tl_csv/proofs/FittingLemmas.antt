@@ -21,7 +21,7 @@ use Rattle.tl_csv.specs.declared.faults.CsvFault.{CsvFault}
 use Rattle.tl_csv.specs.declared.faults.CsvFault.TheVariants as fault
 use Rattle.tl_csv.specs.declared.layouts.PeriodPlaces.{PeriodPlaces}
 use Rattle.tl_csv.specs.declared.needs.BatchKind.{BatchKind}
-use Rattle.tl_csv.specs.declared.needs.BatchKind.TheVariants.{PutKind, RemoveKind}
+use Rattle.tl_csv.specs.declared.needs.BatchKind.TheVariants.{PutKind, RemoveKind, SyncKind}
 use Rattle.tl_csv.specs.declared.needs.FieldKind.{FieldKind}
 use Rattle.tl_csv.specs.declared.needs.FieldKind.TheVariants as kinds
 use Rattle.tl_csv.specs.Layouts.{Layout}
@@ -226,6 +226,7 @@ keys_fit schema (o ∷ rows) some h =
 batch_fits_with : (limits : Limits) (schema : plain.Schema) (kind : BatchKind) (rows : List plain.Opened) → 1 ≤ length (columns_of schema kind)
     → (list_all (is_row schema.valid (columns_of schema kind)) rows ≡ true) × (length rows ≤ limits.batch) → IsBatchFor limits schema kind (batch_with schema kind rows)
 batch_fits_with limits schema PutKind rows some fit = (refl, refl, record { matching = fit.0; few = fit.1 })
+batch_fits_with limits schema SyncKind rows some fit = (refl, refl, record { matching = fit.0; few = fit.1 })
 batch_fits_with limits schema RemoveKind rows some fit = (refl, refl, record { matching = keys_fit schema rows some fit.0; few = rw (length-map rows key_line) fit.1 })
 
 -- a batch is one of its kind for its table

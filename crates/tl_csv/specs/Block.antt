@@ -17,7 +17,7 @@ use Rattle.tl_types.specs.History.{matches, match_columns}
 use Rattle.tl_csv.specs.declared.faults.CsvFault.{CsvFault}
 use Rattle.tl_csv.specs.declared.faults.CsvFault.TheVariants as fault
 use Rattle.tl_csv.specs.declared.needs.BatchKind.{BatchKind}
-use Rattle.tl_csv.specs.declared.needs.BatchKind.TheVariants.{PutKind, RemoveKind}
+use Rattle.tl_csv.specs.declared.needs.BatchKind.TheVariants.{PutKind, RemoveKind, SyncKind}
 use Rattle.tl_csv.specs.declared.needs.FieldKind.{FieldKind}
 use Rattle.tl_csv.specs.declared.needs.FieldKind.TheVariants as kinds
 use Rattle.tl_csv.specs.declared.layouts.PeriodPlaces.{PeriodPlaces}
@@ -127,6 +127,7 @@ key_line row = record { key = first_cell row.cells; period = row.period }
 -- the batch of these rows
 abbrev pub batch_with : plain.Schema → BatchKind → List plain.Opened → Batch
 batch_with schema PutKind rows = batch.Put schema.name rows
+batch_with schema SyncKind rows = batch.Sync schema.name rows
 batch_with schema RemoveKind rows = batch.Remove schema.name (map key_line rows)
 
 -- the records of a block: those that csv's default reader gives for the block past its byte order
@@ -168,5 +169,7 @@ IsBatchFor limits schema kind (batch.Put name rows) =
     (kind ≡ PutKind) × (name ≡ schema.name) × AreRowsFor limits schema rows
 IsBatchFor limits schema kind (batch.Remove name lines) =
     (kind ≡ RemoveKind) × (name ≡ schema.name) × AreKeysFor limits schema lines
+IsBatchFor limits schema kind (batch.Sync name rows) =
+    (kind ≡ SyncKind) × (name ≡ schema.name) × AreRowsFor limits schema rows
 IsBatchFor limits schema kind (batch.Moment moment) = ⊥
 IsBatchFor limits schema kind (batch.Forget name floor) = ⊥

@@ -10,7 +10,7 @@ use Rattle.tl_types.specs.Plain as plain
 use Rattle.tl_csv.specs.declared.faults.CsvFault.{CsvFault}
 use Rattle.tl_csv.specs.declared.faults.CsvFault.TheVariants as fault
 use Rattle.tl_csv.specs.declared.needs.BatchKind.{BatchKind}
-use Rattle.tl_csv.specs.declared.needs.BatchKind.TheVariants.{PutKind, RemoveKind}
+use Rattle.tl_csv.specs.declared.needs.BatchKind.TheVariants.{PutKind, RemoveKind, SyncKind}
 use Rattle.tl_csv.specs.declared.needs.FieldKind.{FieldKind}
 use Rattle.tl_csv.specs.declared.needs.FieldKind.TheVariants as kinds
 use Rattle.tl_csv.specs.declared.layouts.PeriodPlaces.{PeriodPlaces}
@@ -23,6 +23,7 @@ use Rattle.tl_csv.specs.Faults.{◌>>=◌, each_from, unless}
 -- the columns whose cells a batch gives: those of a row are all, those of a removal the key alone
 abbrev pub columns_of : plain.Schema → BatchKind → List Column
 columns_of schema PutKind = schema.columns
+columns_of schema SyncKind = schema.columns
 columns_of schema RemoveKind = take 1 (drop schema.key schema.columns)
 
 -- the column has the name

@@ -185,8 +185,8 @@ fn key_lines(alloc: Global, rows: &[Opened]) -> Result<Seq<KeyLine>, NoMemory>
     Ok(Seq::from_vec(lines))
 }
 
-/// The batch that puts these rows into the schema's table, or that removes the keys which are their
-/// first cells. The error is `NoMemory`.
+/// The batch that puts these rows into the schema's table, that makes them all of its rows, or that
+/// removes the keys which are their first cells. The error is `NoMemory`.
 pub fn batch_with(
     alloc: Global,
     schema: &Schema,
@@ -198,6 +198,7 @@ pub fn batch_with(
     let table = schema.name().clone()?;
     match kind {
         BatchKind::PutKind => Ok(Batch::Put { table, lines: rows }),
+        BatchKind::SyncKind => Ok(Batch::Sync { table, lines: rows }),
         BatchKind::RemoveKind => {
             let lines = key_lines(alloc, rows.as_slice())?;
             Ok(Batch::Remove { table, lines })
@@ -205,8 +206,8 @@ pub fn batch_with(
     }
 }
 
-/// The batch of a block, read as rows or as removals for the table of this schema, or the block's
-/// first fault. The limits are at most the standard ones: up to `limits.batch` records behind the
+/// The batch of a block, read as rows, as all rows or as removals for the table of this schema, or
+/// the block's first fault. The limits are at most the standard ones: up to `limits.batch` records behind the
 /// header, and up to `limits.text` bytes of a text.
 ///
 /// The block's records are those that csv's default reader gives, without its byte order marks (EF

@@ -14,6 +14,8 @@ pub enum BatchKind {
     PutKind,
     /// Keys whose open rows are closed, in a table with valid time for their periods alone.
     RemoveKind,
+    /// Rows that are all rows of their table: open rows that are not among them are closed.
+    SyncKind,
 }
 
 /// What a field of a record is.
@@ -37,6 +39,7 @@ pub fn columns_of(schema: &Schema, kind: BatchKind) -> &[Column]
 {
     match kind {
         BatchKind::PutKind => schema.columns(),
+        BatchKind::SyncKind => schema.columns(),
         BatchKind::RemoveKind => {
             let (_, behind) = schema.columns().split_at(schema.key() as usize);
             let (key, _) = behind.split_at(1);

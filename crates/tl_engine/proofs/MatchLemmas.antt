@@ -32,5 +32,7 @@ matches_on old new (batch.Create schema) begins there fits = refl
 matches_on old new (batch.Put name lines) begins there fits =
     rows_stay lines (find_table name (database_behind old).tables) (find_table name (database_behind new).tables) (known_on old new name begins) there fits
 matches_on old new (batch.Remove name lines) begins there fits = refl
+matches_on old new (batch.Sync name lines) begins there fits =
+    rows_stay lines (find_table name (database_behind old).tables) (find_table name (database_behind new).tables) (known_on old new name begins) there fits
 matches_on old new (batch.Moment moment) begins there fits = refl
 matches_on old new (batch.Forget name floor) begins there fits = refl

@@ -70,6 +70,9 @@ batch_fits db name number schema limits kind (batch.Put own rows) h e is =
     let f = put_found db name own number schema h e is.1 in
     ap (rows_fit_found rows) f.1 ∙ (ap (λ t. list_all (matches t) rows) (sym f.2) ∙ is.2.matching)
 batch_fits db name number schema limits kind (batch.Remove own keys) h e is = refl
+batch_fits db name number schema limits kind (batch.Sync own rows) h e is =
+    let f = put_found db name own number schema h e is.1 in
+    ap (rows_fit_found rows) f.1 ∙ (ap (λ t. list_all (matches t) rows) (sym f.2) ∙ is.2.matching)
 batch_fits db name number schema limits kind (batch.Moment moment) h e is = refl
 batch_fits db name number schema limits kind (batch.Forget own floor) h e is = refl
 
@@ -78,5 +81,6 @@ pub batch_known : (db : plain.Database) (name : List ℕ) (number : ℕ) (schema
 batch_known db name number schema limits kind (batch.Create made) h e is = absurd is
 batch_known db name number schema limits kind (batch.Put own rows) h e is = ap is_some (put_found db name own number schema h e is.1).1
 batch_known db name number schema limits kind (batch.Remove own keys) h e is = ap is_some (put_found db name own number schema h e is.1).1
+batch_known db name number schema limits kind (batch.Sync own rows) h e is = ap is_some (put_found db name own number schema h e is.1).1
 batch_known db name number schema limits kind (batch.Moment moment) h e is = refl
 batch_known db name number schema limits kind (batch.Forget own floor) h e is = refl

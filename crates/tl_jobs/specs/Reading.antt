@@ -14,7 +14,7 @@ use Rattle.tl_batch.specs.Made.{batch_matches, names_table}
 use Rattle.tl_csv.specs.declared.faults.CsvFault.{CsvFault}
 use Rattle.tl_csv.specs.declared.faults.CsvFault.TheVariants as csv_fault
 use Rattle.tl_csv.specs.declared.needs.BatchKind.{BatchKind}
-use Rattle.tl_csv.specs.declared.needs.BatchKind.TheVariants.{PutKind, RemoveKind}
+use Rattle.tl_csv.specs.declared.needs.BatchKind.TheVariants.{PutKind, RemoveKind, SyncKind}
 use Rattle.tl_csv.specs.Answers.{answer_text}
 use Rattle.tl_csv.specs.LentBlocks.{block_at}
 use Rattle.tl_csv.specs.Block.{batch_of}
@@ -47,7 +47,7 @@ abbrev pub block_reading : Result Batch CsvFault → JobReading
 block_reading (Err f) = reading.Fault (refusal.CsvFault f)
 block_reading (Ok batch) = reading.Loads batch
 
--- a block for the table that was found, read as rows or as removals under its schema; without a
+-- a block for the table that was found, read as this kind of batch under its schema; without a
 -- table its fault
 abbrev pub load_into : Option (ℕ × plain.Table) → BatchKind → List ℕ → JobReading
 load_into None kind block = reading.Fault (refusal.BatchFault batch_fault.UnknownTable)
@@ -88,6 +88,8 @@ statement_reading commits (statement.Put name) block =
     load_reading commits name.text PutKind block
 statement_reading commits (statement.Remove name) block =
     load_reading commits name.text RemoveKind block
+statement_reading commits (statement.Sync name) block =
+    load_reading commits name.text SyncKind block
 statement_reading commits (statement.Ask query) block =
     query_reading commits (checked (length commits) (database_of commits) query)
 statement_reading commits (statement.Moment moment) block =

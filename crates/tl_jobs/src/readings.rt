@@ -80,7 +80,7 @@ fn csv_refusal(fault: CsvFault) -> Result<Refusal, NoMemory>
     }
 }
 
-// What the block at a place is that is read as rows or as removals for the table with a name.
+// What the block at a place is that is read as a kind of batch for the table with a name.
 fn load(
     alloc: Global,
     store: &Store,
@@ -212,6 +212,7 @@ fn read_statement<R: AllocGlobal + Threads + Sync, G: Gate>(
         Statement::Create(form) => create(alloc, form),
         Statement::Put(name) => load(alloc, store, name, BatchKind::PutKind, reader, place),
         Statement::Remove(name) => load(alloc, store, name, BatchKind::RemoveKind, reader, place),
+        Statement::Sync(name) => load(alloc, store, name, BatchKind::SyncKind, reader, place),
         Statement::Ask(query) => ask(rt, snapshot, query, crew),
         Statement::Moment(stamp) => Ok(state(stamp.value)),
         Statement::Forget { table, floor } => forget(table, floor.value),

@@ -38,7 +38,7 @@ use Rattle.tl_query.specs.declared.ast.Statement.{Statement}
 use Rattle.tl_query.specs.declared.ast.Statement.TheVariants as statements
 use Rattle.tl_query.specs.Terminals.{same_terminal, soft_spelling}
 use Rattle.tl_query.specs.Grammar.{keyword, Part, terminal, terminal_at, said, identifier, version, moment, number, bound, constant, IsPart, Fits, IsSpelling, IsCreate, IsSelect, IsAgg, IsJoin, IsAsked, IsPred, IsAggregate, name_by, version_by, kind_keyword, cmp_terminal, agg_keyword, item_part, column_parts, valid_parts, create_parts, item_parts, asked_parts, test_parts, conj_parts, any_parts, where_parts, valid_at_parts, version_or_moment_parts, as_of_parts, select_parts, column_name_parts, by_parts, over_parts, agg_parts, join_parts, end_parts, each_after, separated}
-use Rattle.tl_query.specs.Reading.{◌>>=◌, is_fixed, after, expect, as_name, as_version, as_moment, as_number, is_soft, as_soft, as_bound, as_constant, item_by, as_item, kind_by, as_kind, as_cmp, agg_by, as_agg, valid_by, as_valid, take_at, peek_at, last_of, statement_end, where_some, first_offset, with_first, up_to, further, several, column_at, columns_at, valid_at, create_at, put_at, remove_at, items_at, asked_at, test_at, conj_at, where_at, valid_point_at, version_or_moment_at, as_of_at, moment_stated_at, forget_at, agg_or_forget_at, agg_or_soft_at, parse_select, versions_at, system_at, moments_at, over_at, column_name_at, by_at, agg_at, side_at, on_at, join_at, statement_at}
+use Rattle.tl_query.specs.Reading.{◌>>=◌, is_fixed, after, expect, as_name, as_version, as_moment, as_number, is_soft, as_soft, as_bound, as_constant, item_by, as_item, kind_by, as_kind, as_cmp, agg_by, as_agg, valid_by, as_valid, take_at, peek_at, last_of, statement_end, where_some, first_offset, with_first, up_to, further, several, column_at, columns_at, valid_at, create_at, put_at, remove_at, items_at, asked_at, test_at, conj_at, where_at, valid_point_at, version_or_moment_at, as_of_at, moment_stated_at, forget_at, sync_at, agg_or_sync_at, agg_or_forget_at, agg_or_soft_at, parse_select, versions_at, system_at, moments_at, over_at, column_name_at, by_at, agg_at, side_at, on_at, join_at, statement_at}
 use Rattle.tl_query.proofs.Lists.{Reads}
 use Rattle.tl_query.proofs.SameTerminals.{same_itself}
 use Rattle.tl_query.proofs.Readers.{join_or_less, select_or_less, remove_or_less, put_or_less}
@@ -158,6 +158,7 @@ unfolding soft_spelling
 soft_itself soft.Moment = refl
 soft_itself soft.Forget = refl
 soft_itself soft.Before = refl
+soft_itself soft.Sync = refl
 
 -- what such a word is taken for
 soft_value : (m : SoftWord) (p : Placed) (b : Bool) → is_soft m p.token ≡ b → as_soft m p ≡ cond b (Some p.at) None
@@ -581,12 +582,16 @@ forget_again n s b ts h =
     let v = version_again s (end_parts b) w.1 w.2 in
     then_again (take_at as_name ts) (n, x.0) _ _ x.2 (then_again (take_at (as_soft soft.Before) x.0) (w.0, w.1) _ _ w.3 (then_again (take_at as_version w.1) (s, v.0) _ _ v.2 (ended_again (statements.Forget n s) b v.0 v.1)))
 
+sync_again : (n : Name) (b : Bool) (ts : List Placed) → Fits (identifier n ∷ end_parts b) ts → sync_at ts ≡ Ok (statements.Sync n)
+unfolding sync_at
+sync_again n b ts h = let x = name_again n (end_parts b) ts h in then_again (take_at as_name ts) (n, x.0) (λ x. statement_end (statements.Sync x.0) x.1) _ x.2 (ended_again (statements.Sync n) b x.0 x.1)
+
 -- where a keyword comes first, no such word does
 agg_first : (ts : List Placed) (k : Terminal) (w : List Part) → Fits (terminal k ∷ w) ts → agg_or_soft_at ts ≡ agg_at ts
 unfolding agg_or_soft_at
 agg_first ts k w h =
     let no : (m : SoftWord) → peek_at (as_soft m) ts ≡ None = λ m. soft_none m (terminal k) w ts (λ p e. ap (is_soft m) e) h in
-    ap (λ o. where_some o (agg_or_forget_at ts) (λ word. moment_stated_at word.1)) (no soft.Moment) ∙ ap (λ o. where_some o (agg_at ts) (λ word. forget_at word.1)) (no soft.Forget)
+    ap (λ o. where_some o (agg_or_forget_at ts) (λ word. moment_stated_at word.1)) (no soft.Moment) ∙ ap (λ o. where_some o (agg_or_sync_at ts) (λ word. forget_at word.1)) (no soft.Forget) ∙ ap (λ o. where_some o (agg_at ts) (λ word. sync_at word.1)) (no soft.Sync)
 
 moment_first : (s : Stamp) (b : Bool) (ts : List Placed) → Fits (said soft.Moment ∷ number s ∷ end_parts b) ts → agg_or_soft_at ts ≡ Ok (statements.Moment s)
 unfolding agg_or_soft_at
@@ -604,7 +609,20 @@ forget_first n s b ts h =
     let w : List Part = identifier n ∷ said soft.Before ∷ version s ∷ end_parts b in
     let no : peek_at (as_soft soft.Moment) ts ≡ None = soft_none soft.Moment (said soft.Forget) w ts (λ p e. ap (is_soft soft.Moment) e ∙ forget_not_moment) h in
     let a = soft_word_again soft.Forget w ts h in
-    ap (λ o. where_some o (agg_or_forget_at ts) (λ word. moment_stated_at word.1)) no ∙ ap (λ o. where_some o (agg_at ts) (λ word. forget_at word.1)) a.3 ∙ forget_again n s b a.1 a.2
+    ap (λ o. where_some o (agg_or_forget_at ts) (λ word. moment_stated_at word.1)) no ∙ ap (λ o. where_some o (agg_or_sync_at ts) (λ word. forget_at word.1)) a.3 ∙ forget_again n s b a.1 a.2
+
+sync_not_before : (is_soft soft.Moment (Word (soft_spelling soft.Sync)) ≡ false) × (is_soft soft.Forget (Word (soft_spelling soft.Sync)) ≡ false)
+unfolding soft_spelling
+sync_not_before = (refl, refl)
+
+sync_first : (n : Name) (b : Bool) (ts : List Placed) → Fits (said soft.Sync ∷ identifier n ∷ end_parts b) ts → agg_or_soft_at ts ≡ Ok (statements.Sync n)
+unfolding agg_or_soft_at
+sync_first n b ts h =
+    let w : List Part = identifier n ∷ end_parts b in
+    let no_moment : peek_at (as_soft soft.Moment) ts ≡ None = soft_none soft.Moment (said soft.Sync) w ts (λ p e. ap (is_soft soft.Moment) e ∙ sync_not_before.0) h in
+    let no_floor : peek_at (as_soft soft.Forget) ts ≡ None = soft_none soft.Forget (said soft.Sync) w ts (λ p e. ap (is_soft soft.Forget) e ∙ sync_not_before.1) h in
+    let a = soft_word_again soft.Sync w ts h in
+    ap (λ o. where_some o (agg_or_forget_at ts) (λ word. moment_stated_at word.1)) no_moment ∙ ap (λ o. where_some o (agg_or_sync_at ts) (λ word. forget_at word.1)) no_floor ∙ ap (λ o. where_some o (agg_at ts) (λ word. sync_at word.1)) a.3 ∙ sync_again n b a.1 a.2
 
 -- where such a word comes first, no keyword does
 keyword_none : (ts : List Placed) (m : SoftWord) (w : List Part) → Fits (said m ∷ w) ts → put_or_less ts ≡ agg_or_soft_at ts
@@ -657,3 +675,7 @@ statement_again ts (statements.Forget n s) h =
     let w : List Part = identifier n ∷ said soft.Before ∷ version s ∷ end_parts h.1.0 in
     let no : after (terminals.Keyword words.Create) ts ≡ None = after_none (terminals.Keyword words.Create) (said soft.Forget ∷ w) ts (said_other (terminals.Keyword words.Create) soft.Forget) h.1.1 in
     ap (λ o. where_some o (put_or_less ts) create_at) no ∙ keyword_none ts soft.Forget w h.1.1 ∙ forget_first n s h.1.0 ts h.1.1
+statement_again ts (statements.Sync n) h =
+    let w : List Part = identifier n ∷ end_parts h.1.0 in
+    let no : after (terminals.Keyword words.Create) ts ≡ None = after_none (terminals.Keyword words.Create) (said soft.Sync ∷ w) ts (said_other (terminals.Keyword words.Create) soft.Sync) h.1.1 in
+    ap (λ o. where_some o (put_or_less ts) create_at) no ∙ keyword_none ts soft.Sync w h.1.1 ∙ sync_first n h.1.0 ts h.1.1

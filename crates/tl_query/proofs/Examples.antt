@@ -37,7 +37,7 @@ use Rattle.tl_query.specs.Printing.{put, text_of}
 use Rattle.tl_query.specs.Texts.{text_read, IsFault, Spells}
 use Rattle.tl_query.specs.Scanning.{scan, piece_at, word_piece, word_token, other_token, number_piece, negative_piece, quoted_piece, text_token, single_quotes, symbol_piece, closing_len}
 use Rattle.tl_types.specs.Names.{keywords, spelling_of}
-use Rattle.tl_query.specs.Reading.{after, expect, take_at, peek_at, last_of, statement_end, up_to, several, column_at, columns_at, valid_at, create_at, put_at, remove_at, asked_at, test_at, where_at, valid_point_at, version_or_moment_at, as_of_at, moment_stated_at, forget_at, agg_or_soft_at, parse_select, versions_at, system_at, moments_at, over_at, column_name_at, by_at, agg_at, side_at, on_at, join_at, statement_at}
+use Rattle.tl_query.specs.Reading.{after, expect, take_at, peek_at, last_of, statement_end, up_to, several, column_at, columns_at, valid_at, create_at, put_at, remove_at, asked_at, test_at, where_at, valid_point_at, version_or_moment_at, as_of_at, moment_stated_at, forget_at, sync_at, agg_or_soft_at, parse_select, versions_at, system_at, moments_at, over_at, column_name_at, by_at, agg_at, side_at, on_at, join_at, statement_at}
 use Rattle.tl_query.proofs.Deciding.{read_fault, read_spelled}
 
 -- a name, a number or bound, a test, and a predicate of one test
@@ -179,6 +179,19 @@ moment_faults = (read_fault (codes "MOMENT x") (Unexpected 7) refl, read_fault (
 moment_texts : (text_of (statements.Moment (record { value = negsuc 9; at = 7 })) ≡ codes "MOMENT -10") × (text_of (statements.Forget (called (codes "t") 7) (stamp 3 16)) ≡ codes "FORGET t BEFORE 3") × (text_of (select_of (Column (called (codes "x") 0) ∷ []) (called (codes "q") 0) none None (Some (as_ofs.Moment (stamp 2 0)))) ≡ codes "SELECT x FROM q AS OF MOMENT 2")
 unfolding put spelling soft_spelling spelling_of digits
 moment_texts = (refl, refl, refl)
+
+-- a statement that makes a table what its block says; its word is a name elsewhere
+syncs : Spells (codes "SYNC emp;") (statements.Sync (called (codes "emp") 5)) × Spells (codes " SYNC SYNC") (statements.Sync (called (codes "SYNC") 6)) × Spells (codes "PUT SYNC") (statements.Put (called (codes "SYNC") 4)) × Spells (codes "SELECT SYNC FROM SYNC") (select_of (Column (called (codes "SYNC") 7) ∷ []) (called (codes "SYNC") 17) none None None)
+unfolding text_read scan piece_at word_piece word_token other_token number_piece negative_piece quoted_piece symbol_piece keywords spelling_of closing_len after expect take_at peek_at last_of statement_end up_to several column_at columns_at valid_at create_at put_at remove_at asked_at test_at where_at valid_point_at version_or_moment_at as_of_at moment_stated_at forget_at sync_at agg_or_soft_at soft_spelling parse_select versions_at system_at moments_at over_at column_name_at by_at agg_at side_at on_at join_at statement_at
+syncs = (read_spelled (codes "SYNC emp;") _ refl, read_spelled (codes " SYNC SYNC") _ refl, read_spelled (codes "PUT SYNC") _ refl, read_spelled (codes "SELECT SYNC FROM SYNC") _ refl)
+
+sync_faults : IsFault (codes "SYNC") (Unexpected 4) × IsFault (codes "SYNC PUT") (Unexpected 5) × IsFault (codes "SYNC emp x") (Unexpected 9) × IsFault (codes "sync emp") (Unexpected 0) × IsFault (codes "SYNCS emp") (Unexpected 0)
+unfolding text_read scan piece_at word_piece word_token other_token number_piece negative_piece quoted_piece symbol_piece keywords spelling_of closing_len after expect take_at peek_at last_of statement_end up_to several column_at columns_at valid_at create_at put_at remove_at asked_at test_at where_at valid_point_at version_or_moment_at as_of_at moment_stated_at forget_at sync_at agg_or_soft_at soft_spelling parse_select versions_at system_at moments_at over_at column_name_at by_at agg_at side_at on_at join_at statement_at
+sync_faults = (read_fault (codes "SYNC") (Unexpected 4) refl, read_fault (codes "SYNC PUT") (Unexpected 5) refl, read_fault (codes "SYNC emp x") (Unexpected 9) refl, read_fault (codes "sync emp") (Unexpected 0) refl, read_fault (codes "SYNCS emp") (Unexpected 0) refl)
+
+sync_text : text_of (statements.Sync (called (codes "t") 5)) ≡ codes "SYNC t"
+unfolding put spelling soft_spelling spelling_of digits
+sync_text = refl
 
 -- nine commits, moments at 6 and 8, and nothing before 3
 abbrev at_9 : Times

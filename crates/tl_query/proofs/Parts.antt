@@ -25,7 +25,7 @@ use Rattle.tl_query.specs.declared.ast.Query.TheVariants as queries
 use Rattle.tl_query.specs.declared.ast.Statement.{Statement}
 use Rattle.tl_query.specs.declared.ast.Statement.TheVariants as statements
 use Rattle.tl_query.specs.Grammar.{keyword, Part, terminal, terminal_at, said, identifier, version, moment, number, bound, constant, IsAsked, IsPred, IsAggregate, kind_keyword, cmp_terminal, agg_keyword, item_part, column_parts, valid_parts, create_parts, item_parts, asked_parts, test_parts, conj_parts, where_parts, valid_at_parts, version_or_moment_parts, as_of_parts, select_parts, column_name_parts, by_parts, over_parts, agg_parts, join_parts, separated}
-use Rattle.tl_query.specs.Reading.{◌>>=◌, after, expect, as_name, as_version, as_moment, as_number, as_soft, as_bound, as_constant, as_item, as_kind, as_cmp, as_agg, as_valid, take_at, peek_at, statement_end, where_some, several, column_at, columns_at, valid_at, create_at, put_at, remove_at, items_at, asked_at, test_at, conj_at, where_at, valid_point_at, version_or_moment_at, as_of_at, moment_stated_at, forget_at, agg_or_forget_at, agg_or_soft_at, parse_select, versions_at, system_at, moments_at, over_at, column_name_at, by_at, agg_at, side_at, on_at, join_at, statement_at}
+use Rattle.tl_query.specs.Reading.{◌>>=◌, after, expect, as_name, as_version, as_moment, as_number, as_soft, as_bound, as_constant, as_item, as_kind, as_cmp, as_agg, as_valid, take_at, peek_at, statement_end, where_some, several, column_at, columns_at, valid_at, create_at, put_at, remove_at, items_at, asked_at, test_at, conj_at, where_at, valid_point_at, version_or_moment_at, as_of_at, moment_stated_at, forget_at, sync_at, agg_or_sync_at, agg_or_forget_at, agg_or_soft_at, parse_select, versions_at, system_at, moments_at, over_at, column_name_at, by_at, agg_at, side_at, on_at, join_at, statement_at}
 use Rattle.tl_query.proofs.Laws.{Good, Takes, good_by, good_at, expect_good, take_good, peek_good, peek_token_good, end_good}
 use Rattle.tl_query.proofs.Takers.{name_takes, version_takes, moment_takes, number_takes, soft_takes, bound_takes, constant_takes, item_takes, kind_takes, cmp_takes, agg_takes, valid_takes}
 use Rattle.tl_query.proofs.Lists.{Shrinks, Law, regroup, where_then, several_good, first_good, ok_then, take_shrinks, several_shrinks}
@@ -317,11 +317,18 @@ forget_good n =
     take_good as_version version version_takes n (said soft.Forget ∷ identifier table ∷ said soft.Before ∷ []) (λ x. statement_end (statements.Forget table x.0) x.1) (λ s.
     end_good n (said soft.Forget ∷ identifier table ∷ said soft.Before ∷ version s ∷ []) (statements.Forget table s) tt refl)))
 
+sync_good : (n : ℕ) → Good n (said soft.Sync ∷ []) sync_at
+unfolding sync_at
+sync_good n = take_good as_name identifier name_takes n (said soft.Sync ∷ []) (λ x. statement_end (statements.Sync x.0) x.1) (λ name. end_good n (said soft.Sync ∷ identifier name ∷ []) (statements.Sync name) tt refl)
+
+agg_or_sync_good : (n : ℕ) → Good n [] agg_or_sync_at
+agg_or_sync_good n = peek_token_good (as_soft soft.Sync) (λ _. said soft.Sync) (soft_takes soft.Sync) n [] agg_or_sync_at agg_at (λ word. sync_at word.1) (λ y. refl) (λ at. sync_good n) (agg_good n)
+
 agg_or_soft_good : (n : ℕ) → Good n [] agg_or_soft_at
 unfolding agg_or_soft_at
 agg_or_soft_good n =
     peek_token_good (as_soft soft.Moment) (λ _. said soft.Moment) (soft_takes soft.Moment) n [] agg_or_soft_at agg_or_forget_at (λ word. moment_stated_at word.1) (λ y. refl) (λ at. moment_stated_good n)
-    (peek_token_good (as_soft soft.Forget) (λ _. said soft.Forget) (soft_takes soft.Forget) n [] agg_or_forget_at agg_at (λ word. forget_at word.1) (λ y. refl) (λ at. forget_good n) (agg_good n))
+    (peek_token_good (as_soft soft.Forget) (λ _. said soft.Forget) (soft_takes soft.Forget) n [] agg_or_forget_at agg_or_sync_at (λ word. forget_at word.1) (λ y. refl) (λ at. forget_good n) (agg_or_sync_good n))
 
 pub statement_good : (n : ℕ) → Good n [] statement_at
 unfolding statement_at

@@ -124,6 +124,7 @@ parsed_from (statements.Create f) is h =
     (record { name = h.1.1.0; columns = named_columns; few = is.few }, record { some = is.some; key = columns.1.1.1.0 })
 parsed_from (statements.Put n) is h = h.1.0
 parsed_from (statements.Remove n) is h = h.1.0
+parsed_from (statements.Sync n) is h = h.1.0
 parsed_from (statements.Ask (queries.Select f)) is h =
     let asked = split (asked_parts f.all f.items) (keyword words.From ∷ identifier f.table ∷ (where_parts f.pred ++ (valid_at_parts f.valid_at ++ as_of_parts f.as_of))) h.1 in
     let tested = split (where_parts f.pred) (valid_at_parts f.valid_at ++ as_of_parts f.as_of) asked.1.1.1 in
@@ -244,6 +245,7 @@ parts_of (statements.Create f) h =
     (tt, (tt, (h.0.name, (tt, join (separated terminals.Comma column_parts f.columns) (terminal terminals.Close ∷ keyword words.Key ∷ identifier f.key ∷ valid_parts f.valid) columns (tt, (tt, (h.1.key, valid_said f.valid)))))))
 parts_of (statements.Put n) h = (tt, (h, tt))
 parts_of (statements.Remove n) h = (tt, (h, tt))
+parts_of (statements.Sync n) h = (tt, (h, tt))
 parts_of (statements.Ask (queries.Select f)) h =
     let timed = join (valid_at_parts f.valid_at) (as_of_parts f.as_of) (point_said f.valid_at h.1.valid_at) (as_of_said f.as_of h.0 h.1.as_of) in
     let tested = join (where_parts f.pred) (valid_at_parts f.valid_at ++ as_of_parts f.as_of) (pred_said f.pred h.1.tests) timed in
@@ -268,6 +270,7 @@ pub whole_of : (s : Statement) → IsParsed s → IsStatement s
 whole_of (statements.Create f) h = record { some = h.1.some; few = h.0.few }
 whole_of (statements.Put n) h = tt
 whole_of (statements.Remove n) h = tt
+whole_of (statements.Sync n) h = tt
 whole_of (statements.Ask (queries.Select f)) h = record { asked = h.1.asked; tested = some_tests f.pred.any h.1.tests }
 whole_of (statements.Ask (queries.Agg f)) h = record { aggregate = h.0.0; tested = some_tests f.pred.any h.1.tests }
 whole_of (statements.Ask (queries.Join f)) h = record { left_tested = some_tests f.left_pred.any h.1.left_tests; right_tested = some_tests f.right_pred.any h.1.right_tests }

@@ -361,6 +361,7 @@ statement_bare (statements.Ask (queries.Join f)) =
     (ap (λ y. keyword words.On ∷ identifier (unplaced_name f.left_on) ∷ terminal terminals.Equal ∷ identifier (unplaced_name f.right_on) ∷ y) (over_bare f.over)))))
 statement_bare (statements.Moment s) = refl
 statement_bare (statements.Forget n s) = refl
+statement_bare (statements.Sync n) = refl
 
 pred_unplaced : (any : List (List Test)) → AllByRecursion (λ tests. 1 ≤ length tests) any → AllByRecursion (λ tests. 1 ≤ length tests) (map (λ tests. map unplaced_test tests) any)
 pred_unplaced [] h = tt
@@ -383,6 +384,7 @@ statement_unplaced (statements.Ask (queries.Agg f)) h = record { aggregate = agg
 statement_unplaced (statements.Ask (queries.Join f)) h = record { left_tested = pred_unplaced f.left_pred.any h.left_tested; right_tested = pred_unplaced f.right_pred.any h.right_tested }
 statement_unplaced (statements.Moment s) h = tt
 statement_unplaced (statements.Forget n s) h = tt
+statement_unplaced (statements.Sync n) h = tt
 
 like_spelled : (s : Statement) (ts : List Placed) → IsParsed s → Like (statement_parts s) ts → IsSpelling (zeros ts) (without_offsets s)
 like_spelled s ts h l = (statement_unplaced s (whole_of s h), (false, subst (λ parts. Fits parts (zeros ts)) (sym (append-nil (statement_parts (without_offsets s)) ∙ statement_bare s)) (like_fits (statement_parts s) ts (parts_of s h) l)))

@@ -23,7 +23,7 @@ use Rattle.tl_query.specs.declared.ast.Statement.{Statement}
 use Rattle.tl_query.specs.declared.ast.Statement.TheVariants as statements
 use Rattle.tl_query.specs.Grammar.{name_by, version_by, number_by, bound_by, constant_by}
 use Rattle.tl_query.specs.Printing.{unplaced_name, unplaced_stamp, unplaced_column, unplaced_item, unplaced_test, unplaced_pred, unplaced_point, unplaced_as_of, unplaced_over, without_offsets}
-use Rattle.tl_query.specs.Reading.{◌>>=◌, first_offset, is_fixed, after, expect, as_name, as_version, as_moment, as_number, is_soft, as_soft, as_bound, as_constant, item_by, as_item, as_kind, cmp_by, as_cmp, as_agg, valid_by, as_valid, take_at, peek_at, last_of, statement_end, where_some, with_first, up_to, further, several, column_at, columns_at, valid_at, create_at, put_at, remove_at, items_at, asked_at, test_at, conj_at, where_at, valid_point_at, version_or_moment_at, as_of_at, moment_stated_at, forget_at, agg_or_forget_at, agg_or_soft_at, parse_select, versions_at, system_at, moments_at, over_at, column_name_at, by_at, agg_at, side_at, on_at, join_at, statement_at}
+use Rattle.tl_query.specs.Reading.{◌>>=◌, first_offset, is_fixed, after, expect, as_name, as_version, as_moment, as_number, is_soft, as_soft, as_bound, as_constant, item_by, as_item, as_kind, cmp_by, as_cmp, as_agg, valid_by, as_valid, take_at, peek_at, last_of, statement_end, where_some, with_first, up_to, further, several, column_at, columns_at, valid_at, create_at, put_at, remove_at, items_at, asked_at, test_at, conj_at, where_at, valid_point_at, version_or_moment_at, as_of_at, moment_stated_at, forget_at, sync_at, agg_or_sync_at, agg_or_forget_at, agg_or_soft_at, parse_select, versions_at, system_at, moments_at, over_at, column_name_at, by_at, agg_at, side_at, on_at, join_at, statement_at}
 use Rattle.tl_query.proofs.Lists.{Reads}
 use Rattle.tl_query.proofs.Readers.{join_or_less, select_or_less, remove_or_less, put_or_less}
 
@@ -414,11 +414,18 @@ forget_agrees ts =
     then (both (λ _. 0)) without_offsets (take_at (as_soft soft.Before) table.1) _ _ _ (soft_agrees soft.Before table.1) (λ word.
     then (both unplaced_stamp) without_offsets (take_at as_version word.1) _ (λ x. statement_end (statements.Forget table.0 x.0) x.1) (λ x. statement_end (statements.Forget (unplaced_name table.0) x.0) x.1) (version_agrees word.1) (λ x. ended_agrees (statements.Forget table.0 x.0) x.1)))
 
+sync_agrees : AgreesWhole sync_at
+unfolding sync_at
+sync_agrees ts = then (both unplaced_name) without_offsets (take_at as_name ts) _ (λ x. statement_end (statements.Sync x.0) x.1) (λ x. statement_end (statements.Sync x.0) x.1) (name_agrees ts) (λ x. ended_agrees (statements.Sync x.0) x.1)
+
+agg_or_sync_agrees : AgreesWhole agg_or_sync_at
+agg_or_sync_agrees ts = choice (both (λ _. 0)) without_offsets (peek_at (as_soft soft.Sync) ts) _ (agg_at ts) (agg_at (zeros ts)) (λ word. sync_at word.1) (λ word. sync_at word.1) (soft_peek soft.Sync ts) (agg_agrees_whole ts) (λ word. sync_agrees word.1)
+
 agg_or_soft_agrees : AgreesWhole agg_or_soft_at
 unfolding agg_or_soft_at
 agg_or_soft_agrees ts =
     choice (both (λ _. 0)) without_offsets (peek_at (as_soft soft.Moment) ts) _ (agg_or_forget_at ts) (agg_or_forget_at (zeros ts)) (λ word. moment_stated_at word.1) (λ word. moment_stated_at word.1) (soft_peek soft.Moment ts)
-    (choice (both (λ _. 0)) without_offsets (peek_at (as_soft soft.Forget) ts) _ (agg_at ts) (agg_at (zeros ts)) (λ word. forget_at word.1) (λ word. forget_at word.1) (soft_peek soft.Forget ts) (agg_agrees_whole ts) (λ word. forget_agrees word.1))
+    (choice (both (λ _. 0)) without_offsets (peek_at (as_soft soft.Forget) ts) _ (agg_or_sync_at ts) (agg_or_sync_at (zeros ts)) (λ word. forget_at word.1) (λ word. forget_at word.1) (soft_peek soft.Forget ts) (agg_or_sync_agrees ts) (λ word. forget_agrees word.1))
     (λ word. moment_stated_agrees word.1)
 
 pub statement_agrees : (ts : List Placed) → statement_at (zeros ts) ≡ changed without_offsets (statement_at ts)

@@ -287,6 +287,7 @@ unfolding soft_spelling spelling_of keywords
 soft_name soft.Moment = refl
 soft_name soft.Forget = refl
 soft_name soft.Before = refl
+soft_name soft.Sync = refl
 
 pub soft_begins : (w : SoftWord) (z : List ℕ) → IsSoft z → Begins (soft_spelling w) z (Word (soft_spelling w)) true
 soft_begins w z s = name_begins (soft_spelling w) z (soft_name w) s

@@ -270,6 +270,7 @@ abbrev pub statement_parts : Statement → List Part
 statement_parts (statements.Create f) = create_parts f
 statement_parts (statements.Put n) = keyword words.Put ∷ identifier n ∷ []
 statement_parts (statements.Remove n) = keyword words.Remove ∷ identifier n ∷ []
+statement_parts (statements.Sync n) = said soft.Sync ∷ identifier n ∷ []
 statement_parts (statements.Ask (queries.Select f)) = select_parts f
 statement_parts (statements.Ask (queries.Agg f)) = agg_parts f
 statement_parts (statements.Ask (queries.Join f)) = join_parts f
@@ -330,6 +331,7 @@ abbrev pub IsStatement : Statement → Type 0
 IsStatement (statements.Create f) = IsCreate f
 IsStatement (statements.Put n) = Unit {0}
 IsStatement (statements.Remove n) = Unit {0}
+IsStatement (statements.Sync n) = Unit {0}
 IsStatement (statements.Ask (queries.Select f)) = IsSelect f
 IsStatement (statements.Ask (queries.Agg f)) = IsAgg f
 IsStatement (statements.Ask (queries.Join f)) = IsJoin f

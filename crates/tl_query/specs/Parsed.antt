@@ -142,6 +142,7 @@ abbrev pub IsParsed : Statement → Type 0
 IsParsed (statements.Create f) = IsNewTable f × IsSpelledTable f
 IsParsed (statements.Put n) = IsNamed n
 IsParsed (statements.Remove n) = IsNamed n
+IsParsed (statements.Sync n) = IsNamed n
 IsParsed (statements.Ask q) = IsQuery q × IsSpelledQuery q
 IsParsed (statements.Moment s) = IsI64 s.value
 IsParsed (statements.Forget n s) = IsNamed n × IsVersion s × IsI64 s.value

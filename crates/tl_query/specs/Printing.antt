@@ -201,6 +201,7 @@ abbrev pub without_offsets : Statement → Statement
 without_offsets (statements.Create f) = statements.Create (unplaced_create f)
 without_offsets (statements.Put n) = statements.Put (unplaced_name n)
 without_offsets (statements.Remove n) = statements.Remove (unplaced_name n)
+without_offsets (statements.Sync n) = statements.Sync (unplaced_name n)
 without_offsets (statements.Ask (queries.Select f)) =
     statements.Ask (queries.Select (unplaced_select f))
 without_offsets (statements.Ask (queries.Agg f)) = statements.Ask (queries.Agg (unplaced_agg f))

@@ -463,12 +463,23 @@ forget_at ts = do
   floor ← take_at as_version word.1
   statement_end (statements.Forget table.0 floor.0) floor.1
 
--- a statement that begins with FORGET, or an aggregate
+-- what follows SYNC
+unfoldable pub sync_at : List Placed → Result Statement (Option ℕ)
+sync_at ts = do
+  name ← take_at as_name ts
+  statement_end (statements.Sync name.0) name.1
+
+-- a statement that begins with SYNC, or an aggregate
+abbrev pub agg_or_sync_at : List Placed → Result Statement (Option ℕ)
+agg_or_sync_at ts =
+    where_some (peek_at (as_soft soft.Sync) ts) (agg_at ts) (λ word. sync_at word.1)
+
+-- a statement that begins with FORGET or SYNC, or an aggregate
 abbrev pub agg_or_forget_at : List Placed → Result Statement (Option ℕ)
 agg_or_forget_at ts =
-    where_some (peek_at (as_soft soft.Forget) ts) (agg_at ts) (λ word. forget_at word.1)
+    where_some (peek_at (as_soft soft.Forget) ts) (agg_or_sync_at ts) (λ word. forget_at word.1)
 
--- a statement that begins with MOMENT or FORGET, or an aggregate
+-- a statement that begins with MOMENT, FORGET or SYNC, or an aggregate
 unfoldable pub agg_or_soft_at : List Placed → Result Statement (Option ℕ)
 agg_or_soft_at ts =
     where_some (peek_at (as_soft soft.Moment) ts) (agg_or_forget_at ts)

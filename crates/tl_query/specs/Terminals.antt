@@ -53,3 +53,4 @@ unfoldable pub soft_spelling : SoftWord → List ℕ
 soft_spelling soft.Moment = codes "MOMENT"
 soft_spelling soft.Forget = codes "FORGET"
 soft_spelling soft.Before = codes "BEFORE"
+soft_spelling soft.Sync = codes "SYNC"

@@ -30,6 +30,9 @@ pub enum Statement {
     /// `REMOVE name`: ends the rows of the named table whose keys the statement's block lists, in a
     /// table with valid periods for the periods beside the keys.
     Remove(Name),
+    /// `SYNC name`: makes the rows of the named table those of the statement's block: a row that
+    /// stands and is not in the block ends, and a row of the block that does not stand begins.
+    Sync(Name),
     /// Asks for an answer.
     Ask(Query),
     /// `MOMENT number`: says which moment it is.

@@ -1,7 +1,7 @@
 //! Reading the tokens of a statement, from left to right and with one token ahead: one function
 //! for each kind of statement, chosen by its first word.
 ghost use Rattle.std.specs.Prelude.{◌≡◌, ◌-◌, ◌<◌, Some, None, Ok, true, false};
-ghost use Rattle.tl_query.specs.Reading.{Gives, after, expect, column_at, columns_at, valid_at, create_at, put_at, remove_at, items_at, asked_at, parse_select, agg_at, join_at, moment_stated_at, forget_at, agg_or_soft_at, statement_at};
+ghost use Rattle.tl_query.specs.Reading.{Gives, after, expect, column_at, columns_at, valid_at, create_at, put_at, remove_at, items_at, asked_at, parse_select, agg_at, join_at, moment_stated_at, forget_at, sync_at, agg_or_soft_at, statement_at};
 
 use crate::ast::{AggForm, ColumnForm, CreateForm, Item, JoinForm, Query, SelectForm, Statement};
 use crate::clauses::{
@@ -204,7 +204,16 @@ fn forget_at(tokens: &[Placed]) -> Result<Statement, Stop>
     statement_end(Statement::Forget { table, floor }, rest)
 }
 
-// A statement that begins with `MOMENT` or `FORGET`, or an aggregate.
+// What follows `SYNC`.
+#[tactic(auto, unfolding(crate::specs::Reading::sync_at))]
+fn sync_at(tokens: &[Placed]) -> Result<Statement, Stop>
+    ensures { Gives (λ s. s) result (sync_at tokens.now) }
+{
+    let (name, rest) = name_at(tokens)?;
+    statement_end(Statement::Sync(name), rest)
+}
+
+// A statement that begins with `MOMENT`, `FORGET` or `SYNC`, or an aggregate.
 #[tactic(auto, unfolding(crate::specs::Reading::agg_or_soft_at))]
 fn agg_or_soft_at(alloc: Global, tokens: &[Placed]) -> Result<Statement, Stop>
     ensures { Gives (λ s. s) result (agg_or_soft_at tokens.now) }
@@ -214,6 +223,9 @@ fn agg_or_soft_at(alloc: Global, tokens: &[Placed]) -> Result<Statement, Stop>
     }
     if let Some((_, rest)) = soft_word(tokens, SoftWord::Forget) {
         return forget_at(rest);
+    }
+    if let Some((_, rest)) = soft_word(tokens, SoftWord::Sync) {
+        return sync_at(rest);
     }
     agg_at(alloc, tokens)
 }

@@ -45,7 +45,7 @@ fn read(alloc: Global, text: &str) -> Result<Statement, TextFault>
 /// of these:
 ///
 /// - `CREATE TABLE name (column INT or TEXT, ..) KEY name [VALID]`;
-/// - `PUT name`, `REMOVE name`, `MOMENT number`, `FORGET name BEFORE version`;
+/// - `PUT name`, `REMOVE name`, `SYNC name`, `MOMENT number`, `FORGET name BEFORE version`;
 /// - `SELECT items FROM name [WHERE ..] [VALID AT number] [AS OF ..]`, where the items are `*`, or
 ///   column names, `valid_from` and `valid_to` in any order;
 /// - `COUNT` or `SUM`, `AVG`, `MIN`, `MAX` and a column, then `FROM name [WHERE ..] [BY name]` and
@@ -54,7 +54,7 @@ fn read(alloc: Global, text: &str) -> Result<Statement, TextFault>
 ///
 /// A range is `OVER SYSTEM ALL`, `OVER SYSTEM version TO version`, or `OVER VALID bound TO bound
 /// [AS OF ..]`, a bound being a number or `FOREVER`. `AS OF` takes a version, or `MOMENT number`.
-/// `MOMENT`, `FORGET` and `BEFORE` are names elsewhere.
+/// `MOMENT`, `FORGET`, `BEFORE` and `SYNC` are names elsewhere.
 /// `WHERE` takes comparisons of a column with a number or a text, joined by `AND` and, between
 /// these, by `OR`. A `;` may end the statement. The error is the text's fault, or that memory ran
 /// out: `QueryTooLong` for more than 65,536 bytes; else the fault of least offset: `BadByte` where

@@ -506,6 +506,10 @@ impl Printer {
                 self.keyword(Keyword::Remove)?;
                 self.name(name)?;
             }
+            Statement::Sync(name) => {
+                self.soft_word(SoftWord::Sync)?;
+                self.name(name)?;
+            }
             Statement::Ask(Query::Select(form)) => self.select(form)?,
             Statement::Ask(Query::Agg(form)) => self.agg(form)?,
             Statement::Ask(Query::Join(form)) => self.join(form)?,

@@ -69,6 +69,8 @@ pub(crate) enum SoftWord {
     Forget,
     /// `BEFORE`, after the table of a `FORGET`.
     Before,
+    /// `SYNC`, at the start of a statement.
+    Sync,
 }
 
 /// How such a word is spelled.
@@ -80,5 +82,6 @@ pub(crate) fn soft_spelling(word: SoftWord) -> &'static str
         SoftWord::Moment => "MOMENT",
         SoftWord::Forget => "FORGET",
         SoftWord::Before => "BEFORE",
+        SoftWord::Sync => "SYNC",
     }
 }

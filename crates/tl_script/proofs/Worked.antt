@@ -62,6 +62,12 @@ empty_block : reading_of ample (line (codes "a> REMOVE") ++ codes "\\.") ≡ rea
 unfolding is_utf8 chars lib.Utf8.encode
 empty_block = refl
 
+-- a block that says all of a table; behind the block the script goes on
+whole_block : reading_of ample (line (codes "a> SYNC t") ++ (line (codes "k") ++ (line (codes "\\.") ++ codes "a> S")))
+    ≡ read (codes "a" ∷ []) ((job 0 1 (codes "SYNC t") (Some (line (codes "k"))) ∷ job 0 4 (codes "S") None ∷ []) ∷ []) None
+unfolding is_utf8 chars lib.Utf8.encode
+whole_block = refl
+
 -- a longer word than PUT has no block
 longer_word : reading_of ample (codes "a> PUTS") ≡ read (codes "a" ∷ []) ((job 0 1 (codes "PUTS") None ∷ []) ∷ []) None
 unfolding is_utf8 chars lib.Utf8.encode

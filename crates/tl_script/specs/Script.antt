@@ -90,10 +90,11 @@ statement_of text =
 abbrev pub first_word : List ℕ → List ℕ
 first_word text = take_while continues_word text
 
--- a statement whose first word is PUT or REMOVE has a block
+-- a statement whose first word is PUT, REMOVE or SYNC has a block
 abbrev pub has_block : List ℕ → Bool
 has_block text =
     same_bytes (first_word text) (codes "PUT") || same_bytes (first_word text) (codes "REMOVE")
+    || same_bytes (first_word text) (codes "SYNC")
 
 -- the line ends a block
 abbrev pub ends_block : List ℕ → Bool

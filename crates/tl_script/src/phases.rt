@@ -14,7 +14,7 @@ pub struct Job {
     pub line: u64,
     /// The statement's text, without the session's name and the spaces and tabs around it.
     pub text: Line,
-    /// The bytes of its block, where its first word is `PUT` or `REMOVE`.
+    /// The bytes of its block, where its first word is `PUT`, `REMOVE` or `SYNC`.
     pub block: Option<Bytes>,
 }
 

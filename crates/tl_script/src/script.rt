@@ -78,9 +78,9 @@ impl Script {
     ///
     /// A script is a list of lines, numbered from 1, each ended by LF or by the end of the input.
     /// Outside a block a line is blank, a comment whose first byte is `#`, exactly `GO`, which ends
-    /// a phase, or a session's name, `>` and a statement. A statement whose first word is `PUT` or
-    /// `REMOVE` has a block: the lines after it, up to a line `\.`. The lines after the last `GO`
-    /// are a phase where they have a job.
+    /// a phase, or a session's name, `>` and a statement. A statement whose first word is `PUT`,
+    /// `REMOVE` or `SYNC` has a block: the lines after it, up to a line `\.`. The lines after the
+    /// last `GO` are a phase where they have a job.
     ///
     /// `Fault`: the phase has a fault, that of its least line; at one line the first of
     /// `PhasesFull`, `LineTooLong`, `PhaseTooLong`, `NotUtf8`, `NoSession` and `SessionsFull`.

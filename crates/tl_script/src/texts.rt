@@ -157,12 +157,12 @@ fn first_word(text: &[u8]) -> &[u8]
     }
 }
 
-// Whether a statement has a block: its first word is PUT or REMOVE.
+// Whether a statement has a block: its first word is PUT, REMOVE or SYNC.
 pub(crate) fn has_block(text: &[u8]) -> bool
     ensures { result ≡ has_block text.now }
 {
     let word = first_word(text);
-    word == b"PUT".as_slice() || word == b"REMOVE".as_slice()
+    word == b"PUT".as_slice() || word == b"REMOVE".as_slice() || word == b"SYNC".as_slice()
 }
 
 // Whether a line ends a block.

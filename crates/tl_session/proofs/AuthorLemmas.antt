@@ -10,7 +10,7 @@ use Rattle.tl_types.specs.declared.batches.BatchFault.TheVariants as fault
 use Rattle.tl_types.specs.declared.limits.Limits.{Limits}
 use Rattle.tl_types.specs.Plain as plain
 use Rattle.tl_types.specs.History.{has_name, last_moment}
-use Rattle.tl_types.specs.Resolving.{BatchLine, find_table, resolved, resolved_change, resolved_floor, resolved_moment, put_lines, removal_lines, line_fault, open_rows, change_of}
+use Rattle.tl_types.specs.Resolving.{BatchLine, find_table, resolved, resolved_change, resolved_floor, resolved_moment, resolved_sync, put_lines, removal_lines, line_fault, open_rows, change_of, conflict_fault, sync_change}
 
 -- a result is no commit, or one by the author
 abbrev By : ℕ → Result Commit BatchFault → Type 0
@@ -36,6 +36,15 @@ change_by limits db a (Some (number, table)) lines =
     let made : Result Commit BatchFault = Ok (record { author = a; body = body.Change change }) in
     let full = nat_lt limits.rows (length table.rows + length change.opens) in
     let found : Option BatchFault = line_fault table.schema 2 [] (open_rows table) (lines table.schema) in
+    by_cond a (nat_le limits.versions db.version) (Err fault.VersionsFull) (fault_or (cond full (Err fault.RowsFull) made) found) tt (by_option a found (cond full (Err fault.RowsFull) made) (by_cond a full (Err fault.RowsFull) made tt refl))
+
+sync_by : (limits : Limits) (db : plain.Database) (a : ℕ) (lines : List plain.Opened) (found : Option (ℕ × plain.Table)) → By a (resolved_sync limits db a lines found)
+sync_by limits db a lines None = tt
+sync_by limits db a lines (Some (number, table)) =
+    let change = sync_change number table lines in
+    let made : Result Commit BatchFault = Ok (record { author = a; body = body.Change change }) in
+    let full = nat_lt limits.rows (length table.rows + length change.opens) in
+    let found : Option BatchFault = conflict_fault table.schema 2 [] lines in
     by_cond a (nat_le limits.versions db.version) (Err fault.VersionsFull) (fault_or (cond full (Err fault.RowsFull) made) found) tt (by_option a found (cond full (Err fault.RowsFull) made) (by_cond a full (Err fault.RowsFull) made tt refl))
 
 create_by : (limits : Limits) (db : plain.Database) (a : ℕ) (schema : plain.Schema) → By a (resolved limits db a (batch.Create schema))
@@ -66,6 +75,7 @@ resolved_by : (limits : Limits) (db : plain.Database) (a : ℕ) (b : Batch) → 
 resolved_by limits db a (batch.Create schema) = create_by limits db a schema
 resolved_by limits db a (batch.Put name lines) = change_by limits db a (find_table name db.tables) (λ schema. put_lines schema lines)
 resolved_by limits db a (batch.Remove name lines) = change_by limits db a (find_table name db.tables) (λ schema. removal_lines lines)
+resolved_by limits db a (batch.Sync name lines) = sync_by limits db a lines (find_table name db.tables)
 resolved_by limits db a (batch.Moment moment) = moment_by limits db a moment (last_moment db.stamps)
 resolved_by limits db a (batch.Forget name floor) = floor_by limits db a floor (find_table name db.tables)
 

@@ -14,7 +14,7 @@ use Rattle.tl_types.specs.History.{database_of, after_commit, nothing}
 use Rattle.tl_types.specs.Resolving.{find_table}
 use Rattle.tl_types.proofs.BodyLemmas.{StaysKnown, known_later}
 use Rattle.tl_csv.specs.declared.needs.BatchKind.{BatchKind}
-use Rattle.tl_csv.specs.declared.needs.BatchKind.TheVariants.{PutKind, RemoveKind}
+use Rattle.tl_csv.specs.declared.needs.BatchKind.TheVariants.{PutKind, RemoveKind, SyncKind}
 use Rattle.tl_csv.specs.Block.{batch_of}
 use Rattle.tl_query.specs.declared.ast.Statement.{Statement}
 use Rattle.tl_query.specs.declared.ast.Statement.TheVariants as statement
@@ -74,6 +74,7 @@ loads_more : (commits more : List Commit) (s : Statement) (block : List ℕ) (b 
 loads_more commits more (statement.Create form) block b h = h
 loads_more commits more (statement.Put name) block b h = load_more commits more name.text PutKind block b h
 loads_more commits more (statement.Remove name) block b h = load_more commits more name.text RemoveKind block b h
+loads_more commits more (statement.Sync name) block b h = load_more commits more name.text SyncKind block b h
 loads_more commits more (statement.Moment moment) block b h = h
 loads_more commits more (statement.Forget name floor) block b h = h
 loads_more commits more (statement.Ask query) block b h = absurd (no_query commits (checked (Rattle.std.specs.Prelude.length commits) (database_of commits) query) b h)

@@ -18,7 +18,7 @@ use Rattle.tl_types.specs.Entries.{commits_of}
 use Rattle.tl_types.specs.History.{database_of, has_name, last_moment}
 use Rattle.tl_types.specs.Legality.{has_mark, is_mark}
 use Rattle.tl_types.specs.Plain as types
-use Rattle.tl_types.specs.Resolving.{BatchLine, find_table, resolved, resolved_change, resolved_floor, resolved_moment, put_lines, removal_lines, line_fault, open_rows, change_of}
+use Rattle.tl_types.specs.Resolving.{BatchLine, find_table, resolved, resolved_change, resolved_floor, resolved_moment, resolved_sync, put_lines, removal_lines, line_fault, open_rows, change_of, conflict_fault, sync_change}
 use Rattle.tl_types.proofs.FoundTables.{table_found}
 use Rattle.tl_index.specs.Snapshots.{commit_entry, mark_entry}
 use Rattle.tl_engine.specs.declared.faults.Tended.{Tended}
@@ -62,6 +62,13 @@ of_option : (table : Option ℕ) (o : Option BatchFault) (r : Result Commit Batc
 of_option table (Some e) r p = tt
 of_option table None r p = p
 
+-- the table that a body changes
+abbrev table_in : Rattle.tl_types.specs.declared.commits.Body.Body → Option ℕ
+table_in (made.Create schema) = None
+table_in (made.Change change) = Some change.table
+table_in (made.Moment moment) = None
+table_in (made.Forget number floor) = None
+
 of_change : (limits : Limits) (db : types.Database) (a : ℕ) (found : Option (ℕ × types.Table)) (lines : types.Schema → List BatchLine) → Of (option_map (λ (found : ℕ × types.Table). found.0) found) (resolved_change limits db a found lines)
 of_change limits db a None lines = tt
 of_change limits db a (Some (number, table)) lines =
@@ -70,12 +77,17 @@ of_change limits db a (Some (number, table)) lines =
     let full = nat_lt limits.rows (length table.rows + length change.opens) in
     let found : Option BatchFault = line_fault table.schema 2 [] (open_rows table) (lines table.schema) in
     of_cond (Some number) (nat_le limits.versions db.version) (Err fault.VersionsFull) (fault_or (cond full (Err fault.RowsFull) made) found) tt
-    (of_option (Some number) found (cond full (Err fault.RowsFull) made) (of_cond (Some number) full (Err fault.RowsFull) made tt (λ c is. ap (λ b. table_in b) is))) where
-      table_in : Rattle.tl_types.specs.declared.commits.Body.Body → Option ℕ
-      table_in (made.Create schema) = None
-      table_in (made.Change change) = Some change.table
-      table_in (made.Moment moment) = None
-      table_in (made.Forget number floor) = None
+    (of_option (Some number) found (cond full (Err fault.RowsFull) made) (of_cond (Some number) full (Err fault.RowsFull) made tt (λ c is. ap table_in is)))
+
+of_sync : (limits : Limits) (db : types.Database) (a : ℕ) (lines : List types.Opened) (found : Option (ℕ × types.Table)) → Of (option_map (λ (found : ℕ × types.Table). found.0) found) (resolved_sync limits db a lines found)
+of_sync limits db a lines None = tt
+of_sync limits db a lines (Some (number, table)) =
+    let change = sync_change number table lines in
+    let made : Result Commit BatchFault = Ok (record { author = a; body = made.Change change }) in
+    let full = nat_lt limits.rows (length table.rows + length change.opens) in
+    let found : Option BatchFault = conflict_fault table.schema 2 [] lines in
+    of_cond (Some number) (nat_le limits.versions db.version) (Err fault.VersionsFull) (fault_or (cond full (Err fault.RowsFull) made) found) tt
+    (of_option (Some number) found (cond full (Err fault.RowsFull) made) (of_cond (Some number) full (Err fault.RowsFull) made tt (λ c is. ap table_in is)))
 
 of_create : (limits : Limits) (db : types.Database) (a : ℕ) (schema : types.Schema) → Of None (resolved limits db a (batch.Create schema))
 of_create limits db a schema =
@@ -106,6 +118,7 @@ of_resolved : (limits : Limits) (db : types.Database) (a : ℕ) (b : Batch) → 
 of_resolved limits db a (batch.Create schema) = of_create limits db a schema
 of_resolved limits db a (batch.Put name lines) = of_change limits db a (find_table name db.tables) (λ schema. put_lines schema lines)
 of_resolved limits db a (batch.Remove name lines) = of_change limits db a (find_table name db.tables) (λ schema. removal_lines lines)
+of_resolved limits db a (batch.Sync name lines) = of_sync limits db a lines (find_table name db.tables)
 of_resolved limits db a (batch.Moment moment) = of_moment limits db a moment (last_moment db.stamps)
 of_resolved limits db a (batch.Forget name floor) = of_floor limits db a floor (find_table name db.tables)
 
@@ -124,6 +137,7 @@ same_table : (old new : List Entry) (b : Batch) (n : ℕ) → IsPrefix old new �
 same_table old new (batch.Create schema) n begins known is = absurd (cc)
 same_table old new (batch.Put name lines) n begins known is = same_number old new name n begins known is
 same_table old new (batch.Remove name lines) n begins known is = same_number old new name n begins known is
+same_table old new (batch.Sync name lines) n begins known is = same_number old new name n begins known is
 same_table old new (batch.Moment moment) n begins known is = absurd (cc)
 same_table old new (batch.Forget name floor) n begins known is = absurd (cc)
 
@@ -164,6 +178,7 @@ there_of : (old new : List Entry) (b : Batch) (table : Option ℕ) → IsPrefix 
 there_of old new (batch.Create schema) table begins is = subst (λ t. IsThere t new) (sym is) tt
 there_of old new (batch.Put name lines) table begins is = there_some old new name table begins is
 there_of old new (batch.Remove name lines) table begins is = there_some old new name table begins is
+there_of old new (batch.Sync name lines) table begins is = there_some old new name table begins is
 there_of old new (batch.Moment moment) table begins is = subst (λ t. IsThere t new) (sym is) tt
 there_of old new (batch.Forget name floor) table begins is = subst (λ t. IsThere t new) (sym is) tt
 

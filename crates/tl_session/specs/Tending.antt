@@ -24,6 +24,7 @@ abbrev pub table_of : plain.Database → Batch → Option ℕ
 table_of db (batch.Create schema) = None
 table_of db (batch.Put name lines) = option_map (λ found. found.0) (find_table name db.tables)
 table_of db (batch.Remove name lines) = option_map (λ found. found.0) (find_table name db.tables)
+table_of db (batch.Sync name lines) = option_map (λ found. found.0) (find_table name db.tables)
 table_of db (batch.Moment moment) = None
 table_of db (batch.Forget name floor) = None
 

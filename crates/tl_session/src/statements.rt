@@ -56,6 +56,7 @@ fn table_of(store: &Store, batch: &Batch) -> Option<u16>
         Batch::Create(_) => None,
         Batch::Put { table, .. } => store.find(table.as_str()),
         Batch::Remove { table, .. } => store.find(table.as_str()),
+        Batch::Sync { table, .. } => store.find(table.as_str()),
         Batch::Moment { .. } => None,
         Batch::Forget { .. } => None,
     }

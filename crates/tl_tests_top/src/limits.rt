@@ -77,7 +77,7 @@ fn refused(version: u32, fault: BatchFault) -> Result<u32, CommitFault> {
 
 // A fault of the table comes before one of the number of commits, and that one before one of the
 // number of rows.
-fn cases() -> [Case; 11] {
+fn cases() -> [Case; 13] {
     [
         (Kind::Create, "t", Ok(1)),
         (Kind::Create, "t", refused(1, BatchFault::TableExists)),
@@ -85,9 +85,11 @@ fn cases() -> [Case; 11] {
         (Kind::Put(3), "t", refused(1, BatchFault::RowsFull)),
         (Kind::Put(2), "t", Ok(2)),
         (Kind::Put(1), "t", refused(2, BatchFault::RowsFull)),
+        (Kind::Sync(3), "t", refused(2, BatchFault::RowsFull)),
         (Kind::Remove(0), "t", Ok(3)),
         (Kind::Remove(0), "t", refused(3, BatchFault::VersionsFull)),
         (Kind::Put(1), "t", refused(3, BatchFault::VersionsFull)),
+        (Kind::Sync(2), "t", refused(3, BatchFault::VersionsFull)),
         (Kind::Create, "t", refused(3, BatchFault::TableExists)),
         (Kind::Create, "u", refused(3, BatchFault::TablesFull)),
     ]

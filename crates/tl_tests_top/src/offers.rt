@@ -17,12 +17,13 @@ use tl_types::{
 };
 
 // What a batch does: it makes the table of a name, puts or removes a row for each key below a
-// number, states a moment, or sets the table's floor.
+// number, makes such rows all of the table, states a moment, or sets the table's floor.
 #[derive(Clone, Copy)]
 pub(crate) enum Kind {
     Create,
     Put(i64),
     Remove(i64),
+    Sync(i64),
     Moment(i64),
     Forget(i64),
 }
@@ -80,6 +81,10 @@ fn batch_of(alloc: Global, kind: Kind, table: Text) -> Option<Batch> {
             Ok(lines) => Some(Batch::Remove { table, lines }),
             Err(_) => None,
         },
+        Kind::Sync(keys) => match rows(alloc, keys) {
+            Ok(lines) => Some(Batch::Sync { table, lines }),
+            Err(_) => None,
+        },
         Kind::Moment(moment) => Some(Batch::Moment { moment }),
         Kind::Forget(floor) => Some(Batch::Forget { table, floor }),
     }
@@ -107,6 +112,10 @@ fn may_commit(store: &Store, batch: &Batch) -> bool
             None => false,
         },
         Batch::Remove { table, .. } => store.find(table.as_str()).is_some(),
+        Batch::Sync { table, lines } => match store.find(table.as_str()) {
+            Some(number) => all_match(store.schema(number), lines.as_slice()),
+            None => false,
+        },
         Batch::Moment { .. } => true,
         Batch::Forget { .. } => true,
     }

@@ -1,6 +1,8 @@
 -- The commit that a batch becomes, or the first reason why it becomes none.
-use Rattle.std.specs.Prelude.{ℕ, ◌+◌, ℤ, pos, nat_abs, Bool, false, ◌&&◌, ◌||◌, not, nat_le, nat_lt, int_lt, List, [], ◌∷◌, ◌++◌, length, map, Option, Some, None, is_some, Result, Ok, Err, if◌then◌else◌, slice_get}
+use Rattle.std.specs.Prelude.{ℕ, ◌+◌, ℤ, pos, nat_abs, Bool, true, false, ◌&&◌, ◌||◌, not, nat_le, nat_lt, int_lt, List, [], ◌∷◌, ◌++◌, length, map, Option, Some, None, is_some, Result, Ok, Err, if◌then◌else◌, slice_get}
 use Rattle.std.specs.List.{list_any, filter, fold, flat_map, filter_map}
+use Rattle.std.specs.Cmp.Lexicographic.{pointwise}
+use Rattle.std.specs.Ordering.{int_eq}
 use Rattle.tl_types.specs.declared.cells.Cell.{Cell}
 use Rattle.tl_types.specs.declared.commits.Commit.{Commit}
 use Rattle.tl_types.specs.declared.commits.Body.TheVariants as body
@@ -152,6 +154,79 @@ resolved_change limits db author (Some (number, table)) lines =
             body = body.Change (change_of number table (lines table.schema));
           })
 
+-- two periods are the same, or neither row has one
+abbrev pub same_period : Option plain.Period → Option plain.Period → Bool
+same_period None None = true
+same_period None (Some q) = false
+same_period (Some p) None = false
+same_period (Some p) (Some q) = int_eq p.from q.from && int_eq p.to q.to
+
+-- two rows have the same cells and the same period
+abbrev pub same_row : plain.Opened → plain.Opened → Bool
+same_row o p = pointwise same_cell o.cells p.cells && same_period o.period p.period
+
+-- the list without the first of its rows that is the same as a line, where there is one
+abbrev pub without_row : plain.Opened → List WorkingRow → List WorkingRow
+without_row line [] = []
+without_row line (w ∷ list) = if same_row w.row line then list else w ∷ without_row line list
+
+-- the rows of the list that no line is matched with: each line, one after the other, is matched
+-- with the first row that is the same and that no line before it is matched with
+abbrev pub unmatched_rows : List WorkingRow → List plain.Opened → List WorkingRow
+unmatched_rows list [] = list
+unmatched_rows list (line ∷ lines) = unmatched_rows (without_row line list) lines
+
+-- the lines that are matched with no row of the list
+abbrev pub unmatched_lines : List WorkingRow → List plain.Opened → List plain.Opened
+unmatched_lines list [] = []
+unmatched_lines list (line ∷ lines) =
+    if list_any (λ w. same_row w.row line) list then unmatched_lines (without_row line list) lines
+    else line ∷ unmatched_lines list lines
+
+-- the change that makes lines all the open rows of the table: it closes the open rows that no line
+-- is matched with, and opens the lines that no row is matched with
+abbrev pub sync_change : ℕ → plain.Table → List plain.Opened → plain.Change
+sync_change number table lines = record {
+  table = number;
+  closes = ids_of (unmatched_rows (open_rows table) lines);
+  opens = unmatched_lines (open_rows table) lines;
+}
+
+-- two lines say what one row has to say: they have one key, and in a table with valid time their
+-- periods overlap
+abbrev pub conflict : plain.Schema → plain.Opened → plain.Opened → Bool
+conflict schema earlier line =
+    same_key (slice_get earlier.cells schema.key) (slice_get line.cells schema.key)
+    && (not schema.valid || overlap earlier.period line.period)
+
+-- the first fault of the lines from a record number on, after the earlier lines: a line that
+-- conflicts with an earlier one
+abbrev pub conflict_fault : plain.Schema → ℕ → List plain.Opened → List plain.Opened
+    → Option BatchFault
+conflict_fault schema rec earlier [] = None
+conflict_fault schema rec earlier (line ∷ lines) =
+    if list_any (λ e. conflict schema e line) earlier then Some (fault.KeyTwice rec)
+    else conflict_fault schema (rec + 1) (line ∷ earlier) lines
+
+-- the commit that makes lines all the open rows of a table, or its fault: no version is left, then
+-- the first fault of a line, then too many rows
+abbrev pub resolved_sync : Limits → plain.Database → ℕ → List plain.Opened
+    → Option (ℕ × plain.Table) → Result Commit BatchFault
+resolved_sync limits db author lines None = Err fault.UnknownTable
+resolved_sync limits db author lines (Some (number, table)) =
+    if nat_le limits.versions db.version then Err fault.VersionsFull
+    else after_lines (conflict_fault table.schema 2 [] lines) where
+      after_lines : Option BatchFault → Result Commit BatchFault
+      after_lines (Some e) = Err e
+      after_lines None =
+          if nat_lt limits.rows
+          (length table.rows + length (sync_change number table lines).opens)
+          then Err fault.RowsFull
+          else Ok (record {
+            author = author;
+            body = body.Change (sync_change number table lines);
+          })
+
 -- the commit that states a moment, or its fault: no version is left, then a last moment that is not
 -- less
 abbrev pub resolved_moment : Limits → plain.Database → ℕ → ℤ → Option ℤ → Result Commit BatchFault
@@ -186,6 +261,8 @@ resolved limits db author (batch.Put name lines) =
     resolved_change limits db author (find_table name db.tables) (λ schema. put_lines schema lines)
 resolved limits db author (batch.Remove name lines) =
     resolved_change limits db author (find_table name db.tables) (λ schema. removal_lines lines)
+resolved limits db author (batch.Sync name lines) =
+    resolved_sync limits db author lines (find_table name db.tables)
 resolved limits db author (batch.Moment moment) =
     resolved_moment limits db author moment (last_moment db.stamps)
 resolved limits db author (batch.Forget name floor) =

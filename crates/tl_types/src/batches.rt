@@ -37,6 +37,15 @@ pub enum Batch {
         /// The keys, in order.
         lines: Seq<KeyLine>,
     },
+    /// Rows that are to be all the open rows of a table. An open row stays where one of them has its
+    /// cells and, where the table has valid time, its period; each other open row is closed, and the
+    /// rows that none stayed for are opened.
+    Sync {
+        /// The name of the table that it is for; `UnknownTable` where no table has it.
+        table: Text,
+        /// The rows, in order.
+        lines: Seq<Opened>,
+    },
     /// Which moment it is.
     Moment {
         /// The moment, in the user's unit.
@@ -61,7 +70,9 @@ pub enum BatchFault {
     TableExists,
     /// There are as many tables as the limits allow.
     TablesFull,
-    /// The key stood in an earlier line of the batch, and the table has no valid time.
+    /// The key stood in an earlier line of the batch, and the table has no valid time; or, in a
+    /// `Sync` of a table with valid time, an earlier line has the key and a period that overlaps the
+    /// line's.
     KeyTwice {
         /// The record number of the line: its place in the batch, from 0, plus 2.
         rec: u32,

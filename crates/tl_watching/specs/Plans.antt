@@ -59,6 +59,7 @@ abbrev pub statement_plan : plain.Database → ℕ → Statement → Result Watc
 statement_plan db now (statement.Create form) = Err no_plan
 statement_plan db now (statement.Put name) = Err no_plan
 statement_plan db now (statement.Remove name) = Err no_plan
+statement_plan db now (statement.Sync name) = Err no_plan
 statement_plan db now (statement.Ask asked) = query_plan db now asked
 statement_plan db now (statement.Moment moment) = Err no_plan
 statement_plan db now (statement.Forget name floor) = Err no_plan

@@ -148,6 +148,7 @@ fn statement_plan(
         Statement::Create(_) => Ok(Err(no_plan())),
         Statement::Put(_) => Ok(Err(no_plan())),
         Statement::Remove(_) => Ok(Err(no_plan())),
+        Statement::Sync(_) => Ok(Err(no_plan())),
         Statement::Ask(query) => {
             let read = query_plan(alloc, store, query)?;
             Ok(read)

@@ -1,6 +1,7 @@
 #!/usr/bin/env python3
-"""Runs the commands group, ship, follow and watch: a group is kept whole or not at all, packets come in any order, are
-lost and come again, and what is watched is what asking anew says. Ends with 1 where something is not as it should be."""
+"""Runs the commands group, transact, ship, follow and watch: a group is kept whole or not at all, and a transaction not
+where a statement is refused; packets come in any order, are lost and come again, and what is watched is what asking anew
+says. Ends with 1 where something is not as it should be."""
 import fcntl
 import os
 import random
@@ -18,6 +19,7 @@ import watched
 
 TIMELINE = os.path.join(os.path.dirname(HERE), "timeline")
 PROGRAM = os.path.join(os.path.dirname(HERE), "crates/timeline/out/timeline")
+LOOKER = os.path.join(os.path.dirname(HERE), "crates/timeline_look/out/timeline_look")
 # The folder for journals: a file system in memory, where there is one.
 JOURNALS = "/dev/shm" if os.access("/dev/shm", os.W_OK) else None
 EMPTY = b"timeline journal\0"
@@ -98,6 +100,79 @@ def a_group_is_kept_whole():
         with open("/dev/full", "w") as full:
             status = subprocess.run([PROGRAM, "group"], input=put("t", ["1,1"]).encode(), cwd=one, stdout=full, timeout=60).returncode
         judge("group with an output that fails", status == 4, status)
+
+
+def a_transaction_is_kept_whole():
+    """Without a refusal it is `group`; with one the replies end with that of the statement, whose number the last line has,
+    and the journal stays as it was, whatever is refused and wherever it stands."""
+    draw = random.Random(SEED)
+    create = "a> CREATE TABLE t (k INT, x INT) KEY k\n"
+    # Statements that are refused, whatever stands before them, and the words of their fault.
+    refused = [("a> PUT t\nk,x\n1,1\n1,2\n\\.\n", "KeyTwice 3"), ("b> SELECT y FROM t\n", "UnknownColumn 7"), ("c> \n", "Unexpected 0"),
+               ("a> REMOVE t\nk\n-1\n\\.\n", "NoRow 2"), ("b> PUT t\nk,x\n1,one\n\\.\n", "NotInt 2 2"), (create, "TableExists")]
+    for number in range(60):
+        # Each statement, with its reply where it is done; after some of them a phase ends.
+        version, script, replies = 1, "", b""
+        length, at = 1 + draw.randrange(12), draw.randrange(24)
+        for it in range(1, length + 1):
+            if it == at:
+                statement, fault = refused[number % len(refused)]
+                script += statement
+                replies += f"{statement[0]} @{version} ! {fault}\n! refused {at}\n".encode()
+            elif draw.randrange(4):
+                version += 1
+                script += put("t", [f"{it},{draw.randrange(9)}"])
+                replies += f"a @{version} ok\n".encode() if not 0 < at < it else b""
+            else:
+                script += "b> SELECT k FROM t WHERE x = 10\n"
+                replies += f"b @{version} rows 0\n".encode() if not 0 < at < it else b""
+            script += draw.choice(("", "", "GO\n"))
+        is_refused = 0 < at <= length
+        with Room(create) as one, Room(create) as other:
+            before = journal(one)
+            found = run(["transact"], script, one)
+            judge(f"transact, script {number}", found[:2] == (12 if is_refused else 0, replies), (found, replies))
+            beside = run(["group"], script, other)
+            if is_refused:
+                judge(f"what script {number} left", journal(one) == before)
+                judge(f"group of script {number}", beside[0] == 0 and beside[1].startswith(replies[:replies.rindex(b"! refused")]), beside)
+            else:
+                judge(f"group beside transact, script {number}", beside == found and journal(one) == journal(other), beside)
+    with Room(create + put("t", ["1,1"])) as room:
+        before = journal(room)
+        # After a refusal no more is read: the program ends while its input is still open.
+        with subprocess.Popen([PROGRAM, "transact"], cwd=room, stdin=subprocess.PIPE, stdout=subprocess.PIPE) as transaction:
+            transaction.stdin.write((put("t", ["2,2"]) + "a> S\nGO\n").encode())
+            transaction.stdin.flush()
+            judge("it ends", transaction.wait(60) == 12)
+            judge("its replies", transaction.stdout.read() == b"a @3 ok\na @3 ! Unexpected 0\n! refused 2\n")
+        with open(f"{room}/next.tl", "w") as file:
+            file.write(put("t", ["7,7"]) + put("t", ["8,x"]))
+        told = "timeline: the run ended: ! refused 2\n    The statement with this number"
+        status, printed, said = run(["--explain", "transact", "next.tl"], room=room)
+        judge("--explain transact FILE", (status, printed) == (12, b"a @3 ok\na @3 ! NotInt 2 2\n! refused 2\n") and told in said, (status, printed, said))
+        judge("--strict transact", run(["--strict", "transact"], "a> S\n", room)[:2] == (12, b"a @2 ! Unexpected 0\n! refused 1\n"))
+        for name, script in (("replies", put("t", ["2,2"])), ("a refusal", put("t", ["2,2"]) + "a> S\n")):
+            before = journal(room)
+            with open("/dev/full", "w") as full:
+                done = subprocess.run([PROGRAM, "transact"], input=script.encode(), cwd=room, stdout=full, timeout=60)
+            judge(f"transact with an output that fails at {name}", done.returncode == 4, done)
+            judge(f"what it left after {name}", (journal(room) == before) == (name == "a refusal"))
+        before = journal(room)
+        # A disk with no room for all of it.
+        words = f'ulimit -f {len(before) // 1024 + 2}; trap "" XFSZ; exec "$0" transact'
+        text = "".join(put("t", [f"{it},1"]) for it in range(2000, 2200))
+        done = subprocess.run(["bash", "-c", words, PROGRAM], input=text.encode(), cwd=room, capture_output=True, timeout=60)
+        judge("transact on a full disk", (done.returncode, done.stdout) == (5, b"! device\n"), done)
+        done = subprocess.run(["bash", "-c", words, PROGRAM], input=(text + "a> S\n").encode(), cwd=room, capture_output=True, timeout=60)
+        judge("a refusal on a full disk", done.returncode == 12 and done.stdout.endswith(b"\n! refused 201\n"), done)
+        judge("the journal after both", run(["group"], "a> SELECT k FROM t WHERE x = 1 AND k >= 2000\n", room)[1] == b"a @3 rows 0\n")
+        # A look forgets what it plays.
+        if os.path.exists(LOOKER):
+            before = journal(room)
+            judge("transact over a look", run(["transact"], put("t", ["9,9"]), room, LOOKER) == (0, b"a @4 ok\n", ""))
+            judge("a refusal over a look", run(["transact"], put("t", ["9,9"]) + "a> S\n", room, LOOKER) == (12, b"a @4 ok\na @4 ! Unexpected 0\n! refused 2\n", ""))
+            judge("what a look left", journal(room) == before)
 
 
 def a_group_waits_twice():
@@ -290,6 +365,7 @@ def totals_that_are_always_there():
 # A command that does not end is not as it should be either.
 signal.alarm(500)
 a_group_is_kept_whole()
+a_transaction_is_kept_whole()
 a_group_waits_twice()
 packets_come_as_they_like()
 packets_of_the_worked_journal()

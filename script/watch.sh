@@ -51,7 +51,7 @@ explain_closing() {
             line=${words##* }
             words=${words% *}
             ;;
-        'journal '* | 'packet '*) words=${words% *} ;;
+        'journal '* | 'packet '* | 'refused '*) words=${words% *} ;;
         'watch '*)
             # The text that is watched is shown as a statement is.
             printf 'watch> %s\n' "$watched_text" >"$room/script"

@@ -90,6 +90,8 @@ sleep 0.5
 wanted "an output that is closed" 'status 4' "$(cat ended)"
 wanted "its commit" $'a @1 rows 0\nstatus 0' "$(echo 'a> SELECT k FROM t' | "$program" run; echo "status $?")"
 wanted "an output that is full" 'status 4' "$(echo 'a> SELECT k FROM t' | "$program" run >/dev/full; echo "status $?")"
+wanted "an output that is full at a refusal" 'status 4' "$(printf 'a> MOMENT 1\na> S\n' | "$program" transact >/dev/full; echo "status $?")"
+wanted "what it left" $'a @1 rows 0\nstatus 0' "$(echo 'a> SELECT k FROM t' | "$program" run; echo "status $?")"
 wanted "an output that is not open" 'status 4' "$(echo 'a> SELECT k FROM t' | "$command" run >&-; echo "status $?")"
 wanted "an input that is not open" $'! source\nstatus 3' "$("$command" run <&-; echo "status $?")"
 wanted "an input that is a folder" $'! source\nstatus 3' "$("$program" run <.; echo "status $?")"

@@ -1,8 +1,8 @@
 #!/usr/bin/env python3
-"""Refuses memory to the program: each allocation of nine runs in turn, alone and with all behind it, by the library
+"""Refuses memory to the program: each allocation of eleven runs in turn, alone and with all behind it, by the library
 that refuse.c makes. Each run has to give the usual result; or status 1, and then the replies of its first phases, whole,
-and a journal that opens and has at least the commits that were answered. Of `group`, `ship`, `follow` and `watch` it is the
-usual result, or status 1, nothing that is written, and the journal as it was. `memory.py PROGRAM`; it prints a row for each
+and a journal that opens and has at least the commits that were answered. Of `group`, `transact`, `ship`, `follow` and `watch`
+it is the usual result, or status 1, nothing that is written, and the journal as it was. `memory.py PROGRAM`; it prints a row for each
 run, `name, tried, wrong`, and says what was wrong."""
 import os
 import re
@@ -162,13 +162,15 @@ def main():
         first, script, replies = grouped()
         worked, empty = journal_of(WORKED), b"timeline journal\0"
         packets = over(["ship", "0", "16777215"], b"", worked)[1]
-        for words, given, journal, wanted in (["group"], script, first, replies), (["ship", "0", "16777215"], b"", worked, packets), \
-                (["follow"], packets, empty, b"follow @5\n"), \
-                *((["watch", text], script, first, watched(replies, behind)) for text, behind in WATCHED):
+        refused = script + b"a> S\na> MOMENT 2000\n", replies + b"a @5 ! Unexpected 0\n! refused 6\n"
+        for name, words, given, journal, wanted in ("group", ["group"], script, first, (0, replies)), ("transact", ["transact"], script, first, (0, replies)), \
+                ("transact, refused", ["transact"], refused[0], first, (12, refused[1])), \
+                ("ship 0 16777215", ["ship", "0", "16777215"], b"", worked, (0, packets)), ("follow", ["follow"], packets, empty, (0, b"follow @5\n")), \
+                *((f"watch {text}"[:30], ["watch", text], script, first, (0, watched(replies, behind))) for text, behind in WATCHED):
             status, written, left, _ = over(words, given, journal)
-            if (status, written) != (0, wanted):
-                sys.exit(f"{words[0]}: status {status}, {written!r}")
-            runs[" ".join(words)[:30]] = lambda refusal, it=(words, given, journal, (status, written, left)): all_or_nothing(*it, library, refusal)
+            if (status, written) != wanted or status == 12 and left != journal:
+                sys.exit(f"{name}: status {status}, {written!r}")
+            runs[name] = lambda refusal, it=(words, given, journal, (status, written, left)): all_or_nothing(*it, library, refusal)
         for name, attempt in runs.items():
             tried = wrong = 0
             for refused, refusal in refusals():

@@ -22,6 +22,7 @@ exit_status (status.AlreadyInitialised len) = 8
 exit_status (status.Damaged at) = 9
 exit_status (status.PacketFault at) = 10
 exit_status (status.WatchFault f) = 11
+exit_status (status.StatementRefused number) = 12
 
 -- the words of a script's fault
 abbrev pub script_fault_words : ScriptFault → List ℕ
@@ -58,3 +59,5 @@ closing_line (status.AlreadyInitialised len) =
 closing_line (status.Damaged at) = codes "! journal Damaged " ++ (decimal at ++ codes "\n")
 closing_line (status.PacketFault at) = codes "! packet " ++ (decimal at ++ codes "\n")
 closing_line (status.WatchFault f) = watch_line f
+closing_line (status.StatementRefused number) =
+    codes "! refused " ++ (decimal number ++ codes "\n")

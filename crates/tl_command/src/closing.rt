@@ -35,6 +35,23 @@ pub fn close<K: Sink>(alloc: Global, sink: &mut K, wanted: Status) -> Status
     }
 }
 
+/// Writes replies and, after them, the closing line of a run, for all of which the sink's room is
+/// taken first, and ends the run as it was to. `NoMemory`: memory ran out, and nothing is written.
+/// `SinkFault`: the sink failed, and some prefix of the replies and the line is written.
+pub fn close_after<K: Sink>(alloc: Global, sink: &mut K, replies: Vec<u8>, wanted: Status) -> Status
+    ensures { Closes replies.items wanted (K.written sink.old) (K.written sink.new)
+        (K.faults sink.old) (K.faults sink.new) result }
+{
+    let Ok(line) = closing_line(alloc, &wanted) else {
+        return Status::NoMemory;
+    };
+    let mut bytes = replies;
+    match bytes.extend_from_slice(line.as_bytes()) {
+        Ok(()) => write_text(sink, bytes.as_slice(), wanted),
+        Err(_) => Status::NoMemory,
+    }
+}
+
 /// Writes bytes, for which the sink's room is taken first, and ends as it was to. `NoMemory`:
 /// memory ran out, and nothing is written. `SinkFault`: the sink failed, and some prefix of the
 /// bytes is written.

@@ -20,7 +20,7 @@ mod statuses;
 mod stops;
 mod writing;
 
-pub use closing::{close, close_run, end_refused, write_ready, write_text};
+pub use closing::{close, close_after, close_run, end_refused, write_ready, write_text};
 pub use endings::Ending;
 pub use lending::lent_jobs;
 pub use phases::{BlockPhase, Phases};

@@ -1,4 +1,4 @@
-//! How a run ends: twelve statuses, each with its number and its closing line. Both are
+//! How a run ends: thirteen statuses, each with its number and its closing line. Both are
 //! the same for every run that ends so.
 ghost use Rattle.std.specs.Prelude.{◌≡◌, IfOk};
 ghost use Rattle.std.specs.String.{string_bytes};
@@ -65,6 +65,12 @@ pub enum Status {
     /// no statement, none that can be watched, or one that does not fit the tables. Nothing of the
     /// source is read.
     WatchFault(Refusal),
+    /// A statement was refused of a script that is kept whole or not at all, and nothing of it is
+    /// kept. The replies up to the one that refuses it are written.
+    StatementRefused {
+        /// The statement's number in its script, from 1.
+        number: u64,
+    },
 }
 
 impl Status {
@@ -87,6 +93,7 @@ impl Status {
             Status::Damaged { .. } => 9,
             Status::PacketFault { .. } => 10,
             Status::WatchFault(_) => 11,
+            Status::StatementRefused { .. } => 12,
         }
     }
 }
@@ -139,5 +146,6 @@ pub fn closing_line(alloc: Global, status: &Status) -> Result<String, NoMemory>
         Status::Damaged { at } => format!(in alloc; "! journal Damaged {at}\n"),
         Status::PacketFault { at } => format!(in alloc; "! packet {at}\n"),
         Status::WatchFault(fault) => watch_line(alloc, fault),
+        Status::StatementRefused { number } => format!(in alloc; "! refused {number}\n"),
     }
 }

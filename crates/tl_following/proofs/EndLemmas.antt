@@ -42,6 +42,7 @@ as_follow opening before after (status.AlreadyInitialised len) h = h
 as_follow opening before after (status.Damaged at) h = h
 as_follow opening before after (status.PacketFault at) h = absurd h
 as_follow opening before after (status.WatchFault f) h = h
+as_follow opening before after (status.StatementRefused n) h = h
 
 -- nothing was written
 silent_line : (old new : Option (List ℕ)) → new ≡ append_known old [] → new ≡ old
@@ -116,3 +117,4 @@ module _ {K D : Type 0} (sinks : SinkGhosts K) (disks : DiskGhosts D) (begun : D
     by_status (status.Damaged n) h c = absurd h
     by_status (status.PacketFault n) h c = cut (status.PacketFault n) h (λ written faults. (h.0, h.1, record { prints = (written, faults); holds = kept })) c
     by_status (status.WatchFault f) h c = absurd h
+    by_status (status.StatementRefused n) h c = absurd h

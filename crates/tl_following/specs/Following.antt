@@ -90,6 +90,7 @@ FailsPiece first last (status.AlreadyInitialised len) = ⊥
 FailsPiece first last (status.Damaged at) = ⊥
 FailsPiece first last (status.PacketFault at) = ⊥
 FailsPiece first last (status.WatchFault f) = ⊥
+FailsPiece first last (status.StatementRefused number) = ⊥
 
 -- why the bytes of the input were not taken: memory ran out, the source failed, or there are more
 -- than there may be
@@ -107,6 +108,7 @@ FailsBytes before first last (status.Damaged at) = ⊥
 FailsBytes before first last (status.PacketFault at) =
     (at ≡ INPUT_LIMIT) × IsTooLong before × (last ≡ first)
 FailsBytes before first last (status.WatchFault f) = ⊥
+FailsBytes before first last (status.StatementRefused number) = ⊥
 
 -- why no commits were made of the input: memory ran out, the source failed, or it has a fault
 abbrev pub FailsInput : List Commit → Option (List ℕ) → ℕ → ℕ → Status → Type 0
@@ -124,6 +126,7 @@ FailsInput opening before first last (status.Damaged at) = ⊥
 FailsInput opening before first last (status.PacketFault at) =
     HasInputFault opening at before × (last ≡ first)
 FailsInput opening before first last (status.WatchFault f) = ⊥
+FailsInput opening before first last (status.StatementRefused number) = ⊥
 
 -- THE GROUP
 
@@ -204,6 +207,9 @@ FollowEndsBy opening before after (status.Damaged at) =
 FollowEndsBy opening before after (status.WatchFault f) =
     LeavesBy (λ all text. Follows opening all text before after) opening before after
     (status.WatchFault f)
+FollowEndsBy opening before after (status.StatementRefused number) =
+    LeavesBy (λ all text. Follows opening all text before after) opening before after
+    (status.StatementRefused number)
 
 -- the same, with what was opened
 pub record FollowOpened (opening : List Commit) (before after : Outside) (ended : Status) : Type 0

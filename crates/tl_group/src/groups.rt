@@ -128,6 +128,28 @@ impl<D: Disk> Group<D> {
             .resolve(alloc, store, batch, author, self.waiting.limits())
     }
 
+    /// As `resolve`, of a batch that is handed over: a commit of rows takes the rows over and makes
+    /// no copies of them.
+    pub fn resolve_owned(
+        &self,
+        alloc: Global,
+        batch: Batch,
+        author: u32,
+    ) -> Result<Commit, BatchFault>
+        requires { IsTrue (batch_matches (database_of (commits_in self.now)) batch) }
+        ensures ok { IfOk result (λ commit. resolved self.now.limits
+            (database_of (commits_in self.now)) author batch ≡ Ok commit) }
+        ensures fit { IfOk result (λ commit. IsTrue (fits self.now.limits
+            (database_of (commits_in self.now)) commit)) }
+        ensures err { IfErr result (λ e. (e ≡ fault.NoMemory)
+            ⊎ (resolved self.now.limits (database_of (commits_in self.now)) author batch
+            ≡ Err e)) }
+    {
+        let store = self.waiting.snapshot().store();
+        self.keys
+            .resolve_owned(alloc, store, batch, author, self.waiting.limits())
+    }
+
     /// Makes a batch of an author one commit more that waits, and answers its version: the number
     /// of the snapshot's commits with it, of which it is the last. The batch is resolved over the
     /// tables that the snapshot's commits make, under the limits that `attach` was given; its rows

@@ -1,5 +1,5 @@
 -- How a group ends, by why its phases stopped and what became of its append.
-use Rattle.std.proofs.Common.{◌≡◌, inl, inr, ℕ, Bool, true, false, List, [], ◌++◌, take, Some, None, IfSome, codes, refl, sym, ap, ◌∙◌, subst}
+use Rattle.std.proofs.Common.{◌≡◌, inl, inr, ℕ, Bool, true, false, List, [], Some, None, IfSome, codes, refl, sym, ◌∙◌, subst}
 use Rattle.std.specs.declared.option.Option.{Option}
 use Rattle.tl_types.specs.declared.commits.Commit.{Commit}
 use Rattle.tl_device.specs.Known.{append_known, Rose}
@@ -17,10 +17,12 @@ use Rattle.tl_command.specs.declared.stops.Stop.TheVariants as stop
 use Rattle.tl_command.specs.Closing.{ClosesAfter, Closes, WritesReady}
 use Rattle.tl_command.specs.Outside.{Outside, HoldsJournal}
 use Rattle.tl_command.specs.Status.{closing_line}
-use Rattle.tl_grouping.specs.Appending.{AppendsAndWrites, IsAttached}
+use Rattle.tl_grouping.specs.Appending.{AppendsAndWrites, ClosesPlay, IsAttached}
 use Rattle.tl_grouping.specs.Grouping.{GroupEndsBy, Plays, WhyGivenUp}
 use Rattle.tl_grouping.specs.Leaving.{LeavesBy}
-use Rattle.tl_grouping.specs.Playing.{KeepsDisk, PlayStops}
+use Rattle.tl_grouping.specs.declared.playing.Cause.{Cause}
+use Rattle.tl_grouping.specs.declared.playing.Cause.TheVariants as cause
+use Rattle.tl_grouping.specs.Playing.{EndsAtRefusal, KeepsDisk, PlayGivenUp, PlayStops}
 use Rattle.tl_command.proofs.HeldLemmas.{holds_journal}
 use Rattle.tl_grouping.proofs.DiskLemmas.{left_image, left_count, appended_image, back_held, doubt_held}
 
@@ -102,29 +104,30 @@ appended sinks disks What begun attached later text left end first last old new 
       )
 
 -- how the group of a script ends, where its script has no fault
-pub as_group : (plan : Option WatchPlan) (reads : Bool → List ℕ → ScriptReading) (opening : List Commit) (before after : Outside) (ended : Status) → LeavesBy (λ all text. Plays plan reads opening all text before after) opening before after ended → GroupEndsBy plan reads opening before after ended
-as_group plan reads opening before after status.Done h = h
-as_group plan reads opening before after status.NoMemory h = h
-as_group plan reads opening before after status.Usage h = h
-as_group plan reads opening before after (status.SourceFault n) h = absurd h
-as_group plan reads opening before after (status.SinkFault n) h = inl h
-as_group plan reads opening before after (status.DiskFault n) h = h
-as_group plan reads opening before after (status.ScriptFault f) h = absurd h
-as_group plan reads opening before after (status.NotInitialised len) h = h
-as_group plan reads opening before after (status.AlreadyInitialised len) h = h
-as_group plan reads opening before after (status.Damaged at) h = h
-as_group plan reads opening before after (status.PacketFault at) h = h
-as_group plan reads opening before after (status.WatchFault f) h = h
+pub as_group : (stops : Bool) (plan : Option WatchPlan) (reads : Bool → List ℕ → ScriptReading) (opening : List Commit) (before after : Outside) (ended : Status) → LeavesBy (λ all text. Plays stops plan reads opening all text before after) opening before after ended → GroupEndsBy stops plan reads opening before after ended
+as_group stops plan reads opening before after status.Done h = h
+as_group stops plan reads opening before after status.NoMemory h = h
+as_group stops plan reads opening before after status.Usage h = h
+as_group stops plan reads opening before after (status.SourceFault n) h = absurd h
+as_group stops plan reads opening before after (status.SinkFault n) h = inl h
+as_group stops plan reads opening before after (status.DiskFault n) h = h
+as_group stops plan reads opening before after (status.ScriptFault f) h = absurd h
+as_group stops plan reads opening before after (status.NotInitialised len) h = h
+as_group stops plan reads opening before after (status.AlreadyInitialised len) h = h
+as_group stops plan reads opening before after (status.Damaged at) h = h
+as_group stops plan reads opening before after (status.PacketFault at) h = h
+as_group stops plan reads opening before after (status.WatchFault f) h = h
+as_group stops plan reads opening before after (status.StatementRefused n) h = absurd h
 
--- the phases stopped before their end, and the group was given up
-pub given_up : {K D : Type 0} (sinks : SinkGhosts K) (disks : DiskGhosts D) (plan : Option WatchPlan) (reads : Bool → List ℕ → ScriptReading) (begun : D) (attached : group.Group D) (left end : Option (List ℕ)) (first last : ℕ) (old new : K) (disk : D) (why : Stop) (ended : Status)
+-- the play was given up before the end of the script, and the group with it
+pub given_up : {K D : Type 0} (sinks : SinkGhosts K) (disks : DiskGhosts D) (stops : Bool) (plan : Option WatchPlan) (reads : Bool → List ℕ → ScriptReading) (begun : D) (attached : group.Group D) (left end : Option (List ℕ)) (first last : ℕ) (old new : K) (disk : D) (why : Cause) (ended : Status)
     → IsAttached disks begun attached → IsGivenBack disks.reads disks.may_leave disks.faults attached disk
-    → PlayStops reads why left end first last
-    → ClosesAfter why false 0 (sinks.written old) (sinks.written new) (sinks.faults old) (sinks.faults new) ended
-    → GroupEndsBy plan reads (commits_in attached)
+    → PlayGivenUp stops plan reads (commits_in attached) why left end first last
+    → ClosesPlay why (sinks.written old) (sinks.written new) (sinks.faults old) (sinks.faults new) ended
+    → GroupEndsBy stops plan reads (commits_in attached)
     (record { left = left; source_faults = first; written = sinks.written old; sink_faults = sinks.faults old; reads = disks.reads begun; may_leave = disks.may_leave begun; disk_faults = disks.faults begun })
     (record { left = end; source_faults = last; written = sinks.written new; sink_faults = sinks.faults new; reads = disks.reads disk; may_leave = disks.may_leave disk; disk_faults = disks.faults disk }) ended
-given_up sinks disks plan reads begun attached left end first last old new disk why ended a back stops closes = by_stop why stops closes where
+given_up sinks disks stops plan reads begun attached left end first last old new disk why ended a back gives closes = by_cause why gives closes where
   before : Outside
   before = record { left = left; source_faults = first; written = sinks.written old; sink_faults = sinks.faults old; reads = disks.reads begun; may_leave = disks.may_leave begun; disk_faults = disks.faults begun }
 
@@ -136,16 +139,29 @@ given_up sinks disks plan reads begun attached left end first last old new disk 
 
   -- memory ran out, or the sink failed at the closing line
   cut : (wanted : Status) → WhyGivenUp reads before after wanted → Closes [] wanted (sinks.written old) (sinks.written new) (sinks.faults old) (sinks.faults new) ended
-      → ((sinks.written new ≡ append_known (sinks.written old) (closing_line wanted)) → (sinks.faults new ≡ sinks.faults old) → GroupEndsBy plan reads (commits_in attached) before after wanted)
-      → GroupEndsBy plan reads (commits_in attached) before after ended
-  cut wanted why (inl (e, written, faults)) closed = subst (GroupEndsBy plan reads (commits_in attached) before after) (sym e) (closed written faults)
-  cut wanted why (inr (inl (e, written, faults))) closed = subst (GroupEndsBy plan reads (commits_in attached) before after) (sym e) ((written, faults), holds)
+      → ((sinks.written new ≡ append_known (sinks.written old) (closing_line wanted)) → (sinks.faults new ≡ sinks.faults old) → GroupEndsBy stops plan reads (commits_in attached) before after wanted)
+      → GroupEndsBy stops plan reads (commits_in attached) before after ended
+  cut wanted why (inl (e, written, faults)) closed = subst (GroupEndsBy stops plan reads (commits_in attached) before after) (sym e) (closed written faults)
+  cut wanted why (inr (inl (e, written, faults))) closed = subst (GroupEndsBy stops plan reads (commits_in attached) before after) (sym e) ((written, faults), holds)
   cut wanted why (inr (inr (e, rose, some))) closed =
-      subst (GroupEndsBy plan reads (commits_in attached) before after) (sym e) (inr (refl, record { closing = wanted; why = why; prints = (rose, some); holds = holds }))
+      subst (GroupEndsBy stops plan reads (commits_in attached) before after) (sym e) (inr (refl, inl (record { closing = wanted; why = why; prints = (rose, some); holds = holds })))
 
-  by_stop : (w : Stop) → PlayStops reads w left end first last → ClosesAfter w false 0 (sinks.written old) (sinks.written new) (sinks.faults old) (sinks.faults new) ended → GroupEndsBy plan reads (commits_in attached) before after ended
+  by_stop : (w : Stop) → PlayStops reads w left end first last → ClosesAfter w false 0 (sinks.written old) (sinks.written new) (sinks.faults old) (sinks.faults new) ended → GroupEndsBy stops plan reads (commits_in attached) before after ended
   by_stop stop.Ended h c = absurd h
   by_stop (stop.Fault f) h c = cut (status.ScriptFault f) h c (λ written faults. (h, record { prints = (written, faults); holds = holds }))
   by_stop (stop.Source n) h c = cut (status.SourceFault n) h c (λ written faults. (h, record { prints = (written, faults); holds = holds }))
   by_stop (stop.Sink n) h c = absurd h
-  by_stop stop.NoMemory h (e, written, faults) = subst (GroupEndsBy plan reads (commits_in attached) before after) (sym e) ((written, faults), holds)
+  by_stop stop.NoMemory h (e, written, faults) = subst (GroupEndsBy stops plan reads (commits_in attached) before after) (sym e) ((written, faults), holds)
+
+  -- a statement was refused: its number and the replies up to its own are to be told
+  by_refusal : (text : List ℕ) (number : ℕ) → EndsAtRefusal stops plan (reads true) (commits_in attached) text number left → last ≡ first → Closes text (status.StatementRefused number) (sinks.written old) (sinks.written new) (sinks.faults old) (sinks.faults new) ended → GroupEndsBy stops plan reads (commits_in attached) before after ended
+  by_refusal text number plays sure (inl (e, written, faults)) =
+      subst (GroupEndsBy stops plan reads (commits_in attached) before after) (sym e) (record { text = text; plays = plays; sure = sure; prints = (written, faults); holds = holds })
+  by_refusal text number plays sure (inr (inl (e, written, faults))) =
+      subst (GroupEndsBy stops plan reads (commits_in attached) before after) (sym e) ((written, faults), holds)
+  by_refusal text number plays sure (inr (inr (e, rose, some))) =
+      subst (GroupEndsBy stops plan reads (commits_in attached) before after) (sym e) (inr (refl, inr (number, record { text = text; plays = plays; sure = sure; prints = (rose, some); holds = holds })))
+
+  by_cause : (w : Cause) → PlayGivenUp stops plan reads (commits_in attached) w left end first last → ClosesPlay w (sinks.written old) (sinks.written new) (sinks.faults old) (sinks.faults new) ended → GroupEndsBy stops plan reads (commits_in attached) before after ended
+  by_cause (cause.Stop w) h c = by_stop w h c
+  by_cause (cause.Refusal replies) h c = by_refusal replies.text.items replies.count h.0 h.1 c

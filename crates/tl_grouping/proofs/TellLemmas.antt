@@ -1,5 +1,5 @@
 -- What is told of a plan behind the replies of a play, while more commits and names come.
-use Rattle.std.proofs.Common.{◌≡◌, ℕ, zero, suc, ◌+◌, ◌<◌, ◌≤◌, List, [], ◌∷◌, ◌++◌, length, take, Option, Some, None, refl, sym, ap, ◌∙◌, subst, arith, append_assoc, append-nil, length-append}
+use Rattle.std.proofs.Common.{◌≡◌, Bool, true, false, ℕ, zero, suc, ◌≤◌, List, [], ◌∷◌, ◌++◌, length, take, Option, Some, None, refl, sym, ap, ◌∙◌, arith, append_assoc, append-nil, length-append}
 use Rattle.tl_types.specs.declared.commits.Commit.{Commit}
 use Rattle.tl_script.specs.Reader.{Grows}
 use Rattle.tl_jobs.specs.declared.replies.ReplyBody.{ReplyBody}
@@ -13,7 +13,8 @@ use Rattle.tl_watch.specs.Watches.{Watch, StandsForCommits}
 use Rattle.tl_watching.specs.Rows.{watch_bytes}
 use Rattle.tl_watching.specs.Watching.{WatchesPlan}
 use Rattle.tl_command.proofs.BytesLemmas.{Inside, same_turns}
-use Rattle.tl_grouping.specs.Telling.{IsPlayTold, IsWatched, WatchesFor, told_behind, told_bytes, told_turn}
+use Rattle.tl_grouping.specs.Refusing.{GoOn}
+use Rattle.tl_grouping.specs.Telling.{IsPlayBy, IsPlayTold, IsWatched, WatchesFor, told_behind, told_bytes, told_turn}
 
 -- THE WATCH
 
@@ -140,3 +141,8 @@ told_now (Some plan) m job v body.BrokenJournal old new acts = absurd acts
 pub play_told : (plan : Option WatchPlan) (names : List (List ℕ)) (jobs : List Job) (opening all : List Commit) (text : List ℕ) (turns : List Turn) → jobs_of turns ≡ jobs → IsPlay meant opening turns all → text ≡ told_bytes plan names all turns → IsPlayTold plan names jobs opening all text
 play_told None names jobs opening all text turns these play written = (turns, these, play, written ∙ told_none names all turns)
 play_told (Some plan) names jobs opening all text turns these play written = (turns, these, play, written)
+
+-- the same of a play that a refusal ends or not, in which none came that does
+pub play_by : (stops : Bool) (plan : Option WatchPlan) (names : List (List ℕ)) (jobs : List Job) (opening all : List Commit) (text : List ℕ) (turns : List Turn) → jobs_of turns ≡ jobs → IsPlay meant opening turns all → GoOn stops turns → text ≡ told_bytes plan names all turns → IsPlayBy stops plan names jobs opening all text
+play_by false plan names jobs opening all text turns these play goes_on written = play_told plan names jobs opening all text turns these play written
+play_by true plan names jobs opening all text turns these play goes_on written = (turns, these, play, goes_on, written)

@@ -1,5 +1,5 @@
 -- How a watch ends, by what the text names.
-use Rattle.std.proofs.Common.{◌≡◌, inl, inr, ℕ, Bool, List, [], Option, Some, None, Result, Ok, Err, refl, sym, subst}
+use Rattle.std.proofs.Common.{◌≡◌, inl, inr, ℕ, Bool, false, List, [], Some, None, Result, Ok, Err, sym, subst}
 use Rattle.tl_types.specs.declared.commits.Commit.{Commit}
 use Rattle.tl_script.specs.Script.{ScriptReading}
 use Rattle.tl_watch.specs.declared.plans.WatchPlan.{WatchPlan}
@@ -9,13 +9,11 @@ use Rattle.tl_command.specs.declared.statuses.Status.TheVariants as status
 use Rattle.tl_command.specs.Closing.{Closes, WritesNothing}
 use Rattle.tl_command.specs.Outside.{Outside, HoldsJournal, IsUnread}
 use Rattle.tl_watch.specs.Watches.{Watch}
-use Rattle.tl_watching.specs.Plans.{plan_reading}
-use Rattle.tl_watching.specs.Watching.{WatchesPlan}
 use Rattle.tl_grouping.specs.Grouping.{GroupEndsBy}
 use Rattle.tl_grouping.specs.Watching.{BeginsWatch, WatchEndsBy}
 
 -- the text names a plan
-pub watch_played : (named : Result WatchPlan Refusal) (plan : WatchPlan) (reads : Bool → List ℕ → ScriptReading) (opening : List Commit) (before after : Outside) (ended : Status) → named ≡ Ok plan → GroupEndsBy (Some plan) reads opening before after ended → WatchEndsBy named reads opening before after ended
+pub watch_played : (named : Result WatchPlan Refusal) (plan : WatchPlan) (reads : Bool → List ℕ → ScriptReading) (opening : List Commit) (before after : Outside) (ended : Status) → named ≡ Ok plan → GroupEndsBy false (Some plan) reads opening before after ended → WatchEndsBy named reads opening before after ended
 watch_played named plan reads opening before after ended is h = subst (λ (r : Result WatchPlan Refusal). WatchEndsBy r reads opening before after ended) (sym is) h
 
 -- the text has a fault

@@ -1,5 +1,6 @@
--- What the append of a group and the writing behind it leave.
-use Rattle.std.specs.Prelude.{◌≡◌, ◌⊎◌, ℕ, List, Some}
+-- What the append of a group and the writing behind it leave, and what closes a play that was given
+-- up.
+use Rattle.std.specs.Prelude.{◌≡◌, ◌⊎◌, ℕ, false, List, Option, Some}
 use Rattle.tl_device.specs.Known.{Rose}
 use Rattle.tl_device.specs.declared.disk.Disk.{Ghosts as DiskGhosts}
 use Rattle.tl_device.specs.declared.sink.Sink.{Ghosts as SinkGhosts}
@@ -10,8 +11,10 @@ use Rattle.tl_group.specs.Plain as group
 use Rattle.tl_group.specs.Standing.{DiskStandsForGroup}
 use Rattle.tl_command.specs.declared.statuses.Status.{Status}
 use Rattle.tl_command.specs.declared.statuses.Status.TheVariants as status
-use Rattle.tl_command.specs.Closing.{WritesReady}
+use Rattle.tl_command.specs.Closing.{Closes, ClosesAfter, WritesReady}
 use Rattle.tl_command.specs.Status.{closing_line}
+use Rattle.tl_grouping.specs.declared.playing.Cause.{Cause}
+use Rattle.tl_grouping.specs.declared.playing.Cause.TheVariants as cause
 
 -- a group as it was opened over a disk: none of its commits waits, the count of faults has not
 -- risen, and where the disk told its bytes it stands for the group
@@ -70,3 +73,11 @@ AppendsAndWrites sinks disks group text old new disk ended =
     GivesUp sinks group old new disk ended
     ⊎ (AppendsAll sinks disks group text old new disk ended
     ⊎ AppendFails sinks disks group old new disk ended)
+
+-- what closes a play that was given up: the closing line of why its phases stopped; or the replies
+-- of one that a refusal ended, and the line with their number
+abbrev pub ClosesPlay : Cause → Option (List ℕ) → Option (List ℕ) → ℕ → ℕ → Status → Type 0
+ClosesPlay (cause.Stop why) old new before after ended =
+    ClosesAfter why false 0 old new before after ended
+ClosesPlay (cause.Refusal replies) old new before after ended =
+    Closes replies.text.items (status.StatementRefused replies.count) old new before after ended

@@ -116,3 +116,4 @@ LeavesBy What opening before after (status.AlreadyInitialised len) = ⊥
 LeavesBy What opening before after (status.Damaged at) = ⊥
 LeavesBy What opening before after (status.PacketFault at) = ⊥
 LeavesBy What opening before after (status.WatchFault f) = ⊥
+LeavesBy What opening before after (status.StatementRefused number) = ⊥

@@ -1,5 +1,6 @@
 -- Jobs done one after the other over a group whose commits wait: what each is answered with, what
--- is told of a plan, what is read and done of a script, and what the disk keeps meanwhile.
+-- is told of a plan, what is read and done of a script, and what the disk keeps meanwhile. A play
+-- goes on at a statement that is refused, or it ends there (`stops`).
 use Rattle.std.specs.Prelude.{◌≡◌, ℕ, ◌+◌, ◌<◌, Bool, true, false, List, [], ◌∷◌, ◌++◌, length, Option, Some, None, IfSome, Ok, Err}
 use Rattle.tl_types.specs.declared.batches.Batch.{Batch}
 use Rattle.tl_types.specs.declared.batches.BatchFault.{BatchFault}
@@ -28,7 +29,10 @@ use Rattle.tl_command.specs.declared.stops.Stop.{Stop}
 use Rattle.tl_command.specs.declared.stops.Stop.TheVariants as stop
 use Rattle.tl_command.specs.Coming.{Coming, HaveCome}
 use Rattle.tl_command.specs.Jobs.{phases_asked}
-use Rattle.tl_grouping.specs.Telling.{IsPlayTold, WatchesFor, told_behind, told_bytes}
+use Rattle.tl_grouping.specs.declared.playing.Cause.{Cause}
+use Rattle.tl_grouping.specs.declared.playing.Cause.TheVariants as cause
+use Rattle.tl_grouping.specs.Refusing.{EndInRefusal, GoOn, is_refusal}
+use Rattle.tl_grouping.specs.Telling.{IsPlayBy, WatchesFor, told_behind, told_bytes}
 
 -- THE DISK
 
@@ -65,35 +69,63 @@ Answers author (reading.Fault f) v told old new =
 
 -- what a job came to was told: its reply stands behind the text, and behind that what is told of a
 -- plan, of which the watch stands for the commits; `Comes` says of the version, the body and the
--- commits before and after what they are
+-- commits before and after what they are; one reply more is counted, and known as a refusal or not
 pub record AnswersJob (plan : Option WatchPlan) (name : List ℕ)
     (Comes : ℕ → ReplyBody → List Commit → List Commit → Type 0) (old new : List Commit)
-    (before after : List ℕ) (watching : Option Watch) : Type 0 where
+    (before after : List ℕ) (first last : ℕ) (refusal : Bool) (watching : Option Watch)
+    : Type 0 where
   pub version : ℕ
   pub told : ReplyBody
   pub comes : Comes version told old new
   pub text : after ≡ before ++ (body_bytes name version told ++ told_behind plan told new)
   pub watches : WatchesFor plan new watching
+  pub counted : last ≡ first + 1
+  pub refuses : refusal ≡ is_refusal told
 
 -- SOME JOBS
 
--- these jobs were done one after the other; the text of their replies, with what is told of a plan,
--- stands behind what was there, and the watch of the plan stands for the commits; the sessions have
--- these names
-pub record PlaysJobs (plan : Option WatchPlan) (names : List (List ℕ)) (jobs : List Job)
-    (old new : List Commit) (before after : List ℕ) (watching : Option Watch) : Type 0 where
+-- these jobs were done one after the other, and none ended the play; the text of their replies,
+-- with what is told of a plan, stands behind what was there, and the replies are counted; the watch
+-- of the plan stands for the commits; the sessions have these names
+pub record PlaysJobs (stops : Bool) (plan : Option WatchPlan) (names : List (List ℕ))
+    (jobs : List Job) (old new : List Commit) (before after : List ℕ) (first last : ℕ)
+    (watching : Option Watch) : Type 0 where
   pub turns : List Turn
   pub these : jobs_of turns ≡ jobs
   pub play : IsPlay meant old turns new
+  pub goes_on : GoOn stops turns
   pub text : after ≡ before ++ told_bytes plan names new turns
+  pub counted : last ≡ first + length turns
   pub watches : WatchesFor plan new watching
+
+-- the first ones of these jobs were done one after the other up to one that is refused; the text of
+-- their replies stands behind what was there, and the replies are counted
+pub record JobsToRefusal (plan : Option WatchPlan) (names : List (List ℕ)) (jobs : List Job)
+    (old : List Commit) (before after : List ℕ) (first last : ℕ) : Type 0 where
+  pub turns : List Turn
+  pub later : List Job
+  pub these : jobs_of turns ++ later ≡ jobs
+  pub all : List Commit
+  pub play : IsPlay meant old turns all
+  pub refusal : EndInRefusal turns
+  pub text : after ≡ before ++ told_bytes plan names all turns
+  pub counted : last ≡ first + length turns
+
+-- why jobs were not done to their end: memory ran out; or one is refused, which ends the play
+abbrev pub JobsStop : Bool → Option WatchPlan → List (List ℕ) → List Job → List Commit → List ℕ → ℕ
+    → Cause → Type 0
+JobsStop stops plan names jobs old before first (cause.Stop why) = why ≡ stop.NoMemory
+JobsStop stops plan names jobs old before first (cause.Refusal replies) =
+    (stops ≡ true)
+    × JobsToRefusal plan names jobs old before replies.text.items first replies.count
 
 -- THE SCRIPT
 
--- the phases that have come were played, of what a source had left and its count of faults
-pub record Played (plan : Option WatchPlan) (first : Coming) (opening : List Commit)
+-- the phases that have come were played, of what a source had left and its count of faults, and no
+-- statement ended the play; so many replies there are
+pub record Played (stops : Bool) (plan : Option WatchPlan) (first : Coming) (opening : List Commit)
     (begun : Option (List ℕ)) (count : ℕ) (now : Coming) (all : List Commit) (text : List ℕ)
-    (watching : Option Watch) (left : Option (List ℕ)) (faults : ℕ) : Type 0 where
+    (number : ℕ) (watching : Option Watch) (left : Option (List ℕ)) (faults : ℕ) : Type 0 where
   pub bytes : List ℕ
   pub phases : List (List ScriptJob)
   pub come : HaveCome first begun bytes phases now left
@@ -102,20 +134,47 @@ pub record Played (plan : Option WatchPlan) (first : Coming) (opening : List Com
   pub answers : jobs_of turns ≡ all_jobs (phases_asked phases)
   pub inside : Each (λ t. t.job.session < length now.names) turns
   pub play : IsPlay meant opening turns all
+  pub goes_on : GoOn stops turns
   pub written : text ≡ told_bytes plan now.names all turns
+  pub counted : number ≡ length turns
   pub watches : WatchesFor plan all watching
   pub sure : faults ≡ count
 
--- the whole script was read, which has no fault, and its jobs were done one after the other; this
--- is the text of their replies, with what is told of a plan
-pub record PlaysScript (plan : Option WatchPlan) (reads : List ℕ → ScriptReading)
+-- the whole script was read, which has no fault, and its jobs were done one after the other, where
+-- a refusal ends the play without one; this is the text of their replies, with what is told of a
+-- plan
+pub record PlaysScript (stops : Bool) (plan : Option WatchPlan) (reads : List ℕ → ScriptReading)
     (opening all : List Commit) (text : List ℕ) (before after : Option (List ℕ)) : Type 0 where
   pub script : List ℕ
   pub told : IfSome before (λ left. left ≡ script)
   pub faultless : (reads script).fault ≡ None
   pub read : IsAtEnd after
-  pub play : IsPlayTold plan (reads script).names (all_jobs (phases_asked (reads script).phases))
-      opening all text
+  pub play : IsPlayBy stops plan (reads script).names
+      (all_jobs (phases_asked (reads script).phases)) opening all text
+
+-- the first jobs of the script were done one after the other up to one that is refused, which is
+-- the one with this number, from 1, in the order of phases and lines; this is the text of their
+-- replies
+pub record ScriptToRefusal (plan : Option WatchPlan) (reads : List ℕ → ScriptReading)
+    (opening : List Commit) (text : List ℕ) (number : ℕ) (before : Option (List ℕ)) : Type 0 where
+  pub script : List ℕ
+  pub told : IfSome before (λ left. left ≡ script)
+  pub turns : List Turn
+  pub later : List Job
+  pub jobs : all_jobs (phases_asked (reads script).phases) ≡ jobs_of turns ++ later
+  pub all : List Commit
+  pub play : IsPlay meant opening turns all
+  pub refusal : EndInRefusal turns
+  pub written : text ≡ told_bytes plan (reads script).names all turns
+  pub counted : number ≡ length turns
+
+-- a play ended at the statement with this number, which is refused; one that goes on at refusals
+-- does not end so
+abbrev pub EndsAtRefusal : Bool → Option WatchPlan → (List ℕ → ScriptReading) → List Commit
+    → List ℕ → ℕ → Option (List ℕ) → Type 0
+EndsAtRefusal false plan reads opening text number before = ⊥
+EndsAtRefusal true plan reads opening text number before =
+    ScriptToRefusal plan reads opening text number before
 
 -- the script has this fault
 abbrev pub HasFault : (List ℕ → ScriptReading) → ScriptFault → Option (List ℕ) → Type 0
@@ -137,3 +196,12 @@ PlayStops reads (stop.Source faults) before after first last =
     HasNoFaultSoFar (reads false) before after × Rose first last × (faults ≡ last)
 PlayStops reads (stop.Sink faults) before after first last = ⊥
 PlayStops reads stop.NoMemory before after first last = last ≡ first
+
+-- why a play is given up: its phases stopped, or a statement is refused, which ends it
+abbrev pub PlayGivenUp : Bool → Option WatchPlan → (Bool → List ℕ → ScriptReading) → List Commit
+    → Cause → Option (List ℕ) → Option (List ℕ) → ℕ → ℕ → Type 0
+PlayGivenUp stops plan reads opening (cause.Stop why) before after first last =
+    PlayStops reads why before after first last
+PlayGivenUp stops plan reads opening (cause.Refusal replies) before after first last =
+    EndsAtRefusal stops plan (reads true) opening replies.text.items replies.count before
+    × (last ≡ first)

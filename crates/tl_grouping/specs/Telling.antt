@@ -1,6 +1,6 @@
 -- What is told of a plan behind the replies of a play: behind each reply that is done the plan's
 -- value over the commits up to it. Without a plan the replies stand alone.
-use Rattle.std.specs.Prelude.{◌≡◌, List, [], ℕ, ◌++◌, take, Option, Some, None}
+use Rattle.std.specs.Prelude.{◌≡◌, Bool, true, false, List, [], ℕ, ◌++◌, take, Option, Some, None}
 use Rattle.std.specs.List.{flat_map}
 use Rattle.tl_types.specs.declared.commits.Commit.{Commit}
 use Rattle.tl_watch.specs.declared.plans.WatchPlan.{WatchPlan}
@@ -13,6 +13,7 @@ use Rattle.tl_jobs.specs.Jobs.{Job}
 use Rattle.tl_jobs.specs.Play.{IsPlay}
 use Rattle.tl_jobs.specs.Turns.{Turn, meant}
 use Rattle.tl_jobs.specs.Written.{IsPlayOf, jobs_of, turn_bytes}
+use Rattle.tl_grouping.specs.Refusing.{AreAccepted}
 
 -- THE WATCH
 
@@ -59,3 +60,11 @@ IsPlayTold None names jobs opening all bytes = IsPlayOf names jobs opening all b
 IsPlayTold (Some plan) names jobs opening all bytes =
     (turns : List Turn) × (jobs_of turns ≡ jobs) × IsPlay meant opening turns all
     × (bytes ≡ told_bytes (Some plan) names all turns)
+
+-- the same where a refusal ends a play or not: where it does, no turn is refused
+abbrev pub IsPlayBy : Bool → Option WatchPlan → List (List ℕ) → List Job → List Commit
+    → List Commit → List ℕ → Type 0
+IsPlayBy false plan names jobs opening all bytes = IsPlayTold plan names jobs opening all bytes
+IsPlayBy true plan names jobs opening all bytes =
+    (turns : List Turn) × (jobs_of turns ≡ jobs) × IsPlay meant opening turns all
+    × AreAccepted turns × (bytes ≡ told_bytes plan names all turns)

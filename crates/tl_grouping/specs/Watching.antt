@@ -8,7 +8,7 @@
 --
 -- So WatchFault comes with a fault of the text alone. Where the journal is not opened it ends as a
 -- run that is not opened.
-use Rattle.std.specs.Prelude.{◌≡◌, ◌⊎◌, ℕ, Bool, List, [], Option, Some, None, Result, Ok, Err}
+use Rattle.std.specs.Prelude.{◌≡◌, ◌⊎◌, ℕ, Bool, false, List, [], Some, None, Result, Ok, Err}
 use Rattle.tl_types.specs.declared.commits.Commit.{Commit}
 use Rattle.tl_script.specs.Script.{ScriptReading}
 use Rattle.tl_watch.specs.declared.plans.WatchPlan.{WatchPlan}
@@ -35,7 +35,7 @@ pub record RefusesText (f : Refusal) (opening : List Commit) (before after : Out
 abbrev pub WatchEndsBy : Result WatchPlan Refusal → (Bool → List ℕ → ScriptReading) → List Commit
     → Outside → Outside → Status → Type 0
 WatchEndsBy (Ok plan) reads opening before after ended =
-    GroupEndsBy (Some plan) reads opening before after ended
+    GroupEndsBy false (Some plan) reads opening before after ended
 WatchEndsBy (Err f) reads opening before after ended = RefusesText f opening before after ended
 
 -- the same, with what was opened

@@ -1,21 +1,23 @@
-//! The command `group`: the journal is opened, the script is played, and all its commits are
-//! appended at once before the first reply is written.
+//! The commands `group` and `transact`: the journal is opened, the script is played, and all its
+//! commits are appended at once before the first reply is written. At a statement that is refused
+//! `group` goes on, and `transact` ends and appends nothing.
 ghost use Rattle.std.specs.Prelude.{◌≡◌, []};
 ghost use Rattle.std.specs.declared.option.Option.{Option};
 ghost use Rattle.tl_types.specs.Limits.{standard_limits};
 ghost use Rattle.tl_command.specs.Coming.{HasNotBegun, script_reads};
 ghost use Rattle.tl_command.specs.Outside.{outside};
 ghost use Rattle.tl_group.specs.Keeping.{commits_in};
-ghost use Rattle.tl_grouping.specs.Appending.{AppendsAndWrites, IsAttached};
-ghost use Rattle.tl_grouping.specs.Grouping.{GroupEnds, GroupEndsBy};
+ghost use Rattle.tl_grouping.specs.Appending.{AppendsAndWrites, ClosesPlay, IsAttached};
+ghost use Rattle.tl_grouping.specs.Grouping.{GroupEnds, GroupEndsBy, ScriptEnds, TransactEnds};
 ghost use Rattle.tl_grouping.specs.Telling.{IsWatched, WatchesFor};
 ghost use Rattle.tl_watch.specs.declared.plans.WatchPlan.{WatchPlan};
 
-use crate::playing::{Means, Stopped, play_phases};
-use crate::steps::Playing;
+use crate::playing::{Cause, Means, Stopped, play_phases};
+use crate::steps::{Playing, Replies};
+use std::alloc::Global;
 use std::sync::Wait;
 use std::thread::Threads;
-use tl_command::{Ending, Phases, Status, close_run, end_refused, write_ready};
+use tl_command::{Ending, Phases, Status, close_after, close_run, end_refused, write_ready};
 use tl_device::{Disk, Gate, Sink, Source};
 use tl_group::{Finished, Group, Waiting};
 use tl_jobs::Pace;
@@ -56,9 +58,28 @@ pub fn append<K: Sink, D: Disk>(group: Waiting<D>, text: &[u8], sink: &mut K) ->
     }
 }
 
+// Closes a play that was given up for this cause, with the replies of one that a refusal ended.
+fn close_play<K: Sink>(alloc: Global, sink: &mut K, cause: Cause) -> Status
+    ensures { ClosesPlay cause (K.written sink.old) (K.written sink.new) (K.faults sink.old)
+        (K.faults sink.new) result }
+{
+    match cause {
+        Cause::Stop(stop) => close_run(alloc, sink, stop, false, 0),
+        Cause::Refusal(replies) => {
+            let number = replies.count;
+            close_after(
+                alloc,
+                sink,
+                replies.text,
+                Status::StatementRefused { number },
+            )
+        }
+    }
+}
+
 /// Plays phases over a group as it was opened, of which a plan is told where one is watched, and
-/// appends what waits then; where the script has a fault, its source fails or memory runs out, the
-/// group is given up.
+/// appends what waits then; where the script has a fault, its source fails, a statement is refused
+/// that ends the play, or memory runs out, the group is given up.
 pub(crate) fn play_group<
     R: AllocGlobal + Threads + Wait + Sync,
     S: Source,
@@ -77,21 +98,55 @@ pub(crate) fn play_group<
     requires fresh { HasNotBegun (P.coming phases) }
     requires standard { playing.group.limits ≡ standard_limits }
     requires watched { IsWatched (commits_in playing.group) playing.watching }
-    requires silent { playing.text.items ≡ [] }
+    requires silent { playing.replies.text.items ≡ [] }
+    requires uncounted { playing.replies.count ≡ 0 }
     ensures { (plan : Option WatchPlan) (begun : D)
         → WatchesFor plan (commits_in playing.group) playing.watching
-        → IsAttached D.Disk begun playing.group → GroupEndsBy plan
+        → IsAttached D.Disk begun playing.group → GroupEndsBy means.now.stops_at_refusal plan
         (P.coming phases).reads (commits_in playing.group)
         (outside S.Source K.Sink D.Disk source.old sink.old begun)
         (outside S.Source K.Sink D.Disk source.new sink.new result.disk) result.status }
 {
     let mut phases = phases;
     match play_phases::<S, D, P, G, R>(rt, playing, &mut phases, source, means) {
-        Ok(Playing { group, text, .. }) => append(group.without_keys(), text.as_slice(), sink),
-        Err(Stopped { stop, disk }) => Ending {
-            status: close_run(rt.alloc(), sink, stop, false, 0),
+        Ok(Playing { group, replies, .. }) => {
+            append(group.without_keys(), replies.text.as_slice(), sink)
+        }
+        Err(Stopped { cause, disk }) => Ending {
+            status: close_play(rt.alloc(), sink, cause),
             disk,
         },
+    }
+}
+
+// Opens the journal on the disk, and plays the script that the source has over it.
+fn play_script<R: AllocGlobal + Threads + Wait + Sync, S: Source, K: Sink, D: Disk, G: Gate>(
+    rt: &R,
+    source: &mut S,
+    sink: &mut K,
+    disk: D,
+    means: &Means<'_, G>,
+) -> Ending<D>
+    ensures { ScriptEnds means.now.stops_at_refusal script_reads
+        (outside S.Source K.Sink D.Disk source.old sink.old disk)
+        (outside S.Source K.Sink D.Disk source.new sink.new result.disk) result.status }
+{
+    let alloc = rt.alloc();
+    let limits = Limits::standard();
+    match Group::attach(alloc, disk, &limits) {
+        Err(Refused { fault, disk }) => Ending {
+            status: end_refused(alloc, sink, fault),
+            disk,
+        },
+        Ok(group) => {
+            let playing = Playing {
+                group,
+                replies: Replies::none(alloc),
+                watching: None,
+            };
+            let phases = Script::new(alloc, &limits);
+            play_group::<R, S, K, D, Script, G>(rt, playing, phases, source, sink, means)
+        }
     }
 }
 
@@ -111,22 +166,35 @@ pub fn group<R: AllocGlobal + Threads + Wait + Sync, S: Source, K: Sink, D: Disk
         (outside S.Source K.Sink D.Disk source.old sink.old disk)
         (outside S.Source K.Sink D.Disk source.new sink.new result.disk) result.status }
 {
-    let alloc = rt.alloc();
-    let limits = Limits::standard();
-    match Group::attach(alloc, disk, &limits) {
-        Err(Refused { fault, disk }) => Ending {
-            status: end_refused(alloc, sink, fault),
-            disk,
-        },
-        Ok(group) => {
-            let playing = Playing {
-                group,
-                text: Vec::new(alloc),
-                watching: None,
-            };
-            let phases = Script::new(alloc, &limits);
-            let means = Means { pace, gate };
-            play_group::<R, S, K, D, Script, G>(rt, playing, phases, source, sink, &means)
-        }
-    }
+    let means = Means {
+        pace,
+        gate,
+        stops_at_refusal: false,
+    };
+    play_script(rt, source, sink, disk, &means)
+}
+
+/// Does what `group` does, but ends at the first statement that is refused: the replies up to its
+/// own are written, then the closing line with the statement's number in the script, from 1, and
+/// the disk keeps the journal that it had. No more of the script is read then. How it ends, and
+/// what is then written and on the disk, by status, is what `TransactEnds` says. `pace` is as of
+/// `group`. `StatementRefused`: a statement is refused.
+pub fn transact<R: AllocGlobal + Threads + Wait + Sync, S: Source, K: Sink, D: Disk, G: Gate>(
+    rt: &R,
+    pace: &Pace,
+    source: &mut S,
+    sink: &mut K,
+    disk: D,
+    gate: &G,
+) -> Ending<D>
+    ensures { TransactEnds script_reads
+        (outside S.Source K.Sink D.Disk source.old sink.old disk)
+        (outside S.Source K.Sink D.Disk source.new sink.new result.disk) result.status }
+{
+    let means = Means {
+        pace,
+        gate,
+        stops_at_refusal: true,
+    };
+    play_script(rt, source, sink, disk, &means)
 }

@@ -1,6 +1,6 @@
-//! The commands `group` and `watch`: a whole script whose commits are appended to the journal at
-//! once, all of them or none; and the same with a plan whose value is told behind each reply that
-//! is done.
+//! The commands `group`, `transact` and `watch`: a whole script whose commits are appended to the
+//! journal at once, all of them or none; the same, but none where a statement is refused; and the
+//! same as the first, with a plan whose value is told behind each reply that is done.
 //!
 //! The journal is opened, and the jobs of the script are done one after the other over what the
 //! journal and the jobs before them have committed; nothing of that is on the disk yet. Then the
@@ -17,5 +17,5 @@ mod playing;
 mod steps;
 mod watching;
 
-pub use grouping::{append, group};
+pub use grouping::{append, group, transact};
 pub use watching::{WatchText, watch};

@@ -1,8 +1,9 @@
 //! One job done over a group: it is read and answered as any job, over the snapshot of the group,
 //! and a batch becomes a commit that waits. Its reply is put behind the text, and behind a reply
-//! that is done the value of the plan, where one is watched. Where memory runs out the group is
-//! given up, and its disk handed back.
-ghost use Rattle.std.specs.Prelude.{◌≡◌, ◌++◌, ◌∷◌, [], ℕ, List, IsTrue, IfErr, IfOk, OnOk, length};
+//! that is done the value of the plan, where one is watched. The replies are counted, and of the
+//! last one it is known whether it is a refusal. Where memory runs out the group is given up, and
+//! its disk handed back.
+ghost use Rattle.std.specs.Prelude.{◌≡◌, ◌++◌, ◌∷◌, ◌+◌, [], ℕ, List, IsTrue, IfErr, IfOk, OnOk, length};
 ghost use Rattle.std.specs.declared.option.Option.{Option};
 ghost use Rattle.tl_types.specs.declared.commits.Commit.{Commit as CommitValue};
 ghost use Rattle.tl_types.specs.Entries.{commits_of};
@@ -18,6 +19,7 @@ ghost use Rattle.tl_jobs.specs.Replies.{body_bytes, reply_bytes};
 ghost use Rattle.tl_jobs.specs.Turns.{meant};
 ghost use Rattle.tl_watch.specs.declared.plans.WatchPlan.{WatchPlan};
 ghost use Rattle.tl_grouping.specs.Playing.{AddsBatch, Answers, AnswersJob, KeepsDisk};
+ghost use Rattle.tl_grouping.specs.Refusing.{is_refusal};
 ghost use Rattle.tl_grouping.specs.Telling.{IsWatched, WatchesFor, told_behind};
 
 use std::alloc::Global;
@@ -30,14 +32,39 @@ use tl_jobs::{Crew, JobReading, LentJob, Refusal, Reply, ReplyBody, put_reply, r
 use tl_types::{Batch, BatchFault, Commit, NoMemory};
 use tl_watching::Watching;
 
-/// What jobs are played over: the group in which their commits wait, the text of the replies so
-/// far, and the watch of a plan, where one is told.
+/// The replies so far.
+#[derive(Drop)]
+pub struct Replies {
+    /// Their bytes, in the order of their jobs, with what is told of the plan.
+    pub text: Vec<u8>,
+    /// How many they are.
+    pub count: u64,
+    /// Whether the last one is a refusal.
+    pub is_refusal: bool,
+}
+
+impl Replies {
+    /// No reply yet.
+    pub(crate) fn none(alloc: Global) -> Replies
+        ensures text { result.text.items ≡ [] }
+        ensures count { result.count ≡ 0 }
+    {
+        Replies {
+            text: Vec::new(alloc),
+            count: 0,
+            is_refusal: false,
+        }
+    }
+}
+
+/// What jobs are played over: the group in which their commits wait, the replies so far, and the
+/// watch of a plan, where one is told.
 #[derive(Drop)]
 pub(crate) struct Playing<D: Disk> {
     /// The journal, and the commits that wait.
     pub group: Group<D>,
-    /// The replies so far, in the order of their jobs, with what is told of the plan.
-    pub text: Vec<u8>,
+    /// The replies so far.
+    pub replies: Replies,
     /// The watch of the plan, over all commits.
     pub watching: Option<Watching>,
 }
@@ -69,7 +96,7 @@ fn take_in<D: Disk>(alloc: Global, playing: Playing<D>, commit: &Commit) -> Resu
     requires watched { IsWatched (commits_in playing.group) playing.watching }
     requires fits { IsTrue
         (fits standard_limits (database_of (commits_in playing.group)) commit.now) }
-    ensures text { IfOk result (λ done. done.text.items ≡ playing.text.items) }
+    ensures replies { IfOk result (λ done. done.replies ≡ playing.replies) }
     ensures commits { IfOk result
         (λ done. commits_in done.group ≡ commits_in playing.group ++ commit.now ∷ []) }
     ensures watches { (plan : Option WatchPlan)
@@ -80,7 +107,7 @@ fn take_in<D: Disk>(alloc: Global, playing: Playing<D>, commit: &Commit) -> Resu
 {
     let Playing {
         group,
-        text,
+        replies,
         watching,
     } = playing;
     let Ok(watching) = followed(watching, group.snapshot(), commit) else {
@@ -89,7 +116,7 @@ fn take_in<D: Disk>(alloc: Global, playing: Playing<D>, commit: &Commit) -> Resu
     match group.follow(alloc, commit) {
         Ok(group) => Ok(Playing {
             group,
-            text,
+            replies,
             watching,
         }),
         Err(disk) => Err(disk),
@@ -144,8 +171,22 @@ fn put_told(
     Ok(())
 }
 
-// Puts the reply to a job with this body behind the text, at the version of the group's snapshot,
-// and what is told of the plan. The error, for memory, is the disk.
+// Whether a reply with this body is a refusal.
+fn is_refusal(body: &ReplyBody) -> bool
+    ensures { result ≡ is_refusal body.now }
+{
+    match body {
+        ReplyBody::Rows(_) => false,
+        ReplyBody::Done => false,
+        ReplyBody::Refused(_) => true,
+        ReplyBody::DeviceFault => false,
+        ReplyBody::BrokenJournal => false,
+    }
+}
+
+// Puts the reply to a job with this body behind the replies, at the version of the group's
+// snapshot, and what is told of the plan. The error, for memory or where there are 2^64 - 1 replies
+// already, is the disk.
 fn tell<D: Disk>(
     alloc: Global,
     playing: Playing<D>,
@@ -158,17 +199,28 @@ fn tell<D: Disk>(
     ensures watching { IfOk result (λ done. done.watching ≡ playing.watching) }
     ensures text { (plan : Option WatchPlan)
         → WatchesFor plan (commits_in playing.group) playing.watching
-        → IfOk result (λ done. done.text.items ≡ playing.text.items
+        → IfOk result (λ done. done.replies.text.items ≡ playing.replies.text.items
         ++ (body_bytes name.now (length (commits_in playing.group)) body
         ++ told_behind plan body (commits_in playing.group))) }
+    ensures count { IfOk result (λ done. done.replies.count ≡ playing.replies.count + 1) }
+    ensures refusal { IfOk result (λ done. done.replies.is_refusal ≡ is_refusal body) }
     ensures back { IfErr result (λ disk. disk ≡ playing.group.journal.disk) }
 {
     let Playing {
         group,
-        mut text,
+        replies,
         watching,
     } = playing;
+    let Replies {
+        mut text,
+        count,
+        ..
+    } = replies;
+    let Some(count) = count.checked_add(1) else {
+        return Err(group.into_disk());
+    };
     let version = group.snapshot().store().versions();
+    let refuses = is_refusal(&body);
     let reply = Reply {
         line,
         version,
@@ -177,7 +229,11 @@ fn tell<D: Disk>(
     match put_told(alloc, &mut text, &watching, name, &reply, writer) {
         Ok(()) => Ok(Playing {
             group,
-            text,
+            replies: Replies {
+                text,
+                count,
+                is_refusal: refuses,
+            },
             watching,
         }),
         Err(_) => Err(group.into_disk()),
@@ -197,23 +253,23 @@ fn settle<D: Disk>(
     alloc: Global,
     playing: Playing<D>,
     author: u32,
-    batch: &Batch,
+    batch: Batch,
 ) -> Result<Settled<D>, D>
     requires matching { IsTrue
-        (batch_matches (database_of (commits_in playing.group)) batch.now) }
+        (batch_matches (database_of (commits_in playing.group)) batch) }
     requires standard { playing.group.limits ≡ standard_limits }
     requires watched { IsWatched (commits_in playing.group) playing.watching }
-    ensures ok { IfOk result (λ s. AddsBatch author batch.now
+    ensures ok { IfOk result (λ s. AddsBatch author batch
         (length (commits_in s.playing.group)) s.body
         (commits_in playing.group) (commits_in s.playing.group)) }
     ensures watches { (plan : Option WatchPlan)
         → WatchesFor plan (commits_in playing.group) playing.watching
         → IfOk result (λ s. WatchesFor plan (commits_in s.playing.group) s.playing.watching) }
-    ensures text { IfOk result (λ s. s.playing.text.items ≡ playing.text.items) }
+    ensures replies { IfOk result (λ s. s.playing.replies ≡ playing.replies) }
     ensures keeps { IfOk result (λ s. KeepsDisk D.Disk playing.group s.playing.group) }
     ensures back { IfErr result (IsGivenBack D.reads D.may_leave D.faults playing.group) }
 {
-    match playing.group.resolve(alloc, batch, author) {
+    match playing.group.resolve_owned(alloc, batch, author) {
         Ok(commit) => match take_in(alloc, playing, &commit) {
             Ok(playing) => Ok(Settled {
                 playing,
@@ -245,12 +301,12 @@ fn answer<D: Disk>(
     ensures watches { (plan : Option WatchPlan)
         → WatchesFor plan (commits_in playing.group) playing.watching
         → IfOk result (λ s. WatchesFor plan (commits_in s.playing.group) s.playing.watching) }
-    ensures text { IfOk result (λ s. s.playing.text.items ≡ playing.text.items) }
+    ensures replies { IfOk result (λ s. s.playing.replies ≡ playing.replies) }
     ensures keeps { IfOk result (λ s. KeepsDisk D.Disk playing.group s.playing.group) }
     ensures back { IfErr result (IsGivenBack D.reads D.may_leave D.faults playing.group) }
 {
     match reading {
-        JobReading::Loads(batch) => settle(alloc, playing, author, &batch),
+        JobReading::Loads(batch) => settle(alloc, playing, author, batch),
         JobReading::Query(answer) => Ok(Settled {
             playing,
             body: ReplyBody::Rows(answer),
@@ -263,7 +319,7 @@ fn answer<D: Disk>(
 }
 
 /// Does a job of the session with this name over a group, once the gate has let it pass, and puts
-/// its reply behind the text: a query is answered over the group's snapshot, a batch becomes a
+/// its reply behind the replies: a query is answered over the group's snapshot, a batch becomes a
 /// commit that waits, and a fault is told at the version of the snapshot. Behind a reply that is
 /// done stands the value of the plan, where one is watched. The block of the job is the one at the
 /// crew's place. The error, for memory, is the disk, which keeps what it had.
@@ -281,7 +337,8 @@ pub(crate) fn play_job<D: Disk, G: Gate, R: AllocGlobal + Threads + Sync>(
         → WatchesFor plan (commits_in playing.group) playing.watching
         → IfOk result (λ done. AnswersJob plan name.now (Acts meant (job_of job.now))
         (commits_in playing.group) (commits_in done.group)
-        playing.text.items done.text.items done.watching) }
+        playing.replies.text.items done.replies.text.items
+        playing.replies.count done.replies.count done.replies.is_refusal done.watching) }
     ensures keeps { IfOk result (λ done. KeepsDisk D.Disk playing.group done.group) }
     ensures back { IfErr result (IsGivenBack D.reads D.may_leave D.faults playing.group) }
     ensures same { crew.new.reader.blocks ≡ crew.old.reader.blocks }

@@ -1,6 +1,6 @@
 //! The command `watch`: the journal is opened, a text names a plan over its commits, and the script
 //! is played as by `group`, with the plan's value told behind each reply that is done.
-ghost use Rattle.std.specs.Prelude.{◌≡◌, IfOk};
+ghost use Rattle.std.specs.Prelude.{◌≡◌, IfOk, false};
 ghost use Rattle.tl_types.specs.Entries.{commits_of};
 ghost use Rattle.tl_types.specs.Limits.{standard_limits};
 ghost use Rattle.tl_command.specs.Coming.{script_reads};
@@ -12,7 +12,7 @@ ghost use Rattle.tl_watching.specs.Plans.{plan_reading};
 
 use crate::grouping::play_group;
 use crate::playing::Means;
-use crate::steps::Playing;
+use crate::steps::{Playing, Replies};
 use std::alloc::Global;
 use std::sync::Wait;
 use std::thread::Threads;
@@ -63,6 +63,7 @@ fn watch_group<R: AllocGlobal + Threads + Wait + Sync, S: Source, K: Sink, D: Di
     means: &Means<'_, G>,
 ) -> Ending<D>
     requires standard { group.limits ≡ standard_limits }
+    requires goes_on { means.now.stops_at_refusal ≡ false }
     ensures { (begun : D) → IsAttached D.Disk begun group → WatchEndsBy
         (plan_reading (commits_in group) text.now) script_reads (commits_in group)
         (outside S.Source K.Sink D.Disk source.old sink.old begun)
@@ -73,7 +74,7 @@ fn watch_group<R: AllocGlobal + Threads + Wait + Sync, S: Source, K: Sink, D: Di
         Ok(Ok(watching)) => {
             let playing = Playing {
                 group,
-                text: Vec::new(alloc),
+                replies: Replies::none(alloc),
                 watching: Some(watching),
             };
             let phases = Script::new(alloc, &Limits::standard());
@@ -118,6 +119,7 @@ pub fn watch<R: AllocGlobal + Threads + Wait + Sync, S: Source, K: Sink, D: Disk
             let means = Means {
                 pace: watched.pace,
                 gate,
+                stops_at_refusal: false,
             };
             watch_group(rt, group, watched.text, source, sink, &means)
         }

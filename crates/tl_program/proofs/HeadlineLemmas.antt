@@ -365,6 +365,7 @@ command_tells (Some command.Group) before after ended h = tt
 command_tells (Some (command.Ship from to)) before after ended h = tt
 command_tells (Some command.Follow) before after ended h = tt
 command_tells (Some (command.Watch text)) before after ended h = tt
+command_tells (Some command.Transact) before after ended h = tt
 
 -- out of memory
 pub memory_tells : (c : Option Command) (before : Outside) (ended : Status) → ended ≡ status.NoMemory → HeadlineBy c before before ended
@@ -377,3 +378,4 @@ memory_tells (Some command.Group) before ended e = tt
 memory_tells (Some (command.Ship from to)) before ended e = tt
 memory_tells (Some command.Follow) before ended e = tt
 memory_tells (Some (command.Watch text)) before ended e = tt
+memory_tells (Some command.Transact) before ended e = tt

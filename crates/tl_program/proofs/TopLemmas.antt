@@ -4,6 +4,7 @@ use Rattle.std.specs.declared.option.Option.{Option}
 use Rattle.tl_types.specs.declared.commits.Commit.{Commit}
 use Rattle.tl_types.specs.Limits.{standard_limits}
 use Rattle.tl_device.specs.Known.{Rose}
+use Rattle.tl_script.specs.declared.jobs.ScriptFault.{ScriptFault}
 use Rattle.tl_script.specs.Script.{ScriptReading}
 use Rattle.tl_jobs.specs.Turns.{Turn}
 use Rattle.tl_journal.specs.Answers.{CountsFaults, IsTooLong}
@@ -22,15 +23,16 @@ use Rattle.tl_run.specs.Sample.{sample_reading}
 use Rattle.tl_run.specs.Stopping.{RunStops}
 use Rattle.tl_command.specs.Closing.{wanted_by, Writes, ClosesAfter, EndsFor, EndsRefused, NotMadeBy, InitEnds}
 use Rattle.tl_program.specs.Ending.{EndsBy}
-use Rattle.tl_program.specs.Headline.{IsDoneOrNoMemory, StaysSure, IsHonest, IsFaultless, IsFollowed, NamesPlan, RunCompletes, CompletesBy}
+use Rattle.tl_program.specs.Headline.{AcceptsAll, IsDoneOrNoMemory, StaysSure, IsHonest, IsFaultless, IsFollowed, NamesPlan, RefusesFirst, RunCompletes, CompletesBy, TransactCompletes}
 use Rattle.tl_command.specs.Outside.{Outside, Streams, streams_of}
 use Rattle.tl_follow.specs.declared.inputs.TheConstants.{INPUT_LIMIT}
 use Rattle.tl_follow.specs.Inputs.{IsInput, input_fault}
 use Rattle.tl_follow.specs.Shipping.{shipment}
 use Rattle.tl_follow.proofs.InputLemmas.{one_input}
 use Rattle.tl_csv.proofs.NumberLemmas.{lt_true}
-use Rattle.tl_grouping.specs.Grouping.{GroupEnds, GroupEndsBy, Plays, WhyGivenUp}
+use Rattle.tl_grouping.specs.Grouping.{GroupEnds, GroupEndsBy, Plays, TransactEnds, WhyGivenUp}
 use Rattle.tl_grouping.specs.Leaving.{CutsGivenUp, LeavesBy}
+use Rattle.tl_grouping.specs.Playing.{HasFault, ScriptToRefusal}
 use Rattle.tl_grouping.specs.Watching.{WatchEnds, WatchEndsBy}
 use Rattle.tl_jobs.specs.declared.replies.Refusal.{Refusal}
 use Rattle.tl_watch.specs.declared.plans.WatchPlan.{WatchPlan}
@@ -47,10 +49,14 @@ writes_complete bytes wanted old new before after ended w (inl done) sink = inl 
 writes_complete bytes wanted old new before after ended w (inr (inl none)) sink = inr none.0
 writes_complete bytes wanted old new before after ended w (inr (inr failed)) sink = absurd (sink failed.1)
 
-refused_complete : (before after : Outside) (ended : Status) → EndsRefused before after ended → IsHonest before → StaysSure before after → IsDoneOrNoMemory ended
-refused_complete before after ended h honest sure =
+-- a journal that is honest is refused for memory alone
+refused_memory : (before after : Outside) (ended : Status) → EndsRefused before after ended → IsHonest before → StaysSure before after → ended ≡ status.NoMemory
+refused_memory before after ended h honest sure =
     let memory = only_memory h.fault before.disk_faults after.disk_faults h.counts sure.disk (h.honest honest.image honest.commits honest.told honest.stands honest.fitting) in
-    inr (subst (λ (f : JournalFault). EndsFor f before.written after.written before.sink_faults after.sink_faults ended) memory h.ends).0
+    (subst (λ (f : JournalFault). EndsFor f before.written after.written before.sink_faults after.sink_faults ended) memory h.ends).0
+
+refused_complete : (before after : Outside) (ended : Status) → EndsRefused before after ended → IsHonest before → StaysSure before after → IsDoneOrNoMemory ended
+refused_complete before after ended h honest sure = inr (refused_memory before after ended h honest sure)
 
 pub told_script : (left : Option (List ℕ)) (script own : List ℕ) → left ≡ Some own → IfSome left (λ l. l ≡ script) → own ≡ script
 told_script None script own e told = absurd (cc)
@@ -104,27 +110,90 @@ sink_rose What Why opening before after n (inl (same, inl h)) = h.prints.0
 sink_rose What Why opening before after n (inl (same, inr h)) = h.prints.0
 sink_rose What Why opening before after n (inr (same, h)) = h.prints.0
 
+-- the sink failed at what a group writes
+group_rose : (stops : Bool) (plan : Option WatchPlan) (opening : List Commit) (before after : Outside) (n : ℕ) → GroupEndsBy stops plan script_reads opening before after (status.SinkFault n) → Rose before.sink_faults after.sink_faults
+group_rose stops plan opening before after n (inl h) = sink_rose (λ all text. Plays stops plan script_reads opening all text before after) (WhyGivenUp script_reads before after) opening before after n (inl h)
+group_rose stops plan opening before after n (inr (same, inl h)) = h.prints.0
+group_rose stops plan opening before after n (inr (same, inr h)) = h.1.prints.0
+
+-- no fault is read of a faultless script
+no_fault : (before : Outside) (f : ScriptFault) → HasFault (script_reads true) f before.left → IsFaultless script_reads before → ⊥
+no_fault before f (script, told, is) faultless =
+    let own : script ≡ faultless.script = sym (told_script before.left script faultless.script faultless.told told) in
+    absurd (let e : None ≡ Some f = sym faultless.whole ∙ (ap (λ s. (script_reads true s).fault) (sym own) ∙ is) in cc)
+
 -- a group that was opened, with a script in which no fault is read
-group_opened : (plan : Option WatchPlan) (opening : List Commit) (before after : Outside) (ended : Status) → GroupEndsBy plan script_reads opening before after ended → IsFaultless script_reads before → StaysSure before after → IsDoneOrNoMemory ended
+group_opened : (plan : Option WatchPlan) (opening : List Commit) (before after : Outside) (ended : Status) → GroupEndsBy false plan script_reads opening before after ended → IsFaultless script_reads before → StaysSure before after → IsDoneOrNoMemory ended
 group_opened plan opening before after status.Done h faultless sure = inl refl
 group_opened plan opening before after status.NoMemory h faultless sure = inr refl
 group_opened plan opening before after status.Usage h faultless sure = absurd h
 group_opened plan opening before after (status.SourceFault n) h faultless sure = absurd (sure.source h.0.1)
-group_opened plan opening before after (status.SinkFault n) h faultless sure = absurd (sure.sink (sink_rose (λ all text. Plays plan script_reads opening all text before after) (WhyGivenUp script_reads before after) opening before after n h))
+group_opened plan opening before after (status.SinkFault n) h faultless sure = absurd (sure.sink (group_rose false plan opening before after n h))
 group_opened plan opening before after (status.DiskFault n) h faultless sure = absurd (sure.disk h.1.holds.rose)
-group_opened plan opening before after (status.ScriptFault f) h faultless sure =
-    let script = h.0.0 in
-    let own : script.0 ≡ faultless.script = sym (told_script before.left script.0 faultless.script faultless.told script.1) in
-    absurd (let e : None ≡ Some f = sym faultless.whole ∙ (ap (λ s. (script_reads true s).fault) (sym own) ∙ script.2) in cc)
+group_opened plan opening before after (status.ScriptFault f) h faultless sure = absurd (no_fault before f h.0.0 faultless)
 group_opened plan opening before after (status.NotInitialised len) h faultless sure = absurd h
 group_opened plan opening before after (status.AlreadyInitialised len) h faultless sure = absurd h
 group_opened plan opening before after (status.Damaged at) h faultless sure = absurd h
 group_opened plan opening before after (status.PacketFault at) h faultless sure = absurd h
 group_opened plan opening before after (status.WatchFault f) h faultless sure = absurd h
+group_opened plan opening before after (status.StatementRefused n) h faultless sure = absurd h.plays
 
 group_complete : (before after : Outside) (ended : Status) → GroupEnds script_reads before after ended → RunCompletes script_reads before after ended
 group_complete before after ended (inl refused) = λ honest faultless sure. refused_complete before after ended refused honest sure
 group_complete before after ended (inr (opening, h)) = λ honest faultless sure. group_opened None opening before after ended h.ends faultless sure
+
+-- what a transaction comes to that was opened, with a script in which no fault is read
+abbrev TransactIs : ScriptReading → List Commit → Status → Type 0
+TransactIs reading opening ended =
+    ((ended ≡ status.Done) × AcceptsAll reading opening)
+    ⊎ ((ended ≡ status.NoMemory) ⊎ ((number : ℕ) × (ended ≡ status.StatementRefused number) × RefusesFirst reading opening number))
+
+-- all of a script was done
+accepts_all : (opening all : List Commit) (text : List ℕ) (before after : Outside) (faultless : IsFaultless script_reads before) → Plays true None script_reads opening all text before after → AcceptsAll (script_reads true faultless.script) opening
+accepts_all opening all text before after faultless (plays, sure) =
+    let own : plays.script ≡ faultless.script = sym (told_script before.left plays.script faultless.script faultless.told plays.told) in
+    subst (λ (s : List ℕ). AcceptsAll (script_reads true s) opening) own (record {
+      turns = plays.play.0;
+      all = all;
+      jobs = plays.play.1;
+      play = plays.play.2;
+      accepted = plays.play.3;
+    })
+
+-- or up to a statement that is refused
+refuses_first : (opening : List Commit) (text : List ℕ) (number : ℕ) (before : Outside) (faultless : IsFaultless script_reads before) → ScriptToRefusal None (script_reads true) opening text number before.left → RefusesFirst (script_reads true faultless.script) opening number
+refuses_first opening text number before faultless plays =
+    let own : plays.script ≡ faultless.script = sym (told_script before.left plays.script faultless.script faultless.told plays.told) in
+    subst (λ (s : List ℕ). RefusesFirst (script_reads true s) opening number) own (record {
+      turns = plays.turns;
+      all = plays.all;
+      later = plays.later;
+      jobs = sym plays.jobs;
+      play = plays.play;
+      refusal = plays.refusal;
+      counted = plays.counted;
+    })
+
+transact_opened : (opening : List Commit) (before after : Outside) (ended : Status) → GroupEndsBy true None script_reads opening before after ended → (faultless : IsFaultless script_reads before) → StaysSure before after → TransactIs (script_reads true faultless.script) opening ended
+transact_opened opening before after status.Done h faultless sure = inl (refl, accepts_all opening h.all h.text before after faultless h.what)
+transact_opened opening before after status.NoMemory h faultless sure = inr (inl refl)
+transact_opened opening before after status.Usage h faultless sure = absurd h
+transact_opened opening before after (status.SourceFault n) h faultless sure = absurd (sure.source h.0.1)
+transact_opened opening before after (status.SinkFault n) h faultless sure = absurd (sure.sink (group_rose true None opening before after n h))
+transact_opened opening before after (status.DiskFault n) h faultless sure = absurd (sure.disk h.1.holds.rose)
+transact_opened opening before after (status.ScriptFault f) h faultless sure = absurd (no_fault before f h.0.0 faultless)
+transact_opened opening before after (status.NotInitialised len) h faultless sure = absurd h
+transact_opened opening before after (status.AlreadyInitialised len) h faultless sure = absurd h
+transact_opened opening before after (status.Damaged at) h faultless sure = absurd h
+transact_opened opening before after (status.PacketFault at) h faultless sure = absurd h
+transact_opened opening before after (status.WatchFault f) h faultless sure = absurd h
+transact_opened opening before after (status.StatementRefused n) h faultless sure = inr (inr (n, refl, refuses_first opening h.text n before faultless h.plays))
+
+transact_complete : (before after : Outside) (ended : Status) → TransactEnds script_reads before after ended → TransactCompletes script_reads before after ended
+transact_complete before after ended (inl refused) = λ honest faultless sure. inr (inl (refused_memory before after ended refused honest sure))
+transact_complete before after ended (inr (opening, h)) = λ honest faultless sure.
+    let same : honest.commits ≡ opening = (h.opens.stands honest.image honest.told).only honest.commits honest.stands in
+    subst (λ (cs : List Commit). TransactIs (script_reads true faultless.script) cs ended) (sym same) (transact_opened opening before after ended h.ends faultless sure)
 
 watch_complete : (text : List ℕ) (before after : Outside) (ended : Status) → WatchEnds text script_reads before after ended → (honest : IsHonest before) → NamesPlan text honest.commits → IsFaultless script_reads before → StaysSure before after → IsDoneOrNoMemory ended
 watch_complete text before after ended (inl refused) honest names faultless sure = refused_complete before after ended refused honest sure
@@ -164,6 +233,7 @@ follow_opened opening before after (status.AlreadyInitialised len) h followed su
 follow_opened opening before after (status.Damaged at) h followed sure = absurd h
 follow_opened opening before after (status.PacketFault at) h followed sure = absurd (no_input_fault opening at before followed h.0)
 follow_opened opening before after (status.WatchFault f) h followed sure = absurd h
+follow_opened opening before after (status.StatementRefused n) h followed sure = absurd h
 
 follow_complete : (before after : Outside) (ended : Status) → FollowEnds before after ended → (honest : IsHonest before) → IsFollowed honest.commits before → StaysSure before after → IsDoneOrNoMemory ended
 follow_complete before after ended (inl refused) honest followed sure = refused_complete before after ended refused honest sure
@@ -181,6 +251,7 @@ command_completes (Some command.Group) before after ended h = group_complete bef
 command_completes (Some (command.Ship from to)) before after ended h = λ honest sure. ship_complete from to before after ended h.1 honest sure
 command_completes (Some command.Follow) before after ended h = λ honest followed sure. follow_complete before after ended h honest followed sure
 command_completes (Some (command.Watch text)) before after ended h = λ honest names faultless sure. watch_complete text before after ended h honest names faultless sure
+command_completes (Some command.Transact) before after ended h = transact_complete before after ended h
 
 -- out of memory
 pub memory_completes : (c : Option Command) (before after : Outside) (ended : Status) → ended ≡ status.NoMemory → CompletesBy c before after ended
@@ -193,3 +264,4 @@ memory_completes (Some command.Group) before after ended e = λ honest faultless
 memory_completes (Some (command.Ship from to)) before after ended e = λ honest sure. inr e
 memory_completes (Some command.Follow) before after ended e = λ honest followed sure. inr e
 memory_completes (Some (command.Watch text)) before after ended e = λ honest names faultless sure. inr e
+memory_completes (Some command.Transact) before after ended e = λ honest faultless sure. inr (inl e)

@@ -129,9 +129,9 @@ sample_settings (lines ∷ start ∷ options) =
     with_pace (sample_of (within 1 1000000 (spelled_number lines)) (spelled_number start))
     (options_of options)
 
--- what the words ask for: `init`, `group` or `follow`; `ship` and its two versions; `watch` and its
--- text; or `run`, `load` and a name, or `sample` and its two numbers, each of these three with
--- options behind it
+-- what the words ask for: `init`, `group`, `transact` or `follow`; `ship` and its two versions;
+-- `watch` and its text; or `run`, `load` and a name, or `sample` and its two numbers, each of these
+-- three with options behind it
 abbrev pub settings_of : List (List ℕ) → Settings
 settings_of [] = nothing
 settings_of (word ∷ words) =
@@ -142,13 +142,15 @@ settings_of (word ∷ words) =
     else (if same_bytes word (codes "group") then alone command.Group words
     else (if same_bytes word (codes "ship") then ship_settings words
     else (if same_bytes word (codes "follow") then alone command.Follow words
-    else (if same_bytes word (codes "watch") then watch_settings words else nothing)))))))
+    else (if same_bytes word (codes "watch") then watch_settings words
+    else (if same_bytes word (codes "transact") then alone command.Transact words
+    else nothing))))))))
 
 -- the command that the words are
 abbrev pub command_of : List (List ℕ) → Option Command
 command_of words = (settings_of words).command
 
--- the source is read by `run`, `load`, `group`, `follow` and `watch` alone
+-- the source is read by `run`, `load`, `group`, `transact`, `follow` and `watch` alone
 abbrev pub reads_source : Option Command → Bool
 reads_source None = false
 reads_source (Some command.Init) = false
@@ -159,6 +161,7 @@ reads_source (Some command.Group) = true
 reads_source (Some (command.Ship from to)) = false
 reads_source (Some command.Follow) = true
 reads_source (Some (command.Watch text)) = true
+reads_source (Some command.Transact) = true
 
 -- the disk is used by all commands but `sample`
 abbrev pub uses_disk : Option Command → Bool
@@ -171,3 +174,4 @@ uses_disk (Some command.Group) = true
 uses_disk (Some (command.Ship from to)) = true
 uses_disk (Some command.Follow) = true
 uses_disk (Some (command.Watch text)) = true
+uses_disk (Some command.Transact) = true

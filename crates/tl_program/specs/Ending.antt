@@ -1,6 +1,6 @@
 -- What a run leaves outside, and why it ended. By status, what says it here, and which field of
 -- `RunTells` (Headline.antt) says what a run over a journal printed and keeps then. Of `group`,
--- `ship`, `follow` and `watch` their own definitions say it all.
+-- `transact`, `ship`, `follow` and `watch` their own definitions say it all.
 --
 --   status              here                                                       in `RunTells`
 --   Done                `OpenedEnds`: `ends.why` is Ended, no break; `MakesJournal`;   done
@@ -28,7 +28,7 @@ use Rattle.tl_program.specs.Commands.{command_of}
 use Rattle.tl_run.specs.Runs.{put_text, RunEnds, SampleEnds}
 use Rattle.tl_command.specs.Coming.{script_reads, block_reads}
 use Rattle.tl_run.specs.Sample.{sample_reading}
-use Rattle.tl_grouping.specs.Grouping.{GroupEnds}
+use Rattle.tl_grouping.specs.Grouping.{GroupEnds, TransactEnds}
 use Rattle.tl_grouping.specs.Watching.{WatchEnds}
 use Rattle.tl_shipping.specs.Shipping.{ShipEnds}
 use Rattle.tl_following.specs.Following.{FollowEnds}
@@ -54,6 +54,7 @@ EndsBy (Some (command.Ship from to)) before after ended =
 EndsBy (Some command.Follow) before after ended = FollowEnds before after ended
 EndsBy (Some (command.Watch text)) before after ended =
     WatchEnds text script_reads before after ended
+EndsBy (Some command.Transact) before after ended = TransactEnds script_reads before after ended
 
 -- the same of the words
 abbrev pub Ends : List (List ℕ) → Outside → Outside → Status → Type 0

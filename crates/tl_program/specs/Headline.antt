@@ -23,7 +23,7 @@ use Rattle.tl_device.specs.Known.{append_known, prepend_known, Rose}
 use Rattle.tl_script.specs.declared.jobs.ScriptFault.{ScriptFault}
 use Rattle.tl_script.specs.Script.{ScriptReading}
 use Rattle.tl_jobs.specs.Jobs.{Job}
-use Rattle.tl_jobs.specs.Play.{AreLonePhases}
+use Rattle.tl_jobs.specs.Play.{AreLonePhases, IsPlay}
 use Rattle.tl_session.specs.Transcript.{Transcript, IsTranscript}
 use Rattle.tl_jobs.specs.Turns.{Turn, meant}
 use Rattle.tl_jobs.specs.Written.{IsPlayOf, all_jobs, jobs_of, turns_bytes, transcript_bytes}
@@ -48,6 +48,7 @@ use Rattle.tl_command.specs.Closing.{status_for, wanted_by, RefusedBy}
 use Rattle.tl_run.specs.Sample.{sample_reading}
 use Rattle.tl_command.specs.Outside.{Outside, IsUnread, KeepsJournal, HoldsJournal}
 use Rattle.tl_run.specs.Stopping.{AreFronts}
+use Rattle.tl_grouping.specs.Refusing.{AreAccepted, EndInRefusal}
 
 -- COMPLETENESS
 
@@ -93,6 +94,36 @@ RunCompletes reads before after ended =
 abbrev pub NamesPlan : List ℕ → List Commit → Type 0
 NamesPlan text commits = (plan : WatchPlan) × (plan_reading commits text ≡ Ok plan)
 
+-- the jobs of the script, done one after the other over these commits, are all answered without a
+-- refusal
+pub record AcceptsAll (reading : ScriptReading) (opening : List Commit) : Type 0 where
+  pub turns : List Turn
+  pub all : List Commit
+  pub jobs : jobs_of turns ≡ all_jobs (phases_asked reading.phases)
+  pub play : IsPlay meant opening turns all
+  pub accepted : AreAccepted turns
+
+-- done so, the one with this number, from 1, is the first that is refused
+pub record RefusesFirst (reading : ScriptReading) (opening : List Commit) (number : ℕ)
+    : Type 0 where
+  pub turns : List Turn
+  pub all : List Commit
+  pub later : List Job
+  pub jobs : jobs_of turns ++ later ≡ all_jobs (phases_asked reading.phases)
+  pub play : IsPlay meant opening turns all
+  pub refusal : EndInRefusal turns
+  pub counted : number ≡ length turns
+
+-- a script without a fault, over a journal: where none of its statements is refused it is done; one
+-- that is refused is told by its number; or memory runs out
+abbrev pub TransactCompletes : (Bool → List ℕ → ScriptReading) → Outside → Outside → Status → Type 0
+TransactCompletes reads before after ended =
+    (honest : IsHonest before) → (script : IsFaultless reads before) → StaysSure before after
+    → ((ended ≡ status.Done) × AcceptsAll (reads true script.script) honest.commits)
+    ⊎ ((ended ≡ status.NoMemory)
+    ⊎ ((number : ℕ) × (ended ≡ status.StatementRefused number)
+    × RefusesFirst (reads true script.script) honest.commits number))
+
 -- by what the words ask for: a journal is made of at most 17 bytes, a script is run to its end, and
 -- so is a sample, which reads no script and uses no disk; of a watch the text names a plan
 abbrev pub CompletesBy : Option Command → Outside → Outside → Status → Type 0
@@ -116,9 +147,12 @@ CompletesBy (Some command.Follow) before after ended =
 CompletesBy (Some (command.Watch text)) before after ended =
     (honest : IsHonest before) → NamesPlan text honest.commits → IsFaultless script_reads before
     → StaysSure before after → IsDoneOrNoMemory ended
+CompletesBy (Some command.Transact) before after ended =
+    TransactCompletes script_reads before after ended
 
 -- Completeness: with the words of a command, what it wants of the disk and the source, and no count
--- that rises, the run is done, unless memory runs out.
+-- that rises, the run is done, unless memory runs out; or, of `transact` alone, a statement is
+-- refused.
 abbrev pub Completes : List (List ℕ) → Outside → Outside → Status → Type 0
 Completes words before after ended = CompletesBy (command_of words) before after ended
 
@@ -339,6 +373,7 @@ HeadlineBy (Some command.Group) before after ended = Unit {0}
 HeadlineBy (Some (command.Ship from to)) before after ended = Unit {0}
 HeadlineBy (Some command.Follow) before after ended = Unit {0}
 HeadlineBy (Some (command.Watch text)) before after ended = Unit {0}
+HeadlineBy (Some command.Transact) before after ended = Unit {0}
 
 abbrev pub Headline : List (List ℕ) → Outside → Outside → Status → Type 0
 Headline words before after ended = HeadlineBy (command_of words) before after ended

@@ -46,6 +46,8 @@ pub enum Command {
         /// The text, of any length.
         text: Line,
     },
+    /// `transact`: as `group`, but nothing is kept where a statement is refused.
+    Transact,
 }
 
 /// What the words set: a command, and the pace of its run.
@@ -363,17 +365,18 @@ fn settings_by(alloc: Global, word: &str, words: &[String]) -> Result<Settings, 
         "ship" => Ok(ship_settings(words)),
         "follow" => Ok(alone(Command::Follow, words)),
         "watch" => watch_settings(alloc, words),
+        "transact" => Ok(alone(Command::Transact, words)),
         _ => Ok(nothing()),
     }
 }
 
 /// What the words set. A command is `init`; `run`; `load TABLE` with a name of the language;
 /// `sample N START` with N from 1 to 1,000,000 and START from 0 to 2^64 - 1; `group`; `ship V W`
-/// with V and W from 0 to 16,777,215; `follow`; or `watch TEXT` with any one word. Behind `run`,
-/// `load TABLE` and `sample N START` may stand `--workers W` with W from 1 to 64, and `--every K`
-/// with K from 0 to 16,777,216, each at most once and in either order; else W is 4 and K is 4096.
-/// The numbers are spelled by ASCII digits alone. Any other words are no command. The error is
-/// `NoMemory`.
+/// with V and W from 0 to 16,777,215; `follow`; `watch TEXT` with any one word; or `transact`.
+/// Behind `run`, `load TABLE` and `sample N START` may stand `--workers W` with W from 1 to 64, and
+/// `--every K` with K from 0 to 16,777,216, each at most once and in either order; else W is 4 and
+/// K is 4096. The numbers are spelled by ASCII digits alone. Any other words are no command. The
+/// error is `NoMemory`.
 pub(crate) fn settings_of(alloc: Global, words: &[String]) -> Result<Settings, NoMemory>
     ensures { IfOk result (λ settings. settings ≡ settings_of (texts_of words.now)) }
 {

@@ -15,7 +15,7 @@ use std::thread::Threads;
 use tl_command::{Ending, Status, close, end_refused};
 use tl_device::{Disk, Gate, Sink, Source};
 use tl_following::follow;
-use tl_grouping::{WatchText, group, watch};
+use tl_grouping::{WatchText, group, transact, watch};
 use tl_journal::{InitRun, Journal};
 use tl_run::{Paced, load, run_sample, run_script};
 use tl_shipping::ship;
@@ -81,6 +81,7 @@ fn do_command<R: AllocGlobal + Threads + Wait + Sync, S: Source, K: Sink, D: Dis
             };
             watch(rt, &watched, source, sink, disk, gate)
         }
+        Some(Command::Transact) => transact(rt, &pace, source, sink, disk, gate),
     }
 }
 
@@ -105,6 +106,8 @@ fn do_command<R: AllocGlobal + Threads + Wait + Sync, S: Source, K: Sink, D: Dis
 /// - `watch TEXT` opens the journal and does what `group` does, with one plan: TEXT is an aggregate
 ///   `OVER SYSTEM ALL`, and behind each reply `ok` stand the line `watch @V rows N` and the N rows
 ///   of its value at the version V of the reply. The range is not used.
+/// - `transact` opens the journal and does what `group` does, but ends at the first statement that
+///   is refused, and appends nothing then.
 ///
 /// Behind `run`, `load TABLE` and `sample N START` may stand `--workers W` and `--every K`, in
 /// either order, each at most once. The work of a query may be shared by W workers, 1 to 64, and 4
@@ -112,12 +115,14 @@ fn do_command<R: AllocGlobal + Threads + Wait + Sync, S: Source, K: Sink, D: Dis
 /// from 0 to 16,777,216, and 4096 where it is not given; for 0 there are no marks. What is answered
 /// and kept is right for each of them.
 ///
-/// The order is, of `group`, `follow` and `watch`: the words; opening; the text of `watch`; the
-/// source and what it has; the append; writing. Of a run it is: the words; opening; then for each
-/// phase reading the source, the faults of the script, running, writing. The sessions of a phase
-/// run at once, each its own jobs in order; their replies are written, in the order of the jobs'
-/// lines, before more of the source is read. The statuses of a run, each with its closing line but
-/// for `Done`, `NoMemory` and `SinkFault`:
+/// The order is, of `group`, `transact`, `follow` and `watch`: the words; opening; the text of
+/// `watch`; the source and what it has; the append; writing. `transact` does the jobs of each phase
+/// as it comes, so what comes first in the script ends it, a statement that is refused, a phase
+/// with a fault, or a source that fails. Of a run it is: the words; opening; then for each phase
+/// reading the source, the faults of the script, running, writing. The sessions of a phase run at
+/// once, each its own jobs in order; their replies are written, in the order of the jobs' lines,
+/// before more of the source is read. The statuses of a run, each with its closing line but for
+/// `Done`, `NoMemory` and `SinkFault`:
 /// - `Done`: the source was read to its end, and the bytes written are the replies to all jobs, a
 ///   transcript of the script's phases. The disk holds the journal of the commits that they end
 ///   with, also in a crash. Where each phase has jobs of one session, the replies are those of the
@@ -145,19 +150,24 @@ fn do_command<R: AllocGlobal + Threads + Wait + Sync, S: Source, K: Sink, D: Dis
 /// - `WatchFault`: where the text of `watch` is no statement, another than an aggregate `OVER
 ///   SYSTEM ALL`, or does not fit the tables that the journal's commits make. The closing line
 ///   alone is written, the source is unread, and the disk keeps its journal.
+/// - `StatementRefused`: where `transact` did the jobs of the script one after the other up to this
+///   one, from 1, which is refused, and none before it is. The replies up to its own are written,
+///   and the closing line; no more of the script is read, and the disk keeps its journal.
 ///
-/// Of `group`, `follow` and `watch` the disk keeps its journal, or holds this and all commits that
-/// were to be appended, and never a part of them: all at `Done`, the one or the other at
-/// `DiskFault` and `SinkFault`, and the journal alone else. At `Done` the replies are written, with
-/// what is told of the plan of `watch`, or the line that tells how many commits there are; at
-/// `SinkFault` a prefix of these or of the closing line; else the closing line alone, or nothing.
-/// `ship` keeps the journal as it is, and writes all packets at `Done`, and a prefix of them at
-/// `SinkFault`.
+/// Of `group`, `transact`, `follow` and `watch` the disk keeps its journal, or holds this and all
+/// commits that were to be appended, and never a part of them: all at `Done`, the one or the other
+/// at `DiskFault` and `SinkFault`, and the journal alone else. At `Done` the replies are written,
+/// with what is told of the plan of `watch`, or the line that tells how many commits there are; at
+/// `SinkFault` a prefix of these or of what was to close; else, but for `StatementRefused`, the
+/// closing line alone, or nothing. `ship` keeps the journal as it is, and writes all packets at
+/// `Done`, and a prefix of them at `SinkFault`.
 ///
 /// With the words of a command, a disk whose bytes are a journal of commits that fit one after the
 /// other (for `init` at most 17 bytes), a script, or for `follow` packets, without a fault, for
 /// `watch` a text that names a plan over the journal's commits, and no count that rises, the status
-/// is `Done` or `NoMemory`. The call may wait, and starts threads of its own, which end with it.
+/// is `Done` or `NoMemory`. Of `transact` it is `Done` or `NoMemory` where no statement is refused,
+/// and else `StatementRefused` or `NoMemory`. The call may wait, and starts threads of its own,
+/// which end with it.
 pub fn timeline<
     R: AllocGlobal + Threads + Wait + Sync,
     S: Source,

@@ -1,4 +1,4 @@
-use Rattle.std.proofs.Common.{inl, inr, Some, None}
+use Rattle.std.proofs.Common.{inl, inr}
 use Rattle.tl_command.specs.declared.statuses.Status.TheVariants as status
 use Rattle.tl_grouping.proofs.EndLemmas.{in_doubt, line_ready, ready_from}
 use Rattle.tl_grouping.proofs.grouping.append.Goals as goal

@@ -1,4 +1,4 @@
-use Rattle.std.proofs.Common.{◌∙◌, Err, None, Ok, Some, arith, ap, refl, subst, sym}
+use Rattle.std.proofs.Common.{◌∙◌, Bool, Err, false, Ok, Some, arith, ap, refl, subst, sym}
 use Rattle.tl_types.specs.Entries.{commits_of}
 use Rattle.tl_types.specs.Limits.{standard_limits}
 use Rattle.tl_script.specs.Reader.{ScriptState, new_state}
@@ -31,8 +31,9 @@ returns-in-Ok-Ok g c = λ begun attached.
     let before = outside source sink disks c.args.source.now c.args.sink.now begun in
     let after = outside source sink disks c.play_group.new.source c.play_group.new.sink c.play_group.result.disk in
     watch_played (plan_reading opening c.args.text.now) begins.0 script_reads opening before after c.play_group.result.status begins.1
-    (subst (λ (s : ScriptState). GroupEndsBy (Some begins.0) (script_coming s).reads opening before after c.play_group.result.status) (c.new-phases.ensures ∙ ap new_state c.standard.ensures)
-    (c.play_group.ensures (Some begins.0) begun begins.2 attached))
+    (subst (λ (s : ScriptState). GroupEndsBy false (Some begins.0) (script_coming s).reads opening before after c.play_group.result.status) (c.new-phases.ensures ∙ ap new_state c.standard.ensures)
+    (subst (λ (b : Bool). GroupEndsBy b (Some begins.0) (script_coming c.new-phases.result).reads opening before after c.play_group.result.status) c.requires.goes_on
+    (c.play_group.ensures (Some begins.0) begun begins.2 attached)))
 
 pub returns-in-Ok-Err : goal.returns-in-Ok-Err
 returns-in-Ok-Err g c = λ begun attached.

@@ -9,7 +9,7 @@ use Rattle.tl_command.proofs.ScriptComing.{new_script_fresh}
 use Rattle.tl_grouping.specs.Grouping.{GroupEndsBy}
 use Rattle.tl_grouping.proofs.DiskLemmas.{none_waiting}
 use Rattle.tl_command.proofs.OpenedLemmas.{ends_refused, opens_with}
-use Rattle.tl_grouping.proofs.grouping.group.Goals as goal
+use Rattle.tl_grouping.proofs.grouping.play_script.Goals as goal
 
 pub play_group-requires-clause-fresh : goal.play_group-requires-clause-fresh
 play_group-requires-clause-fresh g c κs within = subst (λ (s : ScriptState). HasNotBegun (script_coming s)) (sym (c.new-phases.ensures ∙ ap new_state c.standard-limits.ensures)) (new_script_fresh standard_limits (omega arith))
@@ -33,7 +33,7 @@ returns-in-Ok g c =
       commits_in group,
       record {
         opens = opens_with disks c.args.disk c.standard-limits.result (history_of disks.faults group) (source.left c.args.source.now) (sink.written c.args.sink.now) (source.faults c.args.source.now) (sink.faults c.args.sink.now) c.in-Ok.ensures.opens c.standard-limits.ensures;
-        ends = subst (λ (s : ScriptState). GroupEndsBy None (script_coming s).reads (commits_in group) before after c.play_group.result.status) (c.new-phases.ensures ∙ ap new_state c.standard-limits.ensures)
+        ends = subst (λ (s : ScriptState). GroupEndsBy c.args.means.now.stops_at_refusal None (script_coming s).reads (commits_in group) before after c.play_group.result.status) (c.new-phases.ensures ∙ ap new_state c.standard-limits.ensures)
             (c.play_group.ensures None c.args.disk tt (record {
               journal_is = none_waiting group c.in-Ok.ensures.none_waits;
               count_same = c.in-Ok.ensures.opens.count.1;

@@ -72,7 +72,7 @@ def words_are_answered_at_once():
     """Where nothing is built, words that are none, and those that ask for a page, are answered and nothing is built."""
     with tempfile.TemporaryDirectory() as room:
         command = copy_of_the_command(room, "exit 1\n")
-        for words in ((), ("go",), ("run", "no file"), ("load",), ("load", "1t"), ("try", "a", "b"), ("--strict",)):
+        for words in ((), ("go",), ("run", "no file"), ("load",), ("load", "1t"), ("rows",), ("rows", "1t"), ("try", "a", "b"), ("--strict",)):
             status, printed, said = command(*words)
             judge(f"the words {words}", (status, printed) == (2, "! usage\n") and said.endswith(HINT), (status, said))
         for words in (("-h",), ("help",), ("--help",)):
@@ -160,7 +160,7 @@ def only_build_builds():
     """A build says how far it is; no other command builds, also where a source is newer; a build that fails ends with 125."""
     with tempfile.TemporaryDirectory() as room:
         command = copy_of_the_command(room, BUILDS)
-        for words in (("run",), ("load", "t"), ("init",), ("log",), ("tables",), ("ask", "SELECT k FROM t"), ("shell",), ("seal",)):
+        for words in (("run",), ("load", "t"), ("init",), ("log",), ("tables",), ("rows", "t"), ("ask", "SELECT k FROM t"), ("shell",), ("seal",)):
             found = command(*words)
             judge(f"{words} with nothing built", found == (125, "", "timeline: not built: ./timeline build\n"), found)
         judge("options, with nothing built", command("run", "--workers", "99")[:2] == (2, "! usage\n"), "")
@@ -459,9 +459,9 @@ def a_disk_that_fails_says_why():
 
 
 def a_listing_is_refused():
-    """Where there is no journal, or none that can be listed, `log` and `tables` say so, and end as a run does."""
+    """Where there is no journal, or none that can be listed, `log`, `tables` and `rows` say so, and end as a run does."""
     with tempfile.TemporaryDirectory(dir=JOURNALS) as room:
-        for words in (["log"], ["tables", "--csv"], ["log", "--times"]):
+        for words in (["log"], ["tables", "--csv"], ["log", "--times"], ["rows", "t"]):
             found = run(words, room=room)
             judge(f"{words} without a journal", found == (7, "! journal NotInitialised 0\n", "timeline: no journal is here\n"), found)
         judge("a listing makes no file", not os.listdir(room), os.listdir(room))

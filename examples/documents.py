@@ -16,7 +16,7 @@ JOURNALS = "/dev/shm" if os.access("/dev/shm", os.W_OK) else None
 FAULTS = {"TextFault": "", "CheckFault": "", "CsvFault": "", "BatchFault": "", "ScriptFault": "script ", "JournalFault": "journal "}
 # What is no word of a fault: want of memory ends a run, and a fault of the source or the disk is a line of its own.
 UNTOLD = {"NoMemory", "Source", "script NoMemory", "script Source", "journal NoMemory", "journal Device"}
-LINES = {"device", "broken", "usage", "source", "packet", "refused"}
+LINES = {"device", "broken", "usage", "source", "packet", "refused", "rows UnknownTable"}
 # What a recipe needs beside the program, and how to see whether it is there.
 NEEDS = {"sqlite3 ": ["sqlite3", "--version"], "gnuplot ": ["gnuplot", "--version"], "import sys, pandas": ["python3", "-c", "import pandas"]}
 

@@ -1,4 +1,4 @@
-# `log` and `tables` list what the journal in this folder has.
+# `log`, `tables` and `rows` list what the journal in this folder has.
 # shellcheck shell=bash disable=SC2154
 
 # Passes on a listing with moments, which are read as seconds, as times.
@@ -11,25 +11,26 @@ with_times() {
         { print }' "$1"
 }
 
-# Writes the listing of the journal in this folder, or the line that says why there is none: listing_of WHAT
+# Writes the listing of the journal in this folder, or the line that says why there is none: listing_of WHAT [TABLE]
 listing_of() {
     local status=0
-    "$lister" "$1" || status=$?
+    "$lister" "$@" || status=$?
     ((status == 3)) || return "$status"
     printf '! device\n' || return 4
     return 5
 }
 
-# Lists what the journal in this folder has: list_journal WHAT [--csv] [--times].
+# Lists what the journal in this folder has: list_journal WHAT [TABLE] [--csv] [--times].
 list_journal() {
-    local status=0 what=$1
+    local status=0 what=("$1")
+    [[ $1 == rows ]] && what+=("$2")
     need_program "$lister"
     make_room
-    listing_of "$what" >"$room/listing" || status=$?
+    listing_of "${what[@]}" >"$room/listing" || status=$?
     # Where a writer was too quick for a reader, which shows as damage, it is read a second time.
     if ((status == 9)); then
         status=0
-        listing_of "$what" >"$room/listing" || status=$?
+        listing_of "${what[@]}" >"$room/listing" || status=$?
     fi
     if ((status > 0)); then
         tell_look "$status" "$room/listing"

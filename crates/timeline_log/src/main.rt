@@ -23,10 +23,13 @@ fn main(rt: HostRuntime) -> ExitCode {
     let Ok(words) = own_words(&rt) else {
         return ExitCode::from(Status::NoMemory.number());
     };
-    let Some(listing) = listing_of(&words) else {
+    let Ok(named) = listing_of(alloc, &words) else {
+        return ExitCode::from(Status::NoMemory.number());
+    };
+    let Some(listing) = named else {
         return ExitCode::from(Status::Usage.number());
     };
     let mut source = FileSource::new(&rt, JOURNAL);
     let mut sink = RealSink::new(rt.stdout());
-    ExitCode::from(list(alloc, listing, &mut source, &mut sink).number())
+    ExitCode::from(list(alloc, &listing, &mut source, &mut sink).number())
 }

@@ -1,24 +1,23 @@
-//! What is said of the bytes of a journal: a listing, or the line that says why there is none. They
-//! are refused where they are too few or damaged, or where a commit does not fit those before it.
-ghost use Rattle.std.specs.Prelude.{◌≡◌, ℕ, IfOk, IfErr};
+//! The history whose journal some bytes are, or why they are not listed, with the line that says so.
+//! They are refused where they are too few or damaged, or where a commit does not fit those before
+//! it.
+ghost use Rattle.std.specs.Prelude.{◌≡◌, ◌++◌, ℕ, codes, IfOk, IfErr};
 ghost use Rattle.std.specs.String.{string_bytes};
 ghost use Rattle.tl_journal.specs.Image.{ImageStandsOnlyFor};
 ghost use Rattle.tl_journal.specs.declared.faults.JournalFault.TheVariants as journal;
 ghost use Rattle.tl_types.specs.Entries.{commits_of};
 ghost use Rattle.tl_types.specs.Legality.{FitInTurn};
 ghost use Rattle.tl_types.specs.Limits.{standard_limits};
-ghost use Rattle.tl_log.specs.Reading.{listing_text, refusal_line, IsListing, IsRefusedFor};
+ghost use Rattle.tl_log.specs.Reading.{refusal_line, table_asked, IsRefusedFor};
+ghost use Rattle.tl_log.specs.declared.listings.Listing.{Listing};
 ghost use Rattle.tl_log.specs.declared.reports.ListFault.TheVariants as listed;
 
-use crate::commits::log_bytes;
 use crate::listings::Listing;
-use crate::tables::tables_bytes;
 use std::alloc::Global;
 use tl_device::SureDisk;
 use tl_history::History;
 use tl_journal::{JournalFault, Refused};
-use tl_store::Store;
-use tl_types::{Bytes, Limits, NoMemory};
+use tl_types::{Limits, NoMemory};
 
 /// Why the bytes of a journal are not listed.
 #[derive(Clone, Copy)]
@@ -33,6 +32,8 @@ pub enum ListFault {
         /// The byte offset where they are damaged, or of the gate before that commit.
         at: u64,
     },
+    /// They are a journal, and no table of it has the name whose rows are to be listed.
+    UnknownTable,
     /// Memory ran out.
     NoMemory,
 }
@@ -44,6 +45,7 @@ fn fault_of(fault: JournalFault) -> ListFault
     ensures short { (len : ℕ) → result ≡ listed.NotInitialised len
         → fault ≡ journal.NotInitialised len }
     ensures damaged { (at : ℕ) → result ≡ listed.Damaged at → fault ≡ journal.Damaged at }
+    ensures known { result ≡ listed.UnknownTable → ⊥ }
 {
     match fault {
         JournalFault::NotInitialised { len } => ListFault::NotInitialised { len },
@@ -54,11 +56,14 @@ fn fault_of(fault: JournalFault) -> ListFault
     }
 }
 
-// The history whose journal these bytes are.
-fn history_of(alloc: Global, image: Vec<u8>) -> Result<History<SureDisk>, ListFault>
+/// The history whose journal these bytes are. `NotInitialised`: they are fewer than 17. `Damaged`:
+/// they are no journal, or one with a commit that does not fit those before it with the program's
+/// limits. `NoMemory`: memory ran out.
+pub(crate) fn history_of(alloc: Global, image: Vec<u8>) -> Result<History<SureDisk>, ListFault>
     ensures whole { IfOk result (λ h. ImageStandsOnlyFor (commits_of h.entries) image.items) }
     ensures fitting { IfOk result (λ h. FitInTurn standard_limits (commits_of h.entries)) }
-    ensures refused { IfErr result (IsRefusedFor image.items) }
+    ensures refused { IfErr result (λ e. (listing : Listing) →
+        IsRefusedFor listing image.items e) }
 {
     let disk = SureDisk::new(alloc, image);
     match History::open(alloc, disk, &Limits::standard(), 0) {
@@ -67,41 +72,38 @@ fn history_of(alloc: Global, image: Vec<u8>) -> Result<History<SureDisk>, ListFa
     }
 }
 
-// The listing over a store.
-fn listing_bytes(alloc: Global, listing: Listing, store: &Store) -> Result<Bytes, NoMemory>
-    ensures { IfOk result (λ bytes. bytes ≡ listing_text listing store.now) }
+// The name of the table whose rows are to be listed, empty where none are.
+fn table_asked(listing: &Listing) -> &str
+    ensures { result.now ≡ table_asked listing.now }
 {
     match listing {
-        Listing::Commits => log_bytes(alloc, store),
-        Listing::Tables => tables_bytes(alloc, store),
+        Listing::Commits => "",
+        Listing::Tables => "",
+        Listing::Rows { table } => table.as_str(),
     }
 }
 
-/// The listing of the journal that these bytes are. `NotInitialised`: they are fewer than 17.
-/// `Damaged`: they are no journal, or one with a commit that does not fit those before it with the
-/// program's limits. `NoMemory`: memory ran out.
-pub fn list_image(alloc: Global, listing: Listing, image: Vec<u8>) -> Result<Bytes, ListFault>
-    ensures listed { IfOk result (IsListing listing image.items) }
-    ensures refused { IfErr result (IsRefusedFor image.items) }
+// The line that says that no table has the name.
+fn unknown_line(alloc: Global, table: &str) -> Result<String, NoMemory>
+    ensures { IfOk result (λ text. string_bytes text
+        ≡ codes "! rows UnknownTable " ++ (table.now ++ codes "\n")) }
 {
-    let history = match history_of(alloc, image) {
-        Ok(history) => history,
-        Err(fault) => return Err(fault),
-    };
-    match listing_bytes(alloc, listing, history.store()) {
-        Ok(bytes) => Ok(bytes),
-        Err(_) => Err(ListFault::NoMemory),
-    }
+    format!(in alloc; "! rows UnknownTable {table}\n")
 }
 
 /// The line that says why bytes are not listed; it is empty where memory ran out. The error is
 /// `NoMemory`.
-pub(crate) fn refusal_line(alloc: Global, fault: &ListFault) -> Result<String, NoMemory>
-    ensures { IfOk result (λ text. string_bytes text ≡ refusal_line fault.now) }
+pub(crate) fn refusal_line(
+    alloc: Global,
+    listing: &Listing,
+    fault: &ListFault,
+) -> Result<String, NoMemory>
+    ensures { IfOk result (λ text. string_bytes text ≡ refusal_line listing.now fault.now) }
 {
     match fault {
         ListFault::NotInitialised { len } => format!(in alloc; "! journal NotInitialised {len}\n"),
         ListFault::Damaged { at } => format!(in alloc; "! journal Damaged {at}\n"),
+        ListFault::UnknownTable => unknown_line(alloc, table_asked(listing)),
         ListFault::NoMemory => Ok(String::new(alloc)),
     }
 }

@@ -11,6 +11,6 @@ pub returns-clause-refused : goal.returns-clause-refused
 returns-clause-refused c =
     refused_for c.args.image.items c.new-disk.result.bytes c.standard.result c.fault_of.result c.in-Err.field-0.fault
     (ap (λ (k : Kept). k.bytes) c.new-disk.ensures) c.standard.ensures
-    c.fault_of.ensures.short c.fault_of.ensures.damaged
+    c.fault_of.ensures.short c.fault_of.ensures.damaged c.fault_of.ensures.known
     (λ len is. (c.in-Err.ensures.too_short len is).1)
     (λ at is. (c.in-Err.ensures.damaged at is).0)

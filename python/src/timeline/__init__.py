@@ -1,0 +1,1 @@
+"""Temporal tables that keep every version of every row: the front of the programs that are proved."""

@@ -1,0 +1,145 @@
+"""What has to be undone however a command ends: processes that it started, folders that it made; and signals.
+
+A signal becomes the exception Stopped in the main thread, save while a process or a folder is being made, so that none
+is left that nobody knows of. A folder is locked by who made it: one that nobody has locked was left by a process that
+was killed, and the next command removes it."""
+from __future__ import annotations
+
+import os
+import signal
+from contextlib import contextmanager
+
+TYPE_CHECKING = False
+if TYPE_CHECKING:
+    import subprocess
+    from typing import IO, Any, Iterator, Sequence
+
+PREFIX = "timeline-"
+_STOPPING = (signal.SIGINT, signal.SIGTERM, signal.SIGHUP)
+_processes: list[subprocess.Popen[bytes]] = []
+_folders: dict[str, int] = {}
+_deferring = 0
+_received = 0
+
+
+class Stopped(BaseException):
+    """The command was stopped by the signal with this number."""
+
+    def __init__(self, number: int) -> None:
+        self.number = number
+        super().__init__(f"stopped by signal {number}")
+
+
+def _receive(number: int, _frame: object) -> None:
+    global _received
+    _received = number
+    if not _deferring:
+        raise Stopped(number)
+
+
+def handle_signals() -> None:
+    """Has SIGINT, SIGTERM and SIGHUP raise Stopped, save those that are ignored already."""
+    for number in _STOPPING:
+        if signal.getsignal(number) is not signal.SIG_IGN:
+            signal.signal(number, _receive)
+
+
+@contextmanager
+def deferred() -> Iterator[None]:
+    """Keeps a signal back until the end of the block."""
+    global _deferring
+    _deferring += 1
+    try:
+        yield
+    finally:
+        _deferring -= 1
+    if _received and not _deferring:
+        raise Stopped(_received)
+
+
+def start(words: Sequence[str], folder: str, stdin: int | IO[Any] | None, stdout: int | IO[Any] | None) -> subprocess.Popen[bytes]:
+    """Starts a program in a folder, to be ended with the command at the latest."""
+    import subprocess
+
+    with deferred():
+        process = subprocess.Popen(words, cwd=folder, stdin=stdin, stdout=stdout, bufsize=0)
+        _processes.append(process)
+    return process
+
+
+def end(process: subprocess.Popen[bytes]) -> int:
+    """Waits until a program has ended, and gives its status, 128 and more where a signal ended it."""
+    status = process.wait()
+    if process in _processes:
+        _processes.remove(process)
+    return 128 - status if status < 0 else status
+
+
+def temporary() -> str:
+    """The folder in which private folders are made."""
+    import tempfile
+
+    return tempfile.gettempdir()
+
+
+def private_folder(beside: str | None = None) -> str:
+    """Makes a folder that is gone when the command ends: in the system's temporary folder, or in another one."""
+    import fcntl
+    import tempfile
+
+    while True:
+        with deferred():
+            path = tempfile.mkdtemp(prefix=PREFIX, dir=beside)
+            number = os.open(path, os.O_RDONLY)
+            _folders[path] = number
+            fcntl.flock(number, fcntl.LOCK_EX)
+        if os.path.isdir(path):
+            return path
+        remove(path)
+
+
+def remove(path: str) -> None:
+    """Removes a private folder with all that is in it."""
+    import shutil
+
+    with deferred():
+        shutil.rmtree(path, ignore_errors=True)
+        if path in _folders:
+            os.close(_folders.pop(path))
+
+
+def sweep(parent: str) -> None:
+    """Removes the private folders that commands of this user left in a folder when they were killed."""
+    try:
+        left = [it for it in os.scandir(parent) if it.name.startswith(PREFIX) and it.is_dir(follow_symlinks=False)
+                and it.stat(follow_symlinks=False).st_uid == os.getuid() and it.path not in _folders]
+    except OSError:
+        return
+    for entry in left:
+        _remove_unlocked(entry.path)
+
+
+def _remove_unlocked(path: str) -> None:
+    import fcntl
+
+    try:
+        number = os.open(path, os.O_RDONLY | os.O_DIRECTORY | os.O_NOFOLLOW)
+    except OSError:
+        return
+    try:
+        fcntl.flock(number, fcntl.LOCK_EX | fcntl.LOCK_NB)
+        remove(path)
+    except OSError:
+        return
+    finally:
+        os.close(number)
+
+
+def undo() -> None:
+    """Ends what still runs, and removes what is left."""
+    for process in list(_processes):
+        if process.poll() is None:
+            process.terminate()
+        end(process)
+    for path in list(_folders):
+        remove(path)

@@ -23,6 +23,7 @@ MOST_PHASES = 65_535     # of one run: the engine's limit, less one
 _PAUSE = 0.05            # seconds between two tries for the lock
 _TRIES = 5               # tries where nobody has the lock, and the journal was not opened all the same
 _SETTLED = 0.05          # seconds after which a file's time tells a later change from the last one
+_OPENING = 0.2           # seconds that a program has to take the lock before it is sent its input all the same
 _UNREAD = 1 << 18        # more bytes than a pipe holds: a program that took so many has opened its journal
 
 
@@ -130,7 +131,8 @@ class Journal:
     def transact(self, script: Iterable[bytes]) -> list[Reply]:
         """Runs a script of which all commits are kept, or none where a statement is refused: then Refused is raised.
 
-        `script` is the script's bytes in pieces. Its replies come back in order."""
+        `script` is the script's bytes in pieces, which are asked for once the program has the journal's lock. Its replies come
+        back in order; where a piece cannot be made nothing is kept, and what that raised goes on."""
         output: list[bytes] = []
         status = self.stream(["transact"], script, output.append)
         replies = replies_of(b"".join(output))
@@ -167,7 +169,7 @@ class Journal:
         given = _Input(source)
         tries, ends, told = 0, time.monotonic() + (self.wait or 0.0), False
         while True:
-            run = _Run([program("timeline"), *words], self.folder, given)
+            run = _Run([program("timeline"), *words], self, given)
             status = run.pass_on(sink)
             if status is not None:
                 return status
@@ -292,23 +294,41 @@ class _Input:
                 _write(to.stdin, piece)
         except BrokenPipeError:
             pass
-        finally:
-            to.stdin.close()
 
 
 class _Run:
     """One run of the program, whose output is passed on unless it says that the journal was not opened."""
 
-    def __init__(self, words: Sequence[str], folder: str, given: _Input) -> None:
+    def __init__(self, words: Sequence[str], journal: Journal, given: _Input) -> None:
         import subprocess
 
-        self.given = given
-        self.process = cleanup.start(words, folder, subprocess.PIPE if given.number is None else given.number, subprocess.PIPE)
+        self.given, self.journal = given, journal
+        self.process = cleanup.start(words, journal.folder, subprocess.PIPE if given.number is None else given.number, subprocess.PIPE)
+
+    def _send(self) -> None:
+        """Sends the pieces once the program has the lock, so that a script may be made of what the journal is then. Where a piece
+        cannot be made, the program is killed before it sees an end of its input."""
+        assert self.process.stdin is not None
+        ends = time.monotonic() + (_OPENING if os.path.exists("/proc/locks") else 0.0)
+        while self.process.poll() is None and time.monotonic() < ends:
+            holder = self.journal.holder()
+            if holder is not None and holder.process == self.process.pid:
+                break
+            time.sleep(0.001)
+        try:
+            if self.process.poll() is None:
+                self.given.send(self.process)
+        except BaseException:
+            self.process.kill()
+            cleanup.end(self.process)
+            raise
+        finally:
+            self.process.stdin.close()
 
     def pass_on(self, sink: Callable[[bytes], object]) -> int | None:
         """Passes on the output, and gives the status; None where the journal was not opened."""
         if self.given.number is None:
-            self.given.send(self.process)
+            self._send()
         output = self.process.stdout
         assert output is not None
         first = b""

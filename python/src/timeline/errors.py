@@ -46,15 +46,15 @@ class UsageError(TimelineError):
 class Refused(TimelineError):
     """A statement, or a sheet, that was refused: nothing of it is kept.
 
-    `kind` is the fault's name and `numbers` its numbers, `statement` the text as it was typed, `place` where in it, and
-    `number` which statement of the script, from 1."""
+    `kind` is the fault's name and `numbers` its numbers, `statement` the text as it was typed, `place` where in it,
+    `number` which statement of the script, from 1, and `version` the version of the journal over which it was refused."""
 
     status = REFUSED
 
     def __init__(self, kind: str, numbers: Sequence[int] = (), statement: str = "", place: Place | None = None,
-                 number: int = 1, sentence: str = "", advice: str = "") -> None:
+                 number: int = 1, version: int = 0, sentence: str = "", advice: str = "") -> None:
         self.kind, self.numbers, self.statement = kind, tuple(numbers), statement
-        self.place, self.number, self.advice = place, number, advice
+        self.place, self.number, self.version, self.advice = place, number, version, advice
         super().__init__(sentence or "refused: " + " ".join([kind, *map(str, self.numbers)]))
 
 

@@ -4,10 +4,11 @@ Nothing here writes to standard output, or ends the process; what a program answ
 from __future__ import annotations
 
 import os
+import signal
 import time
 
 from . import cleanup
-from .errors import Damaged, DeviceFault, Holder, Locked, NoJournal, ProgramFault, Refused, TimelineError, from_closing
+from .errors import Damaged, DeviceFault, Holder, Locked, NoJournal, Place, Refused, TimelineError, from_closing
 from .programs import program
 from .replies import PIECE, Closing, Refusal, Reply, read_replies
 
@@ -24,6 +25,7 @@ _PAUSE = 0.05            # seconds between two tries for the lock
 _TRIES = 5               # tries where nobody has the lock, and the journal was not opened all the same
 _SETTLED = 0.05          # seconds after which a file's time tells a later change from the last one
 _OPENING = 0.2           # seconds that a program has to take the lock before it is sent its input all the same
+_UNOPENED = b"! device\n" # all that a program writes that could not open its journal
 _UNREAD = 1 << 18        # more bytes than a pipe holds: a program that took so many has opened its journal
 
 
@@ -132,14 +134,18 @@ class Journal:
         """Runs a script of which all commits are kept, or none where a statement is refused: then Refused is raised.
 
         `script` is the script's bytes in pieces, which are asked for once the program has the journal's lock. Its replies come
-        back in order; where a piece cannot be made nothing is kept, and what that raised goes on."""
+        back in order; where a piece cannot be made nothing is kept, and what that raised goes on.
+
+        No piece but the last ends between two statements, and one that has the end of a statement has at most 4,096 bytes: a pipe
+        takes such a piece whole, so that a script that is cut off since this process was killed ends within a block, and is refused."""
         output: list[bytes] = []
         status = self.stream(["transact"], script, output.append)
         replies = replies_of(b"".join(output))
         closing = replies.pop() if replies and isinstance(replies[-1], Closing) else None
         if status == 12 and replies and isinstance(replies[-1], Refusal):
             fault = replies[-1].fault
-            raise Refused(fault.name, fault.numbers, number=len(replies))
+            place = Place(fault.offset, fault.record, fault.field)
+            raise Refused(fault.name, fault.numbers, place=place, number=len(replies), version=replies[-1].version)
         if status:
             raise from_closing(status, closing.words if isinstance(closing, Closing) else ())
         return replies
@@ -166,26 +172,29 @@ class Journal:
         """Runs a command of the program, and gives its status. Its input is a file's descriptor, or pieces of bytes, its output
         goes to `sink` in pieces as it comes. Raises Locked or DeviceFault where the journal could not be opened, with nothing
         of the input read and nothing given to `sink`."""
-        given = _Input(source)
-        tries, ends, told = 0, time.monotonic() + (self.wait or 0.0), False
-        while True:
-            run = _Run([program("timeline"), *words], self, given)
-            status = run.pass_on(sink)
-            if status is not None:
-                return status
-            held = self.is_held()
-            tries = 0 if held else tries + 1
-            if tries > _TRIES or not self._may_open():
-                raise DeviceFault(self.device_reason())
-            if held and self.wait is not None and time.monotonic() >= ends:
-                raise Locked(self.holder())
-            if held and not told and self.on_wait is not None:
-                self.on_wait(self.holder())
-                told = True
-            time.sleep(_PAUSE)
+        run = self.begin(words, source)
+        piece = run.read(PIECE)
+        while piece:
+            sink(piece)
+            piece = run.read(PIECE)
+        return run.status()
 
-    def _may_open(self) -> bool:
-        return not os.path.exists(self.path) or os.access(self.path, os.R_OK | os.W_OK)
+    def begin(self, words: Sequence[str], source: int | Iterable[bytes], beside: bool = False) -> Run:
+        """Begins a command of the program, as `stream` does; its output is then read from what it gives. With `beside` the pieces
+        are sent while the output is read, for a command that answers before it has read all."""
+        given = _Input(source)
+        waiting = _Waiting(self)
+        while True:
+            run = Run([program("timeline"), *words], self, given, beside)
+            if run.is_open():
+                return run
+            waiting.turn()
+
+    def await_lock(self) -> None:
+        """Waits until no other program has the lock; Locked where one has it for longer than `wait`."""
+        waiting = _Waiting(self)
+        while self.is_held():
+            waiting.turn()
 
     def device_reason(self) -> str:
         """Why the disk failed, where the system tells, else an empty text."""
@@ -280,76 +289,116 @@ class _Input:
         self._pieces = iter(pieces)
         self._sent: list[bytes] = []
         self._unread = 0
+        self.error: Exception | None = None
 
     def send(self, to: subprocess.Popen[bytes]) -> None:
-        """Writes all pieces to a program, up to where it ends."""
+        """Writes all pieces to a program, up to where it ends. Where a piece cannot be made, the program is killed before it sees
+        an end of its input, and why is kept in `error`."""
         assert to.stdin is not None
         try:
             for piece in self._sent:
                 _write(to.stdin, piece)
-            for piece in self._pieces:
+            for piece in self._pieces if to.poll() is None else ():
                 if self._unread <= _UNREAD:
                     self._sent.append(piece)
                     self._unread += len(piece)
                 _write(to.stdin, piece)
         except BrokenPipeError:
             pass
-
-
-class _Run:
-    """One run of the program, whose output is passed on unless it says that the journal was not opened."""
-
-    def __init__(self, words: Sequence[str], journal: Journal, given: _Input) -> None:
-        import subprocess
-
-        self.given, self.journal = given, journal
-        self.process = cleanup.start(words, journal.folder, subprocess.PIPE if given.number is None else given.number, subprocess.PIPE)
-
-    def _send(self) -> None:
-        """Sends the pieces once the program has the lock, so that a script may be made of what the journal is then. Where a piece
-        cannot be made, the program is killed before it sees an end of its input."""
-        assert self.process.stdin is not None
-        ends = time.monotonic() + (_OPENING if os.path.exists("/proc/locks") else 0.0)
-        while self.process.poll() is None and time.monotonic() < ends:
-            holder = self.journal.holder()
-            if holder is not None and holder.process == self.process.pid:
-                break
-            time.sleep(0.001)
-        try:
-            if self.process.poll() is None:
-                self.given.send(self.process)
+        except (OSError, TimelineError) as error:
+            self.error = error
+            to.kill()
         except BaseException:
-            self.process.kill()
-            cleanup.end(self.process)
+            to.kill()
             raise
         finally:
-            self.process.stdin.close()
+            to.stdin.close()
 
-    def pass_on(self, sink: Callable[[bytes], object]) -> int | None:
-        """Passes on the output, and gives the status; None where the journal was not opened."""
-        if self.given.number is None:
-            self._send()
-        output = self.process.stdout
-        assert output is not None
-        first = b""
-        while len(first) < 10 and b"! device\n".startswith(first[:9]):
-            piece = output.read(PIECE)
+
+class Run:
+    """A command of the program that runs: its output, and then its status."""
+
+    def __init__(self, words: Sequence[str], journal: Journal, given: _Input, beside: bool) -> None:
+        import subprocess
+
+        self._process = cleanup.start(words, journal.folder, subprocess.PIPE if given.number is None else given.number, subprocess.PIPE)
+        self._given, self._first = given, b""
+        if given.number is None and beside:
+            import threading
+
+            threading.Thread(target=given.send, args=(self._process,), daemon=True).start()
+        elif given.number is None:
+            self._await_lock(journal)
+            given.send(self._process)
+
+    def _await_lock(self, journal: Journal) -> None:
+        """Waits until the program has the lock, so that a script may be made of what the journal is then."""
+        ends = time.monotonic() + (_OPENING if os.path.exists("/proc/locks") else 0.0)
+        while self._process.poll() is None and time.monotonic() < ends:
+            holder = journal.holder()
+            if holder is not None and holder.process == self._process.pid:
+                break
+            time.sleep(0.001)
+
+    def is_open(self) -> bool:
+        """Whether the journal was opened, or need not be; where not, the program has ended and read nothing."""
+        while len(self._first) <= len(_UNOPENED) and _UNOPENED.startswith(self._first):
+            piece = self._piece(PIECE)
             if not piece:
                 break
-            first += piece
-        if first == b"! device\n":
-            return None if cleanup.end(self.process) == 5 else 5
-        piece = first
-        while piece:
-            sink(piece)
-            piece = output.read(PIECE)
-        output.close()
-        return _status(cleanup.end(self.process))
+            self._first += piece
+        if self._first != _UNOPENED:
+            return True
+        self.status()
+        return False
+
+    def _piece(self, size: int) -> bytes:
+        assert self._process.stdout is not None
+        return self._process.stdout.read(size)
+
+    def read(self, size: int, /) -> bytes:
+        """The next piece of the output, of at most so many bytes; empty at its end."""
+        if self._first:
+            piece, self._first = self._first[:size], self._first[size:]
+            return piece
+        return self._piece(size)
+
+    def fileno(self) -> int:
+        """The descriptor of the output, to be waited for."""
+        assert self._process.stdout is not None
+        return self._process.stdout.fileno()
+
+    def status(self) -> int:
+        """Waits for the end, and gives the status. Raises what kept the input from being given."""
+        assert self._process.stdout is not None
+        self._process.stdout.close()
+        status = cleanup.end(self._process)
+        if self._given.error is not None:
+            raise self._given.error
+        return 4 if status == 128 + signal.SIGPIPE else status
 
 
-def _status(status: int) -> int:
-    """A program's status; one that a closed pipe ended has failed to write its output."""
-    return 4 if status == 141 else status
+class _Waiting:
+    """The tries of a command to open a journal that another program has."""
+
+    def __init__(self, journal: Journal) -> None:
+        self._journal, self._tries, self._is_told = journal, 0, False
+        self._ends = time.monotonic() + (journal.wait or 0.0)
+
+    def turn(self) -> None:
+        """Waits a moment before the next try. Raises Locked where the time is over, DeviceFault where nobody has the lock."""
+        journal = self._journal
+        held = journal.is_held()
+        self._tries = 0 if held else self._tries + 1
+        may_open = not os.path.exists(journal.path) or os.access(journal.path, os.R_OK | os.W_OK)
+        if self._tries > _TRIES or not may_open or os.path.isdir(journal.path):
+            raise DeviceFault(journal.device_reason())
+        if held and journal.wait is not None and time.monotonic() >= self._ends:
+            raise Locked(journal.holder())
+        if held and not self._is_told and journal.on_wait is not None:
+            self._is_told = True
+            journal.on_wait(journal.holder())
+        time.sleep(_PAUSE)
 
 
 def _twice(work: Callable[[], T]) -> T:

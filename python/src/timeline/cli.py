@@ -7,7 +7,7 @@ from __future__ import annotations
 import os
 import sys
 
-from . import cleanup
+from . import cleanup, programs
 from .console import Console
 from .errors import TimelineError, UsageError
 
@@ -21,6 +21,7 @@ if TYPE_CHECKING:
 # Each command's module and function.
 COMMANDS = {
     "ask": "asking:ask", "group": "running:run", "init": "running:init", "run": "running:run", "transact": "running:run",
+    "build": "building:build", "clean": "building:clean", "--version": "building:version",
 }
 HINT = "see ./timeline --help"
 
@@ -132,6 +133,7 @@ def _main(words: Sequence[str], console: Console) -> int:
 def run(words: Sequence[str], console: Console) -> int:
     """As `_main`, with what the command began undone, and signals and a failing output looked at."""
     try:
+        programs.console = console
         cleanup.handle_signals()
         cleanup.sweep(os.environ.get("TMPDIR") or "/tmp")
         return _main(words, console)

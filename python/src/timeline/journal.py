@@ -17,6 +17,8 @@ if TYPE_CHECKING:
     import subprocess
     from typing import IO, Callable, Iterable, Sequence, TypeVar
 
+    from .kinds import Catalog, Kind
+
     T = TypeVar("T")
 
 NAME = "timeline.tlj"
@@ -221,6 +223,8 @@ class Look:
         self._phases = 0
         self._file: tuple[int, ...] = ()
         self._settled = False
+        self.catalog: Catalog | None = None             # what was asked of it already: queries.py keeps it here
+        self.types: dict[tuple[str, str], Kind] = {}
 
     def is_fresh(self) -> bool:
         """Whether the file is still the one that was read, and a further phase may be asked."""

@@ -233,7 +233,7 @@ def literal_edits(words: Sequence[Token], catalog: Catalog) -> list[tuple[int, i
 
     `words` are the statement's tokens without blanks. Raises LiteralFault where a literal is none of its column's kind."""
     table, edits = "", []
-    tables = _tables(words)
+    tables = tables_of(words)
     for at, word in enumerate(words):
         before = words[at - 1].text if at else ""
         if word.kind == "name" and before in ("FROM", "JOIN", "WITH"):
@@ -284,7 +284,7 @@ def _edit(words: Sequence[Token], at: int, place: str, kind: Kind | None) -> tup
     raise LiteralFault(start, place, kind, advice)
 
 
-def _tables(words: Sequence[Token]) -> list[str]:
+def tables_of(words: Sequence[Token]) -> list[str]:
     """The tables that a query names, in their order."""
     return [words[at + 1].text for at, word in enumerate(words[:-1]) if word.text in ("FROM", "JOIN", "WITH") and word.kind == "name"]
 
@@ -292,7 +292,7 @@ def _tables(words: Sequence[Token]) -> list[str]:
 def answer_kinds(words: Sequence[Token], names: Sequence[str], catalog: Catalog) -> tuple[Kind | None, ...]:
     """The kind of each column of an answer to a query, by its words and the names of the answer's columns; None where the
     engine's type is all that is known."""
-    tables = _tables(words)
+    tables = tables_of(words)
     if not tables or not words:
         return (None,) * len(names)
     first = words[0].text

@@ -73,6 +73,17 @@ class Rows:
         lines = io.TextIOWrapper(io.BytesIO(self.raw), encoding="utf-8", newline="")
         return [tuple(row) for row in csv.reader(lines, strict=True)]
 
+    def records(self) -> list[bytes]:
+        """The rows as the program wrote them, each with the end of its line."""
+        if b'"' not in self.raw:
+            return [line + b"\n" for line in self.raw.split(b"\n")[:-1]]
+        found, at = [], 0
+        while at < len(self.raw):
+            end = _records_end(self.raw, at, 1, False)[0]
+            found.append(self.raw[at:end])
+            at = end
+        return found
+
 
 class Refusal(NamedTuple):
     """A statement that was refused, at this version."""

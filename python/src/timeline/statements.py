@@ -6,7 +6,7 @@ the UTF-8 text, and places in what the engine got are mapped back to what was ty
 from __future__ import annotations
 
 import re
-from typing import Callable, NamedTuple
+from typing import Callable, Iterable, NamedTuple
 
 from .errors import Place, Refused
 
@@ -111,8 +111,9 @@ def statements_of(text: str) -> list[Statement]:
     return found
 
 
-def prepare(statement: Statement, moment_of: Callable[[str, str], int]) -> Prepared:
-    """The statement as the engine gets it. `moment_of` gives the moment of a DAY or a TIME and raises ValueError where it is none.
+def prepare(statement: Statement, moment_of: Callable[[str, str], int], literals: Iterable[tuple[int, int, str]] = ()) -> Prepared:
+    """The statement as the engine gets it. `moment_of` gives the moment of a DAY or a TIME and raises ValueError where it is none;
+    `literals` are other texts for bytes of the statement.
 
     Raises Refused where a day is none, or a text has a line break, which a statement cannot carry."""
     found = tokens(statement.text)
@@ -126,6 +127,7 @@ def prepare(statement: Statement, moment_of: Callable[[str, str], int]) -> Prepa
     for edit, moment in _days(statement, kept, moment_of):
         edits.append(edit)
         moments.append(moment)
+    edits += [Edit(start, stop, encode(new)) for start, stop, new in literals if stop <= end]
     edits.sort()
     return Prepared(statement, _apply(encode(statement.text)[:end], edits), tuple(edits), order, limit, tuple(moments))
 

@@ -21,6 +21,7 @@ if TYPE_CHECKING:
 # Each command's module and function.
 COMMANDS = {
     "ask": "asking:ask", "group": "running:run", "init": "running:init", "run": "running:run", "transact": "running:run",
+    "load": "sheet_commands:load", "import": "sheet_commands:import_", "sync": "sheet_commands:sync",
     "build": "building:build", "clean": "building:clean", "--version": "building:version",
 }
 HINT = "see ./timeline --help"

@@ -9,7 +9,7 @@ import time
 from typing import Callable, Iterable, Iterator, NamedTuple, Sequence
 
 from . import kinds
-from .errors import Place, Refused
+from .errors import Place, Refused, UsageError
 from .replies import Ok, Rows
 from .statements import encode
 
@@ -21,6 +21,7 @@ if TYPE_CHECKING:
 NOTES = "timeline_notes"
 CREATE_NOTES = f"CREATE TABLE {NOTES} (version INT, who TEXT, why TEXT, source TEXT) KEY version"
 SELECT_NOTES = f"SELECT version, who, why, source FROM {NOTES}"
+_MOST_CAUSE = 1_500                # bytes, so that a note and the end of the block before it fit a pipe whole, quoted too
 _FIRST_SECOND = 1_000_000_000      # 2001-09-09: a moment before it is no second that a program stated
 
 
@@ -32,6 +33,13 @@ class Cause(NamedTuple):
     why: str = ""
     source: str = ""
     stamp: bool | None = None
+
+
+def cause_of(who: str, why: str, source: str, stamp: bool | None) -> Cause:
+    """A cause; UsageError where its texts are so long that a script could be cut off between them."""
+    if sum(len(encode(text)) for text in (who, why, source)) > _MOST_CAUSE:
+        raise UsageError(f"--by, --because and the file's name have at most {_MOST_CAUSE} bytes together")
+    return Cause(who, why, source, stamp)
 
 
 class State(NamedTuple):
@@ -56,6 +64,11 @@ def catalog_of(look: Look) -> kinds.Catalog:
     return kinds.Catalog(asked.rows() if isinstance(asked, Rows) else [])
 
 
+class Whole(bytes):
+    """A piece of a script that ends between two statements. The program is not to see one as its input's end, so it is sent with
+    the piece after it."""
+
+
 class Unit:
     """A script as it is made: the pieces of each statement, the version that it will make, and what it is for."""
 
@@ -71,9 +84,9 @@ class Unit:
         self.records.append(records)
         return encode(f"{self.session}> {statement}\n")
 
-    def put(self, table: str, columns: Sequence[str], rows: Iterable[Sequence[object]], use: str) -> bytes:
-        """A PUT of a few rows, whole."""
-        return self.begin(f"PUT {table}", use) + block([columns, *rows])
+    def put(self, table: str, columns: Sequence[str], rows: Iterable[Sequence[object]], use: str) -> Whole:
+        """A PUT of a few rows."""
+        return Whole(self.begin(f"PUT {table}", use) + block([columns, *rows]))
 
 
 def block(rows: Iterable[Sequence[object]]) -> bytes:
@@ -103,7 +116,7 @@ class Moment:
         catalog = unit.state.catalog
         if self.wanted is False or not (catalog.has_seconds or self._may_declare(unit.state)):
             return
-        yield unit.begin(f"MOMENT {int(time.time())}", "moment")
+        yield Whole(unit.begin(f"MOMENT {int(time.time())}", "moment"))
         if not catalog.has_seconds:
             yield put_kinds(unit, [(kinds.MOMENTS, str(kinds.TIME))])
 
@@ -129,21 +142,21 @@ class Moment:
         return True
 
 
-def put_kinds(unit: Unit, rows: Sequence[tuple[str, str]]) -> bytes:
+def put_kinds(unit: Unit, rows: Sequence[tuple[str, str]]) -> Whole:
     """The statements that put rows into the catalog, which they make where it is not there."""
     made = b""
     if not unit.state.has_catalog and "catalog" not in unit.uses:
         made = unit.begin(kinds.CREATE_CATALOG, "catalog")
-    return made + unit.put(kinds.CATALOG, ("place", "kind"), rows, "kinds")
+    return Whole(made + unit.put(kinds.CATALOG, ("place", "kind"), rows, "kinds"))
 
 
-def put_note(unit: Unit, version: int, cause: Cause) -> bytes:
+def put_note(unit: Unit, version: int, cause: Cause) -> Whole:
     """The statements that keep who made the change of a version, why and of what; none where neither is said."""
     if not cause.who and not cause.why:
-        return b""
+        return Whole()
     made = b"" if unit.state.has_notes else unit.begin(CREATE_NOTES, "notes")
     row = (version, cause.who, cause.why, cause.source)
-    return made + unit.put(NOTES, ("version", "who", "why", "source"), [row], "note")
+    return Whole(made + unit.put(NOTES, ("version", "who", "why", "source"), [row], "note"))
 
 
 def moments_of(journal: Journal) -> list[int]:
@@ -174,7 +187,7 @@ def transact(journal: Journal, session: str, body: Body, cause: Cause, say: Call
     while True:
         made: list[Unit] = []
         try:
-            replies = journal.transact(_script(journal, session, body, cause, moment, made))
+            replies = journal.transact(joined(_script(journal, session, body, cause, moment, made)))
         except Refused as refused:
             if moment.falls(refused):
                 continue
@@ -191,6 +204,18 @@ def _script(journal: Journal, session: str, body: Body, cause: Cause, moment: Mo
     yield put_note(unit, unit.version, cause)
 
 
+def joined(pieces: Iterable[bytes]) -> Iterator[bytes]:
+    """The pieces of a script, of which none but the last ends between two statements: where this process is killed, what the
+    program has seen ends within a block, and is refused."""
+    held = b""
+    for piece in pieces:
+        held += piece
+        if not isinstance(piece, Whole):
+            yield held
+            held = b""
+    yield held
+
+
 def _placed(refused: Refused, unit: Unit) -> Refused:
     """A refusal with the place in the sheet of what the program says of a block."""
     from .replies import Fault
@@ -199,7 +224,7 @@ def _placed(refused: Refused, unit: Unit) -> Refused:
     if not 0 < refused.number <= len(unit.uses) or fault.record is None:
         return refused
     record = fault.record + (unit.records[refused.number - 1] if fault.record > 1 else 0)
-    refused.place = refused.place or Place(None, record, fault.field)
+    refused.place = Place(None, record, fault.field)
     return refused
 
 

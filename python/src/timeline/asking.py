@@ -1,7 +1,10 @@
 """The command ask: queries over a look at the journal, which is never written to."""
 from __future__ import annotations
 
-from .errors import UsageError
+from .errors import REFUSED, Refused, UsageError
+from .queries import ask as ask_journal
+from .replies import Fault
+from .statements import BATCHES, Statement, encode, statements_of
 
 TYPE_CHECKING = False
 if TYPE_CHECKING:
@@ -10,25 +13,34 @@ if TYPE_CHECKING:
 
 def ask(call: Call) -> int:
     """Answers the queries of its one word."""
-    from .answers import Answer
-    from .days import moment_of
-    from .replies import Rows
-    from .statements import prepare, statements_of
-
     parser = call.parser()
     parser.add_argument("text")
-    text = parser.parse_args(call.words).text
-    prepared = [prepare(it, moment_of) for it in statements_of(text)]
-    if not prepared:
+    for form in ("--csv", "--json", "--table"):
+        parser.add_argument(form, dest="form", action="store_const", const=form[2:])
+    given = parser.parse_args(call.words)
+    statements = statements_of(given.text)
+    if not statements:
         raise UsageError("ask wants a query")
-    first = True
-    for reply in call.journal().look().ask([it.sent for it in prepared]):
-        if isinstance(reply, Rows):
-            if not first:
-                call.console.line("")
-            first = False
-            answer = Answer(reply)
-            (answer.write_table if call.console.out_is_terminal else answer.write_csv)(call.console)
+    for statement in statements:
+        if statement.word in BATCHES:
+            raise UsageError(f"ask writes nothing, and {statement.word} does: ./timeline run, or shell")
+    form = given.form or ("table" if call.console.out_is_terminal else "csv")
+    status, is_first = 0, True
+    for statement, result in zip(statements, ask_journal(call.journal(), given.text, form == "json", call.console.say)):
+        if isinstance(result, Refused):
+            status = REFUSED
+            call.console.tell("\n".join(explained(result, given.text, statement)))
         else:
-            call.console.say(str(reply))
-    return 0
+            if not is_first and form != "json":
+                call.console.write(b"\n")
+            is_first = False
+            getattr(result, f"write_{form}")(call.console)
+    return status
+
+
+def explained(refused: Refused, typed: str, statement: Statement) -> list[str]:
+    """The lines that say why a statement of what was typed was refused."""
+    from .explaining import explain_statement
+
+    line = encode(typed)[:statement.start].count(b"\n") + 1
+    return explain_statement(encode(statement.text), Fault(refused.kind, refused.numbers), f"line {line}", refused.advice)

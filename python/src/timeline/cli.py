@@ -18,11 +18,30 @@ if TYPE_CHECKING:
 
     from .journal import Journal
 
-# Each command's module and function.
+_RUNS = "strict explain stamp wait"
+_SHEETS = _RUNS + " by because"
+# Each command's module and function, and which of the options it takes.
 COMMANDS = {
-    "ask": "asking:ask", "group": "running:run", "init": "running:init", "run": "running:run", "transact": "running:run",
-    "load": "sheet_commands:load", "import": "sheet_commands:import_", "sync": "sheet_commands:sync",
-    "build": "building:build", "clean": "building:clean", "--version": "building:version",
+    "ask": ("asking:ask", "strict explain"),
+    "build": ("building:build", ""),
+    "clean": ("building:clean", ""),
+    "follow": ("copying:follow", "explain wait"),
+    "group": ("running:run", _RUNS),
+    "init": ("running:init", "stamp wait"),
+    "import": ("sheet_commands:import_", _SHEETS),
+    "load": ("sheet_commands:load", _SHEETS + " lenient"),
+    "log": ("listing:log", ""),
+    "rows": ("listing:rows", ""),
+    "run": ("running:run", _RUNS),
+    "sample": ("running:sample", "strict explain"),
+    "seal": ("sealing:seal", ""),
+    "ship": ("copying:ship", "explain"),
+    "sync": ("sheet_commands:sync", _SHEETS),
+    "tables": ("listing:tables", ""),
+    "transact": ("running:run", _RUNS),
+    "try": ("running:try_script", "strict explain"),
+    "watch": ("running:watch", _RUNS),
+    "--version": ("building:version", ""),
 }
 HINT = "see ./timeline --help"
 
@@ -35,6 +54,13 @@ class Options:
         self.stamp: bool | None = None       # None: as the command has it
         self.wait: float | None = 0.0        # seconds, None for ever
         self.by = self.because = ""
+        self.given: list[str] = []           # the names of those that were given
+
+    def refuse_others(self, command: str, taken: str) -> None:
+        """Raises UsageError for an option that was given and is none of those that a command takes."""
+        for name in self.given:
+            if name not in taken.split():
+                raise UsageError(f"--{name} is no option of {command}")
 
 
 class Call:
@@ -64,12 +90,17 @@ class Call:
         self.console.say("another program has this journal" + (f": {holder}" if holder else "") + "; waiting until it ends")
 
 
+_OPTIONS = frozenset("--strict --lenient --explain --stamp --no-stamp --wait --by --because".split())
+
+
 def take_options(words: Sequence[str]) -> tuple[Options, list[str]]:
     """The options that stand in front of the command's word or after it, and the words that are left."""
     options, left = Options(), []
     given = list(words)
     while given:
         word, equals, value = given.pop(0).partition("=")
+        if word in _OPTIONS:
+            options.given.append("stamp" if word == "--no-stamp" else word[2:])
         if word in ("--strict", "--lenient", "--explain") and not equals:
             setattr(options, word[2:], True)
         elif word in ("--stamp", "--no-stamp") and not equals:
@@ -97,7 +128,8 @@ def _command(call: Call) -> int:
 
     if call.word not in COMMANDS:
         raise UsageError(_unknown(call.word))
-    module, function = COMMANDS[call.word].split(":")
+    (module, _, function), taken = COMMANDS[call.word][0].partition(":"), COMMANDS[call.word][1]
+    call.options.refuse_others(call.word, taken)
     status = getattr(importlib.import_module(f".{module}", __package__), function)(call)
     assert isinstance(status, int)
     return status

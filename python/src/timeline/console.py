@@ -17,6 +17,10 @@ class Console:
         self._out, self._err = out, err
         self.out_is_terminal, self.err_is_terminal = os.isatty(out), os.isatty(err)
 
+    def is_terminal(self, number: int) -> bool:
+        """Whether a descriptor is one of a terminal."""
+        return os.isatty(number)
+
     def write(self, data: bytes) -> None:
         """Writes bytes to the output, all of them; OutputFault where that fails."""
         left = memoryview(data)

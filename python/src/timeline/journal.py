@@ -170,6 +170,41 @@ class Journal:
             raise from_closing(status, _closing_words(listed))
         return listed
 
+    def version(self) -> int:
+        """How many commits the journal has."""
+        return getattr(self.look().ask([b"S"])[0], "version", 0)
+
+    def ship(self, first: int, last: int, sink: Callable[[bytes], object]) -> None:
+        """Gives `sink` the packets of the versions from one to another, once the journal's file is synced: a commit may be seen
+        that its writer has not synced yet, and a crash could take it back."""
+        self.check_readable()
+        _twice(lambda: self._ship(first, last, sink))
+
+    def _ship(self, first: int, last: int, sink: Callable[[bytes], object]) -> None:
+        import subprocess
+
+        process = cleanup.start([program("timeline_look"), "ship", str(first), str(last)], self.folder, subprocess.DEVNULL, subprocess.PIPE)
+        assert process.stdout is not None
+        piece, closing = process.stdout.read(PIECE), b""
+        if piece and not piece.startswith(b"!"):
+            self._sync()
+        while piece:
+            if closing or piece.startswith(b"!"):
+                closing += piece
+            else:
+                sink(piece)
+            piece = process.stdout.read(PIECE)
+        status = cleanup.end(process)
+        if status:
+            raise from_closing(status, _closing_words(closing))
+
+    def _sync(self) -> None:
+        try:
+            with open(self.path, "rb") as file:
+                os.fdatasync(file.fileno())
+        except OSError as error:
+            raise DeviceFault(f"{NAME} cannot be synced: {error.strerror}") from None
+
     def stream(self, words: Sequence[str], source: int | Iterable[bytes], sink: Callable[[bytes], object]) -> int:
         """Runs a command of the program, and gives its status. Its input is a file's descriptor, or pieces of bytes, its output
         goes to `sink` in pieces as it comes. Raises Locked or DeviceFault where the journal could not be opened, with nothing
@@ -366,6 +401,10 @@ class Run:
             piece, self._first = self._first[:size], self._first[size:]
             return piece
         return self._piece(size)
+
+    def is_waiting(self) -> bool:
+        """Whether a piece was read that was not given yet."""
+        return bool(self._first)
 
     def fileno(self) -> int:
         """The descriptor of the output, to be waited for."""

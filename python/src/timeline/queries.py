@@ -4,14 +4,15 @@ What the front adds to a query is undone here again: literals of kinds, days, OR
 refusals. Nothing here starts a process or writes to an output."""
 from __future__ import annotations
 
-from typing import NamedTuple, Sequence, Union
+import time
+from typing import Callable, NamedTuple, Sequence, Union
 
 from . import kinds, notes
 from .answers import Answer
 from .days import moment_of
 from .errors import Place, Refused
 from .replies import Refusal, Rows
-from .statements import BATCHES, Prepared, Statement, Token, prepare, statements_of, tokens
+from .statements import BATCHES, Moment, Prepared, Statement, Token, prepare, statements_of, tokens
 
 TYPE_CHECKING = False
 if TYPE_CHECKING:
@@ -59,17 +60,44 @@ def query_of(statement: Statement, catalog: kinds.Catalog) -> Query:
                       advice=fault.advice) from None
     prepared = prepare(statement, moment_of, edits)
     if prepared.moments and not catalog.has_seconds:
-        raise Refused("NoSeconds", statement=statement.text, place=Place(0),
-                      sentence="nobody has said that the moments of this journal are seconds, so no day and no time has a version",
-                      advice="Ask AS OF MOMENT with a number of the unit that its moments have, or AS OF a version.")
+        place = prepared.moments[0].place
+        raise Refused("NoSeconds", (place,), statement.text, Place(place))
     return Query(prepared, words)
 
 
-def ask(journal: Journal, text: str, with_types: bool = False) -> list[Result]:
+def ask(journal: Journal, text: str, with_types: bool = False, say: Callable[[str], None] = lambda _: None) -> list[Result]:
     """What each query of a text, parted by `;`, is answered: an Answer, or why it is refused. All are of one version.
 
-    With `with_types` each column of an answer has its kind; without, those alone that are neither INT nor TEXT."""
-    return ask_look(journal.look(), statements_of(text), with_types)
+    With `with_types` each column of an answer has its kind; without, those alone that are neither INT nor TEXT. `say` is told of a
+    day that is over, and of which it may still change what was known."""
+    statements = statements_of(text)
+    results = ask_look(journal.look(), statements, with_types)
+    if "AS" in text and any(it.text in ("DAY", "TIME") for it in tokens(text)):
+        _tell_unsettled(journal, statements, say)
+    return results
+
+
+def _tell_unsettled(journal: Journal, statements: Sequence[Statement], say: Callable[[str], None]) -> None:
+    """Says of a day or time that is over that no moment after it was stated yet, so that what is known of it may still change."""
+    look = journal.new_look()
+    try:
+        catalog = catalog_of(look)
+        moments = [it for each in statements for it in _moments(each, catalog)]
+        (reply,) = look.ask([b"MOMENT %d" % kinds.LEAST]) if moments else (None,)
+    finally:
+        look.close()
+    last = reply.fault.numbers[0] if isinstance(reply, Refusal) else kinds.LEAST
+    now = time.time()
+    early = next((it.text for it in moments if last <= it.moment < now), None)
+    if early is not None:
+        say(f"no moment after {early} is stated yet: commits that state none, as those of run, still count to it")
+
+
+def _moments(statement: Statement, catalog: kinds.Catalog) -> tuple[Moment, ...]:
+    try:
+        return query_of(statement, catalog).prepared.moments
+    except Refused:
+        return ()
 
 
 def ask_look(look: Look, statements: Sequence[Statement], with_types: bool = False) -> list[Result]:

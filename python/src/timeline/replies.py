@@ -9,7 +9,7 @@ from .errors import ProgramFault
 
 PIECE = 1 << 18          # so many bytes are read at once
 _OFFSET = frozenset("BadByte OpenText NumberTooLarge Unexpected UnknownTable UnknownColumn WrongType NotValidTable VersionAhead Forgotten "
-                    "EmptyRange ColumnTwice".split())
+                    "EmptyRange ColumnTwice LineBreak NoDay NoTime NoSeconds".split())
 _RECORD = frozenset("NotUtf8 NotInt TextTooLong FieldCount BatchTooLong EmptyPeriod KeyTwice NoRow".split())
 
 
@@ -137,15 +137,16 @@ class _Reader:
                     raise ProgramFault(1, "the replies break off within a line")
                 return b""
 
-    def records(self, count: int) -> bytes:
-        """The next so many records of CSV, each with the end of its line."""
+    def records(self, count: int, keep: bool) -> bytes:
+        """The next so many records of CSV, each with the end of its line; passed over, and empty, without `keep`."""
         parts: list[bytes] = []
         quoted = False
         while count > 0:
             if self.at == len(self.piece) and not self.more():
                 raise ProgramFault(1, "the replies break off within an answer")
             end, count, quoted = _records_end(self.piece, self.at, count, quoted)
-            parts.append(self.piece[self.at:end])
+            if keep:
+                parts.append(self.piece[self.at:end])
             self.at = end
         return b"".join(parts)
 
@@ -173,7 +174,7 @@ def _names(line: bytes) -> tuple[str, ...]:
     return tuple(line.decode("utf-8").split(","))
 
 
-def _reply(line: bytes, reader: _Reader, with_names: bool) -> Reply:
+def _reply(line: bytes, reader: _Reader, with_names: bool, keep: bool) -> Reply:
     words = line.decode("utf-8", "replace").split(" ")
     if words[0] == "!":
         return Closing(tuple(words[1:]))
@@ -183,7 +184,7 @@ def _reply(line: bytes, reader: _Reader, with_names: bool) -> Reply:
     if what == "rows":
         count = int(words[3])
         names = _names(reader.line()) if with_names else ()
-        return Rows(session, version, count, names, reader.records(count))
+        return Rows(session, version, count, names, reader.records(count, keep))
     if what == "ok":
         return Ok(session, version)
     if words[3] in ("device", "broken"):
@@ -191,8 +192,9 @@ def _reply(line: bytes, reader: _Reader, with_names: bool) -> Reply:
     return Refusal(session, version, Fault(words[3], tuple(int(it) for it in words[4:])))
 
 
-def read_replies(stream: Source, with_names: bool = False) -> Iterator[Reply]:
-    """The replies of a stream as they come, up to its end; `with_names` where a line of columns' names stands before rows.
+def read_replies(stream: Source, with_names: bool = False, keep: bool = True) -> Iterator[Reply]:
+    """The replies of a stream as they come, up to its end; `with_names` where a line of columns' names stands before rows, and
+    without `keep` the rows are passed over.
 
     Raises ProgramFault where the stream breaks off within a reply, or has a line that is none."""
     reader = _Reader(stream)
@@ -200,4 +202,4 @@ def read_replies(stream: Source, with_names: bool = False) -> Iterator[Reply]:
         line = reader.line()
         if not line:
             return
-        yield _reply(line, reader, with_names)
+        yield _reply(line, reader, with_names, keep)

@@ -55,6 +55,14 @@ class Order(NamedTuple):
     falling: bool
 
 
+class Moment(NamedTuple):
+    """A day or a time behind AS OF, as it was typed, the byte where it stands, and its moment."""
+
+    text: str
+    place: int
+    moment: int
+
+
 class Prepared(NamedTuple):
     """A statement as the engine gets it, with what the front does with its answer."""
 
@@ -63,7 +71,7 @@ class Prepared(NamedTuple):
     edits: tuple[Edit, ...]
     order: tuple[Order, ...] = ()
     limit: int | None = None
-    moments: tuple[int, ...] = ()
+    moments: tuple[Moment, ...] = ()
 
     def typed_offset(self, offset: int) -> int:
         """Where in the typed statement a byte of the sent one comes from."""
@@ -184,9 +192,9 @@ def _orders(statement: Statement, words: list[Token]) -> tuple[Order, ...]:
         at += 1
 
 
-def _days(statement: Statement, words: list[Token], moment_of: Callable[[str, str], int]) -> list[tuple[Edit, int]]:
+def _days(statement: Statement, words: list[Token], moment_of: Callable[[str, str], int]) -> list[tuple[Edit, Moment]]:
     """The days and times behind AS OF, as moments."""
-    found: list[tuple[Edit, int]] = []
+    found: list[tuple[Edit, Moment]] = []
     for at in range(len(words) - 2):
         front = [it.text for it in words[at:at + 3]]
         if front[:2] != ["AS", "OF"] or front[2] not in ("DAY", "TIME"):
@@ -200,5 +208,5 @@ def _days(statement: Statement, words: list[Token], moment_of: Callable[[str, st
             moment = moment_of(front[2], text)
         except ValueError:
             raise _refuse(statement, f"No{front[2].capitalize()}", rest[0] if rest else None) from None
-        found.append((Edit(words[at + 2].start, rest[count - 1].end, b"MOMENT %d" % moment), moment))
+        found.append((Edit(words[at + 2].start, rest[count - 1].end, b"MOMENT %d" % moment), Moment(text, words[at + 2].start, moment)))
     return found

@@ -4,6 +4,7 @@
 folder that TIMELINE_CLAIMS names."""
 from __future__ import annotations
 
+import json
 import os
 import signal
 import subprocess
@@ -76,10 +77,22 @@ def pytest_runtestloop(session: pytest.Session) -> bool | None:
     claims = os.environ.get("TIMELINE_CLAIMS")
     if claims is None or session.config.option.collectonly or session.testsfailed:
         return None
+    with open(os.path.join(claims, f"total.{os.getpid()}"), "w", encoding="ascii") as file:
+        file.write(str(len(session.items)))
+    os.replace(file.name, os.path.join(claims, "total"))
     for number, item in enumerate(session.items):
         try:
-            os.close(os.open(os.path.join(claims, str(number)), os.O_CREAT | os.O_EXCL))
+            os.close(os.open(os.path.join(claims, f"{number}.claim"), os.O_CREAT | os.O_EXCL))
         except FileExistsError:
             continue
         item.config.hook.pytest_runtest_protocol(item=item, nextitem=None)
     return True
+
+
+def pytest_runtest_logreport(report: pytest.TestReport) -> None:
+    claims = os.environ.get("TIMELINE_CLAIMS")
+    if claims is None or report.when != "call" and report.passed:
+        return
+    result = {"test": report.nodeid, "outcome": report.outcome, "said": report.longreprtext}
+    with open(os.path.join(claims, f"{os.getpid()}.results"), "a", encoding="utf-8") as file:
+        file.write(json.dumps(result) + "\n")

@@ -203,8 +203,8 @@ def _make(name: str) -> None:
     _stand_in(folder, kind, made)
     words = [os.path.join(folder, "kit/bin/rt"), "try"]
     with open(log, "wb") as said:
-        process = subprocess.Popen(words, cwd=os.path.join(programs.ROOT, "crates", name), stdin=subprocess.DEVNULL, stdout=said,
-                                   stderr=said, env={**os.environ, "TMPDIR": folder})
+        process = cleanup.start(words, os.path.join(programs.ROOT, "crates", name), subprocess.DEVNULL, said, said,
+                                {**os.environ, "TMPDIR": folder})
         _follow(process, f"making {name}, checked as it runs, which takes two to three minutes")
     if not os.access(made, os.X_OK):
         raise ProgramFault(NOT_BUILT, f"{name} was not made; {log} has all that was said, and ends so:\n{_end_of(log)}")
@@ -243,23 +243,16 @@ def _stand_in(folder: str, processor: str, program: str) -> None:
         os.chmod(f"{own}/{it}", 0o755)
 
 
-def _follow(process: subprocess.Popen[bytes], text: str) -> int:
-    """Waits for a process, and says meanwhile for how long; it is ended where this command is stopped."""
+def _follow(process: subprocess.Popen[bytes], text: str) -> None:
+    """Waits for a process, and says meanwhile for how long."""
     begun = time.monotonic()
-    try:
-        if not programs.console.err_is_terminal:
-            programs.console.say(text)
-        while True:
-            try:
-                return process.wait(0.5)
-            except subprocess.TimeoutExpired:
-                programs.console.progress(f"{text}: {time.monotonic() - begun:.0f} s")
-    except BaseException:
-        process.terminate()
-        process.wait()
-        raise
-    finally:
-        programs.console.progress("")
+    if not programs.console.err_is_terminal:
+        programs.console.say(text)
+    while process.poll() is None:
+        programs.console.progress(f"{text}: {time.monotonic() - begun:.0f} s")
+        time.sleep(0.2)
+    programs.console.progress("")
+    cleanup.end(process)
 
 
 def _end_of(log: str) -> str:
@@ -378,31 +371,24 @@ def _proof(name: str, words: list[str], said: IO[str]) -> tuple[int, str]:
     """Runs the prover, keeps what it says, and tells how far it is. Gives how the built program ended, and what it printed."""
     report = _Report(name)
     folder = os.path.join(programs.ROOT, "crates", name)
-    process = subprocess.Popen(["rt", "run", *words], cwd=folder, stdin=subprocess.DEVNULL, stdout=subprocess.PIPE,
-                               stderr=subprocess.PIPE, bufsize=0)
+    process = cleanup.start(["rt", "run", *words], folder, subprocess.DEVNULL, subprocess.PIPE, subprocess.PIPE)
     pipes, left = {process.stdout: b"", process.stderr: b""}, [process.stdout, process.stderr]
-    try:
-        while left:
-            for pipe in select.select(left, [], [], 1)[0]:
-                piece = os.read(pipe.fileno(), 1 << 16)
-                pipes[pipe] += piece
-                if not piece:
-                    left.remove(pipe)
-            *lines, pipes[process.stderr] = pipes[process.stderr].split(b"\n")
-            for line in (it.decode("utf-8", "replace") for it in lines):
-                said.write(line + "\n")
-                report.take(line)
-            said.flush()
-            report.tell(process.pid)
-    except BaseException:
-        process.terminate()
-        process.wait()
-        raise
-    finally:
-        programs.console.progress("")
+    while left:
+        for pipe in select.select(left, [], [], 1)[0]:
+            piece = os.read(pipe.fileno(), 1 << 16)
+            pipes[pipe] += piece
+            if not piece:
+                left.remove(pipe)
+        *lines, pipes[process.stderr] = pipes[process.stderr].split(b"\n")
+        for line in (it.decode("utf-8", "replace") for it in lines):
+            said.write(line + "\n")
+            report.take(line)
+        said.flush()
+        report.tell(process.pid)
+    programs.console.progress("")
     output = pipes[process.stdout].decode("utf-8", "replace")
     said.write(output)
-    return process.wait(), output
+    return cleanup.end(process), output
 
 
 def clean(call: Call) -> int:

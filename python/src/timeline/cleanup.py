@@ -12,7 +12,7 @@ from contextlib import contextmanager
 TYPE_CHECKING = False
 if TYPE_CHECKING:
     import subprocess
-    from typing import IO, Any, Iterator, Sequence
+    from typing import IO, Any, Iterator, Mapping, Sequence
 
 PREFIX = "timeline-"
 _STOPPING = (signal.SIGINT, signal.SIGTERM, signal.SIGHUP)
@@ -57,12 +57,13 @@ def deferred() -> Iterator[None]:
         raise Stopped(_received)
 
 
-def start(words: Sequence[str], folder: str, stdin: int | IO[Any] | None, stdout: int | IO[Any] | None) -> subprocess.Popen[bytes]:
-    """Starts a program in a folder, to be ended with the command at the latest."""
+def start(words: Sequence[str], folder: str, stdin: int | IO[Any] | None, stdout: int | IO[Any] | None,
+          stderr: int | IO[Any] | None = None, around: Mapping[str, str] | None = None) -> subprocess.Popen[bytes]:
+    """Starts a program in a folder, to be ended with the command at the latest; `around` is its environment, if not this one."""
     import subprocess
 
     with deferred():
-        process = subprocess.Popen(words, cwd=folder, stdin=stdin, stdout=stdout, bufsize=0)
+        process = subprocess.Popen(words, cwd=folder, stdin=stdin, stdout=stdout, stderr=stderr, env=around, bufsize=0)
         _processes.append(process)
     return process
 

@@ -38,6 +38,7 @@ COMMANDS = {
     "ship": ("copying:ship", "explain"),
     "sync": ("sheet_commands:sync", _SHEETS),
     "tables": ("listing:tables", ""),
+    "test": ("testing:test", ""),
     "transact": ("running:run", _RUNS),
     "try": ("running:try_script", "strict explain"),
     "watch": ("running:watch", _RUNS),

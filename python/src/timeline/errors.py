@@ -5,7 +5,8 @@ from __future__ import annotations
 
 from typing import NamedTuple, Sequence
 
-REFUSED, SEAL_BROKEN, NOT_BUILT, LOCKED = 20, 21, 125, 13
+REFUSED, SEAL_BROKEN, CHECK_FAILED, NOT_BUILT, LOCKED = 20, 21, 22, 125, 13
+ILLEGAL = 132     # the status of a program that signal 4 ended, which is how a check that fails ends one
 
 
 class Holder(NamedTuple):
@@ -155,6 +156,16 @@ class ProgramFault(TimelineError):
         super().__init__(said or f"the program ended with {status}")
 
 
+class CheckFailed(TimelineError):
+    """A check failed as the program ran, which ended it: an index, a sum, a cast or a tag out of its bounds, in code that is not proved."""
+
+    status = CHECK_FAILED
+    advice = "what was answered before stands; ./timeline build finds the fault: such code is not proved"
+
+    def __init__(self) -> None:
+        super().__init__("a check failed as the program ran, and ended it")
+
+
 def from_closing(status: int, words: Sequence[str]) -> TimelineError:
     """The error of a program that ended with a status, behind a closing line `! ` and these words."""
     number = int(words[-1]) if words and words[-1].isdigit() else 0
@@ -171,6 +182,8 @@ def from_closing(status: int, words: Sequence[str]) -> TimelineError:
         return DeviceFault()
     if what == "source":
         return SourceFault("reading the input failed")
+    if status == ILLEGAL:
+        return CheckFailed()
     if status == 1:
         return OutOfMemory()
     if status == 4:

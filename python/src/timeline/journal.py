@@ -8,7 +8,7 @@ import signal
 import time
 
 from . import cleanup
-from .errors import Damaged, DeviceFault, Holder, Locked, NoJournal, Place, Refused, TimelineError, from_closing
+from .errors import ILLEGAL, CheckFailed, Damaged, DeviceFault, Holder, Locked, NoJournal, Place, Refused, TimelineError, from_closing
 from .programs import program
 from .replies import PIECE, Closing, Refusal, Reply, read_replies
 
@@ -418,6 +418,8 @@ class Run:
         status = cleanup.end(self._process)
         if self._given.error is not None:
             raise self._given.error
+        if status == ILLEGAL:
+            raise CheckFailed()
         return 4 if status == 128 + signal.SIGPIPE else status
 
 

@@ -48,14 +48,15 @@ class Refused(TimelineError):
     """A statement, or a sheet, that was refused: nothing of it is kept.
 
     `kind` is the fault's name and `numbers` its numbers, `statement` the text as it was typed, `place` where in it,
-    `number` which statement of the script, from 1, and `version` the version of the journal over which it was refused."""
+    `number` which statement of the script, from 1, and `version` the version of the journal over which it was refused. `sentence`
+    is what the front says of a fault that it found itself, else empty."""
 
     status = REFUSED
 
     def __init__(self, kind: str, numbers: Sequence[int] = (), statement: str = "", place: Place | None = None,
                  number: int = 1, version: int = 0, sentence: str = "", advice: str = "") -> None:
         self.kind, self.numbers, self.statement = kind, tuple(numbers), statement
-        self.place, self.number, self.version, self.advice = place, number, version, advice
+        self.place, self.number, self.version, self.advice, self.sentence = place, number, version, advice, sentence
         super().__init__(sentence or "refused: " + " ".join([kind, *map(str, self.numbers)]))
 
 

@@ -9,6 +9,7 @@ import re
 from functools import lru_cache
 from typing import Callable, Iterable, NamedTuple
 
+from .errors import Place, Refused
 from .replies import Fault
 from .statements import decode
 
@@ -225,6 +226,19 @@ def explain_block(text: bytes, fault: Fault, label: str, record: Record | None, 
     if missing:
         lines.append(f"    It leaves out {missing}.")
     return lines + _advice(fault.name, case)
+
+
+def explain_sheet(label: str, statement: str, refused: Refused, lines: Iterable[bytes] | None, missing: str) -> list[str]:
+    """What is said of a sheet that was refused; with its `lines` the record that is meant is shown. A fault that the front found
+    has its own sentence."""
+    fault, place = Fault(refused.kind, refused.numbers), refused.place or Place()
+    record = find_record(lines, 1, place.record, place.field) if lines is not None and place.record else None
+    if not refused.sentence and place.record:
+        return explain_block(statement.encode(), fault, label, record, missing) if lines is not None else [f"timeline: {label} was refused: {fault}"]
+    told = [f"timeline: {refused.sentence or f'{label} was refused: {fault}'}"]
+    if record is not None:
+        told += [f"    line {record.line}, record {place.record}:", *shown(record.text, record.offset)]
+    return told + ([f"    {refused.advice}"] if refused.advice else _advice(fault.name))
 
 
 def _head(text: bytes, fault: Fault, label: str, offset: int | None) -> list[str]:

@@ -221,6 +221,7 @@ def _placed(refused: Refused, unit: Unit) -> Refused:
     from .replies import Fault
 
     fault = Fault(refused.kind, refused.numbers)
+    refused.version = unit.state.version
     if not 0 < refused.number <= len(unit.uses) or fault.record is None:
         return refused
     record = fault.record + (unit.records[refused.number - 1] if fault.record > 1 else 0)

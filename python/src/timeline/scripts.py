@@ -101,14 +101,14 @@ class Reread(io.RawIOBase):
 class Copy:
     """An input that can be read a second time: `source` is what a program is given, a descriptor or pieces as they come."""
 
-    def __init__(self, number: int, most: int) -> None:
-        """`number` is the descriptor of the input, which is not read yet; of a pipe at most so many bytes are kept, and what has no
-        room on the disk is not."""
+    def __init__(self, number: int, most: int, start: int | None = None) -> None:
+        """`number` is the descriptor of the input, which is not read yet, or of a file and the byte where its input starts; of a pipe
+        at most so many bytes are kept, and what has no room on the disk is not."""
         self.source: int | Iterator[bytes] = number
         self.number, self.start, self.is_whole = number, 0, True
         self._file: IO[bytes] | None = None
         if is_file(number):
-            self.start = os.lseek(number, 0, os.SEEK_CUR)
+            self.start = os.lseek(number, 0, os.SEEK_CUR) if start is None else start
             return
         try:
             self._file = unnamed()
@@ -201,8 +201,3 @@ class Script:
             if not lines.readline():
                 break
         return lines.readline(1 << 16)
-
-
-def sheet_record(number: int, start: int, record: int, field: int | None) -> Record | None:
-    """A record of a sheet, which is a file of which a block was made from byte `start` on."""
-    return find_record(iter(io.BufferedReader(Reread(number, start)).readline, b""), 1, record, field)

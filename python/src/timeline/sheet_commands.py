@@ -2,6 +2,7 @@
 from __future__ import annotations
 
 from .errors import Refused, UsageError
+from .replies import Fault
 
 TYPE_CHECKING = False
 if TYPE_CHECKING:
@@ -26,6 +27,7 @@ def _pairs(words: Iterable[str], option: str) -> dict[str, str]:
 
 def _parsed(call: Call, *flags: str, key: bool = False) -> argparse.Namespace:
     """The words of a command on a sheet: its table and file, the options that all of them have, and its own."""
+    from .running import add_engine_options
     from .sheets import is_name
 
     parser = call.parser()
@@ -35,6 +37,8 @@ def _parsed(call: Call, *flags: str, key: bool = False) -> argparse.Namespace:
     if key:
         parser.add_argument("--key", required=True)
         parser.add_argument("--kind", action="append", default=[], metavar="COLUMN=KIND")
+    if call.word == "load":
+        add_engine_options(parser)
     for flag in flags:
         parser.add_argument(flag, action="store_true")
     parsed = parser.parse_args(call.words)
@@ -61,6 +65,18 @@ def _print(call: Call, outcome: Outcome) -> None:
         call.console.line(str(reply))
 
 
+def _tell(call: Call, statement: str, sheet: Sheet, refused: Refused) -> None:
+    """Says why a sheet was refused, and shows the record that is meant where that is wanted."""
+    from .explaining import explain_sheet
+    from .scripts import Copy
+    from .watching import missing_column
+
+    shows = call.options.explain or call.console.err_is_terminal
+    lines = Copy(sheet.file.fileno(), 0, sheet.start).lines() if shows else None
+    missing = missing_column(call.journal(), statement, Fault(refused.kind, refused.numbers)) if shows else ""
+    call.console.tell("\n".join(explain_sheet(f"the {call.word}", statement, refused, lines, missing)))
+
+
 def load(call: Call) -> int:
     """Puts the records of a sheet into a table."""
     from .loads import load as load_sheet
@@ -70,11 +86,10 @@ def load(call: Call) -> int:
     try:
         _print(call, load_sheet(call.journal(), words.table, sheet, _cause(call, sheet), _pairs(words.missing, "--missing"), call.console.say))
     except Refused as refused:
-        fault = " ".join([refused.kind, *map(str, refused.numbers)])
-        call.console.line(f"load @{refused.version} ! {fault}")
-        if call.options.lenient:
-            return 0
-        raise
+        call.console.line(f"load @{refused.version} ! {Fault(refused.kind, refused.numbers)}")
+        _tell(call, f"PUT {words.table}", sheet, refused)
+        call.console.say("1 of 1 statements was refused: nothing was loaded")
+        return 0 if call.options.lenient else refused.status
     return 0
 
 
@@ -89,7 +104,12 @@ def import_(call: Call) -> int:
         call.console.line(made.create(stored=False))
         call.console.say(f"{made.records} records would be put into it; nothing was made")
         return 0
-    done = import_sheet(call.journal(), made, sheet, _cause(call, sheet), call.console.say)
+    try:
+        done = import_sheet(call.journal(), made, sheet, _cause(call, sheet), call.console.say)
+    except Refused as refused:
+        _tell(call, f"PUT {words.table}", sheet, refused)
+        call.console.say("nothing was made")
+        return refused.status
     call.console.line(made.create(stored=False))
     assert done.outcome is not None
     _print(call, done.outcome)
@@ -102,8 +122,13 @@ def sync(call: Call) -> int:
 
     words = _parsed(call, "--keep", "--dry-run", "--allow-removals")
     sheet = _sheet(words.file)
-    done = sync_sheet(call.journal(), words.table, sheet, _cause(call, sheet), _pairs(words.missing, "--missing"), words.keep,
-                      words.allow_removals, words.dry_run, call.console.say)
+    try:
+        done = sync_sheet(call.journal(), words.table, sheet, _cause(call, sheet), _pairs(words.missing, "--missing"), words.keep,
+                          words.allow_removals, words.dry_run, call.console.say)
+    except Refused as refused:
+        _tell(call, f"SYNC {words.table}", sheet, refused)
+        call.console.say("nothing was changed")
+        return refused.status
     found = done.difference
     call.console.line(f"{found.new} new, {found.changed} changed, {len(found.gone)} gone, {found.same} unchanged")
     if words.dry_run:

@@ -231,20 +231,25 @@ def source_sum(name: str) -> str:
 
 
 def suits(record: Mapping[str, str]) -> bool:
-    """Whether a program can run on the processor that is here."""
+    """Whether a program can run on the processor that is here, as far as the system tells."""
     kind = record.get("processor", PLAIN)
-    return kind == PLAIN or kind == processor()
+    return kind == PLAIN or kind == processor() or not _flags()
 
 
 def processor() -> str:
     """The kind of processor that is here: x86-64-v3 where it has all that this one asks for, and else x86-64-v2."""
-    try:
-        with open("/proc/cpuinfo", encoding="utf-8", errors="replace") as file:
-            has = set(next((line for line in file if line.startswith("flags")), "").split())
-    except OSError:
-        return PLAIN
+    has = _flags()
     wanted = set("avx avx2 bmi1 bmi2 f16c fma movbe xsave".split())
     return "x86-64-v3" if wanted <= has and has & {"abm", "lzcnt"} else PLAIN
+
+
+def _flags() -> set[str]:
+    """What the processor has; nothing where the system does not tell. (avx stands there only where its registers are kept.)"""
+    try:
+        with open("/proc/cpuinfo", encoding="utf-8", errors="replace") as file:
+            return set(next((line for line in file if line.startswith("flags")), "").split())
+    except OSError:
+        return set()
 
 
 def _is_first_today() -> bool:

@@ -50,9 +50,9 @@ class Journal:
         return self._look
 
     def new_look(self) -> Look:
-        """A look of one's own, in which commits may be tried: they are forgotten with it. Close it after use."""
+        """A look of one's own, in which commits may be tried: they are forgotten with it. It names no columns. Close it after use."""
         self.check_readable()
-        return Look(self)
+        return Look(self, with_names=False)
 
     def close(self) -> None:
         """Ends the look that is kept."""
@@ -250,10 +250,11 @@ class Journal:
 
 
 class Look:
-    """A copy in memory of the journal as it was when this was opened; what is committed in it is forgotten."""
+    """A copy in memory of the journal as it was when this was opened. With names it answers queries alone, each under the names of
+    its columns; without, it takes commits too, and forgets them."""
 
-    def __init__(self, journal: Journal) -> None:
-        self._journal = journal
+    def __init__(self, journal: Journal, with_names: bool = True) -> None:
+        self._journal, self._with_names = journal, with_names
         self._process: subprocess.Popen[bytes] | None = None
         self._phases = 0
         self._file: tuple[int, ...] = ()
@@ -278,7 +279,7 @@ class Look:
         self._file = self._seen()
         self._settled = bool(self._file) and abs(time.time() - self._file[3] / 1e9) > _SETTLED
         self._phases = 0
-        self._process = cleanup.start([program("timeline_look"), "--names"], self._journal.folder, subprocess.PIPE, subprocess.PIPE)
+        self._process = cleanup.start([program("timeline_look"), "--names" if self._with_names else "run"], self._journal.folder, subprocess.PIPE, subprocess.PIPE)
 
     def ask(self, statements: Sequence[bytes]) -> list[Reply]:
         """The replies to some statements, one phase; a statement is one line, with its block where it has one."""
@@ -296,7 +297,7 @@ class Look:
         except BrokenPipeError:
             pass
         replies: list[Reply] = []
-        for reply in read_replies(self._process.stdout, with_names=True):
+        for reply in read_replies(self._process.stdout, self._with_names):
             if isinstance(reply, Closing):
                 raise self._ended(reply.words)
             replies.append(reply)

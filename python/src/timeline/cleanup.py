@@ -32,9 +32,9 @@ class Stopped(BaseException):
 
 def _receive(number: int, _frame: object) -> None:
     global _received
-    _received = number
     if not _deferring:
         raise Stopped(number)
+    _received = number
 
 
 def handle_signals() -> None:
@@ -47,14 +47,15 @@ def handle_signals() -> None:
 @contextmanager
 def deferred() -> Iterator[None]:
     """Keeps a signal back until the end of the block."""
-    global _deferring
+    global _deferring, _received
     _deferring += 1
     try:
         yield
     finally:
         _deferring -= 1
     if _received and not _deferring:
-        raise Stopped(_received)
+        number, _received = _received, 0
+        raise Stopped(number)
 
 
 def start(words: Sequence[str], folder: str, stdin: int | IO[Any] | None, stdout: int | IO[Any] | None,

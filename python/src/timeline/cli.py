@@ -169,17 +169,18 @@ def _main(words: Sequence[str], console: Console) -> int:
 def run(words: Sequence[str], console: Console) -> int:
     """As `_main`, with what the command began undone, and signals and a failing output looked at."""
     try:
-        programs.console = console
-        cleanup.handle_signals()
-        cleanup.sweep(os.environ.get("TMPDIR") or "/tmp")
-        return _main(words, console)
+        try:
+            programs.console = console
+            cleanup.handle_signals()
+            cleanup.sweep(os.environ.get("TMPDIR") or "/tmp")
+            return _main(words, console)
+        finally:
+            with cleanup.deferred():
+                cleanup.undo()
     except cleanup.Stopped as stopped:
         return 128 + stopped.number
     except TimelineError as error:
         return error.status
-    finally:
-        with cleanup.deferred():
-            cleanup.undo()
 
 
 def _open_what_is_closed() -> None:

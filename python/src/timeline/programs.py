@@ -91,7 +91,7 @@ def find(name: str) -> Program | None:
 
 
 def _in_folder(path: str, kind: str) -> Program:
-    record = read_record(path) or {}
+    record = read_record(path, bool(kind)) or {}
     path = os.path.abspath(path)
     if not os.access(path, os.X_OK) or os.path.isdir(path):
         raise ProgramFault(NOT_BUILT, f"{path} is no program that can be run")
@@ -156,12 +156,12 @@ def _proved(name: str, total: str) -> Program | None:
     return Program(path, "proved", record) if record and record.get("sources") == total else None
 
 
-def read_record(path: str) -> dict[str, str] | None:
-    """What was written of how a program was made, None where nothing was, or another program stands there now."""
+def read_record(path: str, looks: bool = True) -> dict[str, str] | None:
+    """What was written of how a program was made, None where nothing was, or, where it `looks`, another program stands there now."""
     try:
         with open(path + ".built", encoding="utf-8") as file:
             record = dict(line.rstrip("\n").partition(" ")[::2] for line in file)
-        return record if record.get("file") == str(_size_of(os.stat(path))) else None
+        return record if not looks or record.get("file") == str(_size_of(os.stat(path))) else None
     except (OSError, UnicodeDecodeError):
         return None
 

@@ -145,3 +145,25 @@ def undo() -> None:
         end(process)
     for path in list(_folders):
         remove(path)
+
+
+def go_on() -> None:
+    """Forgets a signal that was received: what it stopped has been dealt with."""
+    global _received
+    _received = 0
+
+
+def show(words: Sequence[str], text: bytes) -> None:
+    """Has a program show a text on the terminal, and waits for its end; that it ends early is no fault."""
+    import subprocess
+
+    process = start(words, ".", subprocess.PIPE, None)
+    assert process.stdin is not None
+    try:
+        left = memoryview(text)
+        while left:
+            left = left[process.stdin.write(left):]
+        process.stdin.close()
+    except BrokenPipeError:
+        pass
+    end(process)

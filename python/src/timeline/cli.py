@@ -37,6 +37,7 @@ COMMANDS = {
     "run": ("running:run", _RUNS),
     "sample": ("running:sample", "strict explain"),
     "seal": ("sealing:seal", ""),
+    "shell": ("shell:shell", "strict explain stamp wait by because"),
     "ship": ("copying:ship", "explain"),
     "sync": ("sheet_commands:sync", _SHEETS),
     "tables": ("listing:tables", ""),

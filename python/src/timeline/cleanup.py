@@ -14,7 +14,8 @@ if TYPE_CHECKING:
     import subprocess
     from typing import IO, Any, Iterator, Mapping, Sequence
 
-PREFIX = "timeline-"
+PREFIX = "timeline-private-"
+_PATIENCE = 5.0           # seconds that a program has to end when it is told to
 _STOPPING = (signal.SIGINT, signal.SIGTERM, signal.SIGHUP)
 _processes: list[subprocess.Popen[bytes]] = []
 _folders: dict[str, int] = {}
@@ -64,7 +65,7 @@ def start(words: Sequence[str], folder: str, stdin: int | IO[Any] | None, stdout
     import subprocess
 
     with deferred():
-        process = subprocess.Popen(words, cwd=folder, stdin=stdin, stdout=stdout, stderr=stderr, env=around, bufsize=0)
+        process = subprocess.Popen(words, cwd=folder, stdin=stdin, stdout=stdout, stderr=stderr, env=around, bufsize=0, restore_signals=False)
         _processes.append(process)
     return process
 
@@ -137,11 +138,24 @@ def _remove_unlocked(path: str) -> None:
         os.close(number)
 
 
+def _await(process: subprocess.Popen[bytes]) -> None:
+    """Waits for a program that was told to end, and kills it where it does not."""
+    import subprocess
+
+    try:
+        process.wait(_PATIENCE)
+    except subprocess.TimeoutExpired:
+        process.kill()
+
+
 def undo() -> None:
-    """Ends what still runs, and removes what is left."""
+    """Ends what still runs, and removes what is left; from here on signals are kept back for good."""
+    global _deferring
+    _deferring += 1
     for process in list(_processes):
         if process.poll() is None:
             process.terminate()
+            _await(process)
         end(process)
     for path in list(_folders):
         remove(path)

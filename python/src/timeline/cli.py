@@ -154,6 +154,10 @@ def _main(words: Sequence[str], console: Console) -> int:
         options, left = take_options(words)
         if not left:
             raise UsageError("")
+        if left[0] in ("-h", "--help", "help"):
+            with open(os.path.join(os.path.dirname(os.path.abspath(__file__)), "help.txt"), "rb") as page:
+                console.write(page.read())
+            return 0
         return _command(Call(left[0], left[1:], options, console))
     except TimelineError as error:
         if str(error):
@@ -176,8 +180,7 @@ def run(words: Sequence[str], console: Console) -> int:
             cleanup.sweep(os.environ.get("TMPDIR") or "/tmp")
             return _main(words, console)
         finally:
-            with cleanup.deferred():
-                cleanup.undo()
+            cleanup.undo()
     except cleanup.Stopped as stopped:
         return 128 + stopped.number
     except TimelineError as error:
@@ -186,15 +189,19 @@ def run(words: Sequence[str], console: Console) -> int:
 
 def _open_what_is_closed() -> None:
     """An input or an output that is not open is one that fails: otherwise the next file would take its place."""
-    for number, path, flags in ((0, "/", os.O_RDONLY), (1, "/dev/full", os.O_WRONLY), (2, "/dev/null", os.O_WRONLY)):
+    for number, path, flags in ((0, os.devnull, os.O_WRONLY), (1, "/dev/full", os.O_WRONLY), (2, "/dev/null", os.O_WRONLY)):
         try:
             os.fstat(number)
         except OSError:
             os.set_inheritable(os.open(path, flags), True)
 
 
-def entry() -> int:
-    """What the command ends with, of the words of this process."""
+def entry() -> NoReturn:
+    """Ends the process with the status of the command that its words name."""
     _open_what_is_closed()
     words = [os.fsencode(it).decode("utf-8", "surrogateescape") for it in sys.argv[1:]]
-    return run(words, Console())
+    try:
+        status = run(words, Console())
+    except cleanup.Stopped as stopped:
+        status = 128 + stopped.number
+    os._exit(status)

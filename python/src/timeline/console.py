@@ -28,7 +28,8 @@ class Console:
             while left:
                 left = left[os.write(self._out, left):]
         except OSError as error:
-            raise OutputFault(f"writing the output failed: {error.strerror}") from None
+            is_closed = isinstance(error, BrokenPipeError)       # who read it has ended, as `head` does, which is worth no word
+            raise OutputFault("" if is_closed else f"writing the output failed: {error.strerror}") from None
 
     def line(self, text: str) -> None:
         """Writes a line to the output."""

@@ -40,7 +40,6 @@ def follow(call: Call) -> int:
     parser = call.parser()
     parser.add_argument("file", nargs="?")
     given, journal, console = parser.parse_args(call.words), call.journal(), call.console
-    journal.check_writable()
     packets = Copy(open_input(given.file), _LONGEST)
     status, said = _follow(journal, packets.source)
     offset = int(said.split()[2]) if status == 10 else _LONGEST

@@ -99,9 +99,9 @@ class Journal:
         return None
 
     def is_held(self) -> bool:
-        """Whether another program has the lock; tried for a moment where the system does not list locks."""
-        if os.path.exists("/proc/locks"):
-            return self.holder() is not None
+        """Whether another program has the lock; where the system does not list it the lock is tried, for a moment."""
+        if self.holder() is not None:
+            return True
         import fcntl
 
         try:
@@ -115,7 +115,6 @@ class Journal:
 
     def init(self) -> None:
         """Makes an empty journal; AlreadyThere where one is there."""
-        self.check_writable()
         output: list[bytes] = []
         status = self.stream(["init"], [], output.append)
         if status:
@@ -219,18 +218,14 @@ class Journal:
     def begin(self, words: Sequence[str], source: int | Iterable[bytes], beside: bool = False) -> Run:
         """Begins a command of the program, as `stream` does; its output is then read from what it gives. With `beside` the pieces
         are sent while the output is read, for a command that answers before it has read all."""
+        if words[0] != "sample":
+            self.check_writable()
         given = _Input(source)
         waiting = _Waiting(self)
         while True:
             run = Run([program("timeline"), *words], self, given, beside)
             if run.is_open():
                 return run
-            waiting.turn()
-
-    def await_lock(self) -> None:
-        """Waits until no other program has the lock; Locked where one has it for longer than `wait`."""
-        waiting = _Waiting(self)
-        while self.is_held():
             waiting.turn()
 
     def device_reason(self) -> str:

@@ -3,7 +3,7 @@ from __future__ import annotations
 
 from typing import NamedTuple
 
-from .errors import UsageError
+from .errors import Refused
 
 TYPE_CHECKING = False
 if TYPE_CHECKING:
@@ -48,14 +48,33 @@ def log(call: Call) -> int:
     parser = call.parser()
     parser.add_argument("--csv", action="store_true")
     parser.add_argument("--times", action="store_true")
-    given = parser.parse_args(call.words)
-    listing = call.journal().listing(["log"])
-    if given.times:
+    given, journal = parser.parse_args(call.words), call.journal()
+    listing = journal.listing(["log"])
+    if given.times and not _has_seconds(journal):
+        call.console.say("nobody has said that the moments of this journal are seconds: they are shown as numbers")
+    elif given.times:
         rows = rows_of(listing)
         at = rows[0].index("moment")
         rows = [rows[0]] + [(*row[:at], days.shown(int(row[at])) if row[at] else "", *row[at + 1:]) for row in rows[1:]]
         listing = b"".join(",".join(row).encode() + b"\n" for row in rows)
     return _write(call, listing, given.csv)
+
+
+def _has_seconds(journal: Journal) -> bool:
+    from .notes import catalog_of
+
+    return catalog_of(journal.look()).has_seconds
+
+
+def rows(call: Call) -> int:
+    """Lists every row that a table ever had, with the versions from which and up to which it stood."""
+    parser = call.parser()
+    parser.add_argument("table")
+    parser.add_argument("--csv", action="store_true")
+    given, journal = parser.parse_args(call.words), call.journal()
+    if not columns_of(journal, given.table):
+        raise Refused("UnknownTable", sentence=f"no table is called {given.table}")
+    return _write(call, journal.listing(["rows", given.table]), given.csv)
 
 
 def tables(call: Call) -> int:

@@ -7,6 +7,7 @@ from __future__ import annotations
 
 import os
 import signal
+import time
 from contextlib import contextmanager
 
 TYPE_CHECKING = False
@@ -21,6 +22,8 @@ _processes: list[subprocess.Popen[bytes]] = []
 _folders: dict[str, int] = {}
 _deferring = 0
 _received = 0
+_dealt_with = float("-inf")    # when a signal was last dealt with
+_PAUSE, _RECENT = 0.2, 1.0     # seconds: between two tries, and from which on a signal is another one
 
 
 class Stopped(BaseException):
@@ -40,9 +43,26 @@ def _receive(number: int, _frame: object) -> None:
 
 def handle_signals() -> None:
     """Has SIGINT, SIGTERM and SIGHUP raise Stopped, save those that are ignored already."""
+    import _thread
+
+    reads, writes = os.pipe()
+    os.set_blocking(writes, False)
     for number in _STOPPING:
         if signal.getsignal(number) is not signal.SIG_IGN:
             signal.signal(number, _receive)
+    signal.set_wakeup_fd(writes, warn_on_full_buffer=False)
+    _thread.start_new_thread(_insist, (reads, _thread.get_ident()))
+
+
+def _insist(reads: int, main: int) -> None:
+    """Sends a signal again until it is dealt with. One that comes just before a system call that waits is not looked at before that
+    ends, and an exception that is raised within a callback of Python's own is lost."""
+    while True:
+        number, begun = os.read(reads, 1)[0], time.monotonic()
+        while number in _STOPPING and _dealt_with < begun - _RECENT:
+            time.sleep(_PAUSE)
+            if _dealt_with < begun - _RECENT:
+                signal.pthread_kill(main, number)
 
 
 @contextmanager
@@ -150,8 +170,9 @@ def _await(process: subprocess.Popen[bytes]) -> None:
 
 def undo() -> None:
     """Ends what still runs, and removes what is left; from here on signals are kept back for good."""
-    global _deferring
+    global _deferring, _dealt_with
     _deferring += 1
+    _dealt_with = time.monotonic()
     for process in list(_processes):
         if process.poll() is None:
             process.terminate()
@@ -163,8 +184,8 @@ def undo() -> None:
 
 def go_on() -> None:
     """Forgets a signal that was received: what it stopped has been dealt with."""
-    global _received
-    _received = 0
+    global _received, _dealt_with
+    _received, _dealt_with = 0, time.monotonic()
 
 
 def show(words: Sequence[str], text: bytes) -> None:

@@ -5,6 +5,7 @@ Whoever only asks takes no lock; a change takes it for as long as it is written.
 from __future__ import annotations
 
 import os
+from contextlib import contextmanager
 from typing import Iterable, Iterator, Mapping, NamedTuple, Sequence, Union
 
 from . import kinds, notes, queries
@@ -18,6 +19,8 @@ if TYPE_CHECKING:
     import datetime
     from decimal import Decimal
     from types import TracebackType
+
+    from .sheets import Sheet
 
 Value = Union[int, str, "Decimal", "datetime.date"]
 
@@ -88,11 +91,58 @@ class Database:
             unit.remove(table, keys)
         return unit.version
 
+    def load(self, table: str, path: str | os.PathLike[str], by: str = "", because: str = "", missing: Mapping[str, str] | None = None) -> int:
+        """Puts the records of a CSV file into a table, and gives the version that this made. `missing` says by columns' names what
+        stands for an empty cell. Raises Refused, SourceFault, UsageError where no file can be read there."""
+        from . import loads
+
+        with _sheet(path) as sheet:
+            return loads.load(self.journal, table, sheet, _cause(by, because, path), missing or {}).version
+
+    def sync(self, table: str, path: str | os.PathLike[str], by: str = "", because: str = "",
+             allow_removals: bool = False, keep: bool = False) -> int:
+        """Brings a table to what a CSV file says, and gives the version that this made, or the one that was there where nothing
+        differs. Raises Refused, also where more than half of the rows would be ended and `allow_removals` is not given."""
+        from . import loads
+
+        with _sheet(path) as sheet:
+            synced = loads.sync(self.journal, table, sheet, _cause(by, because, path), {}, keep, allow_removals)
+        return synced.outcome.version if synced.outcome is not None else self.version
+
+    def import_(self, table: str, path: str | os.PathLike[str], key: str, valid: bool = False,
+                kinds: Mapping[str, str] | None = None, missing: Mapping[str, str] | None = None, by: str = "", because: str = "") -> int:
+        """Makes a table of a CSV file and puts it in, and gives the version that this made. `kinds` says by columns' names what they
+        are where that is not to be found out, as `{"pay": "DECIMAL(2)"}`. Raises Refused, UsageError."""
+        from . import loads
+
+        with _sheet(path) as sheet:
+            plan = loads.plan(table, sheet, key, valid, kinds or {}, missing or {})
+            outcome = loads.import_sheet(self.journal, plan, sheet, _cause(by, because, path)).outcome
+        assert outcome is not None
+        return outcome.version
+
     def execute(self, statement: str, by: str = "", because: str = "") -> int:
         """Makes the commit of a CREATE, MOMENT or FORGET, and gives its version. Raises Refused."""
         with self.unit(by, because) as unit:
             unit.execute(statement)
         return unit.version
+
+
+@contextmanager
+def _sheet(path: str | os.PathLike[str]) -> Iterator[Sheet]:
+    """The sheet of a file, closed at the end."""
+    from .sheets import open_sheet
+
+    sheet = open_sheet(os.fspath(path), ".")
+    try:
+        yield sheet
+    finally:
+        sheet.close()
+
+
+def _cause(by: str, because: str, path: str | os.PathLike[str]) -> notes.Cause:
+    """Who and why, and the name of the file that it is of."""
+    return notes.cause_of(by, because, os.fspath(path), None)
 
 
 class _Part(NamedTuple):

@@ -214,7 +214,7 @@ class Shell:
 
         self.refused += 1
         line = self.lines.line + encode(text)[:statement.start].count(b"\n")
-        label = statement.text if self.lines.is_terminal else f"line {line}, {statement.text},"
+        label = "this" if self.lines.is_terminal else f"line {line}"
         if refused.place is not None and refused.place.record:
             lines = explain_sheet(label, statement.text, refused, io.BytesIO(block), "")
         else:

@@ -6,7 +6,8 @@ the UTF-8 text, and places in what the engine got are mapped back to what was ty
 from __future__ import annotations
 
 import re
-from typing import Callable, Iterable, NamedTuple
+from functools import lru_cache
+from typing import Callable, Iterable, NamedTuple, Sequence
 
 from .errors import Place, Refused
 
@@ -95,9 +96,10 @@ def decode(text: bytes) -> str:
     return text.decode("utf-8", "surrogateescape")
 
 
-def tokens(text: str) -> list[Token]:
+@lru_cache(maxsize=8)
+def tokens(text: str) -> tuple[Token, ...]:
     """The tokens of a text, blanks among them: together they are the text."""
-    return [Token(str(it.lastgroup), decode(it.group()), it.start(), it.end()) for it in _TOKEN.finditer(encode(text))]
+    return tuple([Token(str(it.lastgroup), decode(it.group()), it.start(), it.end()) for it in _TOKEN.finditer(encode(text))])
 
 
 def is_open(token: Token) -> bool:
@@ -148,7 +150,7 @@ def _apply(text: bytes, edits: list[Edit]) -> bytes:
     return b"".join([*parts, text[at:]])
 
 
-def _refuse_line_breaks(statement: Statement, found: list[Token]) -> None:
+def _refuse_line_breaks(statement: Statement, found: Sequence[Token]) -> None:
     for token in found:
         broken = encode(token.text).find(b"\n") if token.kind == "text" and not is_open(token) else -1
         if broken >= 0:

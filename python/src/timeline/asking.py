@@ -8,6 +8,8 @@ from .statements import BATCHES, Statement, encode, statements_of
 
 TYPE_CHECKING = False
 if TYPE_CHECKING:
+    import argparse
+
     from .cli import Call
 
 
@@ -15,8 +17,7 @@ def ask(call: Call) -> int:
     """Answers the queries of its one word."""
     parser = call.parser()
     parser.add_argument("text")
-    for form in ("--csv", "--json", "--table"):
-        parser.add_argument(form, dest="form", action="store_const", const=form[2:])
+    add_forms(parser)
     given = parser.parse_args(call.words)
     statements = statements_of(given.text)
     if not statements:
@@ -24,7 +25,7 @@ def ask(call: Call) -> int:
     for statement in statements:
         if statement.word in BATCHES:
             raise UsageError(f"ask writes nothing, and {statement.word} does: ./timeline run, or shell")
-    form = given.form or ("table" if call.console.out_is_terminal else "csv")
+    form = form_of(call, given)
     status, is_first = 0, True
     for statement, result in zip(statements, ask_journal(call.journal(), given.text, form == "json", call.console.say)):
         if isinstance(result, Refused):
@@ -36,6 +37,19 @@ def ask(call: Call) -> int:
             is_first = False
             getattr(result, f"write_{form}")(call.console)
     return status
+
+
+def add_forms(parser: argparse.ArgumentParser) -> None:
+    """The options that say how an answer is written."""
+    for form in ("--csv", "--json", "--table"):
+        parser.add_argument(form, dest="form", action="store_const", const=form[2:])
+
+
+def form_of(call: Call, given: argparse.Namespace) -> str:
+    """How an answer is written: as the options say, else a table on a terminal, and CSV elsewhere."""
+    form = given.form or ("table" if call.console.out_is_terminal else "csv")
+    assert isinstance(form, str)
+    return form
 
 
 def explained(refused: Refused, typed: str, statement: Statement) -> list[str]:

@@ -42,28 +42,28 @@ def columns_of(journal: Journal, table: str) -> list[Column]:
 
 
 def log(call: Call) -> int:
-    """Lists the commits."""
-    from . import days
+    """Lists the commits: what was done, and when, who did it and why where the journal says so."""
+    from . import notes
 
     parser = call.parser()
     parser.add_argument("--csv", action="store_true")
     parser.add_argument("--times", action="store_true")
-    given, journal = parser.parse_args(call.words), call.journal()
+    parser.add_argument("--between", nargs=2, metavar="DAY")
+    given = parser.parse_args(call.words)
+    journal = call.journal()
     listing = journal.listing(["log"])
-    if given.times and not _has_seconds(journal):
+    look = journal.look()
+    is_timed, found = notes.catalog_of(look).has_seconds, notes.notes_of(look)
+    if given.csv and not (given.times or given.between or is_timed or found):
+        return _write(call, listing, True)
+    rows = notes.told(rows_of(listing), is_timed, found)
+    if given.between:
+        rows = notes.between(rows, is_timed, *given.between)
+    if given.times and not is_timed:
         call.console.say("nobody has said that the moments of this journal are seconds: they are shown as numbers")
-    elif given.times:
-        rows = rows_of(listing)
-        at = rows[0].index("moment")
-        rows = [rows[0]] + [(*row[:at], days.shown(int(row[at])) if row[at] else "", *row[at + 1:]) for row in rows[1:]]
-        listing = b"".join(",".join(row).encode() + b"\n" for row in rows)
-    return _write(call, listing, given.csv)
-
-
-def _has_seconds(journal: Journal) -> bool:
-    from .notes import catalog_of
-
-    return catalog_of(journal.look()).has_seconds
+    if is_timed and (given.times or not given.csv):
+        rows = notes.with_times(rows)
+    return _write_rows(call, rows, given.csv)
 
 
 def rows(call: Call) -> int:
@@ -85,10 +85,17 @@ def tables(call: Call) -> int:
 
 
 def _write(call: Call, listing: bytes, as_csv: bool) -> int:
-    from .answers import write_table
-
     if as_csv:
         call.console.write(listing)
+        return 0
+    return _write_rows(call, rows_of(listing), False)
+
+
+def _write_rows(call: Call, rows: list[tuple[str, ...]], as_csv: bool) -> int:
+    from .answers import csv_line, write_table
+
+    if as_csv:
+        call.console.write("".join(map(csv_line, rows)).encode("utf-8"))
     else:
-        write_table(rows_of(listing), call.console)
+        write_table(rows, call.console)
     return 0

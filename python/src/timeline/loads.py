@@ -97,12 +97,10 @@ def load(journal: Journal, table: str, sheet: Sheet, cause: Cause = Cause(), mis
     """Puts the records of a sheet into a table. Raises Refused where one is refused; then nothing is kept."""
     names = column_names(sheet.header, True)
     given = by_name(missing, sheet, names, "--missing")
-    renamed(sheet, names, say)
-    keys: list[str] = []
 
     def body(unit: Unit, raw: bool) -> Iterator[bytes]:
         columns = columns_of(unit.state.catalog, table, sheet, names, given)
-        return put_sheet(unit, table, sheet, columns, raw and not keys)
+        return put_sheet(unit, table, sheet, columns, raw)
 
     try:
         return transact(journal, "load", lambda unit: body(unit, True), cause, say)
@@ -273,14 +271,7 @@ def _period(sheet: Sheet, columns: Sequence[Column]) -> Kind:
     return kind if kind.name in ("DATE", "TIME") else INT
 
 
-class Imported(NamedTuple):
-    """What came of an import: its plan, and the replies; None where it was only planned."""
-
-    plan: Plan
-    outcome: Outcome | None
-
-
-def import_sheet(journal: Journal, made: Plan, sheet: Sheet, cause: Cause = Cause(), say: Say = _quiet) -> Imported:
+def import_sheet(journal: Journal, made: Plan, sheet: Sheet, cause: Cause = Cause(), say: Say = _quiet) -> Outcome:
     """Makes the table of a plan and puts the sheet into it, all in one unit. Raises Refused where anything of it is refused."""
     parts = made.records > MOST_ROWS
     if parts and made.period is None:
@@ -298,7 +289,7 @@ def import_sheet(journal: Journal, made: Plan, sheet: Sheet, cause: Cause = Caus
         outcome = transact(journal, "import", lambda unit: body(unit, False), cause, say)
     if len(outcome.replies) > 2:
         say(f"more than a block can hold: {len(outcome.replies) - 1} versions, which are kept together")
-    return Imported(made, outcome)
+    return outcome
 
 
 # sync
@@ -355,7 +346,6 @@ def sync(journal: Journal, table: str, sheet: Sheet, cause: Cause = Cause(), mis
     names = column_names(sheet.header, shape.is_valid)
     empty = by_name(missing, sheet, names, "--missing")
     _check_header(sheet, names, shape)
-    renamed(sheet, names, say)
     while True:
         state = state_of(journal.look())
         columns = [column._replace(kind=column.kind or shape.columns.get(column.name, INT))

@@ -6,7 +6,7 @@ Nothing here starts a process or writes to an output."""
 from __future__ import annotations
 
 import time
-from typing import Callable, Iterable, Iterator, NamedTuple, Sequence
+from typing import Callable, Iterable, Iterator, List, NamedTuple, Sequence, Tuple
 
 from . import kinds
 from .errors import Place, Refused, UsageError
@@ -18,6 +18,7 @@ if TYPE_CHECKING:
     from .journal import Journal, Look
     from .replies import Reply
 
+Listing = List[Tuple[str, ...]]    # the rows of a listing, its header first
 NOTES = "timeline_notes"
 CREATE_NOTES = f"CREATE TABLE {NOTES} (version INT, who TEXT, why TEXT, source TEXT) KEY version"
 SELECT_NOTES = f"SELECT version, who, why, source FROM {NOTES}"
@@ -217,15 +218,18 @@ def joined(pieces: Iterable[bytes]) -> Iterator[bytes]:
 
 
 def _placed(refused: Refused, unit: Unit) -> Refused:
-    """A refusal with the place in the sheet of what the program says of a block."""
+    """A refusal with the place in the sheet of what the program says of a block, and the version of which nothing is left out."""
     from .replies import Fault
 
+    refused.version = unit.state.version
     fault = Fault(refused.kind, refused.numbers)
     refused.version = unit.state.version
     if not 0 < refused.number <= len(unit.uses) or fault.record is None:
         return refused
     record = fault.record + (unit.records[refused.number - 1] if fault.record > 1 else 0)
     refused.place = Place(None, record, fault.field)
+    if fault.record > 1:
+        refused.numbers = (record, *refused.numbers[1:])
     return refused
 
 
@@ -233,3 +237,41 @@ def notes_of(look: Look) -> dict[int, tuple[str, str, str]]:
     """Who, why and source of each version that has a note."""
     (asked,) = look.ask([encode(SELECT_NOTES)])
     return {int(row[0]): (row[1], row[2], row[3]) for row in asked.rows()} if isinstance(asked, Rows) else {}
+
+
+
+def told(rows: Listing, is_timed: bool, notes: dict[int, tuple[str, str, str]]) -> Listing:
+    """The rows of a log, its header first, with what the journal says of each commit: `when`, the moment at which it was done,
+    where moments are seconds, and who, why and of what source, where there are notes."""
+    at = rows[0].index("moment")
+    head = (("when",) if is_timed else ()) + (("who", "why", "source") if notes else ())
+    made, when = [(*rows[0], *head)], ""
+    for row in rows[1:]:
+        when = row[at] or when
+        more = ((when,) if is_timed else ()) + (notes.get(int(row[0]), ("", "", "")) if notes else ())
+        made.append((*row, *more))
+    return made
+
+
+def between(rows: Listing, is_timed: bool, first: str, last: str) -> Listing:
+    """The rows of a log, with their moments, of commits that were done from the first second of a day on to the last of another.
+
+    Raises UsageError where one is no day, Refused where the journal's moments are no seconds."""
+    from . import days
+
+    try:
+        least, most = days.moment_of("TIME", f"{first}T00:00"), days.moment_of("DAY", last)
+    except ValueError:
+        raise UsageError(f"--between wants two days, as 2026-03-01 2026-03-31, and not {first} {last}") from None
+    if not is_timed:
+        raise Refused("NoSeconds", sentence="nobody has said that the moments of this journal are seconds, so its commits have no days")
+    at = rows[0].index("when")
+    return [rows[0], *(row for row in rows[1:] if row[at] and least <= int(row[at]) <= most)]
+
+
+def with_times(rows: Listing) -> Listing:
+    """The rows of a log with times for its moments."""
+    from . import days
+
+    places = {at for at, name in enumerate(rows[0]) if name in ("moment", "when")}
+    return [rows[0], *(tuple(days.shown(int(cell)) if at in places and cell else cell for at, cell in enumerate(row)) for row in rows[1:])]

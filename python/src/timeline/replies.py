@@ -10,7 +10,8 @@ from .errors import ProgramFault
 PIECE = 1 << 18          # so many bytes are read at once
 _OFFSET = frozenset("BadByte OpenText NumberTooLarge Unexpected UnknownTable UnknownColumn WrongType NotValidTable VersionAhead Forgotten "
                     "EmptyRange ColumnTwice LineBreak NoDay NoTime NoSeconds".split())
-_RECORD = frozenset("NotUtf8 NotInt TextTooLong FieldCount BatchTooLong EmptyPeriod KeyTwice NoRow".split())
+_RECORD = frozenset("NotUtf8 NotInt TextTooLong FieldCount BatchTooLong EmptyPeriod KeyTwice NoRow "
+                    "NotDecimal NotDate NotTime OpenQuotes EndOfBlock".split())       # the last five are the front's own
 
 
 class Source(Protocol):

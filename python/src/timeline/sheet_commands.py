@@ -99,20 +99,18 @@ def import_(call: Call) -> int:
 
     words = _parsed(call, "--valid", "--dry-run", key=True)
     sheet = _sheet(words.file)
-    made = plan(words.table, sheet, words.key, words.valid, _pairs(words.kind, "--kind"), _pairs(words.missing, "--missing"), call.console.say)
-    if words.dry_run:
-        call.console.line(made.create(stored=False))
-        call.console.say(f"{made.records} records would be put into it; nothing was made")
-        return 0
     try:
-        done = import_sheet(call.journal(), made, sheet, _cause(call, sheet), call.console.say)
+        made = plan(words.table, sheet, words.key, words.valid, _pairs(words.kind, "--kind"), _pairs(words.missing, "--missing"), call.console.say)
+        done = None if words.dry_run else import_sheet(call.journal(), made, sheet, _cause(call, sheet), call.console.say)
     except Refused as refused:
         _tell(call, f"PUT {words.table}", sheet, refused)
         call.console.say("nothing was made")
         return refused.status
     call.console.line(made.create(stored=False))
-    assert done.outcome is not None
-    _print(call, done.outcome)
+    if done is None:
+        call.console.say(f"{made.records} records would be put into it; nothing was made")
+    else:
+        _print(call, done)
     return 0
 
 

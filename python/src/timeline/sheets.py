@@ -205,7 +205,8 @@ class Lines:
         return self.text if _CSV_TAKES_NUL else (line.replace("\0", _NUL) for line in iter(self.text))
 
     def __exit__(self, _type: object, error: BaseException | None, _trace: object) -> None:
-        self.text.detach()
+        if not self.text.closed:
+            self.text.detach()
         if isinstance(error, OSError):
             raise SourceFault(f"reading the input failed: {error.strerror}") from None
 

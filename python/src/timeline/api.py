@@ -117,8 +117,7 @@ class Database:
 
         with _sheet(path) as sheet:
             plan = loads.plan(table, sheet, key, valid, kinds or {}, missing or {})
-            outcome = loads.import_sheet(self.journal, plan, sheet, _cause(by, because, path)).outcome
-        assert outcome is not None
+            outcome = loads.import_sheet(self.journal, plan, sheet, _cause(by, because, path))
         return outcome.version
 
     def execute(self, statement: str, by: str = "", because: str = "") -> int:

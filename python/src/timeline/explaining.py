@@ -1,6 +1,6 @@
 """Why a statement was refused, for people: its text with a caret, the record of a block, and what to do.
 
-The sentences stand in docs/FORMATS.md, in the table of its chapter `What to do`. This makes lines of text; it prints
+The sentences stand in docs/FORMATS.md, in the tables of its chapters `What to do` and `Faults of the command`. This makes lines of text; it prints
 nothing, and what the engine says is never judged again: a case only chooses a sentence."""
 from __future__ import annotations
 
@@ -33,8 +33,8 @@ def _sentences() -> dict[tuple[str, str], str]:
                 text = file.read()
         except OSError:
             continue
-        chapter = text.partition("\n## What to do\n")[2].partition("\n## ")[0]
-        for line in chapter.split("\n"):
+        chapters = [text.partition(f"\n## {it}\n")[2].partition("\n## ")[0] for it in ("What to do", "Faults of the command")]
+        for line in "\n".join(chapters).split("\n"):
             cells = [it.strip() for it in line.split("|")]
             if len(cells) == 5:
                 found[cells[1], cells[2]] = cells[3]

@@ -36,7 +36,7 @@ def open_input(path: str | None) -> int:
             sentence = f'a query is asked by ./timeline ask "{path}"'
         raise UsageError(sentence) from None
     if os.path.isdir(f"/dev/fd/{number}"):
-        raise UsageError(f"{path} is a folder, and no file that can be read")
+        raise UsageError(f"{path} is no file that can be read: Is a directory")
     return number
 
 

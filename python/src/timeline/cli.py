@@ -26,6 +26,7 @@ COMMANDS = {
     "build": ("building:build", ""),
     "clean": ("building:clean", ""),
     "diff": ("changes:diff_command", ""),
+    "export": ("export:export", ""),
     "follow": ("copying:follow", "explain wait"),
     "group": ("running:run", _RUNS),
     "install": ("installing:install", ""),

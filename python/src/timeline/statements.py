@@ -81,7 +81,7 @@ class Prepared(NamedTuple):
             if offset < edit.start + shift:
                 break
             if offset < edit.start + shift + len(edit.new):
-                return edit.start
+                return offset - shift if len(edit.new) == edit.end - edit.start else edit.start
             shift += len(edit.new) - (edit.end - edit.start)
         return offset - shift
 

@@ -92,6 +92,8 @@ class _Axis(NamedTuple):
         number = int(cell)
         if self.times is None:
             return number
+        if number > self.times.last:
+            return last
         stated = self.times.stated
         at = bisect_right(stated, (number, 1 << 63))
         return stated[at - 1][1] if at else stated[0][1]
@@ -114,16 +116,16 @@ def _drawn(answer: Answer, text: str, axis: _Axis) -> Picture:
     rows = answer.cells()
     if not rows:
         raise Refused("NoRows", statement=text, sentence="the answer has no row to be drawn")
-    points = [axis.place(cell, 0) for row in rows for cell in row[-3:-1] if cell != kinds.FOREVER]
-    last = max(points) + max(1.0, (max(points) - min(points)) / 20)
+    points = [axis.place(row[-3], 0) for row in rows] + [axis.place(row[-2], 0) for row in rows if row[-2] != kinds.FOREVER]
+    last = max(points) + max(1.0, (max(points) - min(filter(None, points), default=0)) // 20)
     found: dict[str, Series] = {}
     for row in rows:
         label = answer.kinds[0].shown(row[0]) if grouped else ""
         one = found.setdefault(label, Series(label, [], [], []))
         begin, end = axis.place(row[-3], last), axis.place(row[-2], last)
-        if begin < end or row is rows[-1]:
+        if begin < end:
             one.begins.append(begin)
-            one.ends.append(max(end, begin + 1))
+            one.ends.append(end)
             one.values.append(_number(row[-1], answer.kinds[-1]))
     return Picture(" ".join(text.split()), axis.name, axis.kind, [one for one in found.values() if one.begins])
 

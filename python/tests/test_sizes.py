@@ -1,21 +1,19 @@
-#!/usr/bin/env python3
 """Runs the program over more than a few of everything: groups, letters, marks, commits, rows of one key that hold one
 after the other, packets; and over keys far apart. Each run has a limit of memory and of processor time, several times
-what it takes, so that work or room that grows as the square of what is given does not pass. `sizes.py PROGRAM`; ends
-with 1 where one run is not as it should be."""
+what it takes, so that work or room that grows as the square of what is given does not pass."""
 import os
 import resource
 import subprocess
 import sys
 import tempfile
 
-PROGRAM = os.path.abspath(sys.argv[1])
-JOURNALS = "/dev/shm" if os.access("/dev/shm", os.W_OK) else None
+from conftest import program, room_for_journals
+
+PROGRAM = program("timeline")
+JOURNALS = room_for_journals()
 # The program that `rt try` makes, whose memory is not as it is, is run without limits of memory.
 LIMITED = os.environ.get("UNLIMITED") is None
 MEGABYTE = 1 << 20
-
-failed = 0
 
 
 def run(name, script, wanted, megabytes=1024, seconds=20, words=()):
@@ -43,11 +41,9 @@ def limits(megabytes, seconds):
 
 def judge(name, done, status, wanted):
     """A run has ended with the status that is wanted, and printed what is wanted."""
-    global failed
-    if (done.returncode, done.stdout) != (status, wanted):
-        failed = 1
-        print(f"{name}: status {done.returncode}, {len(done.stdout)} bytes that begin {done.stdout[:200]!r}, "
-              f"in place of {len(wanted)} that begin {wanted[:200]!r}")
+    assert (done.returncode, done.stdout) == (status, wanted), (
+        f"{name}: status {done.returncode}, {len(done.stdout)} bytes that begin {done.stdout[:200]!r}, "
+        f"in place of {len(wanted)} that begin {wanted[:200]!r}")
 
 
 def put(table, columns, lines):
@@ -62,7 +58,7 @@ def done(first, last):
     return "".join(f"a @{it} ok\n" for it in range(first, last + 1))
 
 
-def many_groups():
+def test_many_groups():
     """1,500 groups of numbers near 0, of numbers far from it, and of texts; the values come in order."""
     keys = range(1500)
     far = [-(1 << 62) + it * (1 << 51) for it in keys]
@@ -77,7 +73,7 @@ def many_groups():
     run("1,500 groups", script, wanted)
 
 
-def long_texts():
+def test_long_texts():
     """Texts of 101, 4,000 and 65,535 letters are kept, told apart by their last letter, found, grouped and joined."""
     texts = [("n" * (length - 1)) + end for length in (101, 4000, 65535) for end in "ab"]
     script = "a> CREATE TABLE t (k INT, name TEXT) KEY k\n"
@@ -89,7 +85,7 @@ def long_texts():
     run("texts of 101 letters and more", script, wanted)
 
 
-def many_marks():
+def test_many_marks():
     """600 commits, each with a mark, asked at some versions and over all of them by several workers."""
     script = "a> CREATE TABLE t (k INT) KEY k\n" + "".join(put("t", "k", [it]) for it in range(600)) + "GO\n"
     wanted = done(1, 601)
@@ -102,7 +98,7 @@ def many_marks():
         run(f"600 marks, {workers} workers", script, wanted, 65536, words=("--every", "1", "--workers", workers))
 
 
-def keys_far_apart():
+def test_keys_far_apart():
     """Keys take room by their number and not by their size, also where they are looked for twice."""
     keys = [0, 1 << 31, 10_000_000_000, (1 << 34) - 1, 1 << 34, (1 << 63) - 1, -1, -(1 << 63)]
     plain = "a> CREATE TABLE t (k INT) KEY k\n" + put("t", "k", keys) + put("t", "k", [10_000_000_000])
@@ -114,7 +110,7 @@ def keys_far_apart():
     run("keys far apart, with periods", script, done(1, 3) + rows(3, ["0,10,8"]), 256)
 
 
-def one_after_the_other():
+def test_one_after_the_other():
     """A join of two tables whose 200,000 rows all have one value, and of which two hold at a time."""
     count = 200_000
     script = "a> CREATE TABLE l (k INT, x INT) KEY k VALID\na> CREATE TABLE r (k INT, x INT) KEY k VALID\n"
@@ -129,7 +125,7 @@ def one_after_the_other():
     run("rows one after the other", script, done(1, 4) + rows(4, pairs))
 
 
-def many_commits():
+def test_many_commits():
     """30,000 commits of a line, whose snapshots are let go as they are followed."""
     count = 30_000
     phases = [range(first, first + 1000) for first in range(0, count, 1000)]
@@ -140,7 +136,7 @@ def many_commits():
     run("30,000 commits", script, wanted, 60)
 
 
-def many_marks_of_periods():
+def test_many_marks_of_periods():
     """10,000 commits of a line with a period, each with a mark, whose ends are shared and joined as they grow many."""
     count = 10_000
     phases = [range(first, first + 1000) for first in range(0, count, 1000)]
@@ -152,7 +148,7 @@ def many_marks_of_periods():
     run("10,000 marks of periods", script, wanted, 100, words=("--every", "1", "--workers", "1"))
 
 
-def long_answer():
+def test_long_answer():
     """An answer of 4 MB in rows of 4,000 letters takes some times its own size."""
     lines = [f"{it},{'x' * 4000}" for it in range(1000)]
     script = "a> CREATE TABLE t (k INT, name TEXT) KEY k\n" + put("t", "k,name", lines) + "GO\na> SELECT k, name FROM t\n"
@@ -171,7 +167,7 @@ def follow(name, given, status, wanted, megabytes, seconds=20):
     judge(name, done, status, wanted)
 
 
-def long_inputs():
+def test_long_inputs():
     """An input of packets is not kept: not that of 3 GB which is none, nor what stands behind a place where no packet
     begins, nor packets that came before. A packet may be longer than a piece, and the place of one past the first."""
     if not LIMITED:
@@ -203,9 +199,3 @@ def long_inputs():
     follow("a packet of many pieces, cut", cut, 10, f"! packet {len(first + second)}\n", 160)
     again = last[:4] + first[4:]
     follow("a place past many pieces", packets(third, second, again, first), 10, f"! packet {len(third + second)}\n", 160)
-
-
-for it in (many_groups, long_texts, many_marks, keys_far_apart, one_after_the_other, many_commits, many_marks_of_periods,
-           long_answer, long_inputs):
-    it()
-sys.exit(failed)

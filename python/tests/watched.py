@@ -1,18 +1,16 @@
-#!/usr/bin/env python3
-"""Compares what `watch` says behind each commit of a script with asking anew: watched.py TEXT SCRIPT [JOURNAL]. It runs
+"""Compares what `watch` says behind each commit of a script with asking anew. It runs
 `timeline watch TEXT` over the script, on a journal of its own or a copy of one, and asks at each version of a line
-`watch @V` the aggregate of TEXT, and the number of its rows, over that version alone. Ends with 1 where they differ."""
+`watch @V` the aggregate of TEXT, and the number of its rows, over that version alone."""
 import csv
 import io
-import os
 import re
 import shutil
 import subprocess
-import sys
 import tempfile
 
-TIMELINE = os.path.join(os.path.dirname(os.path.dirname(os.path.abspath(__file__))), "timeline")
-JOURNALS = "/dev/shm" if os.access("/dev/shm", os.W_OK) else None
+from conftest import COMMAND, room_for_journals
+
+JOURNALS = room_for_journals()
 
 
 def answers(printed):
@@ -37,8 +35,8 @@ def compare(text, script, journal=None):
         if journal:
             shutil.copy(journal, f"{room}/timeline.tlj")
         else:
-            subprocess.run([TIMELINE, "init"], cwd=room, check=True)
-        run = lambda words, given: subprocess.run([TIMELINE, *words], input=given, cwd=room, capture_output=True, text=True, timeout=300)
+            subprocess.run([COMMAND, "init"], cwd=room, check=True)
+        run = lambda words, given: subprocess.run([COMMAND, *words], input=given, cwd=room, capture_output=True, text=True, timeout=300)
         done = run(["watch", text], script)
         if done.returncode:
             return 0, f"it ended with {done.returncode}: {done.stdout[-200:]}"
@@ -55,10 +53,3 @@ def compare(text, script, journal=None):
             if rows != wanted:
                 return at, f"at version {version} it says {rows}, and asking anew {wanted}"
         return len(said), ""
-
-
-if __name__ == "__main__":
-    with open(sys.argv[2]) as file:
-        number, wrong = compare(sys.argv[1], file.read(), *sys.argv[3:4])
-    print(f"{number} commits agree" if not wrong else wrong)
-    sys.exit(1 if wrong or number == 0 else 0)

@@ -1,6 +1,4 @@
-#!/usr/bin/env python3
-"""Runs the commands that stand around the program: ask, shell, import, sync, seal, and days. Ends with 1 where something
-is not as it should be, and says what."""
+"""Runs the commands that stand around the program: ask, shell, import, sync, seal, and days. """
 import contextlib
 import fcntl
 import os
@@ -14,10 +12,9 @@ import sys
 import tempfile
 import time
 
-HERE = os.path.dirname(os.path.abspath(__file__))
-TIMELINE = os.path.join(os.path.dirname(HERE), "timeline")
-# The folder for journals: a file system in memory, where there is one.
-JOURNALS = "/dev/shm" if os.access("/dev/shm", os.W_OK) else None
+from conftest import COMMAND, room_for_journals
+
+JOURNALS = room_for_journals()
 STAFF = """a> CREATE TABLE staff (id INT, name TEXT, pay INT) KEY id
 a> CREATE TABLE price (item INT, cents INT) KEY item VALID
 a> PUT staff
@@ -35,19 +32,14 @@ item,cents,valid_from,valid_to
 \\.
 """
 
-failed = 0
-
 
 def judge(name, is_right, found=""):
-    global failed
-    if not is_right:
-        failed = 1
-        print(f"{name}: not as it should be: {found}")
+    assert is_right, f"{name}: {found}"
 
 
 def run(words, given="", room=None, **more):
     """Runs the command, and gives its status, what it printed and what it said."""
-    done = subprocess.run([TIMELINE, *words], input=given, cwd=room, capture_output=True, text=True, timeout=120, **more)
+    done = subprocess.run([COMMAND, *words], input=given, cwd=room, capture_output=True, text=True, timeout=120, **more)
     return done.returncode, done.stdout, done.stderr
 
 
@@ -74,7 +66,7 @@ class Terminal:
         self.number, self.terminal = pty.fork()
         if self.number == 0:
             os.chdir(room)
-            os.execv(TIMELINE, [TIMELINE, *words])
+            os.execv(COMMAND, [COMMAND, *words])
         self.shown = ""
 
     def until(self, wanted):
@@ -104,7 +96,7 @@ class Terminal:
         return os.waitstatus_to_exitcode(ended[1])
 
 
-def questions_in_one_line():
+def test_questions_in_one_line():
     with Room(STAFF) as room:
         with open(f"{room}/timeline.tlj", "rb") as journal:
             before = journal.read()
@@ -145,11 +137,11 @@ def questions_in_one_line():
         judge("ask without a journal", found[:2] == (7, "! journal NotInitialised 0\n") and not os.listdir(room), found)
 
 
-def a_look_beside_a_loader():
+def test_a_look_beside_a_loader():
     """What is asked while another program commits is what some first commits make, all that were answered before among
     them; and so is a listing."""
     with Room("a> CREATE TABLE t (k INT) KEY k\n") as room:
-        with subprocess.Popen([TIMELINE, "run"], cwd=room, stdin=subprocess.PIPE, stdout=subprocess.PIPE, text=True) as loader:
+        with subprocess.Popen([COMMAND, "run"], cwd=room, stdin=subprocess.PIPE, stdout=subprocess.PIPE, text=True) as loader:
             answered, asked = 0, 0
             keys = 0
             while asked < 8:
@@ -173,7 +165,7 @@ def a_look_beside_a_loader():
         judge("the loader", loader.returncode == 0, loader.returncode)
 
 
-def what_if_is_forgotten():
+def test_what_if_is_forgotten():
     with Room(STAFF) as room:
         with open(f"{room}/timeline.tlj", "rb") as journal:
             before = journal.read()
@@ -187,9 +179,9 @@ def what_if_is_forgotten():
             judge("what if writes nothing", journal.read() == before)
 
 
-def whoever_may_read_may_ask():
+def test_whoever_may_read_may_ask():
     """A person who may only read the file asks and lists; one who may not is told so."""
-    if os.geteuid() != 0 or subprocess.run([TIMELINE, "--help"], user=65534, capture_output=True).returncode != 0:
+    if os.geteuid() != 0 or subprocess.run([COMMAND, "--help"], user=65534, capture_output=True).returncode != 0:
         return
     with Room(STAFF) as room:
         os.chmod(room, 0o755)
@@ -203,7 +195,7 @@ def whoever_may_read_may_ask():
         judge("ask of a file that may not be read", found == (5, "! device\n", "timeline: timeline.tlj cannot be read\n"), found)
 
 
-def a_prompt():
+def test_a_prompt():
     with Room(STAFF) as room:
         with open(f"{room}/more.csv", "w") as more:
             more.write("id,name,pay\n3,Poe,2900")
@@ -261,7 +253,7 @@ def a_prompt():
         judge("shell without a journal", found[0] == 7, found)
 
 
-def a_sheet_becomes_a_table():
+def test_a_sheet_becomes_a_table():
     with Room() as room:
         with open(f"{room}/staff.csv", "w", newline="") as sheet:
             sheet.write('\ufeffid,name,pay,code\r\n1,"Doe, J.",3000,007\r\n2,"a ""b""\nc",-5,x1\r\n')
@@ -283,7 +275,7 @@ def a_sheet_becomes_a_table():
         judge("import --valid", found == (0, "CREATE TABLE price (item TEXT, cents INT) KEY item VALID\nimport @3 ok\nload @4 ok\n", ""), found)
 
 
-def a_nightly_sheet():
+def test_a_nightly_sheet():
     with Room(STAFF) as room:
         def sync(text, *words):
             with open(f"{room}/night.csv", "w") as sheet:
@@ -308,7 +300,7 @@ def a_nightly_sheet():
         judge("sync with valid time", found[0] == 20 and "valid time" in found[2], found)
 
 
-def days_are_moments():
+def test_days_are_moments():
     with Room(STAFF) as room:
         second = lambda text: int(subprocess.run(["date", "-d", text, "+%s"], capture_output=True, text=True).stdout)
         script = ""
@@ -337,7 +329,7 @@ def days_are_moments():
         judge("--stamp that cannot rise", found == (0, "a @12 rows 1\n3500\n", "timeline: the last moment that was stated is 99999999999, later than now\n"), found)
 
 
-def evidence():
+def test_evidence():
     with Room(STAFF) as room:
         status, first, said = run(["seal"], room=room)
         size = os.path.getsize(f"{room}/timeline.tlj")
@@ -362,17 +354,3 @@ def evidence():
         with open(f"{room}/seals", "w") as seals:
             seals.write("@5 x\n")
         judge("no line of seal", run(["seal", "--check", "seals"], room=room)[0] == 21)
-
-
-# A command that does not end is not as it should be either.
-signal.alarm(500)
-questions_in_one_line()
-a_look_beside_a_loader()
-what_if_is_forgotten()
-whoever_may_read_may_ask()
-a_prompt()
-a_sheet_becomes_a_table()
-a_nightly_sheet()
-days_are_moments()
-evidence()
-sys.exit(failed)

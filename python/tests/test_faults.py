@@ -1,6 +1,5 @@
-#!/usr/bin/env python3
 """Runs the program where a script alone does not reach: an input, an output and a journal that fail in a phase or
-between two, and the lock of the journal. `faults.py PROGRAM`; ends with 1 where one run is not as it should be."""
+between two, and the lock of the journal."""
 import fcntl
 import os
 import resource
@@ -10,21 +9,19 @@ import subprocess
 import sys
 import tempfile
 
-PROGRAM = os.path.abspath(sys.argv[1])
+import pytest
+from conftest import program
+
+PROGRAM = program("timeline")
 
 # Three phases: a table, a batch of each of two sessions, and a query.
 TABLE = "a> CREATE TABLE emp (id INT) KEY id\nGO\n"
 BATCHES = "b> PUT emp\nid\n1\n\\.\nc> PUT emp\nid\n2\n\\.\nGO\n"
 ROWS = "a> SELECT * FROM emp\n"
 
-failed = 0
 
-
-def judge(name, is_right, found):
-    global failed
-    if not is_right:
-        failed = 1
-        print(f"{name}: not as it should be: {found}")
+def judge(name, is_right, found=""):
+    assert is_right, f"{name}: {found}"
 
 
 def init(room):
@@ -88,7 +85,7 @@ def journal_fails(room_for, outputs):
         judge(f"a journal of at most {room_for} bytes", found in [(5, it) for it in outputs], found)
 
 
-def streams_not_open():
+def test_streams_not_open():
     """A run whose output or input is not open fails, and the journal does not take its place."""
     for number, status, said in [(1, 4, ""), (0, 3, "! source\n")]:
         with tempfile.TemporaryDirectory() as room, open(f"{room}/replies", "w+") as replies:
@@ -114,7 +111,7 @@ def is_free(room, kind):
     return True
 
 
-def the_lock_is_kept():
+def test_the_lock_is_kept():
     """A run has the lock of its journal, which it shares with nobody, from its first reply until it ends."""
     with tempfile.TemporaryDirectory() as room:
         init(room)
@@ -133,16 +130,26 @@ def the_lock_is_kept():
             judge("a run beside a shared lock", found == (5, "! device\n"), found)
 
 
-# A run that does not end is not as it should be either.
-signal.alarm(300)
-input_fails("a> CREATE TABLE emp", "! source\n", "a @0 ! UnknownTable 14\n")
-input_fails(TABLE + "b> PUT emp\nid\n1\n", "a @1 ok\n! source\n", "a @1 rows 0\n")
-output_fails(False, ["a @1 rows 0\n"])
-output_fails(True, ["a @3 rows 2\n1\n2\n", "a @3 rows 2\n2\n1\n"])
-broken = "a @1 ok\nb @1 ! {}\nc @1 ! {}\na @1 rows 0\n! device\na @1 rows 0\n"
-journal_fails(50, [broken.format("device", "broken"), broken.format("broken", "device")])
-full = "a @1 ok\nb @2 {}\nc @2 {}\na @2 rows 1\n{}\n! device\na @2 rows 1\n{}\n"
-journal_fails(70, [full.format("ok", "! device", 1, 1), full.format("! device", "ok", 2, 2)])
-streams_not_open()
-the_lock_is_kept()
-sys.exit(failed)
+@pytest.mark.parametrize("taken, output, later", [
+    ("a> CREATE TABLE emp", "! source\n", "a @0 ! UnknownTable 14\n"),
+    (TABLE + "b> PUT emp\nid\n1\n", "a @1 ok\n! source\n", "a @1 rows 0\n"),
+], ids=["in a statement", "in a block"])
+def test_an_input_that_fails(taken, output, later):
+    input_fails(taken, output, later)
+
+
+@pytest.mark.parametrize("is_read, later", [(False, ["a @1 rows 0\n"]), (True, ["a @3 rows 2\n1\n2\n", "a @3 rows 2\n2\n1\n"])])
+def test_an_output_without_a_reader(is_read, later):
+    output_fails(is_read, later)
+
+
+BROKEN = "a @1 ok\nb @1 ! {}\nc @1 ! {}\na @1 rows 0\n! device\na @1 rows 0\n"
+FULL = "a @1 ok\nb @2 {}\nc @2 {}\na @2 rows 1\n{}\n! device\na @2 rows 1\n{}\n"
+
+
+@pytest.mark.parametrize("size, outputs", [
+    (50, [BROKEN.format("device", "broken"), BROKEN.format("broken", "device")]),
+    (70, [FULL.format("ok", "! device", 1, 1), FULL.format("! device", "ok", 2, 2)]),
+], ids=["50", "70"])
+def test_a_journal_that_may_not_grow(size, outputs):
+    journal_fails(size, outputs)

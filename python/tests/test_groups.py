@@ -1,7 +1,6 @@
-#!/usr/bin/env python3
-"""Runs the commands group, transact, ship, follow and watch: a group is kept whole or not at all, and a transaction not
-where a statement is refused; packets come in any order, are lost and come again, and what is watched is what asking anew
-says. Ends with 1 where something is not as it should be."""
+"""Runs the commands group, transact, ship, follow and watch: a group is kept whole or not at all, a transaction not where a
+statement is refused; packets come in any order, are
+lost and come again, and what is watched is what asking anew says."""
 import fcntl
 import os
 import random
@@ -12,30 +11,21 @@ import subprocess
 import sys
 import tempfile
 
-HERE = os.path.dirname(os.path.abspath(__file__))
-sys.path.insert(0, HERE)
 import followed
 import watched
+from conftest import COMMAND, ROOT, program, room_for_journals
 
-TIMELINE = os.path.join(os.path.dirname(HERE), "timeline")
-PROGRAM = os.path.join(os.path.dirname(HERE), "crates/timeline/out/timeline")
-LOOKER = os.path.join(os.path.dirname(HERE), "crates/timeline_look/out/timeline_look")
-# The folder for journals: a file system in memory, where there is one.
-JOURNALS = "/dev/shm" if os.access("/dev/shm", os.W_OK) else None
+PROGRAM = program("timeline")
+JOURNALS = room_for_journals()
 EMPTY = b"timeline journal\0"
 SEED = 20261130          # what is drawn is the same in each run
 
-failed = 0
-
 
 def judge(name, is_right, found=""):
-    global failed
-    if not is_right:
-        failed = 1
-        print(f"{name}: not as it should be: {found}")
+    assert is_right, f"{name}: {found}"
 
 
-def run(words, given=b"", room=None, command=TIMELINE, **more):
+def run(words, given=b"", room=None, command=COMMAND, **more):
     """Runs the command, and gives its status, what it printed and what it said."""
     given = given.encode() if isinstance(given, str) else given
     done = subprocess.run([command, *words], input=given, cwd=room, capture_output=True, timeout=300, **more)
@@ -68,7 +58,7 @@ def put(table, rows, names="k,x"):
     return f"a> PUT {table}\n{names}\n" + "".join(f"{row}\n" for row in rows) + "\\.\n"
 
 
-def a_group_is_kept_whole():
+def test_a_group_is_kept_whole():
     """The replies and the journal are those of `run`, and nothing is kept where the script or the disk fails."""
     create = "a> CREATE TABLE t (k INT, x INT) KEY k\n"
     script = create + "".join(put("t", [f"{it},{it % 7}"]) + ("GO\n" if it % 10 == 0 else "") for it in range(100)) + "GO\nb> SELECT k FROM t WHERE x = 3\n"
@@ -102,7 +92,7 @@ def a_group_is_kept_whole():
         judge("group with an output that fails", status == 4, status)
 
 
-def a_transaction_is_kept_whole():
+def test_a_transaction_is_kept_whole():
     """Without a refusal it is `group`; with one the replies end with that of the statement, whose number the last line has,
     and the journal stays as it was, whatever is refused and wherever it stands."""
     draw = random.Random(SEED)
@@ -168,14 +158,15 @@ def a_transaction_is_kept_whole():
         judge("a refusal on a full disk", done.returncode == 12 and done.stdout.endswith(b"\n! refused 201\n"), done)
         judge("the journal after both", run(["group"], "a> SELECT k FROM t WHERE x = 1 AND k >= 2000\n", room)[1] == b"a @3 rows 0\n")
         # A look forgets what it plays.
-        if os.path.exists(LOOKER):
+        looker = program("timeline_look")
+        if os.path.exists(looker):
             before = journal(room)
             judge("transact over a look", run(["transact"], put("t", ["9,9"]), room, LOOKER) == (0, b"a @4 ok\n", ""))
             judge("a refusal over a look", run(["transact"], put("t", ["9,9"]) + "a> S\n", room, LOOKER) == (12, b"a @4 ok\na @4 ! Unexpected 0\n! refused 2\n", ""))
             judge("what a look left", journal(room) == before)
 
 
-def a_group_waits_twice():
+def test_a_group_waits_twice():
     """However many commits a group has, behind the opening there are two syncs, and one write of them all and one of the
     gate. `strace` counts, where it is there."""
     if not shutil.which("strace"):
@@ -202,7 +193,7 @@ def packets(room, last):
     return each
 
 
-def packets_come_as_they_like():
+def test_packets_come_as_they_like():
     draw = random.Random(SEED)
     script = "a> CREATE TABLE t (k INT, x INT) KEY k\na> CREATE TABLE v (k INT) KEY k VALID\n"
     for it in range(200):
@@ -277,15 +268,15 @@ def packets_come_as_they_like():
             judge(f"the words {words}", run(words, room=leader)[:2] == (2, b"! usage\n"))
 
 
-def packets_of_the_worked_journal():
+def test_packets_of_the_worked_journal():
     """The packet of the worked journal's version 4; and of two packets of one version the first counts, also where their
     commits differ and the version is still to come."""
-    with open(os.path.join(HERE, "cases/script_b.hex")) as file:
+    with open(f"{ROOT}/examples/cases/script_b.hex") as file:
         records = [bytes.fromhex(line)[1:] for line in file.read().split("\n")[1:6]]
     with Room() as room:
         with open(f"{room}/timeline.tlj", "wb") as file:
             file.write(EMPTY[:-1] + b"".join(b"\1" + it for it in records) + b"\0")
-        for command in (TIMELINE, PROGRAM):
+        for command in (COMMAND, PROGRAM):
             found = run(["ship", "4", "4"], room=room, command=command)
             judge("version 4", found == (0, b"\0\0\0\4" + records[3], "") and len(records[3]) == 19, found)
     create = "a> CREATE TABLE t (k INT, x INT) KEY k\n"
@@ -295,7 +286,7 @@ def packets_of_the_worked_journal():
         judge("the first of two packets", found[:2] == (0, b"follow @2\n") and journal(room) == journal(one), found)
 
 
-def a_journal_is_shipped_while_it_grows():
+def test_a_journal_is_shipped_while_it_grows():
     """What is shipped beside a program that commits are the first commits, whole ones, and all that were answered."""
     script = "a> CREATE TABLE t (k INT, x INT) KEY k\n"
     phases = [script + "GO\n"] + [put("t", [f"{100 * at + it},{it}" for it in range(at)]) + "GO\n" for at in range(1, 40)]
@@ -314,7 +305,7 @@ def a_journal_is_shipped_while_it_grows():
             judge(f"shipped while commit {answered + 1} is made", status == 0 and given in fronts and not said, (status, len(given), said))
 
 
-def totals_that_are_always_there():
+def test_totals_that_are_always_there():
     """What is watched is what asking anew says: for each kind, by a number, a text and by none, with no test, one and
     three, over a plain table and one with periods; and watched from the first commit on, from between, and near the end."""
     draw = random.Random(SEED)
@@ -360,15 +351,3 @@ def totals_that_are_always_there():
         found = run(["--strict", "watch", "COUNT FROM u OVER SYSTEM ALL"], put("u", [1], "k") + put("u", ["x"], "k") + put("u", [2], "k"), room)
         judge("--strict watch", found == (20, b"a @4 ok\nwatch @4 rows 1\n1,1\na @4 ! NotInt 2 1\na @5 ok\nwatch @5 rows 1\n2,2\n",
                                           "timeline: 1 of 3 statements was refused\n"), found)
-
-
-# A command that does not end is not as it should be either.
-signal.alarm(500)
-a_group_is_kept_whole()
-a_transaction_is_kept_whole()
-a_group_waits_twice()
-packets_come_as_they_like()
-packets_of_the_worked_journal()
-a_journal_is_shipped_while_it_grows()
-totals_that_are_always_there()
-sys.exit(failed)

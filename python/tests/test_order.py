@@ -1,14 +1,12 @@
-#!/usr/bin/env python3
 """Runs the program under order.c, and looks at the order of its writes and syncs: each commit is written behind the
-closed gate and synced, then its gate is opened and synced, and only then is it answered. `order.py PROGRAM`; ends with
-1 where the order is another, and where no C compiler is there to see it."""
+closed gate and synced, then its gate is opened and synced, and only then is it answered."""
 import os
 import shutil
 import subprocess
-import sys
 import tempfile
 
-PROGRAM = os.path.abspath(sys.argv[1])
+from conftest import program
+
 SOURCE = os.path.join(os.path.dirname(os.path.abspath(__file__)), "order.c")
 
 # Three phases: a table, two batches and a query, and a batch.
@@ -39,24 +37,17 @@ def folded(order):
     return [it for at, it in enumerate(order) if it != "reply" or order[at - 1] != "reply"]
 
 
-def main():
+def test_the_order_of_writes_and_syncs():
     compiler = next((it for it in ("cc", "clang", "gcc") if shutil.which(it)), None)
-    if compiler is None:
-        print("the order of writes and syncs: not seen, since no C compiler is here")
-        return 1
+    assert compiler is not None, "no C compiler is here to see it"
     with tempfile.TemporaryDirectory() as room:
         library = f"{room}/order.so"
         subprocess.run([compiler, "-shared", "-fPIC", "-O1", "-o", library, SOURCE], check=True)
         around = dict(os.environ, LD_PRELOAD=library, ORDER=f"{room}/order")
-        subprocess.run([PROGRAM, "init"], cwd=room, env=around, stdin=subprocess.DEVNULL, check=True, timeout=60)
-        run = subprocess.run([PROGRAM, "run"], cwd=room, env=around, input=SCRIPT, capture_output=True, text=True, timeout=60)
+        words = {"cwd": room, "env": around, "timeout": 60}
+        subprocess.run([program("timeline"), "init"], stdin=subprocess.DEVNULL, check=True, **words)
+        run = subprocess.run([program("timeline"), "run"], input=SCRIPT, capture_output=True, text=True, **words)
         with open(f"{room}/order") as order:
             found = folded(order.read().split())
-    replies = "a @1 ok\na @2 ok\na @3 ok\na @3 rows 2\n1\n2\na @4 ok\n"
-    if (run.returncode, run.stdout, found) == (0, replies, WANTED):
-        return 0
-    print(f"the order of writes and syncs: status {run.returncode}, {run.stdout!r},\n{found}, and not\n{WANTED}")
-    return 1
-
-
-sys.exit(main())
+    assert (run.returncode, run.stdout) == (0, "a @1 ok\na @2 ok\na @3 ok\na @3 rows 2\n1\n2\na @4 ok\n")
+    assert found == WANTED

@@ -1,6 +1,4 @@
-#!/usr/bin/env python3
-"""Runs the command `timeline` where a script with its expected replies does not reach: what it does around the program.
-Ends with 1 where something is not as it should be, and says what."""
+"""Runs the command `timeline` where a script with its expected replies does not reach: what it does around the program."""
 import fcntl
 import glob
 import hashlib
@@ -16,24 +14,17 @@ import sys
 import tempfile
 import time
 
-HERE = os.path.dirname(os.path.abspath(__file__))
-TIMELINE = os.path.join(os.path.dirname(HERE), "timeline")
-# The folder for journals: a file system in memory, where there is one.
-JOURNALS = "/dev/shm" if os.access("/dev/shm", os.W_OK) else None
-HINT = "timeline: see ./timeline --help\n"
+from conftest import COMMAND, ROOT, room_for_journals
+
+JOURNALS = room_for_journals()
 HELD = "timeline: another program has this journal"
 
-failed = 0
+
+def judge(name, is_right, found=""):
+    assert is_right, f"{name}: {found}"
 
 
-def judge(name, is_right, found):
-    global failed
-    if not is_right:
-        failed = 1
-        print(f"{name}: not as it should be: {found}")
-
-
-def run(words, given="", room=None, command=TIMELINE, **more):
+def run(words, given="", room=None, command=COMMAND, **more):
     """Runs the command, and gives its status, what it printed and what it said."""
     done = subprocess.run([command, *words], input=given, cwd=room, capture_output=True, text=True, timeout=120, **more)
     return done.returncode, done.stdout, done.stderr
@@ -45,180 +36,20 @@ def make_journal(room, script=""):
         judge("a first script", run(["--strict", "run"], script, room)[0] == 0, script)
 
 
-def copy_of_the_command(room, rt):
-    """A copy of the command over crates of its own and with an `rt` of its own, which is a shell script."""
-    os.makedirs(f"{room}/crates/timeline/src")
-    os.makedirs(f"{room}/crates/low/src")
-    os.makedirs(f"{room}/crates/timeline_log/src")
-    os.makedirs(f"{room}/crates/timeline_look/src")
-    os.makedirs(f"{room}/docs")
-    os.makedirs(f"{room}/bin")
-    shutil.copy(TIMELINE, f"{room}/timeline")
-    shutil.copytree(f"{HERE}/../script", f"{room}/script")
-    shutil.copy(f"{HERE}/../docs/FORMATS.md", f"{room}/docs")
-    with open(f"{room}/crates.txt", "w") as crates:
-        crates.write("low:\nhigh: low\ntimeline: low\n")
-    for crate in ("timeline", "timeline_log", "timeline_look", "low"):
-        with open(f"{room}/crates/{crate}/src/main.rt", "w") as source:
-            source.write("\n")
-    with open(f"{room}/bin/rt", "w") as command:
-        command.write(f"#!/usr/bin/env bash\necho \"$*\" >>{room}/calls\n{rt}")
-    os.chmod(f"{room}/bin/rt", 0o755)
-    around = dict(os.environ, PATH=f"{room}/bin:{os.environ['PATH']}")
-    return lambda *words, given="": run(words, given, command=f"{room}/timeline", env=around)
-
-
-def words_are_answered_at_once():
-    """Where nothing is built, words that are none, and those that ask for a page, are answered and nothing is built."""
-    with tempfile.TemporaryDirectory() as room:
-        command = copy_of_the_command(room, "exit 1\n")
-        for words in ((), ("go",), ("run", "no file"), ("load",), ("load", "1t"), ("rows",), ("rows", "1t"), ("try", "a", "b"), ("--strict",)):
-            status, printed, said = command(*words)
-            judge(f"the words {words}", (status, printed) == (2, "! usage\n") and said.endswith(HINT), (status, said))
-        for words in (("-h",), ("help",), ("--help",)):
-            status, printed, said = command(*words)
-            judge(f"the words {words}", status == 0 and printed.startswith("timeline keeps") and not said, (status, said))
-        judge("nothing is built for words", not os.path.exists(f"{room}/calls"), "")
-        status, printed, said = command("--version")
-        judge("--version", status == 0 and printed.startswith("timeline") and not said, (status, printed, said))
-
-
-# What the prover says of two crates, and then the program that it makes, which says how it is called; and the one that
-# lists, and the one that looks.
-BUILDS = r"""
-[[ $1 == version ]] && echo a kit && exit
-mkdir -p out
-program=${PWD##*/}
-printf '#!/usr/bin/env bash\necho "the %s: $*"\n' "$program" >"out/$program"
-chmod +x "out/$program"
-[[ $program == timeline_log ]] && exit 7
-if [[ $program == timeline ]]; then
-    echo 'so far: 0 of 2 functions checked; the verdict comes last' >&2
-    echo 'fn low::add: proved' >&2
-    echo 'fn low::take: proved' >&2
-    echo 'logic=proved functions=2' >&2
-    echo 'so far: 0 of 1 functions checked; the verdict comes last' >&2
-    echo 'fn timeline::main: proved' >&2
-    [[ -e fails ]] && exit 1
-fi
-echo '! usage'
-exit 2
-"""
-# What a processor has, for which programs are built.
-FLAGS = "flags\t\t: fpu avx f16c abm fma movbe xsave bmi1 avx2 bmi2 rdrand\n"
-
-
-def builds_of(room):
-    """How the prover was asked to build, so far."""
-    with open(f"{room}/calls") as calls:
-        return [it for it in calls.read().split("\n") if it.startswith("run")]
-
-
-def a_build_that_is_stopped():
-    """Ctrl-C in a build says that it goes on where it stopped."""
-    with tempfile.TemporaryDirectory() as room:
-        copy_of_the_command(room, "[[ $1 == version ]] && exit\necho 'so far: 0 of 9 functions checked' >&2\ntouch begun\nsleep 60\n")
-        around = dict(os.environ, PATH=f"{room}/bin:{os.environ['PATH']}")
-        build = subprocess.Popen([f"{room}/timeline", "build"], env=around, stdin=subprocess.DEVNULL, stdout=subprocess.PIPE, stderr=subprocess.PIPE,
-                                 text=True, start_new_session=True)
-        ends = time.time() + 20
-        while not os.path.exists(f"{room}/crates/timeline/begun") and time.time() < ends:
-            time.sleep(0.1)
-        os.killpg(build.pid, signal.SIGINT)
-        said = build.stderr.read()
-        judge("a build that is stopped", build.wait() == 130 and said.endswith("timeline: stopped; ./timeline build goes on where it stopped\n"), (build.returncode, said))
-
-
-def a_build_is_for_the_processor():
-    """A build is for the processor that is there, says so, and is refused on a lesser one, which builds it again."""
-    for flags, kind in ((FLAGS, "x86-64-v3"), (FLAGS.replace("avx2 ", ""), ""), (FLAGS.replace(" abm", ""), ""), ("model name: none\n", "")):
-        with tempfile.TemporaryDirectory() as room:
-            command = copy_of_the_command(room, BUILDS)
-            with open(f"{room}/cpuinfo", "w") as info:
-                info.write(f"processor\t: 0\n{flags}")
-            with open(f"{room}/script/processor.sh") as script:
-                text = script.read().replace("/proc/cpuinfo", f"{room}/cpuinfo")
-            with open(f"{room}/script/processor.sh", "w") as script:
-                script.write(text)
-            status, printed, said = command("build")
-            judge("a build for a processor", (status, printed) == (0, "") and said.endswith(f"timeline: built for {kind or 'x86-64-v2'}\n"), (flags, said))
-            option = f" --cpu={kind}" if kind else ""
-            judge("what is built", builds_of(room) == [f"run{option}", f"run{option} -- log", f"run{option}"], builds_of(room))
-            judge("--version says for which", f", for {kind or 'x86-64-v2'}\n" in command("--version")[1], command("--version"))
-            with open(f"{room}/cpuinfo", "w") as info:
-                info.write(FLAGS.replace("avx2 ", ""))
-            found = command("run")
-            if kind:
-                told = "timeline: built for another kind of processor, x86-64-v3, than this one: ./timeline build\n"
-                judge("a program that was moved", found == (125, "", told), found)
-                judge("another build", command("build")[0] == 0 and command("run") == (0, "the timeline: run\n", ""), builds_of(room))
-            else:
-                judge("a program that was moved to no lesser one", found == (0, "the timeline: run\n", ""), found)
-
-
-def only_build_builds():
-    """A build says how far it is; no other command builds, also where a source is newer; a build that fails ends with 125."""
-    with tempfile.TemporaryDirectory() as room:
-        command = copy_of_the_command(room, BUILDS)
-        for words in (("run",), ("load", "t"), ("init",), ("log",), ("tables",), ("rows", "t"), ("ask", "SELECT k FROM t"), ("shell",), ("seal",)):
-            found = command(*words)
-            judge(f"{words} with nothing built", found == (125, "", "timeline: not built: ./timeline build\n"), found)
-        judge("options, with nothing built", command("run", "--workers", "99")[:2] == (2, "! usage\n"), "")
-        judge("nothing is built", not os.path.exists(f"{room}/calls"), "")
-        status, printed, said = command("build")
-        told = re.findall(r"crate (\d) of 2, (\w+): (\d) of (\d) functions checked, 0 minutes gone", said)
-        judge("a build", (status, printed) == (0, "") and re.search(r"timeline: built for x86-64-v[23]\n$", said), (status, printed, said))
-        judge("how far a build is", told == [("1", "low", "1", "2"), ("2", "timeline", "1", "1")], said)
-        judge("a run", command("run") == (0, "the timeline: run\n", ""), "")
-        judge("a listing", command("log", "--csv") == (0, "the timeline_log: log\n", ""), command("log", "--csv"))
-        judge("a second build", command("build") == (0, "", ""), "")
-        printed = command("--version")[1]
-        judge("--version", re.search(r"built from a kit, for x86-64-v[23]\n", printed), printed)
-        later = time.time() + 5
-        os.utime(f"{room}/crates/low/src/main.rt", (later, later))
-        found = command("init")
-        wanted = (0, "the timeline: init\n", "timeline: the sources are newer than the program: ./timeline build\n")
-        judge("a source that is newer", found == wanted, found)
-        found = [re.sub(" --cpu=x86-64-v3", "", it) for it in builds_of(room)]
-        judge("builds", found == ["run", "run -- log", "run"], found)
-        with open(f"{room}/crates/timeline/fails", "w"):
-            os.utime(f"{room}/crates/low/src/main.rt", (later + 60, later + 60))
-        status, printed, said = command("build")
-        judge("a build that fails", (status, printed) == (125, "") and "build.log" in said, (status, printed, said))
-        with open(f"{room}/crates/low/large", "w"), open(f"{room}/crates/timeline/out/large", "w"):
-            found = command("clean")
-        left = sorted(os.listdir(f"{room}/crates/timeline/out"))
-        judge("clean", found[0] == 0 and left == ["built", "checked", "processor", "timeline"], (found, left))
-
-
-def try_without_a_program():
-    """Where nothing is built `try` runs the interpreter, whose own lines are not shown."""
-    ends = "cat\necho 'checked: ended' >&2\necho 'run=ended status=6 runners=1' >&2\nexit 6\n"
-    large = "echo 'interpreter: no-answer: too much' >&2\necho 'run=no-answer proved=no' >&2\nexit 6\n"
-    with tempfile.TemporaryDirectory() as room:
-        status, printed, said = copy_of_the_command(room, ends)("try", given="! script NoSession 1\n")
-        is_right = (status, printed) == (6, "! script NoSession 1\n") and "ended" not in said
-        judge("try with nothing built", is_right, (status, printed, said))
-    with tempfile.TemporaryDirectory() as room:
-        status, printed, said = copy_of_the_command(room, large)("try")
-        judge("try of what is too large", (status, printed) == (125, ""), (status, printed))
-        judge("what it says", said.endswith("timeline: too large for try: ./timeline build\n") and "no-answer" not in said, said)
-
-
-def files_are_opened():
+def test_files_are_opened():
     """`try`, `run` and `load` open the file that stands behind them."""
-    with open(f"{HERE}/first.expected") as expected:
+    with open(f"{ROOT}/examples/first.expected") as expected:
         wanted = expected.read()
-    judge("try FILE", run(["try", f"{HERE}/first.tl"]) == (0, wanted, ""), wanted)
+    judge("try FILE", run(["try", f"{ROOT}/examples/first.tl"]) == (0, wanted, ""), wanted)
     with tempfile.TemporaryDirectory(dir=JOURNALS) as room:
         make_journal(room)
-        judge("run FILE", run(["run", f"{HERE}/first.tl"], room=room) == (0, wanted, ""), wanted)
+        judge("run FILE", run(["run", f"{ROOT}/examples/first.tl"], room=room) == (0, wanted, ""), wanted)
         with open(f"{room}/more.csv", "w") as more:
             more.write("id,pay\n3,2900\n")
         judge("load TABLE FILE", run(["load", "staff", "more.csv"], room=room) == (0, "load @4 ok\n", ""), room)
 
 
-def refusals_are_told():
+def test_refusals_are_told():
     """A refused load says so; `--strict` ends with 20 where a statement was refused, and else as the program does."""
     with tempfile.TemporaryDirectory(dir=JOURNALS) as room:
         make_journal(room, "a> CREATE TABLE t (k INT) KEY k\n")
@@ -239,7 +70,7 @@ def refusals_are_told():
         ends = run(["--strict", "run"], script, f"{room}/none")
         judge("--strict without a journal", ends == (7, "! journal NotInitialised 0\n", ""), ends)
         with open("/dev/full", "w") as full:
-            found = subprocess.run([TIMELINE, "--strict", "run"], input=script, cwd=room, stdout=full, text=True,
+            found = subprocess.run([COMMAND, "--strict", "run"], input=script, cwd=room, stdout=full, text=True,
                                    stderr=subprocess.DEVNULL, timeout=60).returncode
         judge("--strict with an output that fails", found == 4, found)
         # A row that looks like a reply, in a text of several lines, is none.
@@ -252,16 +83,16 @@ def refusals_are_told():
             quoted = {'"': '""'}
             rows = "".join(f'{it},"{quoted.get(chr(it), chr(it))}""x"\n' for it in range(first, first + 64))
             asked = f"a> PUT b\nk,t\n{rows}\\.\na> SELECT t, k FROM b\na> SELECT x FROM b\n"
-            done = subprocess.run([TIMELINE, "--strict", "run"], input=asked.encode(), cwd=room, capture_output=True, timeout=60)
+            done = subprocess.run([COMMAND, "--strict", "run"], input=asked.encode(), cwd=room, capture_output=True, timeout=60)
             told = "timeline: 1 of 3 statements was refused\n"
             judge(f"--strict behind the bytes from {first} on", (done.returncode, done.stderr.decode()) == (20, told), done)
-            passed = subprocess.run([f"{HERE}/rows", "2"], input=done.stdout, capture_output=True, timeout=60).stdout
+            passed = subprocess.run([f"{ROOT}/examples/rows", "2"], input=done.stdout, capture_output=True, timeout=60).stdout
             judge(f"examples/rows of the bytes from {first} on", passed == done.stdout.split(b" rows 64\n")[1].rpartition(b"a @2")[0], passed)
-            explained = subprocess.run([TIMELINE, "--explain", "run"], input=asked.encode(), cwd=room, capture_output=True, timeout=60)
+            explained = subprocess.run([COMMAND, "--explain", "run"], input=asked.encode(), cwd=room, capture_output=True, timeout=60)
             judge(f"--explain behind the bytes from {first} on", b"UnknownColumn 7\n    SELECT x FROM b\n           ^\n" in explained.stderr, explained)
 
 
-def explanations_come_from_a_pipe():
+def test_explanations_come_from_a_pipe():
     """A script from a pipe is explained as one from a file, and so is a load."""
     with tempfile.TemporaryDirectory(dir=JOURNALS) as room:
         make_journal(room, "a> CREATE TABLE t (k INT, x INT) KEY k\n")
@@ -273,37 +104,37 @@ def explanations_come_from_a_pipe():
         judge("--explain load", (status, printed) == (20, "load @1 ! NotInt 3 2\n") and said.startswith(wanted), said)
 
 
-def explanations_begin_where_the_input_stands():
+def test_explanations_begin_where_the_input_stands():
     """A script of which another program has read the front is explained from there on."""
     with tempfile.TemporaryDirectory(dir=JOURNALS) as room:
         make_journal(room)
         with open(f"{room}/script.tl", "w") as script:
             script.write("a> SELECT k FROM nothing\na> SELECT k from t\n")
-        found = run(["-c", '{ read -r _; "$0" --explain run; } <script.tl', TIMELINE], room=room, command="bash")
+        found = run(["-c", '{ read -r _; "$0" --explain run; } <script.tl', COMMAND], room=room, command="bash")
         wanted = "timeline: line 1 was refused: Unexpected 9\n    SELECT k from t\n             ^\n"
         judge("a script that is read from its second line on", found[:2] == (0, "a @0 ! Unexpected 9\n") and found[2].startswith(wanted), found)
 
 
-def what_is_not_open_fails():
+def test_what_is_not_open_fails():
     """An output or an input that is not open is one that fails; the journal's file does not take its place."""
     with tempfile.TemporaryDirectory(dir=JOURNALS) as room:
         make_journal(room)
         create = "echo 'a> CREATE TABLE t (k INT) KEY k' | "
         for words, wanted in (("run >&-", 4), ("--strict run >&-", 4), ("run <&-", 3), ("run 2>&-", 0), ("--explain run 2>&-", 0)):
-            done = subprocess.run(["bash", "-c", f'{create}"$0" {words}', TIMELINE], cwd=room, capture_output=True, timeout=60)
+            done = subprocess.run(["bash", "-c", f'{create}"$0" {words}', COMMAND], cwd=room, capture_output=True, timeout=60)
             judge(f"the command with {words}", done.returncode == wanted, done)
         printed = run(["run"], "a> SELECT k FROM t\n", room)[1]
         judge("the journal afterwards", printed == "a @1 rows 0\n", printed)
 
 
-def a_terminal_is_told():
+def test_a_terminal_is_told():
     """On a pseudo-terminal the replies come phase by phase, and a refusal is explained where it stands."""
     with tempfile.TemporaryDirectory(dir=JOURNALS) as room:
         make_journal(room, "a> CREATE TABLE t (k INT) KEY k\n")
         number, terminal = pty.fork()
         if number == 0:
             os.chdir(room)
-            os.execv(TIMELINE, [TIMELINE, "run"])
+            os.execv(COMMAND, [COMMAND, "run"])
 
         def until(wanted):
             """What the terminal shows up to this text, and for 20 seconds at most."""
@@ -327,12 +158,12 @@ def a_terminal_is_told():
         os.close(terminal)
 
 
-def progress_is_told():
+def test_progress_is_told():
     """A run that lasts tells on a terminal the commits that were answered so far and the size of the journal's file."""
     with tempfile.TemporaryDirectory(dir=JOURNALS) as room:
         make_journal(room, "a> CREATE TABLE t (k INT) KEY k\n")
         shows, terminal = pty.openpty()
-        runs = subprocess.Popen([TIMELINE, "run"], cwd=room, stdin=subprocess.PIPE, stdout=subprocess.PIPE, stderr=terminal)
+        runs = subprocess.Popen([COMMAND, "run"], cwd=room, stdin=subprocess.PIPE, stdout=subprocess.PIPE, stderr=terminal)
         os.close(terminal)
 
         def shown_until(wanted):
@@ -364,7 +195,7 @@ def progress_is_told():
         os.close(shows)
 
 
-def two_loaders_at_once():
+def test_two_loaders_at_once():
     """Two loaders, 40 loads each, with and without --wait: what was answered `ok` is there, and nothing else."""
     for words in (["--wait", "load", "t"], ["load", "t"]):
         with tempfile.TemporaryDirectory(dir=JOURNALS) as room:
@@ -372,7 +203,7 @@ def two_loaders_at_once():
             loads = [(first + number) for number in range(40) for first in (1000, 2000)]
             running, answered, refused = [], [], 0
             for key in loads:
-                loader = subprocess.Popen([TIMELINE, *words], cwd=room, stdin=subprocess.PIPE, stdout=subprocess.PIPE,
+                loader = subprocess.Popen([COMMAND, *words], cwd=room, stdin=subprocess.PIPE, stdout=subprocess.PIPE,
                                           stderr=subprocess.PIPE, text=True)
                 loader.stdin.write(f"k\n{key}\n")
                 loader.stdin.close()
@@ -394,7 +225,7 @@ def two_loaders_at_once():
             judge(f"{words}: all are loaded", "--wait" not in words or refused == 0, refused)
 
 
-def another_program_has_the_journal():
+def test_another_program_has_the_journal():
     """While another program has the lock of the journal, a run ends as one whose disk fails, and says why."""
     with tempfile.TemporaryDirectory(dir=JOURNALS) as room:
         make_journal(room, "a> CREATE TABLE t (k INT) KEY k\n")
@@ -410,7 +241,7 @@ def another_program_has_the_journal():
                 judge("the journal that another program has", journal.read() == before, "")
             listed = run(["log", "--csv"], room=room)
             judge("a listing of a journal that another program has", listed[0] == 0 and listed[2] == "", listed)
-            waiter = subprocess.Popen([TIMELINE, "--wait", "load", "t"], cwd=room, stdin=subprocess.PIPE,
+            waiter = subprocess.Popen([COMMAND, "--wait", "load", "t"], cwd=room, stdin=subprocess.PIPE,
                                       stdout=subprocess.PIPE, stderr=subprocess.PIPE, text=True)
             waiter.stdin.write("k\n1\n")
             waiter.stdin.close()
@@ -423,7 +254,7 @@ def another_program_has_the_journal():
         judge("a folder in the journal's place", refused_folder() == (5, "! device\n", "timeline: timeline.tlj is a folder\n"), "")
 
 
-def another_file_is_locked():
+def test_another_file_is_locked():
     """A lock of a file whose number ends as the journal's does is no lock of the journal. It is tried on a file system of
     its own, whose numbers are small, where one may be made."""
     commands = """mount -t tmpfs none none && cd none && "$0" init && journal=$(stat -c %i timeline.tlj) || exit
@@ -434,18 +265,18 @@ def another_file_is_locked():
     with tempfile.TemporaryDirectory(dir=JOURNALS) as room:
         os.mkdir(f"{room}/none")
         if subprocess.run(["unshare", "-rm", "bash", "-c", "mount -t tmpfs none none"], cwd=room, capture_output=True).returncode == 0:
-            found = run(["-rm", "bash", "-c", commands, TIMELINE], room=room, command="unshare")
+            found = run(["-rm", "bash", "-c", commands, COMMAND], room=room, command="unshare")
             judge("another file's lock", found == (0, "", ""), found)
 
 
-def a_disk_that_fails_says_why():
+def test_a_disk_that_fails_says_why():
     """A file that may not be written, a folder that may not, and a full disk are told apart, where this may be tried."""
     with tempfile.TemporaryDirectory(dir=JOURNALS) as room:
         make_journal(room)
         os.chmod(room, 0o755)
         os.chmod(f"{room}/timeline.tlj", 0o444)
         os.mkdir(f"{room}/none")
-        if os.geteuid() == 0 and subprocess.run([TIMELINE, "--help"], user=65534, capture_output=True).returncode == 0:
+        if os.geteuid() == 0 and subprocess.run([COMMAND, "--help"], user=65534, capture_output=True).returncode == 0:
             told = "timeline: timeline.tlj may not be read and written here; ./timeline ask needs to read alone\n"
             for words in (["run"], ["--strict", "run"]):
                 found = run(words, "", room, user=65534)
@@ -454,12 +285,12 @@ def a_disk_that_fails_says_why():
             judge("a folder that may not be written", found == (5, "! device\n", "timeline: this folder may not be written\n"), found)
         commands = 'mount -t tmpfs -o size=16k none none && cd none && head -c 16384 /dev/zero >filler; "$0" init'
         if subprocess.run(["unshare", "-rm", "bash", "-c", "mount -t tmpfs -o size=16k none none"], cwd=room, capture_output=True).returncode == 0:
-            done = subprocess.run(["unshare", "-rm", "bash", "-c", commands, TIMELINE], cwd=room, capture_output=True, text=True, timeout=60)
+            done = subprocess.run(["unshare", "-rm", "bash", "-c", commands, COMMAND], cwd=room, capture_output=True, text=True, timeout=60)
             judge("a full disk", (done.returncode, done.stdout) == (5, "! device\n") and done.stderr.endswith("timeline: the disk is full\n"), done)
 
 
-def a_listing_is_refused():
-    """Where there is no journal, or none that can be listed, `log`, `tables` and `rows` say so, and end as a run does."""
+def test_a_listing_is_refused():
+    """Where there is no journal, or none that can be listed, `log` and `tables` say so, and end as a run does."""
     with tempfile.TemporaryDirectory(dir=JOURNALS) as room:
         for words in (["log"], ["tables", "--csv"], ["log", "--times"], ["rows", "t"]):
             found = run(words, room=room)
@@ -475,7 +306,7 @@ def a_listing_is_refused():
         judge("tables of a folder", found == (5, "! device\n", "timeline: timeline.tlj is a folder\n"), found)
 
 
-def nothing_is_left_behind():
+def test_nothing_is_left_behind():
     """The folders that the command makes for a run are gone once it has ended, however it ends."""
     with tempfile.TemporaryDirectory(dir=JOURNALS) as room:
         made = lambda: set(glob.glob("/dev/shm/timeline.????????")) | set(glob.glob(f"{room}/tmp/*"))
@@ -487,7 +318,7 @@ def nothing_is_left_behind():
                       ["try"], ["--stamp", "run"]):
             run(words, "k\n1\n", room, env=around)
         for number in (signal.SIGTERM, signal.SIGINT):
-            loader = subprocess.Popen([TIMELINE, "--explain", "run"], cwd=room, env=around, stdin=subprocess.PIPE, stdout=subprocess.PIPE,
+            loader = subprocess.Popen([COMMAND, "--explain", "run"], cwd=room, env=around, stdin=subprocess.PIPE, stdout=subprocess.PIPE,
                                       stderr=subprocess.DEVNULL, start_new_session=True)
             loader.stdin.write(b"a> SELECT k FROM t\nGO\n")
             loader.stdin.flush()
@@ -505,13 +336,13 @@ def refused_folder():
         return run(["--wait", "run"], "", room)
 
 
-def a_long_load_goes_on():
+def test_a_long_load_goes_on():
     """A load of 300 batches that is killed three times goes on each time, and leaves no row out and none twice."""
     with tempfile.TemporaryDirectory(dir=JOURNALS) as room:
         make_journal(room, "a> CREATE TABLE t (k INT, x INT) KEY k\n")
         with open(f"{room}/rows.csv", "w") as rows:
             rows.write("k,x\n" + "".join(f"{key},{key % 7}\n" for key in range(600)))
-        words = ["bash", f"{HERE}/long_load.sh", "rows.csv", "t", "2"]
+        words = ["bash", f"{ROOT}/examples/long_load.sh", "rows.csv", "t", "2"]
         for turn in range(40):
             loader = subprocess.Popen(words, cwd=room, stdout=subprocess.DEVNULL, stderr=subprocess.DEVNULL,
                                       start_new_session=True)
@@ -528,14 +359,14 @@ def a_long_load_goes_on():
         judge("a long load puts each batch once", printed.split("\n")[0].endswith("rows 301"), printed[:200])
 
 
-def a_long_load_names_what_is_refused():
+def test_a_long_load_names_what_is_refused():
     """A load with a batch that is refused loads the others, names it, and does not begin again over it."""
     with tempfile.TemporaryDirectory(dir=JOURNALS) as room:
         make_journal(room, "a> CREATE TABLE t (k INT, x INT) KEY k\n")
         with open(f"{room}/rows.csv", "w") as rows:
             rows.write("k,x\n1,1\n2,2\n3,x\n4,4\n5,5\n")
         for turn in range(2):
-            load = subprocess.run(["bash", f"{HERE}/long_load.sh", "rows.csv", "t", "2"], cwd=room, text=True,
+            load = subprocess.run(["bash", f"{ROOT}/examples/long_load.sh", "rows.csv", "t", "2"], cwd=room, text=True,
                                   capture_output=True)
             named = "batch 2, lines 4 to 5: load @5 ! NotInt 2 2\n" in load.stderr
             printed = run(["run"], "a> SELECT k FROM t\n", room)[1]
@@ -543,14 +374,14 @@ def a_long_load_names_what_is_refused():
                   load.returncode == 20 and named and printed.endswith(" rows 3\n1\n2\n5\n"), (load, printed))
 
 
-def a_long_load_knows_its_file():
+def test_a_long_load_knows_its_file():
     """A load that is not done keeps another file out of its table; commits of others between leave no row out."""
     with tempfile.TemporaryDirectory(dir=JOURNALS) as room:
         make_journal(room, "a> CREATE TABLE t (k INT, x INT) KEY k\na> CREATE TABLE u (k INT) KEY k\n")
         for name, first in (("A.csv", 0), ("B.csv", 100)):
             with open(f"{room}/{name}", "w") as rows:
                 rows.write("k,x\n" + "".join(f"{first + key},{key}\n" for key in range(10)))
-        load = lambda *words: run([f"{HERE}/long_load.sh", *words], room=room, command="bash")
+        load = lambda *words: run([f"{ROOT}/examples/long_load.sh", *words], room=room, command="bash")
         with open(f"{room}/A.csv", "rb") as rows:
             digest = hashlib.sha256(rows.read()).hexdigest()
         # As if killed: two batches are marked, a third one is there without its mark, and then others committed.
@@ -568,29 +399,3 @@ def a_long_load_knows_its_file():
         printed = run(["run"], "a> SELECT k FROM t\na> COUNT FROM t OVER SYSTEM ALL\n", room)[1]
         wanted = "".join(f"{key}\n" for key in [*range(10), *range(100, 110)])
         judge("the rows of both", wanted in printed and printed.count("\n") == 1 + 20 + 1 + 11, printed)
-
-
-# A command that does not end is not as it should be either.
-signal.alarm(550)
-words_are_answered_at_once()
-only_build_builds()
-a_build_that_is_stopped()
-a_build_is_for_the_processor()
-try_without_a_program()
-files_are_opened()
-refusals_are_told()
-explanations_come_from_a_pipe()
-explanations_begin_where_the_input_stands()
-what_is_not_open_fails()
-a_terminal_is_told()
-progress_is_told()
-two_loaders_at_once()
-another_program_has_the_journal()
-another_file_is_locked()
-a_disk_that_fails_says_why()
-a_listing_is_refused()
-nothing_is_left_behind()
-a_long_load_goes_on()
-a_long_load_names_what_is_refused()
-a_long_load_knows_its_file()
-sys.exit(failed)

@@ -1,0 +1,200 @@
+"""What changed: the history of a key, and the difference of a table between two versions or days.
+
+Both stand on the listing of all rows that a table ever had, which is read once; what is shown is an Answer."""
+from __future__ import annotations
+
+import csv
+import io
+from typing import Iterable, Iterator, NamedTuple, Sequence
+
+from . import days, kinds, notes
+from .answers import Answer, csv_line
+from .asking import add_forms, form_of
+from .errors import Refused, UsageError
+from .kinds import INT, TEXT, TIME, Kind
+from .listing import Column, columns_of, rows_of
+from .replies import Rows
+
+TYPE_CHECKING = False
+if TYPE_CHECKING:
+    from .cli import Call
+    from .journal import Journal
+
+Cells = Sequence[str]
+FRONT = 3            # of a listed row: id, from, to
+
+
+class Table(NamedTuple):
+    """A table as it is listed: its columns with their kinds, the period's first where it has one, and the key's place in them."""
+
+    name: str
+    names: tuple[str, ...]
+    kinds: tuple[Kind, ...]
+    key: int
+    periods: int         # 2 where the table has valid time, else 0
+
+
+class Row(NamedTuple):
+    """A row that a table had: the versions from which and before which it stood, 0 for one that stands, and its cells."""
+
+    begin: int
+    end: int
+    cells: tuple[str, ...]
+
+    def stood_at(self, version: int) -> bool:
+        """Whether it was there at a version."""
+        return self.begin <= version and (not self.end or version < self.end)
+
+
+def table_of(journal: Journal, name: str, catalog: kinds.Catalog) -> Table:
+    """A table of the journal. Raises Refused where no table has the name."""
+    columns: Sequence[Column] = columns_of(journal, name)
+    if not columns:
+        raise Refused("UnknownTable", sentence=f"no table is called {name}")
+    period = catalog.of(name, kinds.PERIOD) or INT
+    front = [("valid_from", period), ("valid_to", period)] if columns[0].is_valid else []
+    found = [(it.name, catalog.of(name, it.name) or (TEXT if it.type == "TEXT" else INT)) for it in columns]
+    key = next(at for at, it in enumerate(columns) if it.is_key)
+    return Table(name, tuple(it for it, _ in front + found), tuple(it for _, it in front + found), len(front) + key, len(front))
+
+
+def rows_ever(journal: Journal, table: Table) -> Iterator[Row]:
+    """All rows that a table ever had, in the order in which they came."""
+    lines = io.TextIOWrapper(io.BytesIO(journal.listing(["rows", table.name])), encoding="utf-8", newline="")
+    records = csv.reader(lines, strict=True)
+    next(records)
+    for record in records:
+        yield Row(int(record[1]), int(record[2] or 0), tuple(record[FRONT:]))
+
+
+class Times:
+    """The moments of a journal's versions, where they are seconds: which version stood on a day, and when a version was made."""
+
+    def __init__(self, journal: Journal, has_seconds: bool) -> None:
+        self.has_seconds = has_seconds
+        rows = rows_of(journal.listing(["log"]))
+        at = rows[0].index("moment")
+        self.stated = [(int(row[0]), int(row[at])) for row in rows[1:] if row[at]]
+        self.last = len(rows) - 1
+
+    def version(self, text: str) -> int:
+        """The version that a word means: a number, or a day or a time. Raises UsageError for another word, Refused for a version
+        to come, and for a day where the moments are no seconds."""
+        if text.isascii() and text.isdigit() and len(text) < 9:
+            if int(text) > self.last:
+                raise Refused("VersionAhead", (int(text), self.last), sentence=f"there are {self.last} versions, and {text} is none of them")
+            return int(text)
+        try:
+            moment = days.moment_of("DAY" if len(text) == 10 else "TIME", text)
+        except ValueError:
+            raise UsageError(f"{text} is no version, and no day or time as 2026-03-31 or 2026-03-31T12:00") from None
+        if not self.has_seconds:
+            raise Refused("NoSeconds", sentence="nobody has said that the moments of this journal are seconds")
+        return next((version - 1 for version, stated in self.stated if stated > moment), self.last)
+
+    def shown(self, version: int) -> str:
+        """When a version was made, as the last second that was stated by then; empty where none was, or they are no seconds."""
+        if not self.has_seconds or not version:
+            return ""
+        from bisect import bisect_right
+
+        at = bisect_right(self.stated, (version, 1 << 63))
+        return str(self.stated[at - 1][1]) if at else ""
+
+
+def answer_of(names: Sequence[str], found: Sequence[Kind], rows: Iterable[Cells], version: int) -> Answer:
+    """An Answer with these rows of the engine's cells."""
+    lines = [csv_line(row) for row in rows]
+    return Answer(Rows("", version, len(lines), tuple(names), "".join(lines).encode("utf-8")), found)
+
+
+def key_cell(table: Table, key: str) -> str:
+    """The engine's cell of a key as people write it. Raises Refused where it is none."""
+    try:
+        return table.kinds[table.key].cell(key)
+    except kinds.KindFault as fault:
+        raise Refused(fault.name, sentence=f"{table.names[table.key]} is {table.kinds[table.key]}, and {key} is none", advice=fault.advice) from None
+
+
+def history(journal: Journal, name: str, key: str) -> Answer:
+    """All rows that a key ever had: from which version up to which, when that was where moments are seconds, who made it and why."""
+    look = journal.look()
+    catalog, made = notes.catalog_of(look), notes.notes_of(look)
+    table = table_of(journal, name, catalog)
+    times, wanted = Times(journal, catalog.has_seconds), key_cell(table, key)
+    when = [("from_time", TIME), ("to_time", TIME)] if times.has_seconds else []
+    who = [("who", TEXT), ("why", TEXT)] if made else []
+    rows = []
+    for row in rows_ever(journal, table):
+        if row.cells[table.key] == wanted:
+            cells = [str(row.begin), str(row.end or "")]
+            cells += [times.shown(row.begin), times.shown(row.end)] if when else []
+            rows.append([*cells, *row.cells, *(made.get(row.begin, ("", ""))[:2] if made else ())])
+    columns = [("from", INT), ("to", INT), *when, *zip(table.names, table.kinds), *who]
+    return answer_of([it for it, _ in columns], [it for _, it in columns], rows, times.last)
+
+
+def diff(journal: Journal, name: str, old: str, new: str) -> Answer:
+    """What a table has at one version or day and not at another: rows that are new, changed with old and new cells, or gone."""
+    catalog = notes.catalog_of(journal.look())
+    table = table_of(journal, name, catalog)
+    times = Times(journal, catalog.has_seconds)
+    first, second = times.version(old), times.version(new)
+    before: dict[Cells, Cells] = {}
+    after: dict[Cells, Cells] = {}
+    for row in rows_ever(journal, table):
+        if row.stood_at(first):
+            before[_identity(table, row.cells)] = row.cells
+        if row.stood_at(second):
+            after[_identity(table, row.cells)] = row.cells
+    shown = [at for at in range(len(table.names)) if at != table.key and at >= table.periods]
+    front = [*range(table.periods), table.key]
+    names = ["what", *(table.names[at] for at in front)]
+    names += [f"{table.names[at]}_{side}" for at in shown for side in ("old", "new")]
+    found = [TEXT, *(table.kinds[at] for at in front), *(table.kinds[at] for at in shown for _ in range(2))]
+    return answer_of(names, found, _differences(before, after, front, shown), second)
+
+
+def _identity(table: Table, cells: Cells) -> Cells:
+    """What tells which row another one follows: its key, and in a table with valid time its period."""
+    return (*cells[:table.periods], cells[table.key])
+
+
+def _differences(before: dict[Cells, Cells], after: dict[Cells, Cells], front: Sequence[int], shown: Sequence[int]) -> Iterator[Cells]:
+    for identity, old in before.items():
+        new = after.get(identity)
+        if new != old:
+            yield _line("gone" if new is None else "changed", old, new, front, shown)
+    for identity, new in after.items():
+        if identity not in before:
+            yield _line("new", None, new, front, shown)
+
+
+def _line(what: str, old: Cells | None, new: Cells | None, front: Sequence[int], shown: Sequence[int]) -> Cells:
+    one = old or new or ()
+    pairs = [cells[at] if cells else "" for at in shown for cells in (old, new)]
+    return [what, *(one[at] for at in front), *pairs]
+
+
+def history_command(call: Call) -> int:
+    """Prints the history of a key."""
+    parser = call.parser()
+    parser.add_argument("table")
+    parser.add_argument("key")
+    add_forms(parser)
+    given = parser.parse_args(call.words)
+    getattr(history(call.journal(), given.table, given.key), f"write_{form_of(call, given)}")(call.console)
+    return 0
+
+
+def diff_command(call: Call) -> int:
+    """Prints the difference of a table between two versions or days: `diff t FROM a TO b`."""
+    parser = call.parser()
+    parser.add_argument("words", nargs="*")
+    add_forms(parser)
+    given = parser.parse_args(call.words)
+    words = given.words
+    if len(words) != 5 or (words[1].upper(), words[3].upper()) != ("FROM", "TO"):
+        raise UsageError("diff wants a table, FROM a version or day, TO another")
+    getattr(diff(call.journal(), words[0], words[2], words[4]), f"write_{form_of(call, given)}")(call.console)
+    return 0

@@ -1,0 +1,101 @@
+"""The commands log, tables and rows: what the journal of this folder has, as the program that lists gives it."""
+from __future__ import annotations
+
+from typing import NamedTuple
+
+from .errors import Refused
+
+TYPE_CHECKING = False
+if TYPE_CHECKING:
+    from .cli import Call
+    from .journal import Journal
+
+
+class Column(NamedTuple):
+    """A column of a table: its name, INT or TEXT, whether it is the key, and whether the table has valid time."""
+
+    name: str
+    type: str
+    is_key: bool
+    is_valid: bool
+
+
+def rows_of(listing: bytes) -> list[tuple[str, ...]]:
+    """The records of a listing, its header first."""
+    import csv
+    import io
+
+    return [tuple(row) for row in csv.reader(io.StringIO(listing.decode("utf-8", "replace"), newline=""))]
+
+
+def tables_of(journal: Journal) -> dict[str, list[Column]]:
+    """The columns of each table."""
+    found: dict[str, list[Column]] = {}
+    for row in rows_of(journal.listing(["tables"]))[1:]:
+        found.setdefault(row[0], []).append(Column(row[1], row[2], row[3] == "yes", row[7] == "yes"))
+    return found
+
+
+def columns_of(journal: Journal, table: str) -> list[Column]:
+    """The columns of a table; none where no table has this name."""
+    return tables_of(journal).get(table, [])
+
+
+def log(call: Call) -> int:
+    """Lists the commits: what was done, and when, who did it and why where the journal says so."""
+    from . import notes
+
+    parser = call.parser()
+    parser.add_argument("--csv", action="store_true")
+    parser.add_argument("--times", action="store_true")
+    parser.add_argument("--between", nargs=2, metavar="DAY")
+    given = parser.parse_args(call.words)
+    journal = call.journal()
+    listing = journal.listing(["log"])
+    look = journal.look()
+    is_timed, found = notes.catalog_of(look).has_seconds, notes.notes_of(look)
+    if given.csv and not (given.times or given.between or is_timed or found):
+        return _write(call, listing, True)
+    rows = notes.told(rows_of(listing), is_timed, found)
+    if given.between:
+        rows = notes.between(rows, is_timed, *given.between)
+    if given.times and not is_timed:
+        call.console.say("nobody has said that the moments of this journal are seconds: they are shown as numbers")
+    if is_timed and (given.times or not given.csv):
+        rows = notes.with_times(rows)
+    return _write_rows(call, rows, given.csv)
+
+
+def rows(call: Call) -> int:
+    """Lists every row that a table ever had, with the versions from which and up to which it stood."""
+    parser = call.parser()
+    parser.add_argument("table")
+    parser.add_argument("--csv", action="store_true")
+    given, journal = parser.parse_args(call.words), call.journal()
+    if not columns_of(journal, given.table):
+        raise Refused("UnknownTable", sentence=f"no table is called {given.table}")
+    return _write(call, journal.listing(["rows", given.table]), given.csv)
+
+
+def tables(call: Call) -> int:
+    """Lists the tables."""
+    parser = call.parser()
+    parser.add_argument("--csv", action="store_true")
+    return _write(call, call.journal().listing(["tables"]), parser.parse_args(call.words).csv)
+
+
+def _write(call: Call, listing: bytes, as_csv: bool) -> int:
+    if as_csv:
+        call.console.write(listing)
+        return 0
+    return _write_rows(call, rows_of(listing), False)
+
+
+def _write_rows(call: Call, rows: list[tuple[str, ...]], as_csv: bool) -> int:
+    from .answers import csv_line, write_table
+
+    if as_csv:
+        call.console.write("".join(map(csv_line, rows)).encode("utf-8"))
+    else:
+        write_table(rows, call.console)
+    return 0

@@ -1,0 +1,134 @@
+"""The commands load, import and sync: their words, and what they print of what came of a sheet."""
+from __future__ import annotations
+
+from .errors import Refused, UsageError
+from .replies import Fault
+
+TYPE_CHECKING = False
+if TYPE_CHECKING:
+    import argparse
+    from typing import Iterable
+
+    from .cli import Call
+    from .notes import Cause, Outcome
+    from .sheets import Sheet
+
+
+def _pairs(words: Iterable[str], option: str) -> dict[str, str]:
+    """Options of columns, each `column=value`."""
+    found: dict[str, str] = {}
+    for word in words:
+        name, equals, value = word.partition("=")
+        if not equals or name in found:
+            raise UsageError(f"{option} is column=value, once for each column, and not {word}")
+        found[name] = value
+    return found
+
+
+def _parsed(call: Call, *flags: str, key: bool = False) -> argparse.Namespace:
+    """The words of a command on a sheet: its table and file, the options that all of them have, and its own."""
+    from .running import add_engine_options
+    from .sheets import is_name
+
+    parser = call.parser()
+    parser.add_argument("table")
+    parser.add_argument("file", nargs="?", default="-")
+    parser.add_argument("--missing", action="append", default=[], metavar="COLUMN=VALUE")
+    if key:
+        parser.add_argument("--key", required=True)
+        parser.add_argument("--kind", action="append", default=[], metavar="COLUMN=KIND")
+    if call.word == "load":
+        add_engine_options(parser)
+    for flag in flags:
+        parser.add_argument(flag, action="store_true")
+    parsed = parser.parse_args(call.words)
+    if not is_name(parsed.table):
+        raise UsageError(f"{parsed.table} is no name of a table: letters, digits and _, at most 64, and no word of the language")
+    return parsed
+
+
+def _sheet(file: str) -> Sheet:
+    from .sheets import open_sheet
+
+    return open_sheet(None if file == "-" else file, ".")
+
+
+def _cause(call: Call, sheet: Sheet) -> Cause:
+    from .notes import cause_of
+
+    options = call.options
+    return cause_of(options.by, options.because, sheet.name, options.stamp)
+
+
+def _print(call: Call, outcome: Outcome) -> None:
+    for reply in outcome.replies:
+        call.console.line(str(reply))
+
+
+def _tell(call: Call, statement: str, sheet: Sheet, refused: Refused) -> None:
+    """Says why a sheet was refused, and shows the record that is meant where that is wanted."""
+    from .explaining import explain_sheet
+    from .scripts import Copy
+    from .watching import missing_column
+
+    shows = call.options.explain or call.console.err_is_terminal
+    lines = Copy(sheet.file.fileno(), 0, sheet.start).lines() if shows else None
+    missing = missing_column(call.journal(), statement, Fault(refused.kind, refused.numbers)) if shows else ""
+    call.console.tell("\n".join(explain_sheet(f"the {call.word}", statement, refused, lines, missing)))
+
+
+def load(call: Call) -> int:
+    """Puts the records of a sheet into a table."""
+    from .loads import load as load_sheet
+
+    words = _parsed(call)
+    sheet = _sheet(words.file)
+    try:
+        _print(call, load_sheet(call.journal(), words.table, sheet, _cause(call, sheet), _pairs(words.missing, "--missing"), call.console.say))
+    except Refused as refused:
+        call.console.line(f"load @{refused.version} ! {Fault(refused.kind, refused.numbers)}")
+        _tell(call, f"PUT {words.table}", sheet, refused)
+        call.console.say("1 of 1 statements was refused: nothing was loaded")
+        return 0 if call.options.lenient else refused.status
+    return 0
+
+
+def import_(call: Call) -> int:
+    """Makes a table of a sheet, and puts its records into it."""
+    from .loads import import_sheet, plan
+
+    words = _parsed(call, "--valid", "--dry-run", key=True)
+    sheet = _sheet(words.file)
+    try:
+        made = plan(words.table, sheet, words.key, words.valid, _pairs(words.kind, "--kind"), _pairs(words.missing, "--missing"), call.console.say)
+        done = None if words.dry_run else import_sheet(call.journal(), made, sheet, _cause(call, sheet), call.console.say)
+    except Refused as refused:
+        _tell(call, f"PUT {words.table}", sheet, refused)
+        call.console.say("nothing was made")
+        return refused.status
+    call.console.line(made.create(stored=False))
+    if done is None:
+        call.console.say(f"{made.records} records would be put into it; nothing was made")
+    else:
+        _print(call, done)
+    return 0
+
+
+def sync(call: Call) -> int:
+    """Brings a table to what a sheet says."""
+    from .loads import sync as sync_sheet
+
+    words = _parsed(call, "--keep", "--dry-run", "--allow-removals")
+    sheet = _sheet(words.file)
+    try:
+        done = sync_sheet(call.journal(), words.table, sheet, _cause(call, sheet), _pairs(words.missing, "--missing"), words.keep,
+                          words.allow_removals, words.dry_run, call.console.say)
+    except Refused as refused:
+        _tell(call, f"SYNC {words.table}", sheet, refused)
+        call.console.say("nothing was changed")
+        return refused.status
+    found = done.difference
+    call.console.line(f"{found.new} new, {found.changed} changed, {len(found.gone)} gone, {found.same} unchanged")
+    if words.dry_run:
+        call.console.say("nothing was changed")
+    return 0

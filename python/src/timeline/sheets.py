@@ -1,0 +1,420 @@
+"""CSV files: what is in them, which kinds their columns are, and how they become blocks of statements.
+
+Read by the `csv` module, whose reader parts fields and records as the engine's does, or handed on as raw bytes where
+nothing has to change. Fields are kept as Latin-1 texts, one character a byte, so that no encoding is judged here and none
+changed. Nothing here asks a journal."""
+from __future__ import annotations
+
+import csv
+import io
+import os
+import re
+import sys
+from itertools import chain, islice
+from typing import IO, Callable, Iterable, Iterator, NamedTuple, Sequence
+
+from . import kinds
+from .errors import DeviceFault, Place, Refused, SourceFault, TimelineError, UsageError
+from .kinds import FOREVER, Kind, KindFault, Memo
+
+PIECE = 1 << 20
+CHUNK = 5_000                # so many records are handled at once
+MOST_ROWS = 1_000_000        # of a block, as the engine takes it
+MOST_BYTES = 48 << 20        # of a block that is made here, of the 64 MiB that a phase has
+END = b"\\.\n"
+MARK = b"\xef\xbb\xbf"
+KEYWORDS = frozenset("CREATE TABLE KEY VALID INT TEXT PUT REMOVE SELECT FROM WHERE AND OR AS OF AT COUNT SUM AVG MIN MAX BY OVER "
+                     "SYSTEM ALL TO JOIN WITH ON FOREVER valid_from valid_to".split())
+PERIOD = ("valid_from", "valid_to")
+_NAME = re.compile(r"[A-Za-z_][A-Za-z0-9_]{0,63}")
+_LAST = "\u0101"             # a record behind the last one: where it is part of that, the file ends within quotes
+_NUL = "\u0100"              # what stands for a NUL, which the csv module of Python 3.10 refuses
+_NUMBER = re.compile(r"([-+]?[0-9]+)(?:\.([0-9]{1,18}))?")
+_ODD = re.compile(r"[+].*|-?0[0-9]+|-0")
+_CANONICAL = re.compile(r"0|-?[1-9][0-9]{0,17}").fullmatch
+_ENDS_BLOCK = re.compile(r"\n\\\.\r?\n")
+_CSV_TAKES_NUL = sys.version_info >= (3, 11)
+Row = Sequence[str]
+
+
+class NotRaw(TimelineError):
+    """The bytes of a sheet cannot be handed on as they are."""
+
+
+def is_name(text: str) -> bool:
+    """Whether a text is a name of the language."""
+    return _NAME.fullmatch(text) is not None and text not in KEYWORDS
+
+
+def from_bytes(text: str) -> str:
+    """The text that a field stands for; bytes that are no UTF-8 become other characters."""
+    return text.encode("latin-1").decode("utf-8", "replace")
+
+
+def to_bytes(text: str) -> str:
+    """A text as a field: one character a byte."""
+    return text.encode("utf-8", "surrogateescape").decode("latin-1")
+
+
+def open_sheet(path: str | None, room: str) -> Sheet:
+    """The sheet of a file, or of standard input for None. What is no regular file is copied into a file in the folder `room`
+    that has no name. UsageError where it cannot be opened, SourceFault and DeviceFault where reading or copying it fails."""
+    import stat
+
+    try:
+        file = open(path, "rb") if path is not None else open(0, "rb", closefd=False)
+        is_regular = stat.S_ISREG(os.fstat(file.fileno()).st_mode)
+    except OSError as error:
+        raise UsageError(f"{path or 'standard input'} is no file that can be read: {error.strerror}") from None
+    return Sheet(file if is_regular else _copied(file, room), path or "standard input")
+
+
+def _copied(file: IO[bytes], room: str) -> IO[bytes]:
+    import tempfile
+
+    folder = room if os.access(room, os.W_OK) else None
+    try:
+        copy: IO[bytes] = tempfile.TemporaryFile(dir=folder)
+        for piece in iter(lambda: _read(file), b""):
+            copy.write(piece)
+        copy.seek(0)
+    except OSError as error:
+        raise DeviceFault(f"the input cannot be copied: {error.strerror}") from None
+    return copy
+
+
+def _read(file: IO[bytes]) -> bytes:
+    try:
+        return file.read(PIECE)
+    except OSError as error:
+        raise SourceFault(f"reading the input failed: {error.strerror}") from None
+
+
+class Sheet:
+    """A CSV file: the fields of its header, and its records as often as they are asked for, one reader at a time."""
+
+    def __init__(self, file: IO[bytes], name: str) -> None:
+        """`file` is one in which places can be sought; the sheet begins where it is read now."""
+        csv.field_size_limit(1 << 30)
+        self.file, self.name, self.delimiter = file, name, ","
+        self.start = self.body = file.tell()
+        while self._at(self.start, 3) == MARK:
+            self.start += 3
+        self.header = self._header()
+
+    def _at(self, place: int, count: int) -> bytes:
+        self.file.seek(place)
+        return _read_some(self.file, count)
+
+    def _header(self) -> list[str]:
+        """Reads the header, and keeps where the records begin."""
+        self.body = self.start
+        with Lines(self.file, self.start) as lines:
+            for line in lines:
+                self.body += len(line)
+                if line.strip("\r\n"):
+                    break
+            else:
+                return []
+            self.delimiter = _delimiter(line)
+            rest = self._counted(lines)
+            return next(csv.reader(chain([line], rest), delimiter=self.delimiter))
+
+    def _counted(self, lines: Iterable[str]) -> Iterator[str]:
+        for line in lines:
+            self.body += len(line)
+            yield line
+
+    def chunks(self) -> Iterator[list[list[str]]]:
+        """The records after the header, some thousand at once, each with as many fields as it. Raises Refused for one that has
+        another number of them, and where the file ends within quotes; SourceFault where reading fails."""
+        record, width = 1, len(self.header)
+        with Lines(self.file, self.body) as lines:
+            reader = filter(None, csv.reader(chain(lines, [_LAST]), delimiter=self.delimiter))
+            is_last = False
+            while not is_last:
+                chunk = list(islice(reader, CHUNK))
+                is_last = len(chunk) < CHUNK or chunk[-1][-1].endswith(_LAST)
+                if is_last and (not chunk or chunk.pop() != [_LAST]):
+                    raise self.refused("OpenQuotes", record + len(chunk) + 1, None, "the file ends within a quoted field: it is cut off")
+                if chunk and set(map(len, chunk)) != {width}:
+                    at = next(at for at, row in enumerate(chunk) if len(row) != width)
+                    raise self.refused("FieldCount", record + at + 1, None, f"it has {len(chunk[at])} fields and the header {width}")
+                if chunk:
+                    yield chunk
+                record += len(chunk)
+
+    def raw(self, names: Sequence[str]) -> Iterator[bytes]:
+        """The sheet's bytes with these names in its header, and an end of line at their end. NotRaw where that is another sheet,
+        or one that ends a block too early."""
+        self.file.seek(0, os.SEEK_END)
+        size = self.file.tell()
+        if self.delimiter != "," or size > self.body and self._at(size - 1, 1) != b"\n" and b'"' in self._all(self.body):
+            raise NotRaw
+        yield encoded([names])
+        self.file.seek(self.body)
+        seam = b"\n"
+        for piece in iter(lambda: _read(self.file), b""):
+            if b"\n\\." in piece or b"\n\\." in seam + piece[:2]:
+                raise NotRaw
+            yield piece
+            seam = (seam + piece[-2:])[-2:]
+        if not seam.endswith(b"\n"):
+            yield b"\n"
+
+    def _all(self, place: int) -> _Bytes:
+        return _Bytes(self.file, place)
+
+    def refused(self, kind: str, record: int, field: int | None, sentence: str, advice: str = "") -> Refused:
+        """The refusal of a record, from 1 for the header, and of its field, from 1."""
+        numbers = (record,) if field is None else (record, field)
+        where = f"record {record}" + (f", field {field}" if field else "")
+        return Refused(kind, numbers, place=Place(None, record, field), sentence=f"{self.name}, {where}: {sentence}", advice=advice)
+
+    def close(self) -> None:
+        """Closes the file."""
+        self.file.close()
+
+
+class _Bytes:
+    """The bytes of a file from a place on, in which one byte may be looked for."""
+
+    def __init__(self, file: IO[bytes], place: int) -> None:
+        self.file, self.place = file, place
+
+    def __contains__(self, byte: bytes) -> bool:
+        self.file.seek(self.place)
+        return any(byte in piece for piece in iter(lambda: _read(self.file), b""))
+
+
+def _read_some(file: IO[bytes], count: int) -> bytes:
+    try:
+        return file.read(count)
+    except OSError as error:
+        raise SourceFault(f"reading the input failed: {error.strerror}") from None
+
+
+class Lines:
+    """The lines of a file from a place on, each with its end; the file stays open."""
+
+    def __init__(self, file: IO[bytes], place: int) -> None:
+        file.seek(place)
+        self.text = io.TextIOWrapper(file, "latin-1", newline="")
+
+    def __enter__(self) -> Iterator[str]:
+        return self.text if _CSV_TAKES_NUL else (line.replace("\0", _NUL) for line in iter(self.text))
+
+    def __exit__(self, _type: object, error: BaseException | None, _trace: object) -> None:
+        if not self.text.closed:
+            self.text.detach()
+        if isinstance(error, OSError):
+            raise SourceFault(f"reading the input failed: {error.strerror}") from None
+
+
+def _delimiter(line: str) -> str:
+    """What parts the fields of a header: commas, or semicolons or tabs where there are none."""
+    return "," if "," in line else max(";\t", key=line.count) if ";" in line or "\t" in line else ","
+
+
+def encoded(rows: Iterable[Row]) -> bytes:
+    """Rows as CSV that a block can carry. The texts of a single column are quoted, since a line `\\.` would end the block."""
+    out = io.StringIO()
+    taken = list(rows)
+    quoting = csv.QUOTE_ALL if taken and len(taken[0]) == 1 else csv.QUOTE_MINIMAL
+    csv.writer(out, lineterminator="\r\n", quoting=quoting).writerows(taken)
+    text = out.getvalue()
+    return (text if _CSV_TAKES_NUL else text.replace(_NUL, "\0")).encode("latin-1")
+
+
+def checked(sheet: Sheet, chunk: Sequence[Row], record: int) -> bytes:
+    """As `encoded`, of records of which the first has a number. Raises Refused for a text that would end the block."""
+    text = encoded(chunk)
+    if b"\n\\." in text:
+        for at, row in enumerate(chunk):
+            for field, cell in enumerate(row):
+                if _ENDS_BLOCK.search(cell):
+                    raise sheet.refused("EndOfBlock", record + at, field + 1, "it has a line that is \\. alone, which ends a block",
+                                        "Write the line in another way; `load --no-stamp` takes it as it is.")
+    return text
+
+
+# Names
+
+def column_names(headers: Sequence[str], is_valid: bool) -> list[str]:
+    """The names of the columns of a sheet: a header that is a name stays, another one is turned into one, as `Emp No` into
+    `emp_no`. Two headers that are the same stay so: the engine refuses them."""
+    texts = [from_bytes(it).strip() for it in headers]
+    taken = {it for it in texts if is_name(it) or (is_valid and it in PERIOD)}
+    names: list[str] = []
+    for place, text in enumerate(texts):
+        if text in taken:
+            names.append(text)
+            continue
+        stem = _turned(text) or f"column_{place + 1}"
+        name, number = stem, 1
+        while name in taken:
+            number += 1
+            name = f"{stem[:60]}_{number}"
+        taken.add(name)
+        names.append(name)
+    return names
+
+
+def _turned(text: str) -> str:
+    import unicodedata
+
+    plain = unicodedata.normalize("NFKD", text.lower()).encode("ascii", "ignore").decode("ascii")
+    name = re.sub(r"[^a-z0-9]+", "_", plain).strip("_")[:62]
+    return name if is_name(name) or not name else f"_{name}" if name[0].isdigit() else f"{name}_"
+
+
+# Kinds
+
+class Guess:
+    """Which kinds a column can be, by the cells so far: those that show each cell as it is spelled."""
+
+    def __init__(self, is_end: bool = False) -> None:
+        """`is_end` where FOREVER may stand in place of a number."""
+        self.is_end, self.has_empty, self.first = is_end, False, ""
+        self.left: list[Kind] | None = None
+        self.samples: dict[int, str] | None = {}     # while all cells are numbers in any spelling: one of each number of decimals
+        self.odd = ""                                # one that no kind of number would show as it is
+
+    def take(self, cells: Sequence[str]) -> None:
+        """Looks at further cells of the column."""
+        if "" in cells or self.is_end:
+            self.has_empty = self.has_empty or "" in cells
+            cells = [cell for cell in cells if cell and not (self.is_end and cell == FOREVER)]
+        if not cells:
+            return
+        if self.left is None:
+            self.left = [kinds.INT, kinds.DATE, kinds.TIME, *_decimal_of(cells[0])]
+        else:
+            cells = [self.first, *cells]
+        self.first = cells[0]
+        self.left = [kind for kind in self.left if fits(kind, cells)]
+        if not self.left and self.samples is not None:
+            self._take_numbers(cells)
+
+    def _take_numbers(self, cells: Sequence[str]) -> None:
+        assert self.samples is not None
+        for cell in cells:
+            found = _NUMBER.fullmatch(cell)
+            if found is None:
+                self.samples = None
+                return
+            self.samples.setdefault(len(found[2] or ""), cell)
+            if _ODD.fullmatch(found[1] if found[2] is None or found[1] != "-0" else ""):
+                self.odd = self.odd or cell
+
+    @property
+    def kind(self) -> Kind:
+        """The kind of the column, empty cells aside; TEXT where it has no other cell."""
+        return self.left[0] if self.left else kinds.TEXT
+
+    def advice(self, name: str) -> str:
+        """What to say of a column of texts that might be meant as numbers, else nothing."""
+        if self.left and self.has_empty:
+            return f"{name} is TEXT, since it has empty cells; --missing {name}=.. says what stands for them, and then it is {self.kind}"
+        if self.left or not self.samples:
+            return ""
+        places = max(self.samples)
+        meant = Kind("DECIMAL", places) if places else kinds.INT
+        cell = self.odd or self.samples[min(self.samples)]
+        try:
+            shown = meant.shown(meant.cell(cell))
+        except KindFault:
+            return ""
+        return f"{name} is TEXT, since {cell} would come back as {shown}; --kind '{name}={meant}' takes it as a number" if shown != cell else ""
+
+
+def _decimal_of(cell: str) -> list[Kind]:
+    _, point, decimals = cell.partition(".")
+    return [Kind("DECIMAL", len(decimals))] if point and 0 < len(decimals) <= 18 else []
+
+
+def comes_back(kind: Kind, cell: str) -> bool:
+    """Whether a column of a kind shows a cell as it is spelled."""
+    try:
+        return kind.shown(kind.cell(cell)) == cell
+    except KindFault:
+        return False
+
+
+def fits(kind: Kind, cells: Sequence[str]) -> bool:
+    """Whether a kind shows all of some cells as they are spelled. What a pattern says of most cells is not worked out."""
+    sure = _sure(kind)
+    unsure = [cell for cell in cells if not sure(cell)] if sure else dict.fromkeys(cells)
+    return all(comes_back(kind, cell) for cell in unsure)
+
+
+def _sure(kind: Kind) -> Callable[[str], object] | None:
+    if kind.name == "INT":
+        return _CANONICAL
+    if kind.name == "DECIMAL" and kind.places < 17:
+        return re.compile(r"(?:0|-?[1-9][0-9]{0,%d})\.[0-9]{%d}" % (16 - kind.places, kind.places)).fullmatch
+    return None
+
+
+class Column(NamedTuple):
+    """A column of a sheet: its header, its name, its kind where that is known, and what stands for an empty cell."""
+
+    header: str
+    name: str
+    kind: Kind | None = None
+    missing: str | None = None
+
+    @property
+    def changes(self) -> bool:
+        """Whether its cells are spelled in another way for the engine."""
+        return self.missing is not None or (self.kind is not None and not self.kind.is_plain)
+
+    def converter(self, spell: bool) -> Callable[[Sequence[str]], Iterable[str]] | None:
+        """What makes the engine's cells of the column's, None where they stay; with `spell` numbers as the engine writes them."""
+        kind = self.kind or kinds.TEXT
+        if not self.changes:
+            return (_end_spelled if self.name == "valid_to" else _spelled) if spell and kind == kinds.INT else None
+        memo = Memo(kind.cell)
+        if self.missing is not None:
+            memo[""] = memo[to_bytes(self.missing)]
+        return lambda cells: map(memo.__getitem__, cells)
+
+
+def _spelled(cells: Sequence[str]) -> Sequence[str]:
+    """Whole numbers as the engine writes them."""
+    return cells if all(map(_CANONICAL, cells)) else [kinds.INT.cell(cell) for cell in cells]
+
+
+def _end_spelled(cells: Sequence[str]) -> Sequence[str]:
+    """Ends of periods as the engine writes them: the greatest number is no end."""
+    greatest = str(kinds.GREATEST)
+    return [FOREVER if cell == greatest else cell for cell in _spelled(cells)]
+
+
+def converted(sheet: Sheet, columns: Sequence[Column], spell: bool = False) -> Iterator[list[Row]]:
+    """The records of a sheet with the engine's cells in place of people's. Raises Refused for a cell that is none of its kind."""
+    converters = [column.converter(spell) for column in columns]
+    record = 2
+    for chunk in sheet.chunks():
+        rows: list[Row] = list(chunk)
+        if any(converters):
+            try:
+                rows = list(zip(*(cells if convert is None else convert(cells) for convert, cells in zip(converters, zip(*chunk)))))
+            except KindFault:
+                raise _cell_refused(sheet, columns, chunk, record) from None
+        yield rows
+        record += len(rows)
+
+
+def _cell_refused(sheet: Sheet, columns: Sequence[Column], chunk: Sequence[Row], record: int) -> Refused:
+    """The refusal of the first cell of some records that is none of its kind."""
+    for at, row in enumerate(chunk):
+        for field, (column, cell) in enumerate(zip(columns, row)):
+            try:
+                if column.kind is not None and not (cell == "" and column.missing is not None):
+                    column.kind.cell(cell)
+            except KindFault as fault:
+                said = f"{column.name} is {column.kind}, and this is {from_bytes(cell)!r}" if cell else f"{column.name} is empty"
+                advice = fault.advice if cell else f"There is no empty {column.kind}: --missing {column.name}=.. says what stands for it."
+                return sheet.refused(fault.name, record + at, field + 1, said, advice)
+    raise AssertionError("no cell is at fault")

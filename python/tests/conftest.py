@@ -1,0 +1,98 @@
+"""What all tests share: the command, and folders for journals.
+
+`./timeline test` runs them in several processes at once: each test is done by the process that first makes its file in the
+folder that TIMELINE_CLAIMS names."""
+from __future__ import annotations
+
+import json
+import os
+import signal
+import subprocess
+import sys
+import tempfile
+from typing import Any, Iterator, NamedTuple, Sequence
+
+import pytest
+
+ROOT = os.path.dirname(os.path.dirname(os.path.dirname(os.path.abspath(__file__))))
+COMMAND = os.path.join(ROOT, "timeline")
+sys.path.insert(0, os.path.join(ROOT, "python/src"))
+
+
+class Done(NamedTuple):
+    """How a command ended: its status, what it printed, and what it said."""
+
+    status: int
+    out: str
+    err: str
+
+
+def run(words: Sequence[str], given: str | bytes = "", folder: str | None = None, **more: Any) -> Done:
+    """Runs `timeline` with these words in a folder."""
+    given = given if isinstance(given, bytes) else given.encode("utf-8", "surrogateescape")
+    done = subprocess.run([COMMAND, *words], input=given, cwd=folder, capture_output=True, timeout=120, **more)
+    return Done(done.returncode, *(it.decode("utf-8", "surrogateescape") for it in (done.stdout, done.stderr)))
+
+
+def room_for_journals() -> str | None:
+    """Where journals of tests stand: a file system in memory where it has 2 GB free, since programs sync often; else None, the
+    system's temporary folder."""
+    try:
+        found = os.statvfs("/dev/shm")
+    except OSError:
+        return None
+    return "/dev/shm" if os.access("/dev/shm", os.W_OK) and found.f_bavail * found.f_frsize > 2 << 30 else None
+
+
+@pytest.fixture
+def room() -> Iterator[str]:
+    """An empty folder."""
+    with tempfile.TemporaryDirectory(prefix="test-", dir=room_for_journals()) as folder:
+        yield folder
+
+
+@pytest.fixture
+def journal(room: str) -> str:
+    """A folder with an empty journal."""
+    done = run(["init"], folder=room)
+    assert done == (0, "", ""), done
+    return room
+
+
+def program(name: str) -> str:
+    """The path of one of the programs."""
+    from timeline import programs
+
+    return programs.program(name)
+
+
+def pytest_configure(config: pytest.Config) -> None:
+    # A test of signals starts commands that have the usual ones, however these tests were started.
+    for number in (signal.SIGINT, signal.SIGHUP, signal.SIGTERM):
+        if signal.getsignal(number) is signal.SIG_IGN:
+            signal.signal(number, signal.SIG_DFL)
+
+
+def pytest_runtestloop(session: pytest.Session) -> bool | None:
+    claims = os.environ.get("TIMELINE_CLAIMS")
+    if claims is None or session.config.option.collectonly or session.testsfailed:
+        return None
+    with open(os.path.join(claims, f"total.{os.getpid()}"), "w", encoding="ascii") as file:
+        file.write(str(len(session.items)))
+    os.replace(file.name, os.path.join(claims, "total"))
+    for number, item in enumerate(session.items):
+        try:
+            os.close(os.open(os.path.join(claims, f"{number}.claim"), os.O_CREAT | os.O_EXCL))
+        except FileExistsError:
+            continue
+        item.config.hook.pytest_runtest_protocol(item=item, nextitem=None)
+    return True
+
+
+def pytest_runtest_logreport(report: pytest.TestReport) -> None:
+    claims = os.environ.get("TIMELINE_CLAIMS")
+    if claims is None or report.when != "call" and report.passed:
+        return
+    result = {"test": report.nodeid, "outcome": report.outcome, "said": report.longreprtext}
+    with open(os.path.join(claims, f"{os.getpid()}.results"), "a", encoding="utf-8") as file:
+        file.write(json.dumps(result) + "\n")

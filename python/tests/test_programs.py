@@ -1,0 +1,313 @@
+"""Which programs run, and how they are made: over a copy of the front with small sources of its own, and a kit that is a few
+shell scripts, which take down how they are called."""
+from __future__ import annotations
+
+import os
+import pty
+import shutil
+import signal
+import subprocess
+import time
+from typing import Iterator
+
+import pytest
+from conftest import ROOT, Done
+
+# Stands in for `rt`: it says what the prover says of two crates; it compiles and links by its own folder's compiler.
+RT = r"""#!/bin/sh
+here=$(dirname "$0")/..
+[ "$1" = version ] && echo a kit && exit
+echo "$1 ${PWD##*/} $(shift; echo "$*")" >>"$CALLS"
+[ -e "$CALLS.slow" ] && sleep 60
+name=${PWD##*/}
+case $1 in
+    try)
+        [ -e "$CALLS.fails" ] && echo 'error: no such name' >&2 && exit 1
+        "$here/toolchain/bin/clang" -O0 -fsanitize=address -march=x86-64 -c "a b.c" -o a.o
+        "$here/toolchain/bin/ld.lld" -o "$TMPDIR/linked" a.o --whole-archive asan.a --no-whole-archive -lc ;;
+    run)
+        echo 'so far: 0 of 2 functions checked; the verdict comes last' >&2
+        echo "fn low::add: proved" >&2
+        echo "fn low::take: proved" >&2
+        [ -e "$CALLS.fails" ] && echo 'error: not proved' >&2 && exit 1
+        mkdir -p out
+        printf '#!/bin/sh\necho "proved %s: $*"\n' "$name" >"out/$name"
+        chmod +x "out/$name"
+        [ "$name" = timeline_log ] && echo '! journal NotInitialised 0' && exit 7
+        echo '! usage'
+        exit 2 ;;
+esac
+"""
+CLANG = '#!/bin/sh\nfor it do echo "clang [$it]" >>"$CALLS.words"; done\n'
+LINKER = r"""#!/bin/sh
+for it do echo "ld [$it]" >>"$CALLS.words"; done
+while [ "$1" != -o ]; do shift; done
+printf '#!/bin/sh\necho "checked: $*"\n' >"$2"
+chmod +x "$2"
+"""
+NAMES = ("timeline", "timeline_log", "timeline_look")
+SAID = "timeline: checked as it runs; ./timeline build proves it\n"
+MAKING = "timeline: making timeline, checked as it runs, which takes two to three minutes\n"
+
+
+class Copy:
+    """A copy of the front over sources of its own, and its kit."""
+
+    def __init__(self, room: str) -> None:
+        self.room, self.root = room, f"{room}/root"
+        self.around = {**os.environ, "PATH": f"{room}/kit/bin:{os.environ['PATH']}", "CALLS": f"{room}/calls"}
+        self.around.pop("TIMELINE_PROGRAMS", None)
+        for crate in (*NAMES, "low", "other"):
+            self.write(f"crates/{crate}/src/main.rt", "\n")
+        self.write("crates.txt", "# crates\nlow:\nother:\n" + "".join(f"{it} may_wait=1: low\n" for it in NAMES))
+        shutil.copy(f"{ROOT}/timeline", f"{self.root}/timeline")
+        shutil.copytree(f"{ROOT}/python/src", f"{self.root}/python/src")
+        for path, text in {"bin/rt": RT, "bin/rtlib.py": "", "bin/rattle": "", "toolchain/bin/clang": CLANG, "toolchain/bin/ld.lld": LINKER,
+                           "toolchain/lib/c": "", "rlibs/std": ""}.items():
+            self.write(f"../kit/{path}", text)
+            os.chmod(f"{room}/kit/{path}", 0o755)
+
+    def write(self, path: str, text: str) -> None:
+        os.makedirs(os.path.dirname(f"{self.root}/{path}"), exist_ok=True)
+        with open(f"{self.root}/{path}", "w", encoding="utf-8") as file:
+            file.write(text)
+
+    def __call__(self, *words: str) -> Done:
+        done = subprocess.run([f"{self.root}/timeline", *words], cwd=self.room, env=self.around, capture_output=True, text=True,
+                              stdin=subprocess.DEVNULL, timeout=60, check=False)
+        return Done(done.returncode, done.stdout, done.stderr)
+
+    def calls(self, ending: str = "") -> list[str]:
+        """How the kit was called so far, once nothing is made any more."""
+        ends = time.monotonic() + 30
+        while time.monotonic() < ends and subprocess.run(["pgrep", "-f", f"{self.root}/python/src"], stdout=subprocess.DEVNULL, check=False).returncode == 0:
+            time.sleep(0.05)
+        try:
+            with open(f"{self.room}/calls{ending}", encoding="utf-8") as file:
+                return file.read().splitlines()
+        except FileNotFoundError:
+            return []
+
+    def has_no_kit(self) -> None:
+        self.around["PATH"] = "/usr/bin:/bin"
+
+
+@pytest.fixture
+def copy(room: str) -> Iterator[Copy]:
+    made = Copy(room)
+    yield made
+    made.calls()
+
+
+@pytest.mark.parametrize("words", [("--version",), ("--help",), (), ("go",), ("--strict",), ("test",)])
+def test_words_that_need_no_program_make_none(copy: Copy, words: tuple[str, ...]) -> None:
+    copy(*words)
+    assert copy.calls() == []
+
+
+def test_the_first_command_makes_what_it_needs_and_the_others_beside_it(copy: Copy) -> None:
+    first = copy("sample", "2", "7")
+    assert first == (0, "checked: sample 2 7\n", MAKING + SAID)
+    assert sorted(copy.calls()) == [f"try {it} " for it in NAMES]
+    assert copy("sample", "2", "7") == (0, "checked: sample 2 7\n", "")
+    copy("tables")
+    assert len(copy.calls()) == 3
+
+
+def test_the_compiler_optimizes_and_the_sanitizer_is_left_out(copy: Copy) -> None:
+    copy("sample", "2", "7")
+    said = copy.calls(".words")
+    clang = [it for it in said if it.startswith("clang")]
+    assert "clang [-O1]" in clang and "clang [a b.c]" in clang and "clang [-O0]" not in clang and "clang [-fsanitize=address]" not in clang
+    assert "ld [asan.a]" not in said and "ld [--whole-archive]" not in said and "ld [-lc]" in said
+
+
+def test_a_change_of_the_code_makes_the_program_anew(copy: Copy) -> None:
+    copy("sample", "2", "7")
+    assert len(copy.calls()) == 3
+    copy.write("crates/other/src/main.rt", "a crate that no program has\n")
+    copy.write("crates/low/proofs/main.antt", "a proof, of which no code is made\n")
+    copy("sample", "2", "7")
+    assert len(copy.calls()) == 3
+    copy.write("crates/low/src/main.rt", "other code\n")
+    assert copy("sample", "2", "7").err == MAKING
+    assert len(copy.calls()) == 6
+    copy.write("crates/low/src/main.rt", "\n")
+    assert copy("sample", "2", "7").err == ""
+    assert len(copy.calls()) == 6
+
+
+def test_what_cannot_be_made_is_said(copy: Copy) -> None:
+    with open(f"{copy.room}/calls.fails", "w"):
+        pass
+    done = copy("sample", "2", "7")
+    assert (done.status, done.out) == (125, "")
+    assert "timeline was not made; " in done.err and done.err.endswith("error: no such name\n")
+
+
+def test_with_no_kit_the_programs_of_earlier_sources_run(copy: Copy) -> None:
+    copy("sample", "2", "7")
+    copy.calls()
+    copy.has_no_kit()
+    copy.write("crates/low/src/main.rt", "other code\n")
+    done = copy("sample", "2", "7")
+    assert (done.status, done.out) == (0, "checked: sample 2 7\n")
+    assert "the sources are newer than the program" in done.err
+    shutil.rmtree(f"{copy.root}/out")
+    done = copy("sample", "2", "7")
+    assert (done.status, done.out) == (125, "") and "the command rt" in done.err
+
+
+def test_two_commands_at_once_make_a_program_once(copy: Copy) -> None:
+    words = [f"{copy.root}/timeline", "sample", "2", "7"]
+    both = [subprocess.Popen(words, cwd=copy.room, env=copy.around, stdout=subprocess.PIPE, stderr=subprocess.DEVNULL) for _ in range(2)]
+    assert [it.communicate(timeout=60)[0] for it in both] == [b"checked: sample 2 7\n"] * 2
+    assert copy.calls().count("try timeline ") == 1
+
+
+def test_a_command_that_is_stopped_leaves_no_process_and_no_folder(copy: Copy) -> None:
+    with open(f"{copy.room}/calls.slow", "w"):
+        pass
+    copy.around["TMPDIR"] = f"{copy.room}/tmp"
+    os.mkdir(f"{copy.room}/tmp")
+    process = subprocess.Popen([f"{copy.root}/timeline", "sample", "2", "7"], cwd=copy.room, env=copy.around, stdout=subprocess.PIPE, stderr=subprocess.PIPE)
+    ends = time.monotonic() + 30
+    while not os.path.exists(f"{copy.room}/calls") and time.monotonic() < ends:
+        time.sleep(0.05)
+    process.send_signal(signal.SIGINT)
+    process.communicate(timeout=30)
+    assert process.returncode == 130
+    copy.calls()
+    assert os.listdir(f"{copy.room}/tmp") == []
+
+
+def test_build_proves_and_replaces(copy: Copy) -> None:
+    copy("sample", "2", "7")
+    done = copy("build")
+    assert done.status == 0 and "building timeline, with proof" in done.err and "crate 1 of 2 to be proved, low" in done.err, done
+    cpu = [it for it in copy.calls() if it.startswith("run")]
+    assert [it.split()[:2] for it in cpu] == [["run", it] for it in NAMES]
+    assert copy("sample", "2", "7") == (0, "proved timeline: sample 2 7\n", "")
+    assert copy("build").err == "timeline: all three are proved already\n"
+    said = copy("--version").out.splitlines()
+    assert [it.partition(": ")[2].startswith("proved") for it in said[1:]] == [True] * 3, said
+    copy.write("crates/low/proofs/main.antt", "another proof\n")
+    assert "since then specs or proofs have changed" in copy("--version").out
+    copy.write("crates/low/src/main.rt", "other code\n")
+    assert copy("sample", "2", "7").out == "checked: sample 2 7\n"
+
+
+def test_a_build_that_fails_says_how_it_ended(copy: Copy) -> None:
+    with open(f"{copy.room}/calls.fails", "w"):
+        pass
+    done = copy("build")
+    assert (done.status, done.out) == (125, "") and "timeline was not built; " in done.err and "error: not proved\n" in done.err
+
+
+def test_a_build_that_is_stopped_says_that_it_goes_on(copy: Copy) -> None:
+    with open(f"{copy.room}/calls.slow", "w"):
+        pass
+    process = subprocess.Popen([f"{copy.root}/timeline", "build"], cwd=copy.room, env=copy.around, stdout=subprocess.PIPE, stderr=subprocess.PIPE)
+    ends = time.monotonic() + 30
+    while not os.path.exists(f"{copy.room}/calls") and time.monotonic() < ends:
+        time.sleep(0.05)
+    process.send_signal(signal.SIGINT)
+    _, said = process.communicate(timeout=30)
+    assert process.returncode == 130 and b"./timeline build goes on where it stopped" in said
+
+
+def test_what_the_gate_leaves_is_taken_where_no_source_is_newer(copy: Copy) -> None:
+    time.sleep(0.02)
+    for name in NAMES:
+        copy.write(f"crates/{name}/out/{name}", '#!/bin/sh\necho "of the gate: $*"\n')
+        os.chmod(f"{copy.root}/crates/{name}/out/{name}", 0o755)
+    assert copy("build").err == "timeline: all three are proved already\n"
+    assert copy("sample", "2", "7").out == "of the gate: sample 2 7\n"
+    assert copy.calls() == []
+    time.sleep(0.02)
+    copy.write("crates/low/specs/low.antt", "a later statement\n")
+    for name in NAMES:
+        os.remove(f"{copy.root}/crates/{name}/out/{name}.built")
+    assert copy("sample", "2", "7").out == "checked: sample 2 7\n"
+
+
+def test_a_program_for_another_kind_of_processor_is_not_run(copy: Copy) -> None:
+    copy("build")
+    path = f"{copy.root}/crates/timeline/out/timeline.built"
+    with open(path, encoding="utf-8") as file:
+        lines = [it if not it.startswith("processor ") else "processor x86-64-v9\n" for it in file]
+    with open(path, "w", encoding="utf-8") as file:
+        file.writelines(lines)
+    assert copy("sample", "2", "7").out == "checked: sample 2 7\n"
+
+
+def test_a_terminal_is_told_each_time_which_program_runs(copy: Copy) -> None:
+    copy("sample", "2", "7")
+    copy("sample", "2", "7")
+    ours, theirs = pty.openpty()
+    subprocess.run([f"{copy.root}/timeline", "sample", "2", "7"], cwd=copy.room, env=copy.around, stdout=subprocess.DEVNULL, stderr=theirs,
+                   stdin=subprocess.DEVNULL, timeout=60, check=False)
+    assert b"checked as it runs; ./timeline build proves it" in os.read(ours, 1000)
+
+
+def test_clean_leaves_the_programs_alone(copy: Copy) -> None:
+    copy("build")
+    copy("sample", "2", "7")
+    copy.write("crates/low/out/rlib/low", "x" * 10_000_000)
+    copy.write("out/checked/timeline-0123", "x" * 10)
+    done = copy("clean")
+    assert done.status == 0 and done.err.startswith("timeline: 9 MiB are free again")
+    assert not os.path.exists(f"{copy.root}/crates/low/out") and not os.path.exists(f"{copy.root}/out/checked/timeline-0123")
+    assert copy("sample", "2", "7").out == "proved timeline: sample 2 7\n"
+
+
+@pytest.mark.parametrize("before", [(), ("--strict",), ("--explain",)])
+def test_a_check_that_fails_ends_with_a_status_of_its_own(copy: Copy, before: tuple[str, ...]) -> None:
+    os.mkdir(f"{copy.room}/given")
+    copy.around["TIMELINE_PROGRAMS"] = f"{copy.room}/given"
+    with open(f"{copy.room}/given/timeline", "w", encoding="utf-8") as file:
+        file.write("#!/bin/sh\necho 'a @1 ok'\nkill -ILL $$\n")
+    os.chmod(f"{copy.room}/given/timeline", 0o755)
+    done = copy(*before, "run")
+    assert (done.status, done.out) == (22, "a @1 ok\n") and "a check failed as the program ran" in done.err
+
+
+def test_programs_that_are_named_are_run(copy: Copy) -> None:
+    copy.around["TIMELINE_PROGRAMS"] = f"{copy.room}/nowhere"
+    done = copy("sample", "2", "7")
+    assert (done.status, done.out) == (125, "") and "nowhere/timeline is no program that can be run" in done.err
+    assert copy.calls() == []
+
+
+# Installed
+
+def test_an_installed_copy_needs_no_sources_and_no_kit(copy: Copy) -> None:
+    copy("build")
+    assert copy("install", f"{copy.room}/prefix").status == 0
+    shutil.rmtree(copy.root)
+    copy.has_no_kit()
+    installed = f"{copy.room}/prefix/bin/timeline"
+    done = subprocess.run([installed, "sample", "2", "7"], cwd=copy.room, env=copy.around, capture_output=True, text=True, timeout=60, check=False)
+    assert (done.returncode, done.stdout, done.stderr) == (0, "proved timeline: sample 2 7\n", "")
+    said = subprocess.run([installed, "--version"], cwd=copy.room, env=copy.around, capture_output=True, text=True, timeout=60, check=False)
+    assert said.stdout.count(": proved") == 3
+    page = f"{copy.room}/prefix/share/man/man1/timeline.1"
+    with open(page, encoding="utf-8") as file:
+        text = file.read()
+    assert text.startswith('.TH TIMELINE 1 "" "proved') and "\n.SH EXIT STATUS\n.TP\n\\fB0\\fR\n" in text and "\\fBtimeline ask" in text
+
+
+def test_only_what_is_proved_is_packaged_unless_it_is_wanted_so(copy: Copy) -> None:
+    done = copy("package")
+    assert (done.status, done.out) == (125, "") and "package --checked" in done.err
+    done = copy("package", "--checked")
+    assert done.status == 0 and done.out.startswith("timeline-checked-")
+    copy("build")
+    done = copy("package")
+    assert done.status == 0 and done.out.startswith("timeline-proved-")
+    os.mkdir(f"{copy.room}/other")
+    subprocess.run(["tar", "-xzf", f"{copy.room}/{done.out.strip()}", "-C", f"{copy.room}/other"], check=True)
+    command = f"{copy.room}/other/{done.out.strip()[:-7]}/bin/timeline"
+    copy.has_no_kit()
+    ran = subprocess.run([command, "sample", "2", "7"], cwd=copy.room, env=copy.around, capture_output=True, text=True, timeout=60, check=False)
+    assert (ran.returncode, ran.stdout, ran.stderr) == (0, "proved timeline: sample 2 7\n", "")

@@ -1,0 +1,80 @@
+"""The shell: through pipes nothing is passed over in silence, and on a terminal Ctrl-C ends a statement and not the shell."""
+from __future__ import annotations
+
+import os
+import subprocess
+import time
+
+import pytest
+
+from conftest import COMMAND, run
+
+TABLE = "CREATE TABLE t (id INT, x TEXT) KEY id;\n"
+
+
+@pytest.mark.parametrize("given, status, out, said", [
+    ("PUT t;\r\nid,x\r\n1,a\r\n\\.\r\nSELECT x FROM t;\r\n", 0, "@N ok\nx\na\n", ""),                   # lines that end in CRLF
+    ("SELECT x FROM t", 0, "x\n", ""),                                                                     # a last statement without `;`
+    ("PUT t;\nid,x\n1,a\n", 6, "! script BlockOpen 3\n", "the block of PUT t has no end"),                # a block that is cut off
+    ("PUT t;\nid,x\n1,\"a\nb\"\n\\.\nSELECT id FROM t;\n", 0, "@N ok\nid\n1\n", ""),                      # a line break in a text
+    ("SELECT id FROM t WHERE x = 'a\nb';\n", 0, "", "LineBreak"),
+    ("# a comment\n-- another\n\n;\nSELECT id\n  FROM t;\n", 0, "id\n", ""),
+    ("SELECT nope\nFROM t;\nCOUNT FROM u OVER SYSTEM ALL;\n", 0, "", "line 3 was refused: UnknownTable 11"),  # the line that is meant
+    ("SELECT id FROM t; SELECT x FROM t;\n", 0, "id\nx\n", ""),
+    ("quit\nSELECT id FROM t;\n", 0, "", ""),
+    ("\\nope\nSELECT id FROM t;\n", 0, "id\n", "there are \\d"),
+    ("PUT t;\nid,x\n1,a\0b\n\\.\nSELECT x FROM t;\n", 0, "@N ok\nx\na\0b\n", ""),                        # a NUL in a cell
+])
+def test_what_comes_through_a_pipe(journal: str, given: str, status: int, out: str, said: str) -> None:
+    assert run(["--no-stamp", "shell"], TABLE, journal).status == 0
+    done = run(["--no-stamp", "shell"], given, journal)
+    assert (done.status, done.out.replace("@2", "@N")) == (status, out), done
+    assert said in done.err, done
+
+
+def test_strict_makes_a_refusal_a_status(journal: str) -> None:
+    assert run(["--strict", "shell"], "SELECT id FROM nope;\n", journal).status == 20
+    assert run(["shell"], "SELECT id FROM nope;\n", journal).status == 0
+
+
+def test_a_look_writes_nothing(journal: str) -> None:
+    before = run(["log", "--csv"], folder=journal).out
+    done = run(["shell", "--look"], TABLE + "SELECT id FROM t;\n", journal)
+    assert "writes nothing" in done.err and run(["log", "--csv"], folder=journal).out == before
+
+
+def test_no_lock_is_held_between_statements(journal: str) -> None:
+    shell = subprocess.Popen([COMMAND, "--no-stamp", "shell"], cwd=journal, stdin=subprocess.PIPE, stdout=subprocess.PIPE)
+    assert shell.stdin and shell.stdout
+    shell.stdin.write(TABLE.encode())
+    shell.stdin.flush()
+    assert shell.stdout.readline() == b"@1 ok\n"
+    assert run(["run"], "a> PUT t\nid,x\n1,a\n\\.\n", journal) == (0, "a @2 ok\n", "")
+    shell.stdin.write(b"SELECT id FROM t;\n")
+    shell.stdin.close()
+    assert shell.stdout.read() == b"id\n1\n" and shell.wait() == 0
+
+
+def test_help_shows_a_statement(journal: str) -> None:
+    done = run(["shell"], "\\help SELECT\n\\help\n", journal)
+    assert done.status == 0 and done.out.lstrip().startswith("SELECT ") and "CREATE TABLE" in done.out
+
+
+def test_on_a_terminal(journal: str) -> None:
+    pexpect = pytest.importorskip("pexpect")
+    pytest.importorskip("prompt_toolkit")
+    env = dict(os.environ, TERM="xterm", XDG_STATE_HOME=journal, LC_ALL="C", PROMPT_TOOLKIT_NO_CPR="1")
+    shell = pexpect.spawn(COMMAND, ["--no-stamp", "shell"], cwd=journal, env=env, encoding="utf-8", timeout=30, dimensions=(40, 120))
+    for sent, wanted in [
+        ("CREATE TABLE t (id INT, name TEXT)\r", "\\.\\.\\.>"), ("KEY id;\r", "@1 ok"),
+        ("SELECT nope\x03", "timeline>"), ("PUT t;\r", "row>"), ("id,name\r", "row>"), ("7,日é\x7fe\r", "row>"), ("\\.\r", "@2 ok"),
+        ("PUT t;\r", "row>"), ("\x03", "nothing of it was done"), ("SELECT name FROM t WHERE id = 7;\r", "日e"),
+        ("\\d t\r", "name"), ("quit\r", pexpect.EOF),
+    ]:
+        if sent[0] not in "K7i\\" and "row" not in str(shell.after):
+            shell.expect("timeline>") if "timeline>" not in str(shell.after) else None
+        time.sleep(0.1)
+        shell.send(sent)
+        shell.expect(wanted)
+    shell.close()
+    assert shell.exitstatus == 0

@@ -1,0 +1,4 @@
+pub mod AnswerLemmas
+pub mod PhaseLemmas
+pub mod EndLemmas
+pub mod Examples

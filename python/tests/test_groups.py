@@ -161,8 +161,8 @@ def test_a_transaction_is_kept_whole():
         looker = program("timeline_look")
         if os.path.exists(looker):
             before = journal(room)
-            judge("transact over a look", run(["transact"], put("t", ["9,9"]), room, LOOKER) == (0, b"a @4 ok\n", ""))
-            judge("a refusal over a look", run(["transact"], put("t", ["9,9"]) + "a> S\n", room, LOOKER) == (12, b"a @4 ok\na @4 ! Unexpected 0\n! refused 2\n", ""))
+            judge("transact over a look", run(["transact"], put("t", ["9,9"]), room, looker) == (0, b"a @4 ok\n", ""))
+            judge("a refusal over a look", run(["transact"], put("t", ["9,9"]) + "a> S\n", room, looker) == (12, b"a @4 ok\na @4 ! Unexpected 0\n! refused 2\n", ""))
             judge("what a look left", journal(room) == before)
 
 

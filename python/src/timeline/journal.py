@@ -26,7 +26,8 @@ MOST_PHASES = 65_535     # of one run: the engine's limit, less one
 _PAUSE = 0.05            # seconds between two tries for the lock
 _TRIES = 5               # tries where nobody has the lock, and the journal was not opened all the same
 _SETTLED = 0.05          # seconds after which a file's time tells a later change from the last one
-_OPENING = 0.2           # seconds that a program has to take the lock before it is sent its input all the same
+_OPENING = 0.2           # seconds after which a program that sleeps and has no lock is sent its input all the same
+_STARTING = 10.0         # and after which one that does not sleep is: the processors may be busy
 _UNOPENED = b"! device\n" # all that a program writes that could not open its journal
 _UNREAD = 1 << 18        # more bytes than a pipe holds: a program that took so many has opened its journal
 
@@ -368,10 +369,12 @@ class Run:
 
     def _await_lock(self, journal: Journal) -> None:
         """Waits until the program has the lock, so that a script may be made of what the journal is then."""
-        ends = time.monotonic() + (_OPENING if os.path.exists("/proc/locks") else 0.0)
-        while self._process.poll() is None and time.monotonic() < ends:
-            holder = journal.holder()
+        begun = time.monotonic()
+        while os.path.exists("/proc/locks") and self._process.poll() is None:
+            holder, passed = journal.holder(), time.monotonic() - begun
             if holder is not None and holder.process == self._process.pid:
+                break
+            if passed > _STARTING or passed > _OPENING and _sleeps(self._process.pid):
                 break
             time.sleep(0.001)
 
@@ -455,6 +458,15 @@ def _write(stream: IO[bytes], data: bytes) -> None:
     left = memoryview(data)
     while left:
         left = left[stream.write(left):]
+
+
+def _sleeps(process: int) -> bool:
+    """Whether a process waits for something other than a processor or the disk."""
+    try:
+        with open(f"/proc/{process}/stat", "rb") as file:
+            return file.read().rpartition(b") ")[2].startswith(b"S")
+    except OSError:
+        return True
 
 
 def _holder(process: int) -> Holder:

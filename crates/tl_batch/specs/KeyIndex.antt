@@ -1,6 +1,7 @@
 -- The ids of rows by their keys: one id or two of each key that has any, and further ones.
 use Rattle.std.specs.Ordering.{int_eq}
 use Rattle.std.specs.Prelude.{◌≡◌, if◌then◌else◌, ℕ, ℤ, pos, negsuc, Bool, false, ◌||◌, ◌&&◌, ◌==◌, nat_lt, slice_get, List, [], Option, Some, None}
+use Rattle.std.specs.List.{list_any}
 use Rattle.std.specs.Map.{lookup}
 use Rattle.tl_types.specs.declared.cells.Cell.{Cell}
 use Rattle.tl_types.specs.declared.cells.Cell.TheVariants as cell
@@ -102,6 +103,27 @@ has_small ids x n = has_two ids.two x n || has_set ids.sets x n
 -- the id stands there under the key
 abbrev pub has_row : IdsByKey → Cell → ℕ → Bool
 has_row ids x n = has_small ids.small x n || has_few ids.few x n || has_further ids.further x n
+
+-- the id is one of those of some small key
+abbrev pub any_small : SmallIds → ℕ → Bool
+any_small ids n =
+    list_any (λ two. is_of_two two n) ids.two || list_any (λ set. has_id set n) ids.sets
+
+-- the id is one of the one or two ids of some key
+abbrev pub any_at : {K : Type 0} → List (K × FewIds) → ℕ → Bool
+any_at entries n = list_any (λ e. is_of e.1 n) entries
+
+-- the id is one of the one or two ids of some number or text
+abbrev pub any_few : FewIdsByKey → ℕ → Bool
+any_few few n = any_at few.numbers n || any_at few.texts n
+
+-- the id is one of the further ids of some key
+abbrev pub any_further : List (Cell × List ℕ) → ℕ → Bool
+any_further further n = list_any (λ e. has_id e.1 n) further
+
+-- the id stands there under some key
+abbrev pub any_row : IdsByKey → ℕ → Bool
+any_row ids n = any_small ids.small n || any_few ids.few n || any_further ids.further n
 
 -- what is found at each key after what is found at one key has become this
 abbrev pub Changes : {X : Type 0} → Cell → Option X → List (Cell × X) → List (Cell × X) → Type 0

@@ -12,3 +12,4 @@ pub mod Faults
 pub mod Made
 pub mod PutRows
 pub mod Flags
+pub mod Syncing

@@ -1,15 +1,16 @@
 //! One or two ids of each key, in a map for numbers and one for texts. A third id of a key is not
 //! taken, and says so; without memory all ids stay as they were.
-ghost use Rattle.std.specs.Prelude.{◌≡◌, ◌||◌, ◌&&◌, not, ◌==◌, ℕ, ℤ, List, false, is_some, OnOk, OnErr, IfOk};
+ghost use Rattle.std.specs.Prelude.{◌≡◌, ◌||◌, ◌&&◌, not, ◌==◌, ℕ, ℤ, List, false, true, is_some, OnOk, OnErr, IfOk};
 ghost use Rattle.std.specs.Ordering.{int_eq};
 ghost use Rattle.std.specs.Map.{lookup};
 ghost use Rattle.tl_types.specs.declared.cells.Cell.{Cell};
 ghost use Rattle.tl_types.specs.declared.cells.Cell.TheVariants as cell;
 ghost use Rattle.tl_types.specs.Names.{same_bytes};
-ghost use Rattle.tl_types.specs.History.{same_cell};
-ghost use Rattle.tl_batch.specs.KeyIndex.{has_few, is_among_few, is_at_key, no_ids};
+ghost use Rattle.tl_types.specs.History.{has_id, same_cell};
+ghost use Rattle.tl_batch.specs.KeyIndex.{any_at, any_few, has_few, is_among_few, is_at_key, no_ids};
 
 use crate::few_ids::FewIds;
+use crate::id_list::IdList;
 use std::alloc::Global;
 use std::collections::HashMap;
 use std::hash::Hash;
@@ -134,6 +135,20 @@ fn few_of<K: Eq + Hash>(few: &HashMap<K, FewIds>, key: &K) -> Option<FewIds>
     }
 }
 
+// Adds the ids of all keys to a list. The error is `NoMemory`.
+fn add_all_of<K: Eq + Hash>(few: &HashMap<K, FewIds>, list: &mut IdList) -> Result<(), NoMemory>
+    ensures ids { OnOk result ((n : ℕ) → has_id list.new n
+        ≡ (any_at few.now.entries n || has_id list.old n)) }
+    ensures keys { OnOk result ((n : ℕ) → any_at few.now.entries n ≡ true
+        → (x : _) × (is_at_key K.eq few.now.entries x n ≡ true)) }
+{
+    let mut entries = few.iter();
+    'keys: while let Some((_, ids)) = entries.next() {
+        ids.add_to(list)?;
+    }
+    Ok(())
+}
+
 impl FewByKey {
     /// No ids.
     pub(crate) fn new(alloc: Global) -> FewByKey
@@ -202,5 +217,17 @@ impl FewByKey {
             Cell::Int(number) => remove_from(&mut self.numbers, number, id),
             Cell::Text(text) => remove_from(&mut self.texts, text, id),
         }
+    }
+
+    /// Adds the ids of all keys to a list. The error is `NoMemory`.
+    pub(crate) fn add_all_to(&self, list: &mut IdList) -> Result<(), NoMemory>
+        ensures ids { OnOk result ((n : ℕ) → has_id list.new n
+            ≡ (any_few self.now n || has_id list.old n)) }
+        ensures keys { OnOk result ((n : ℕ) → any_few self.now n ≡ true
+            → (x : Cell) × (has_few self.now x n ≡ true)) }
+    {
+        add_all_of(&self.numbers, list)?;
+        add_all_of(&self.texts, list)?;
+        Ok(())
     }
 }

@@ -5,7 +5,7 @@ ghost use Rattle.std.specs.Map.{lookup};
 ghost use Rattle.tl_types.specs.declared.cells.Cell.{Cell};
 ghost use Rattle.tl_types.specs.declared.cells.Cell.TheVariants as cell;
 ghost use Rattle.tl_types.specs.History.{has_id, same_cell};
-ghost use Rattle.tl_batch.specs.KeyIndex.{has_further, Changes};
+ghost use Rattle.tl_batch.specs.KeyIndex.{any_further, has_further, Changes};
 
 use crate::id_list::IdList;
 use crate::ids::IdSet;
@@ -172,5 +172,19 @@ impl FurtherIds {
             }
             None => Ok(()),
         }
+    }
+
+    /// Adds the ids of all keys to a list. The error is `NoMemory`.
+    pub(crate) fn add_all_to(&self, list: &mut IdList) -> Result<(), NoMemory>
+        ensures ids { OnOk result ((n : ℕ) → has_id list.new n
+            ≡ (any_further self.now n || has_id list.old n)) }
+        ensures keys { OnOk result ((n : ℕ) → any_further self.now n ≡ true
+            → (x : Cell) × (has_further self.now x n ≡ true)) }
+    {
+        let mut entries = self.ids.iter();
+        'keys: while let Some((_, ids)) = entries.next() {
+            ids.add_to(list)?;
+        }
+        Ok(())
     }
 }

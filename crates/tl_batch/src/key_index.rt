@@ -5,7 +5,7 @@ ghost use Rattle.std.specs.Map.{lookup};
 ghost use Rattle.tl_types.specs.declared.cells.Cell.{Cell};
 ghost use Rattle.tl_types.specs.declared.cells.Cell.TheVariants as cell;
 ghost use Rattle.tl_types.specs.History.{has_id, same_cell};
-ghost use Rattle.tl_batch.specs.KeyIndex.{Changes, has_further, has_row, no_ids, is_among_few};
+ghost use Rattle.tl_batch.specs.KeyIndex.{Changes, any_row, has_further, has_row, no_ids, is_among_few};
 
 use crate::few_by_key::FewByKey;
 use crate::further_ids::FurtherIds;
@@ -149,6 +149,19 @@ impl KeyIndex {
     {
         ids.clear();
         self.add_to(key, ids)?;
+        Ok(())
+    }
+
+    /// Adds the ids of the rows of all keys to a list. The error is `NoMemory`.
+    pub(crate) fn add_all_to(&self, ids: &mut IdList) -> Result<(), NoMemory>
+        ensures ids { OnOk result ((n : ℕ) → has_id ids.new n
+            ≡ (any_row self.now n || has_id ids.old n)) }
+        ensures keys { OnOk result ((n : ℕ) → any_row self.now n ≡ true
+            → (x : Cell) × (has_row self.now x n ≡ true)) }
+    {
+        self.small.add_all_to(ids)?;
+        self.few.add_all_to(ids)?;
+        self.further.add_all_to(ids)?;
         Ok(())
     }
 }

@@ -15,7 +15,7 @@ use crate::key_index::KeyIndex;
 use crate::open_tables::OpenTables;
 use crate::put_rows::PutRows;
 use crate::resolving::{
-    resolve_create, resolve_floor, resolve_moment, resolve_put, resolve_remove,
+    resolve_create, resolve_floor, resolve_moment, resolve_put, resolve_remove, resolve_sync,
 };
 use std::alloc::Global;
 use std::marker::Model;
@@ -65,19 +65,20 @@ impl Keys {
     /// What a batch of this author becomes over the store that the keys stand for: its one commit,
     /// which fits the store, or its first fault.
     ///
-    /// The rows that a batch puts match the schema of the table that it names, where there is one.
-    /// The first fault of a new table is `TableExists` where a table has the name, `TablesFull`
-    /// where there are as many tables as the limits allow, `VersionsFull` where there are as many
-    /// commits as they allow. That of rows or keys is `UnknownTable` where no table has the name;
-    /// `VersionsFull`; then line by line `KeyTwice` where the table has no valid time and an
-    /// earlier line has the key, and `NoRow` where the line removes and affects no row; last
-    /// `RowsFull` where the rows of the table and the opened ones together are more than the limits
-    /// allow. The record number of a line is its place from 0, plus 2. That of a moment is
-    /// `VersionsFull`; `MomentFalls` where it is not greater than the last one. That of a floor is
-    /// `UnknownTable`; `VersionsFull`; `FloorAhead` where it is greater than the number of commits;
-    /// `FloorFalls` where it is not greater than that of the table. `NoMemory`: memory ran out,
-    /// or a batch is so large that its record numbers, or the number of rows that it
-    /// opens, have no place in 32 bits.
+    /// The rows that a batch puts or syncs match the schema of the table that it names, where there
+    /// is one. The first fault of a new table is `TableExists` where a table has the name,
+    /// `TablesFull` where there are as many tables as the limits allow, `VersionsFull` where there
+    /// are as many commits as they allow. That of rows or keys is `UnknownTable` where no table has
+    /// the name; `VersionsFull`; then line by line `KeyTwice` where the table has no valid time and
+    /// an earlier line has the key, or where the batch syncs a table with valid time and an earlier
+    /// line of the key has a period that overlaps the line's, and `NoRow` where the line removes and
+    /// affects no row; last `RowsFull` where the rows of the table and the opened ones together are
+    /// more than the limits allow. The record number of a line is its place from 0, plus 2. That of
+    /// a moment is `VersionsFull`; `MomentFalls` where it is not greater than the last one. That of
+    /// a floor is `UnknownTable`; `VersionsFull`; `FloorAhead` where it is greater than the number
+    /// of commits; `FloorFalls` where it is not greater than that of the table. `NoMemory`: memory
+    /// ran out, or a batch is so large that its record numbers, or the number of rows that it opens,
+    /// have no place in 32 bits.
     pub fn resolve(
         &self,
         alloc: Global,
@@ -113,14 +114,19 @@ impl Keys {
                 let tables = OpenTables::new(store, self.tables.as_slice());
                 resolve_remove(alloc, &tables, author, table, lines, limits)
             }
-            Batch::Sync { .. } => Err(BatchFault::NoMemory),
+            Batch::Sync { table, lines } => {
+                let rows = PutRows::Lent(lines.as_slice());
+                let tables = OpenTables::new(store, self.tables.as_slice());
+                resolve_sync(alloc, &tables, author, table, rows, limits)
+            }
             Batch::Moment { moment } => resolve_moment(store, author, *moment, limits),
             Batch::Forget { table, floor } => resolve_floor(store, author, table, *floor, limits),
         }
     }
 
-    /// As `resolve`, of a batch that is handed over: a commit of rows takes the rows over and makes
-    /// no copies of them.
+    /// As `resolve`, of a batch that is handed over: a commit of rows that are put takes the rows
+    /// over and makes no copies of them, and so does one of rows that are synced where no row
+    /// stands.
     pub fn resolve_owned(
         &self,
         alloc: Global,
@@ -151,7 +157,11 @@ impl Keys {
                 let tables = OpenTables::new(store, self.tables.as_slice());
                 resolve_remove(alloc, &tables, author, &table, lines, limits)
             }
-            Batch::Sync { .. } => Err(BatchFault::NoMemory),
+            Batch::Sync { table, lines } => {
+                let rows = PutRows::Owned(lines.into_vec());
+                let tables = OpenTables::new(store, self.tables.as_slice());
+                resolve_sync(alloc, &tables, author, &table, rows, limits)
+            }
             Batch::Moment { moment } => resolve_moment(store, author, moment, limits),
             Batch::Forget { table, floor } => resolve_floor(store, author, &table, floor, limits),
         }

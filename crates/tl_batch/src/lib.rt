@@ -17,6 +17,8 @@ mod key_flags;
 mod key_index;
 mod key_set;
 mod keys;
+mod line_matching;
+mod line_places;
 mod many_periods;
 mod open_table;
 mod open_tables;
@@ -27,6 +29,7 @@ mod periods_by_key;
 mod put_rows;
 mod resolving;
 mod small_keys;
+mod syncing;
 mod two_ids;
 mod untimed;
 

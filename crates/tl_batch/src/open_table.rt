@@ -1,20 +1,24 @@
 //! A table of a store, with the ids of its open rows by their keys: rows and periods are read from
 //! the one, and found by the other. It is lent, and changes nothing.
-ghost use Rattle.std.specs.Prelude.{◌≡◌, ◌<◌, ◌≤◌, ◌++◌, ℕ, true, Some, IfOk, OnOk, length, slice_get, option_map};
+ghost use Rattle.std.specs.Prelude.{◌≡◌, ◌<◌, ◌≤◌, ◌++◌, ℕ, true, Some, All, IfOk, OnOk, length, slice_get, option_map};
+ghost use Rattle.std.specs.Cmp.Lexicographic.{pointwise};
 ghost use Rattle.tl_types.specs.declared.cells.Cell.{Cell};
 ghost use Rattle.tl_types.specs.Plain as plain;
-ghost use Rattle.tl_types.specs.History.{database_of, has_id};
+ghost use Rattle.tl_types.specs.History.{database_of, has_id, same_cell};
+ghost use Rattle.tl_types.specs.Resolving.{open_rows, same_period, same_row};
+ghost use Rattle.tl_store.specs.Reading.{cell_shown};
 ghost use Rattle.tl_batch.specs.KeyIndex.{has_row};
 ghost use Rattle.tl_batch.specs.OpenTables.{IsIndexOf};
 ghost use Rattle.tl_batch.specs.Standing.{is_open_with, rows_match, table_has};
+ghost use Rattle.tl_batch.specs.Syncing.{as_opened, start_of, working_rows};
 
 use crate::id_list::IdList;
 use crate::key_index::KeyIndex;
 use std::alloc::Global;
 use std::marker::Model;
 use std::sync::ledger::Ledger;
-use tl_store::Store;
-use tl_types::{Cell, NoMemory, Period, Schema, Seq, SmallSeq, Steps};
+use tl_store::{CellRef, Store};
+use tl_types::{Cell, NoMemory, Opened, Period, Schema, Seq, SmallSeq, Steps};
 
 /// A table of a store, with the ids of its open rows by their keys. A contract sees the table.
 #[derive(Drop)]
@@ -34,6 +38,22 @@ impl<'a> Model for OpenTable<'a> {
     ghost view = { λ t. table_at t.store.now t.number t.schema.now };
 
     ghost invariant = { λ t. IsOpenTable t.store.now t.number t.schema.now t.index.now };
+}
+
+// Whether a cell that is lent is this one.
+fn is_cell(shown: CellRef<'_>, cell: &Cell) -> bool
+    ensures { result ≡ same_cell (cell_shown shown.entry) cell.now }
+{
+    match shown {
+        CellRef::Int(shown) => match cell {
+            Cell::Int(number) => shown == *number,
+            Cell::Text(_) => false,
+        },
+        CellRef::Text(shown) => match cell {
+            Cell::Int(_) => false,
+            Cell::Text(text) => shown == text.as_str(),
+        },
+    }
 }
 
 impl<'a> OpenTable<'a> {
@@ -171,5 +191,76 @@ impl<'a> OpenTable<'a> {
             → r.period ≡ Some result }
     {
         self.store.valid_at(self.number, row, steps)
+    }
+
+    // Whether a row has these cells.
+    fn has_cells<L: Ledger>(&self, row: u32, cells: &[Cell], steps: &mut Steps<L>) -> bool
+        requires row { row < length self.now.rows }
+        ensures { (r : plain.Row) → slice_get self.now.rows row ≡ Some r
+            → result ≡ pointwise same_cell r.cells cells.now }
+    {
+        if cells.len() != self.schema.columns().len() {
+            return false;
+        }
+        for (i, cell) in cells.iter().enumerate() {
+            let shown = self.store.cell(self.number, row, i as u8, steps);
+            let same = is_cell(shown, cell);
+            if !same {
+                return false;
+            }
+        }
+        true
+    }
+
+    // Whether a row has this valid period, or has none where it is none.
+    fn has_period<L: Ledger>(&self, row: u32, period: &Option<Period>, steps: &mut Steps<L>) -> bool
+        requires row { row < length self.now.rows }
+        ensures { (r : plain.Row) → slice_get self.now.rows row ≡ Some r
+            → result ≡ same_period r.period period.now }
+    {
+        if !self.schema.valid() {
+            return period.is_none();
+        }
+        let Some(period) = period else {
+            return false;
+        };
+        self.period_at(row, steps) == *period
+    }
+
+    /// Whether a row is the same as a line: it has its cells and its valid period.
+    pub(crate) fn is_same<L: Ledger>(&self, row: u32, line: &Opened, steps: &mut Steps<L>) -> bool
+        requires row { row < length self.now.rows }
+        ensures { (r : plain.Row) → slice_get self.now.rows row ≡ Some r
+            → result ≡ same_row (as_opened r) line.now }
+    {
+        let in_time = self.has_period(row, &line.period(), steps);
+        if !in_time {
+            return false;
+        }
+        self.has_cells(row, line.cells(), steps)
+    }
+
+    /// The moment at which the valid period of a row begins, 0 where it has none.
+    pub(crate) fn start<L: Ledger>(&self, row: u32, steps: &mut Steps<L>) -> i64
+        requires row { row < length self.now.rows }
+        ensures { (r : plain.Row) → slice_get self.now.rows row ≡ Some r
+            → result ≡ start_of r.period }
+    {
+        if !self.schema.valid() {
+            return 0;
+        }
+        self.period_at(row, steps).from()
+    }
+
+    /// The ids of the open rows, ascending. The error is `NoMemory`.
+    pub(crate) fn open_ids(&self, alloc: Global) -> Result<Seq<u32>, NoMemory>
+        ensures rows { IfOk result (λ ids. working_rows self.now.rows ids ≡ open_rows self.now) }
+        ensures within { IfOk result (λ ids. All (λ row. row < length self.now.rows) ids) }
+    {
+        let _place = self.schema.key();
+        let mut ids = IdList::new(alloc);
+        self.index.add_all_to(&mut ids)?;
+        let listed = ids.listed();
+        Ok(listed)
     }
 }

@@ -10,11 +10,13 @@ ghost use Rattle.tl_types.specs.Resolving.{find_table, resolved, removal_lines, 
 ghost use Rattle.tl_batch.specs.Made.{made_by, change_made, committed, floor_set, rows_fit_found, IsMade, IsClosed};
 ghost use Rattle.tl_batch.specs.PutRows.{rows_put};
 ghost use Rattle.tl_batch.specs.Standing.{rows_match};
+ghost use Rattle.tl_batch.specs.Syncing.{synced_by};
 
 use crate::changing::{RowChanges, put_timed, remove_timed};
 use crate::open_table::OpenTable;
 use crate::open_tables::OpenTables;
 use crate::put_rows::PutRows;
+use crate::syncing::sync_made;
 use crate::untimed::{closes_of_keys, keys_of_lines, keys_of_rows};
 use std::alloc::{AllocError, Global};
 use std::marker::Brand;
@@ -311,6 +313,28 @@ fn keys_change(
     Ok(change)
 }
 
+// The change that rows make that say all of the table with this number, or their first fault.
+fn whole_change(
+    alloc: Global,
+    tables: &OpenTables<'_>,
+    number: u16,
+    rows: PutRows<'_>,
+    limit: u64,
+) -> Result<Result<Change, BatchFault>, NoMemory>
+    requires there { number < length (database_of tables.now).tables }
+    requires few { length (rows_put rows) + 1 < 2 ^ 32 }
+    requires matching { IfSome (slice_get (database_of tables.now).tables number)
+        (λ t. IsTrue (list_all (matches t.schema) (rows_put rows))) }
+    ensures { IfOk result (λ made. Some made
+        ≡ option_map (λ t. synced_by limit number t (rows_put rows.entry))
+        (slice_get (database_of tables.now).tables number)) }
+{
+    let table = tables.table(number);
+    let made = sync_made(alloc, &table, rows)?;
+    let change = change_within(number, table.rows(), made, limit)?;
+    Ok(change)
+}
+
 // The commit of a change, by this author.
 fn commit_of(author: u32, made: Result<Change, BatchFault>) -> Result<Commit, BatchFault>
     ensures { result ≡ committed author made }
@@ -353,6 +377,41 @@ pub(crate) fn resolve_put(
         return Err(BatchFault::NoMemory);
     }
     let Ok(made) = rows_change(alloc, tables, number, rows, limits.rows) else {
+        return Err(BatchFault::NoMemory);
+    };
+    commit_of(author, made)
+}
+
+/// The commit of this author that makes rows all the open rows of the table with this name, or its
+/// first fault.
+pub(crate) fn resolve_sync(
+    alloc: Global,
+    tables: &OpenTables<'_>,
+    author: u32,
+    name: &Text,
+    rows: PutRows<'_>,
+    limits: &Limits,
+) -> Result<Commit, BatchFault>
+    requires matching { IsTrue (rows_fit_found (rows_put rows)
+        (find_table name.now (database_of tables.now).tables)) }
+    ensures ok { IfOk result (λ c. resolved limits.now (database_of tables.now) author
+        (batch.Sync name.now (rows_put rows.entry)) ≡ Ok c) }
+    ensures fit { IfOk result (λ c. IsTrue (fits limits.now (database_of tables.now) c)) }
+    ensures err { IfErr result (λ e. (e ≡ fault.NoMemory)
+        ⊎ (resolved limits.now (database_of tables.now) author
+        (batch.Sync name.now (rows_put rows.entry)) ≡ Err e)) }
+{
+    let store = tables.store();
+    let Some(number) = store.find(name.as_str()) else {
+        return Err(BatchFault::UnknownTable);
+    };
+    if has_all_versions(store, limits) {
+        return Err(BatchFault::VersionsFull);
+    }
+    if rows.as_slice().len() >= TOO_MANY_LINES {
+        return Err(BatchFault::NoMemory);
+    }
+    let Ok(made) = whole_change(alloc, tables, number, rows, limits.rows) else {
         return Err(BatchFault::NoMemory);
     };
     commit_of(author, made)

@@ -1,11 +1,12 @@
 //! The ids of each small key, in lists by the key's number. A key that is not small, and an id for
 //! which there is no place, are not taken, and say so; without memory all ids stay as they were.
 ghost use Rattle.std.specs.Prelude.{◌≡◌, ◌||◌, ◌&&◌, not, ◌==◌, ◌<◌, ◌+◌, ◌^◌, ℕ, ℤ, List, pos, [], true, false, length, OnOk, OnErr, IfOk, IfSome, IfNone};
+ghost use Rattle.std.specs.List.{list_any};
 ghost use Rattle.tl_types.specs.declared.cells.Cell.{Cell};
 ghost use Rattle.tl_types.specs.declared.cells.Cell.TheVariants as cell;
 ghost use Rattle.tl_types.specs.History.{has_id, same_cell};
 ghost use Rattle.tl_batch.specs.declared.two_ids.TwoIds.{TwoIds};
-ghost use Rattle.tl_batch.specs.KeyIndex.{has_number, in_set_of, has_set, has_small, has_two, is_of_two, no_ids};
+ghost use Rattle.tl_batch.specs.KeyIndex.{has_number, in_set_of, has_set, has_small, has_two, any_small, is_of_two, no_ids};
 
 use crate::id_list::IdList;
 use crate::ids::IdSet;
@@ -243,6 +244,28 @@ fn add_set_to(sets: &[IdSet], key: i64, list: &mut IdList) -> Result<(), NoMemor
     }
 }
 
+// Adds the ids of all places to a list. The error is `NoMemory`.
+fn add_all_two(ids: &[TwoIds], list: &mut IdList) -> Result<(), NoMemory>
+    ensures { OnOk result ((n : ℕ) → has_id list.new n
+        ≡ (list_any (λ two. is_of_two two n) ids.now || has_id list.old n)) }
+{
+    for two in ids {
+        two.add_to(list)?;
+    }
+    Ok(())
+}
+
+// Adds the ids of all sets to a list. The error is `NoMemory`.
+fn add_all_sets(sets: &[IdSet], list: &mut IdList) -> Result<(), NoMemory>
+    ensures { OnOk result ((n : ℕ) → has_id list.new n
+        ≡ (list_any (λ set. has_id set n) sets.now || has_id list.old n)) }
+{
+    for set in sets {
+        set.add_to(list)?;
+    }
+    Ok(())
+}
+
 impl SmallKeys {
     /// No ids.
     pub(crate) fn new(alloc: Global) -> SmallKeys
@@ -346,6 +369,18 @@ impl SmallKeys {
         };
         ids_of(self.two.as_slice(), *number).add_to(list)?;
         add_set_to(self.sets.as_slice(), *number, list)?;
+        Ok(())
+    }
+
+    /// Adds the ids of all keys to a list. The error is `NoMemory`.
+    pub(crate) fn add_all_to(&self, list: &mut IdList) -> Result<(), NoMemory>
+        ensures ids { OnOk result ((n : ℕ) → has_id list.new n
+            ≡ (any_small self.now n || has_id list.old n)) }
+        ensures keys { OnOk result ((n : ℕ) → any_small self.now n ≡ true
+            → (x : Cell) × (has_small self.now x n ≡ true)) }
+    {
+        add_all_two(self.two.as_slice(), list)?;
+        add_all_sets(self.sets.as_slice(), list)?;
         Ok(())
     }
 }

@@ -1,9 +1,10 @@
 //! Batches that are offered to an engine, and whether it answers them as it should. What was read
 //! before a batch stays as it was.
-ghost use Rattle.std.specs.Prelude.{◌≡◌, ◌<◌, IsTrue};
+ghost use Rattle.std.specs.Prelude.{◌≡◌, ◌<◌, IsTrue, is_some};
 ghost use Rattle.std.specs.Bool.{OnTrue};
 ghost use Rattle.tl_types.specs.History.{database_of};
-ghost use Rattle.tl_batch.specs.Made.{batch_matches, names_table};
+ghost use Rattle.tl_types.specs.Resolving.{find_table};
+ghost use Rattle.tl_batch.specs.Made.{batch_matches, names_table, rows_fit_found};
 
 use std::alloc::Global;
 use std::sync::Wait;
@@ -100,6 +101,19 @@ fn batch(alloc: Global, kind: Kind, name: &str) -> Option<Batch> {
     }
 }
 
+// Whether a table of the store has the name, and its schema these rows.
+fn fits_table(store: &Store, table: &Text, lines: &[Opened]) -> bool
+    ensures known { OnTrue result
+        (IsTrue (is_some (find_table table.now (database_of store.now).tables))) }
+    ensures matching { OnTrue result
+        (IsTrue (rows_fit_found lines.now (find_table table.now (database_of store.now).tables))) }
+{
+    match store.find(table.as_str()) {
+        Some(number) => all_match(store.schema(number), lines),
+        None => false,
+    }
+}
+
 // Whether a table of the store has the name in a batch of rows, and its schema these rows.
 fn may_commit(store: &Store, batch: &Batch) -> bool
     ensures known { OnTrue result (IsTrue (names_table (database_of store.now) batch.now)) }
@@ -107,15 +121,9 @@ fn may_commit(store: &Store, batch: &Batch) -> bool
 {
     match batch {
         Batch::Create(_) => true,
-        Batch::Put { table, lines } => match store.find(table.as_str()) {
-            Some(number) => all_match(store.schema(number), lines.as_slice()),
-            None => false,
-        },
+        Batch::Put { table, lines } => fits_table(store, table, lines.as_slice()),
         Batch::Remove { table, .. } => store.find(table.as_str()).is_some(),
-        Batch::Sync { table, lines } => match store.find(table.as_str()) {
-            Some(number) => all_match(store.schema(number), lines.as_slice()),
-            None => false,
-        },
+        Batch::Sync { table, lines } => fits_table(store, table, lines.as_slice()),
         Batch::Moment { .. } => true,
         Batch::Forget { .. } => true,
     }

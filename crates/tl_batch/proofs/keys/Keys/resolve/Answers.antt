@@ -12,6 +12,9 @@ returns-in-Put-clause-standard c = ok_within c.args.limits.now standard_limits (
 pub returns-in-Remove-clause-standard : goal.returns-in-Remove-clause-standard
 returns-in-Remove-clause-standard c = ok_within c.args.limits.now standard_limits (database_of c.args.store.now) c.resolve_remove.result (rw c.new-tables-in-Remove.ensures at c.resolve_remove.ensures.fit)
 
+pub returns-in-Sync-clause-standard : goal.returns-in-Sync-clause-standard
+returns-in-Sync-clause-standard c = ok_within c.args.limits.now standard_limits (database_of c.args.store.now) c.resolve_sync.result (rw c.new-tables-in-Sync.ensures at c.resolve_sync.ensures.fit)
+
 pub returns-in-Moment-clause-standard : goal.returns-in-Moment-clause-standard
 returns-in-Moment-clause-standard c = ok_within c.args.limits.now standard_limits (database_of c.args.store.now) c.resolve_moment.result c.resolve_moment.ensures.fit
 

@@ -47,6 +47,7 @@ abbrev pub statement_answer : plain.Database → ℕ → Statement → ReplyBody
 statement_answer db now (statement.Create form) = no_query
 statement_answer db now (statement.Put name) = no_query
 statement_answer db now (statement.Remove name) = no_query
+statement_answer db now (statement.Sync name) = no_query
 statement_answer db now (statement.Ask query) = query_answer db (checked now db query)
 statement_answer db now (statement.Moment moment) = no_query
 statement_answer db now (statement.Forget name floor) = no_query

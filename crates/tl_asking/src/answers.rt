@@ -154,6 +154,7 @@ fn statement_answer<R: AllocGlobal + Threads + Sync, G: Gate>(
         Statement::Create(_) => Ok(no_query()),
         Statement::Put(_) => Ok(no_query()),
         Statement::Remove(_) => Ok(no_query()),
+        Statement::Sync(_) => Ok(no_query()),
         Statement::Ask(query) => {
             let body = query_answer(rt, snapshot, query, means)?;
             Ok(body)

@@ -2,7 +2,6 @@
 //! and the disk is handed back with just these commits.
 ghost use Rattle.std.specs.Prelude.{false};
 ghost use Rattle.tl_types.specs.Entries.{commits_of};
-ghost use Rattle.tl_command.specs.Closing.{ClosesAfter};
 ghost use Rattle.tl_command.specs.Coming.{script_reads};
 ghost use Rattle.tl_command.specs.Outside.{outside, streams};
 ghost use Rattle.tl_run.specs.Runs.{PhasesEnd};

@@ -3,7 +3,7 @@ use Rattle.tl_command.specs.Outside.{streams}
 use Rattle.tl_asking.specs.Progress.{Progress}
 use Rattle.tl_asking.proofs.phases.answer_phases.Given as goal
 
--- the phases that have come were answered, each behind the one before it
+-- the phases that have come were answered, one after the other
 abbrev pub invariant-phases : goal.invariant-phases
 invariant-phases g l =
     let source = g.S.Source in

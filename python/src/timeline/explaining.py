@@ -22,23 +22,27 @@ _MARK = b"\xef\xbb\xbf"
 _WIDE, _FRONT = 200, 60     # so many bytes of a long text are shown, and so many of them in front of a caret
 
 
+def formats_path() -> str:
+    """The path of FORMATS.md: beside this file where the front was installed, else among the documents."""
+    here = os.path.dirname(os.path.abspath(__file__))
+    beside = os.path.join(here, "FORMATS.md")
+    return beside if os.path.exists(beside) else os.path.join(here, "../../../docs/FORMATS.md")
+
+
 @lru_cache(maxsize=None)
 def _sentences() -> dict[tuple[str, str], str]:
     """The rows of the table: a fault and a case to what to do."""
-    here = os.path.dirname(os.path.abspath(__file__))
     found: dict[tuple[str, str], str] = {}
-    for path in (os.path.join(here, "FORMATS.md"), os.path.join(here, "../../../docs/FORMATS.md")):
-        try:
-            with open(path, encoding="utf-8") as file:
-                text = file.read()
-        except OSError:
-            continue
-        chapters = [text.partition(f"\n## {it}\n")[2].partition("\n## ")[0] for it in ("What to do", "Faults of the command")]
-        for line in "\n".join(chapters).split("\n"):
-            cells = [it.strip() for it in line.split("|")]
-            if len(cells) == 5:
-                found[cells[1], cells[2]] = cells[3]
-        break
+    try:
+        with open(formats_path(), encoding="utf-8") as file:
+            text = file.read()
+    except OSError:
+        return found
+    chapters = [text.partition(f"\n## {it}\n")[2].partition("\n## ")[0] for it in ("What to do", "Faults of the command")]
+    for line in "\n".join(chapters).split("\n"):
+        cells = [it.strip() for it in line.split("|")]
+        if len(cells) == 5:
+            found[cells[1], cells[2]] = cells[3]
     return found
 
 

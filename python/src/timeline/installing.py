@@ -9,7 +9,7 @@ import re
 import shutil
 from typing import TYPE_CHECKING, Iterator
 
-from . import cleanup, programs
+from . import cleanup, explaining, programs
 from .errors import NOT_BUILT, ProgramFault, TimelineError
 
 if TYPE_CHECKING:
@@ -93,6 +93,7 @@ def _install(prefix: str, found: dict[str, Program]) -> None:
 def _lay_out(root: str, found: dict[str, Program]) -> None:
     package = os.path.join(root, "python/src/timeline")
     shutil.copytree(HERE, package, ignore=shutil.ignore_patterns("__pycache__"))
+    shutil.copyfile(explaining.formats_path(), os.path.join(package, "FORMATS.md"))
     shutil.copy(os.path.join(programs.ROOT, "timeline"), os.path.join(root, "timeline"))
     os.mkdir(os.path.join(root, "programs"))
     for name, one in found.items():
@@ -153,7 +154,7 @@ def _pack(folder: str, name: str, path: str) -> None:
 # The page of the manual, and completions
 
 def _text(name: str) -> str:
-    with open(os.path.join(HERE, name), encoding="utf-8") as file:
+    with open(explaining.formats_path() if name == "FORMATS.md" else os.path.join(HERE, name), encoding="utf-8") as file:
         return file.read()
 
 

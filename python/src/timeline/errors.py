@@ -179,6 +179,8 @@ def from_closing(status: int, words: Sequence[str]) -> TimelineError:
         return ScriptFault(words[1], number)
     if what == "packet":
         return PacketFault(number)
+    if what == "rows":
+        return Refused(words[1], sentence=f"no table is called {words[2]}" if len(words) > 2 else "no table has this name")
     if what == "device":
         return DeviceFault()
     if what == "source":

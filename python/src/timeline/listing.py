@@ -3,8 +3,6 @@ from __future__ import annotations
 
 from typing import NamedTuple
 
-from .errors import Refused
-
 TYPE_CHECKING = False
 if TYPE_CHECKING:
     from .cli import Call
@@ -72,8 +70,6 @@ def rows(call: Call) -> int:
     parser.add_argument("table")
     parser.add_argument("--csv", action="store_true")
     given, journal = parser.parse_args(call.words), call.journal()
-    if not columns_of(journal, given.table):
-        raise Refused("UnknownTable", sentence=f"no table is called {given.table}")
     return _write(call, journal.listing(["rows", given.table]), given.csv)
 
 

@@ -15,6 +15,7 @@ from typing import Any, Iterator, NamedTuple, Sequence
 import pytest
 
 ROOT = os.path.dirname(os.path.dirname(os.path.dirname(os.path.abspath(__file__))))
+LIMIT = 200     # seconds that a test may take
 COMMAND = os.path.join(ROOT, "timeline")
 sys.path.insert(0, os.path.join(ROOT, "python/src"))
 
@@ -71,6 +72,19 @@ def pytest_configure(config: pytest.Config) -> None:
     for number in (signal.SIGINT, signal.SIGHUP, signal.SIGTERM):
         if signal.getsignal(number) is signal.SIG_IGN:
             signal.signal(number, signal.SIG_DFL)
+
+
+@pytest.fixture(autouse=True)
+def limit() -> Iterator[None]:
+    """Has a test fail that does not end."""
+    def end(number: int, frame: object) -> None:
+        raise AssertionError(f"not ended after {LIMIT} seconds")
+
+    before = signal.signal(signal.SIGALRM, end)
+    signal.alarm(LIMIT)
+    yield
+    signal.alarm(0)
+    signal.signal(signal.SIGALRM, before)
 
 
 def pytest_runtestloop(session: pytest.Session) -> bool | None:

@@ -13,6 +13,7 @@ import tempfile
 
 import followed
 import watched
+import pytest
 from conftest import COMMAND, ROOT, program, room_for_journals
 
 PROGRAM = program("timeline")
@@ -170,8 +171,7 @@ def test_a_group_waits_twice():
     """However many commits a group has, behind the opening there are two syncs, and one write of them all and one of the
     gate. `strace` counts, where it is there."""
     if not shutil.which("strace"):
-        print("groups.py: syncs are not counted, since strace is not here")
-        return
+        pytest.skip("syncs are not counted, since strace is not here")
     with Room("a> CREATE TABLE t (k INT, x INT) KEY k\n") as room:
         counts = []
         for script in ("", "".join(put("t", [f"{it},1"]) for it in range(1000))):

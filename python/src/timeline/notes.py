@@ -110,14 +110,15 @@ class Moment:
     """The second that a unit states first, where it does: found by the journal, and given up where it does not rise."""
 
     def __init__(self, journal: Journal, wanted: bool | None, say: Callable[[str], None]) -> None:
-        self.journal, self.wanted, self.say = journal, wanted, say
+        self.journal, self.wanted, self.say, self.rises = journal, wanted, say, True
 
     def script(self, unit: Unit) -> Iterator[bytes]:
         """The statements that state the present second, and that say of the journal that its moments are seconds."""
         catalog = unit.state.catalog
         if self.wanted is False or not (catalog.has_seconds or self._may_declare(unit.state)):
             return
-        yield Whole(unit.begin(f"MOMENT {int(time.time())}", "moment"))
+        if self.rises:
+            yield Whole(unit.begin(f"MOMENT {int(time.time())}", "moment"))
         if not catalog.has_seconds:
             yield put_kinds(unit, [(kinds.MOMENTS, str(kinds.TIME))])
 
@@ -135,11 +136,11 @@ class Moment:
 
     def falls(self, refused: Refused) -> bool:
         """Whether a refusal is of the moment alone, so that the unit may be tried again without it."""
-        if refused.kind != "MomentFalls" or refused.number != 1 or self.wanted is False:
+        if refused.kind != "MomentFalls" or refused.number != 1 or not self.rises or self.wanted is False:
             return False
         if refused.numbers[0] > time.time():
             self.say(f"not stamped: the last moment that was stated, {refused.numbers[0]}, is later than now")
-        self.wanted = False
+        self.rises = False
         return True
 
 

@@ -18,6 +18,7 @@ KEYWORDS = frozenset("CREATE TABLE KEY VALID INT TEXT PUT REMOVE SELECT FROM WHE
 FIRST_WORDS = r"CREATE|PUT|REMOVE|SYNC|MOMENT|FORGET|SELECT|COUNT|SUM|AVG|MIN|MAX|JOIN"
 _AGGREGATE = rb"(?:COUNT|SUM|AVG|MIN|MAX)"
 _FIELD = re.compile(rb'(?:"(?:[^"]|"")*"?)?[^,]*')
+_CONTROLS = re.compile("[\x00-\x08\x0a-\x1f\x7f-\x9f]")
 _MARK = b"\xef\xbb\xbf"
 _WIDE, _FRONT = 200, 60     # so many bytes of a long text are shown, and so many of them in front of a caret
 
@@ -76,8 +77,8 @@ def shown(text: bytes, offset: int | None) -> list[str]:
 
 
 def _printable(text: bytes) -> str:
-    shown_text = text.rstrip(b"\r\n").decode("utf-8", "replace")
-    return "".join(it if it.isprintable() or it == "\t" else "?" for it in shown_text)
+    """A text without its end of line, and `?` for what would move a terminal's cursor; bytes that are no UTF-8 stay."""
+    return _CONTROLS.sub("?", decode(text.rstrip(b"\r\n")))
 
 
 def text_case(text: bytes, offset: int, fault: str) -> str:

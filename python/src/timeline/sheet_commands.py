@@ -72,6 +72,8 @@ def _tell(call: Call, statement: str, sheet: Sheet, refused: Refused) -> None:
     from .watching import missing_column
 
     shows = call.options.explain or call.console.err_is_terminal
+    if call.word == "load" and not shows and not refused.sentence:
+        return                  # the reply has said it
     lines = Copy(sheet.file.fileno(), 0, sheet.start).lines() if shows else None
     missing = missing_column(call.journal(), statement, Fault(refused.kind, refused.numbers)) if shows else ""
     call.console.tell("\n".join(explain_sheet(f"the {call.word}", statement, refused, lines, missing)))

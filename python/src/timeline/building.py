@@ -422,8 +422,10 @@ def _removed(entry: os.DirEntry[str]) -> int:
 def version(call: Call) -> int:
     """Says what the sources are, and of each program whether it is proved, and of what it was made."""
     call.parser().parse_args(call.words)
-    here = "" if programs.is_installed() else commit()
-    call.console.line("timeline" + f", commit {here}" * bool(here))
+    here = f", installed in {programs.ROOT}"
+    if not programs.is_installed():
+        here = f", commit {commit()}" * bool(commit())
+    call.console.line(f"timeline{here}")
     for name in programs.NAMES:
         call.console.line(f"{name}: {_described(name)}")
     return 0
@@ -443,4 +445,4 @@ def _described(name: str) -> str:
         return f"{found.path}, which TIMELINE_PROGRAMS gives" + (f": {record['kind']}{made}" if record else "")
     if found.kind == "proved" and not programs.is_installed() and record.get("all") != _sum_of(name, ALL):
         made += "; since then specs or proofs have changed: ./timeline build"
-    return f"proved{made}" if found.kind == "proved" else f"{programs.UNPROVED}{made}"
+    return f"proved{made}" if found.kind == "proved" else f"{programs.unproved()}{made}"

@@ -21,6 +21,7 @@ if TYPE_CHECKING:
 HERE = os.path.dirname(os.path.abspath(__file__))
 PAGE = "share/man/man1/timeline.1"
 COMPLETIONS = "share/bash-completion/completions/timeline"
+_COLUMN = 29     # where in help.txt what a word does begins
 _BASH = """# Completions of the command timeline for bash.
 _timeline() {{
     local word=${{COMP_WORDS[COMP_CWORD]}} at command=
@@ -177,10 +178,11 @@ def manual(found: dict[str, Program]) -> Iterator[str]:
 def _entries(paragraph: str) -> Iterator[str]:
     """The lines of a paragraph of words and what they do, each with its further lines."""
     for line in paragraph.split("\n"):
-        found = re.match(r"  (\S.*?)(?:  +(.*)|$)", line)
-        if found:
-            yield from (".TP", rf"\fB{_roff(found[1].replace('./timeline', 'timeline'))}\fR")
-        text = found[2] if found else line.strip()
+        head, text = ("", line.strip()) if line.startswith("   ") else (line.strip(), "")
+        if head and line[_COLUMN - 1:_COLUMN] == " " and line[_COLUMN:_COLUMN + 1].isalnum():
+            head, text = line[:_COLUMN].strip(), line[_COLUMN:]
+        if head:
+            yield from (".TP", rf"\fB{_roff(head.replace('./timeline', 'timeline'))}\fR")
         if text:
             yield _roff(text)
 

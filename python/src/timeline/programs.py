@@ -14,7 +14,6 @@ from .errors import NOT_BUILT, ProgramFault
 NAMES = ("timeline", "timeline_log", "timeline_look")
 ROOT = os.path.abspath(os.path.join(os.path.dirname(__file__), "../../.."))
 CHECKED = os.path.join(ROOT, "out/checked")
-UNPROVED = "checked as it runs; ./timeline build proves it"
 PLAIN = "x86-64-v2"      # the kind of processor that a program is for where it was not built for another
 _DAY = 24 * 3600
 
@@ -68,11 +67,16 @@ def is_installed() -> bool:
     return os.path.isdir(os.path.join(ROOT, "programs"))
 
 
+def unproved() -> str:
+    """What is said of a program that is checked as it runs."""
+    return "checked as it runs" + ("; it is not proved" if is_installed() else "; ./timeline build proves it")
+
+
 def program(name: str) -> str:
     """The path of a program, which is made first where it is not there and can be. ProgramFault where it is not and cannot."""
     found = find(name) or _made(name)
     if found.kind == "checked" and (console.err_is_terminal or _is_first_today()):
-        console.say(UNPROVED)
+        console.say(unproved())
     return found.path
 
 
@@ -254,13 +258,16 @@ def _flags() -> set[str]:
 
 def _is_first_today() -> bool:
     """Whether nothing was said today of which program runs; it is taken down that something was."""
-    told = os.path.join(CHECKED if not is_installed() else ROOT, "told")
+    cache = os.environ.get("XDG_CACHE_HOME") or os.path.expanduser("~/.cache")
+    folder = CHECKED if not is_installed() else os.path.join(cache, "timeline")
+    told = os.path.join(folder, "told")
     try:
         if time.time() - os.stat(told).st_mtime < _DAY:
             return False
     except OSError:
         pass
     try:
+        os.makedirs(folder, exist_ok=True)
         with open(told, "w", encoding="ascii"):
             return True
     except OSError:

@@ -161,11 +161,11 @@ def test_fields_parted_by_other_marks(journal: str, mark: str) -> None:
 @pytest.mark.parametrize("data,fault", [
     ("id,a\n1,2\n1,3\n", "KeyTwice 3"), ("id,a\n1,2\n3\n", "record 3: it has 1 fields and the header 2"),
     ('id,a\n1,"x', "record 2: the file ends within a quoted field"), ("id,a,a\n1,2,3\n", "two columns are called a"),
-    (",".join(f"c{at}" for at in range(16)) + ",id\n", "a table has at most 16"), ("", "no column is called id"), ("id,a\n1," + "x" * 65_536 + "\n", "TextTooLong 2 2"),
+    (",".join(f"c{at}" for at in range(16)) + ",id\n", "a table has at most 16"), ("", "no column is called id"), ("id,a\n1,LONG\n", "TextTooLong 2 2"),
 ])
 def test_a_refused_import_leaves_nothing(journal: str, data: str, fault: str) -> None:
     before = listed(journal)
-    done = run(["import", "t", "--key", "id"], data, journal)
+    done = run(["import", "t", "--key", "id"], data.replace("LONG", "x" * 65_536), journal)
     assert (done.status, done.out) == (20, "") and fault in done.err and "nothing was made" in done.err, done
     assert listed(journal) == before
     assert run(["import", "t", "--key", "id"], "id,a\n1,2\n", journal).status == 0
@@ -302,7 +302,7 @@ def test_two_loads_within_a_second(journal: str, monkeypatch: pytest.MonkeyPatch
     monkeypatch.setattr(time, "time", lambda: 1_700_000_000.0)
     loads.load(Journal(journal), "t", sheet_of(sheet % 3), say=said.append)
     assert said == ["not stamped: the last moment that was stated, 1800000000, is later than now"]
-    assert listed(journal).count(",moment,") == 1 and len(asked(journal, "SELECT id FROM t")) == 4
+    assert listed(journal).count(",moment,0,0,") == 1 and len(asked(journal, "SELECT id FROM t")) == 4
 
 
 # Notes
@@ -376,12 +376,12 @@ def test_a_sync_ends_no_more_than_half_of_the_rows(journal: str, sheet: str, gon
 @pytest.mark.parametrize("sheet,fault", [
     ('id,a\n1,x\n2,"y', "record 3: the file ends within a quoted field"), ("id,a\n1,x\n1,y\n", "record 3: its key"),
     ("id,a\n1,x\n+1,y\n", "record 3: its key"), ("id,a\nx,1\n", "record 2, field 1: id is INT"), ("id,b\n1,2\n", "'b' is no column of the table"),
-    ("id\n1\n", "the header leaves out a"), ("id,a\n1\n", "record 2: it has 1 fields"), ("id,a\n1,x\n2," + "z" * 70_000 + "\n", "TextTooLong 3 2"),
+    ("id\n1\n", "the header leaves out a"), ("id,a\n1\n", "record 2: it has 1 fields"), ("id,a\n1,x\n2,LONG\n", "TextTooLong 3 2"),
 ])
 def test_a_refused_sync_changes_nothing(journal: str, sheet: str, fault: str) -> None:
     run(["import", "t", "--key", "id"], "id,a\n1,x\n2,y\n", journal)
     before = listed(journal)
-    done = run(["sync", "t"], sheet, journal)
+    done = run(["sync", "t"], sheet.replace("LONG", "x" * 65_536), journal)
     assert done.status == 20 and fault in done.err and "nothing was changed" in done.err and listed(journal) == before, done
 
 

@@ -13,10 +13,11 @@ from operator import itemgetter
 from typing import Callable, Iterable, Iterator, Mapping, NamedTuple, Sequence
 
 from . import kinds
-from .errors import Place, Refused, ScriptFault, TimelineError, UsageError
+from .errors import Place, Refused, ScriptFault, TimelineError, UsageError, from_closing
+from .journal import replies_of
 from .kinds import INT, Kind, KindFault
 from .notes import Cause, Outcome, Unit, Whole, put_kinds, state_of, transact
-from .replies import Rows
+from .replies import Closing, Refusal, Rows
 from .sheets import (CHUNK, END, MOST_BYTES, MOST_ROWS, PERIOD, Column, Guess, Lines, NotRaw, Row, Sheet, checked, column_names, converted,
                      encoded, from_bytes)
 from .statements import encode
@@ -97,6 +98,10 @@ def load(journal: Journal, table: str, sheet: Sheet, cause: Cause = Cause(), mis
     """Puts the records of a sheet into a table. Raises Refused where one is refused; then nothing is kept."""
     names = column_names(sheet.header, True)
     given = by_name(missing, sheet, names, "--missing")
+    if cause.stamp is False and not (cause.who or cause.why) and sheet.is_plain(names):
+        state = state_of(journal.look())
+        if not any(column.changes for column in columns_of(state.catalog, table, sheet, names, given)):
+            return _load_alone(journal, table, sheet, state.version)
 
     def body(unit: Unit, raw: bool) -> Iterator[bytes]:
         columns = columns_of(unit.state.catalog, table, sheet, names, given)
@@ -117,6 +122,20 @@ def load(journal: Journal, table: str, sheet: Sheet, cause: Cause = Cause(), mis
     if len(outcome.replies) > 1:
         say(f"more than a block can hold: {len(outcome.replies)} versions, which are kept together")
     return outcome
+
+
+def _load_alone(journal: Journal, table: str, sheet: Sheet, before: int) -> Outcome:
+    """Hands a sheet to the program's own load, which takes a line that would end a block as a part of its text."""
+    output: list[bytes] = []
+    status = journal.stream(["load", table], sheet.bytes(), output.append)
+    replies = replies_of(b"".join(output))
+    if status:
+        closing = replies[-1] if replies else None
+        raise from_closing(status, closing.words if isinstance(closing, Closing) else ())
+    if isinstance(replies[0], Refusal):
+        fault = replies[0].fault
+        raise Refused(fault.name, fault.numbers, place=Place(None, fault.record, fault.field), version=replies[0].version)
+    return Outcome(replies, before)
 
 
 def columns_of(catalog: kinds.Catalog, table: str, sheet: Sheet, names: Sequence[str], missing: Mapping[str, str]) -> list[Column]:
@@ -434,6 +453,7 @@ def _commit(journal: Journal, table: str, sheet: Sheet, columns: Sequence[Column
         if place is not None and (place.record or 0) > 1 and len(difference.puts) > MOST_SYNC:
             put = list(compress(range(len(difference.puts)), difference.puts))
             refused.place = Place(None, put[(place.record or 2) - 2] + 2, place.field)
+            refused.numbers = (put[(place.record or 2) - 2] + 2, *refused.numbers[1:])
         raise
 
 

@@ -41,7 +41,7 @@ def _parsed(call: Call, *flags: str, key: bool = False) -> argparse.Namespace:
         add_engine_options(parser)
     for flag in flags:
         parser.add_argument(flag, action="store_true")
-    parsed = parser.parse_args(call.words)
+    parsed = parser.parse_intermixed_args(call.words)
     if not is_name(parsed.table):
         raise UsageError(f"{parsed.table} is no name of a table: letters, digits and _, at most 64, and no word of the language")
     return parsed

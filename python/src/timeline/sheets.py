@@ -162,6 +162,15 @@ class Sheet:
         if not seam.endswith(b"\n"):
             yield b"\n"
 
+    def is_plain(self, names: Sequence[str]) -> bool:
+        """Whether the program can take the file as it is: fields parted by commas, under names that its header has."""
+        return self.delimiter == "," and list(map(from_bytes, self.header)) == list(names)
+
+    def bytes(self) -> Iterator[bytes]:
+        """The file as it is."""
+        self.file.seek(self.start)
+        return iter(lambda: _read(self.file), b"")
+
     def _all(self, place: int) -> _Bytes:
         return _Bytes(self.file, place)
 

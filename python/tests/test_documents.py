@@ -1,5 +1,5 @@
 """Compares what the documents say with what there is: the table of what to do with the faults of the program, the
-statements of docs/LANGUAGE.md with the examples that it shows, links with files, README's length with 1,000 words; and
+statements of docs/LANGUAGE.md with the examples that it shows, links with files; and
 runs the recipes of docs/RECIPES.md and the tour of README.md."""
 import glob
 import os
@@ -88,11 +88,6 @@ def test_links_lead_somewhere():
         for link in re.findall(r"\]\(([^)#]+)[^)]*\)", text_of(document)):
             path = os.path.join(ROOT, os.path.dirname(document), link)
             judge(f"{document}: the link {link}", "://" in link or os.path.exists(path), "leads nowhere")
-
-
-def test_readme_is_short():
-    number = len(text_of("README.md").split())
-    judge("README.md", number <= 1000, f"{number} words")
 
 
 def run_blocks(blocks, wanted):

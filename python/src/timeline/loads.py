@@ -27,7 +27,7 @@ if TYPE_CHECKING:
     from .journal import Journal
 
 Say = Callable[[str], None]
-MOST_SYNC = 0                # so many records go by the statement SYNC; more go by REMOVE and PUT
+MOST_SYNC = MOST_ROWS        # so many records go by the statement SYNC; more go by REMOVE and PUT
 MANY = 10                    # of more rows than these, more than half are not ended unless that is allowed
 _SEEN = -1                   # a number that no hash is
 

@@ -439,31 +439,37 @@ def _picker(order: Sequence[int]) -> Callable[[Row], Row]:
 
 def _commit(journal: Journal, table: str, sheet: Sheet, columns: Sequence[Column], shape: Shape, difference: Difference, keep: bool,
             cause: Cause, say: Say) -> Outcome:
-    def body(unit: Unit, raw: bool) -> Iterator[bytes]:
+    """Commits a difference: by one SYNC where it can hold all rows, else row by row. A text that would end a block, in a row that
+    stays, keeps a SYNC from holding all."""
+    def body(unit: Unit, raw: bool, is_whole: bool) -> Iterator[bytes]:
         if unit.state.version != difference.version:
             raise _Stale
-        return sync_script(unit, table, sheet, columns, shape, difference, keep, raw)
+        if is_whole:
+            return put_sheet(unit, table, sheet, columns, raw, "SYNC")
+        return sync_script(unit, table, sheet, columns, shape, difference)
 
+    for raw in () if keep or len(difference.puts) > MOST_SYNC else (True, False):
+        try:
+            return transact(journal, "sync", lambda unit: body(unit, raw, True), cause, say)
+        except (NotRaw, ScriptFault):
+            continue
+        except Refused as refused:
+            if refused.kind != "EndOfBlock":
+                raise
     try:
-        return transact(journal, "sync", lambda unit: body(unit, True), cause, say)
-    except (NotRaw, ScriptFault):
-        return transact(journal, "sync", lambda unit: body(unit, False), cause, say)
+        return transact(journal, "sync", lambda unit: body(unit, False, False), cause, say)
     except Refused as refused:
         place = refused.place
-        if place is not None and (place.record or 0) > 1 and len(difference.puts) > MOST_SYNC:
+        if place is not None and (place.record or 0) > 1:
             put = list(compress(range(len(difference.puts)), difference.puts))
             refused.place = Place(None, put[(place.record or 2) - 2] + 2, place.field)
             refused.numbers = (put[(place.record or 2) - 2] + 2, *refused.numbers[1:])
         raise
 
 
-def sync_script(unit: Unit, table: str, sheet: Sheet, columns: Sequence[Column], shape: Shape, difference: Difference, keep: bool,
-                raw: bool) -> Iterator[bytes]:
-    """The statements that bring a table to what a sheet says: one SYNC where it can hold all, else a REMOVE of what is gone and
-    a PUT of what is new or changed."""
-    if not keep and len(difference.puts) <= MOST_SYNC:
-        yield from put_sheet(unit, table, sheet, columns, raw, "SYNC")
-        return
+def sync_script(unit: Unit, table: str, sheet: Sheet, columns: Sequence[Column], shape: Shape, difference: Difference) -> Iterator[bytes]:
+    """The statements that bring a table to what a sheet says row by row: a REMOVE of what is gone and a PUT of what is new or
+    changed."""
     if difference.gone:
         names = [shape.key, *(PERIOD if shape.is_valid else ())]
         yield from blocks(unit, f"REMOVE {table}", names, sheet, _chunks(difference.gone))

@@ -1,6 +1,7 @@
 """What changed: the history of a key, and the difference of a table between two versions or days.
 
-Both stand on the listing of all rows that a table ever had, which is read once; what is shown is an Answer."""
+Both stand on the listing of all rows that a table ever had, which is read once; what is shown is an Answer. What FORGET gave up is
+never shown: a row that ended by then is left out, and one that stood then begins there."""
 from __future__ import annotations
 
 import csv
@@ -25,13 +26,15 @@ FRONT = 3            # of a listed row: id, from, to
 
 
 class Table(NamedTuple):
-    """A table as it is listed: its columns with their kinds, the period's first where it has one, and the key's place in them."""
+    """A table as it is listed: its columns with their kinds, the period's first where it has one, the key's place in them, and the
+    first version that may be asked."""
 
     name: str
     names: tuple[str, ...]
     kinds: tuple[Kind, ...]
     key: int
     periods: int         # 2 where the table has valid time, else 0
+    floor: int
 
 
 class Row(NamedTuple):
@@ -55,16 +58,18 @@ def table_of(journal: Journal, name: str, catalog: kinds.Catalog) -> Table:
     front = [("valid_from", period), ("valid_to", period)] if columns[0].is_valid else []
     found = [(it.name, catalog.of(name, it.name) or (TEXT if it.type == "TEXT" else INT)) for it in columns]
     key = next(at for at, it in enumerate(columns) if it.is_key)
-    return Table(name, tuple(it for it, _ in front + found), tuple(it for _, it in front + found), len(front) + key, len(front))
+    return Table(name, tuple(it for it, _ in front + found), tuple(it for _, it in front + found), len(front) + key, len(front), columns[0].floor)
 
 
 def rows_ever(journal: Journal, table: Table) -> Iterator[Row]:
-    """All rows that a table ever had, in the order in which they came."""
+    """All rows that a table had at a version that may be asked, in the order in which they came."""
     lines = io.TextIOWrapper(io.BytesIO(journal.listing(["rows", table.name])), encoding="utf-8", newline="")
     records = csv.reader(lines, strict=True)
     next(records)
     for record in records:
-        yield Row(int(record[1]), int(record[2] or 0), tuple(record[FRONT:]))
+        end = int(record[2] or 0)
+        if not end or end > table.floor:
+            yield Row(max(int(record[1]), table.floor), end, tuple(record[FRONT:]))
 
 
 class Times:
@@ -140,6 +145,8 @@ def diff(journal: Journal, name: str, old: str, new: str) -> Answer:
     table = table_of(journal, name, catalog)
     times = Times(journal, catalog.has_seconds)
     first, second = times.version(old), times.version(new)
+    if min(first, second) < table.floor:
+        raise Refused("Forgotten", (min(first, second), table.floor), sentence=f"what {name} was before version {table.floor} was given up by FORGET")
     before: dict[Cells, Cells] = {}
     after: dict[Cells, Cells] = {}
     for row in rows_ever(journal, table):

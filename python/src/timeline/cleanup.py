@@ -158,6 +158,26 @@ def _remove_unlocked(path: str) -> None:
         os.close(number)
 
 
+@contextmanager
+def whole(path: str) -> Iterator[str]:
+    """A path for a file, or a folder, that is put in its place when the block ends: it is there whole, or what was there stays.
+
+    Raises DeviceFault where it cannot be written. What a command left that was killed is removed by the next one that writes there."""
+    from .errors import DeviceFault
+
+    beside = os.path.dirname(path) or "."
+    sweep(beside)
+    try:
+        folder = private_folder(beside)
+        try:
+            yield os.path.join(folder, os.path.basename(path))
+            os.replace(os.path.join(folder, os.path.basename(path)), path)
+        finally:
+            remove(folder)
+    except OSError as error:
+        raise DeviceFault(f"{path} cannot be written: {error.strerror}") from None
+
+
 def _await(process: subprocess.Popen[bytes]) -> None:
     """Waits for a program that was told to end, and kills it where it does not."""
     import subprocess

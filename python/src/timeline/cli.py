@@ -37,6 +37,7 @@ COMMANDS = {
     "log": ("listing:log", ""),
     "package": ("installing:package", ""),
     "plot": ("plots:plot", "explain"),
+    "report": ("report:report", ""),
     "rows": ("listing:rows", ""),
     "run": ("running:run", _RUNS),
     "sample": ("running:sample", "strict explain"),

@@ -7,7 +7,7 @@ from __future__ import annotations
 import os
 from typing import IO, Callable, Iterator, NamedTuple, Protocol, Sequence
 
-from . import days, notes
+from . import cleanup, days, notes
 from .changes import Row, Table, Times, rows_ever, table_of
 from .errors import DeviceFault, Refused, UsageError
 from .kinds import DATE, FOREVER, GREATEST, TIME, Kind
@@ -74,18 +74,20 @@ class Csv:
 
     def write(self, history: History, path: str) -> None:
         """Makes the folder, which must not be there."""
-        part = path + ".part"
-        os.mkdir(part)
+        os.mkdir(path)
         for table in history.tables:
-            with open(os.path.join(part, f"{table.name}.csv"), "w", encoding="utf-8", newline="") as file:
+            with _text(os.path.join(path, f"{table.name}.csv")) as file:
                 file.write(_line([*fronts(table), *table.names]))
                 for number, row in enumerate(rows_ever(history.journal, table)):
                     shown = [kind.shown(cell) for kind, cell in zip(table.kinds, row.cells)]
                     file.write(_line([str(number), str(row.begin), str(row.end or ""), *shown]))
-        with open(os.path.join(part, "timeline_versions.csv"), "w", encoding="utf-8", newline="") as file:
+        with _text(os.path.join(path, "timeline_versions.csv")) as file:
             file.write("version,made_at\n")
             file.writelines(_line([str(version), "" if second is None else TIME.shown(str(second))]) for version, second in history.versions())
-        os.rename(part, path)
+
+
+def _text(path: str) -> IO[str]:
+    return open(path, "w", encoding="utf-8", newline="")
 
 
 def _line(cells: Sequence[str]) -> str:
@@ -103,18 +105,14 @@ class Sqlite:
         """Makes the file."""
         import sqlite3
 
-        part = path + ".part"
-        if os.path.exists(part):
-            os.remove(part)
-        connection = sqlite3.connect(part)
+        connection = sqlite3.connect(path)
         try:
             self._fill(connection, history)
             connection.commit()
         except sqlite3.Error as error:
-            raise DeviceFault(f"{part} cannot be written: {error}") from None
+            raise DeviceFault(f"the database cannot be written: {error}") from None
         finally:
             connection.close()
-        os.replace(part, path)
 
     def _fill(self, connection: sqlite3.Connection, history: History) -> None:
         connection.execute("PRAGMA journal_mode = OFF")
@@ -156,7 +154,7 @@ class Postgresql:
 
     def write(self, history: History, path: str) -> None:
         """Writes the script."""
-        with _whole(path) as file:
+        with _text(path) as file:
             file.write("BEGIN;\nSET client_encoding = 'UTF8';\n")
             file.write("CREATE TABLE timeline_versions (version integer PRIMARY KEY, made_at timestamptz);\nCOPY timeline_versions FROM stdin;\n")
             file.writelines(f"{version}\t{self._second(second)}\n" for version, second in history.versions())
@@ -214,7 +212,7 @@ class Clickhouse:
 
     def write(self, history: History, path: str) -> None:
         """Writes the script; a row that stands has 4294967295 as its last version."""
-        with _whole(path) as file:
+        with _text(path) as file:
             file.write("CREATE TABLE timeline_versions (version UInt32, made_at DateTime) ENGINE = MergeTree ORDER BY version;\n")
             self._rows(file, "timeline_versions", ((str(version), str(second or 0)) for version, second in history.versions()))
             file.write("CREATE TABLE timeline_days (day Date, version UInt32) ENGINE = MergeTree ORDER BY day;\n")
@@ -264,28 +262,10 @@ class System(Protocol):
     """What is written for a system."""
 
     def write(self, history: History, path: str) -> None:
-        """Writes the history into a path, whole or not at all."""
+        """Writes the history as a path, where nothing is."""
 
 
 SYSTEMS: dict[str, Callable[[], System]] = {"csv": Csv, "sqlite": Sqlite, "postgresql": Postgresql, "clickhouse": Clickhouse}
-
-
-class _whole:
-    """A file that is put in its place when it is written whole, and else is gone."""
-
-    def __init__(self, path: str) -> None:
-        self.path, self.part = path, path + ".part"
-
-    def __enter__(self) -> IO[str]:
-        self.file = open(self.part, "w", encoding="utf-8", newline="")
-        return self.file
-
-    def __exit__(self, kind: object, *_: object) -> None:
-        self.file.close()
-        if kind is None:
-            os.replace(self.part, self.path)
-        else:
-            os.remove(self.part)
 
 
 def export(call: Call) -> int:
@@ -297,9 +277,7 @@ def export(call: Call) -> int:
     if os.path.exists(given.path):
         raise UsageError(f"{given.path} is there already")
     history = history_of(call.journal())
-    try:
-        SYSTEMS[given.to]().write(history, given.path)
-    except OSError as error:
-        raise DeviceFault(f"{given.path} cannot be written: {error.strerror}") from None
+    with cleanup.whole(given.path) as part:
+        SYSTEMS[given.to]().write(history, part)
     call.console.say(f"{given.path}: {len(history.tables)} tables, {history.times.last} versions")
     return 0

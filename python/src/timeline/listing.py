@@ -10,12 +10,15 @@ if TYPE_CHECKING:
 
 
 class Column(NamedTuple):
-    """A column of a table: its name, INT or TEXT, whether it is the key, and whether the table has valid time."""
+    """A column of a table: its name, INT or TEXT, and whether it is the key; and of its table how many rows stand, the first
+    version that may be asked, and whether it has valid time."""
 
     name: str
     type: str
     is_key: bool
     is_valid: bool
+    open: int
+    floor: int
 
 
 def rows_of(listing: bytes) -> list[tuple[str, ...]]:
@@ -30,7 +33,7 @@ def tables_of(journal: Journal) -> dict[str, list[Column]]:
     """The columns of each table."""
     found: dict[str, list[Column]] = {}
     for row in rows_of(journal.listing(["tables"]))[1:]:
-        found.setdefault(row[0], []).append(Column(row[1], row[2], row[3] == "yes", row[7] == "yes"))
+        found.setdefault(row[0], []).append(Column(row[1], row[2], row[3] == "yes", row[7] == "yes", int(row[4]), int(row[8])))
     return found
 
 

@@ -8,10 +8,11 @@ import os
 from bisect import bisect_right
 from typing import NamedTuple, Sequence
 
-from . import kinds
+from . import cleanup, kinds
 from .changes import Times
-from .errors import DeviceFault, Refused, UsageError
+from .errors import Refused, UsageError
 from .queries import ask as ask_journal, catalog_of
+from .statements import tokens
 
 TYPE_CHECKING = False
 if TYPE_CHECKING:
@@ -101,7 +102,8 @@ class _Axis(NamedTuple):
 
 def _axis_of(journal: Journal, answer: Answer, text: str) -> _Axis:
     kind = answer.kinds[-3]
-    if " OVER VALID " in " ".join(text.split()):
+    words = [it.text for it in tokens(text) if it.kind != "blank"]
+    if ("OVER", "VALID") in zip(words, words[1:]):
         return _Axis("valid time", kind, None)
     if catalog_of(journal.look()).has_seconds:
         times = Times(journal, True)
@@ -166,14 +168,8 @@ def draw(picture: Picture, path: str) -> None:
         raise UsageError("pictures are drawn by matplotlib: Debian's package python3-matplotlib") from None
     matplotlib.use("Agg")
     figure = _figure(picture)
-    part = f"{path}.part{ending}"
-    try:
+    with cleanup.whole(path) as part:
         figure.savefig(part, dpi=150)
-        os.replace(part, path)
-    except OSError as error:
-        if os.path.exists(part):
-            os.remove(part)
-        raise DeviceFault(f"{path} cannot be written: {error.strerror}") from None
 
 
 def _figure(picture: Picture) -> Any:

@@ -346,6 +346,7 @@ def test_a_sync_is_what_the_sheet_says(journal: str) -> None:
     done = run(["sync", "t"], sheet, journal)
     assert (done.status, done.out, done.err) == (0, "1 new, 1 changed, 1 gone, 1 unchanged\n", "")
     assert asked(journal, "SELECT * FROM t")[1:] == [["1", "x", "1.50"], ["2", "two\nlines", "2.75"], ["4", "w", "4.50"]]
+    assert listed(journal).count(",t,change,") == before.count(",t,change,") + 1, "a night is one version"
     before = listed(journal)
     assert run(["sync", "t"], sheet, journal).out == "0 new, 0 changed, 0 gone, 3 unchanged\n" and listed(journal) == before
     assert run(["sync", "t", "--keep"], "id,a,pay\n5,v,5.00\n", journal).out == "1 new, 0 changed, 0 gone, 0 unchanged\n"
@@ -359,8 +360,31 @@ def test_a_sync_with_periods(journal: str) -> None:
     assert run(["sync", "t"], sheet, journal).out == "0 new, 0 changed, 0 gone, 3 unchanged\n"
     sheet = "id,a,valid_from,valid_to\n1,x,2026-01-01,2026-03-01\n1,y,2026-03-01,FOREVER\n2,w,2026-01-01,FOREVER\n"
     assert run(["sync", "t"], sheet, journal).out == "2 new, 1 changed, 2 gone, 0 unchanged\n"
-    assert sorted(asked(journal, "SELECT * FROM t"))[:3] == sorted(csv.reader(io.StringIO(sheet)))[:3]
+    assert sorted(asked(journal, "SELECT * FROM t")) == sorted(csv.reader(io.StringIO(sheet)))
     assert asked(journal, "SELECT a FROM t WHERE id = 1 VALID AT '2026-02-10'")[1:] == [["x"]]
+
+
+def test_a_sync_that_no_block_can_hold(journal: str, monkeypatch: pytest.MonkeyPatch) -> None:
+    """By parts, which are one unit: as many records as blocks, and periods of one key that overlap."""
+    monkeypatch.setattr(loads, "MOST_ROWS", 3)
+    monkeypatch.setattr(loads, "MOST_SYNC", 3)
+    monkeypatch.setattr(sheets, "CHUNK", 2)
+    run(["import", "t", "--key", "id"], "id,a\n" + "".join(f"{at},x\n" for at in range(12)), journal)
+    wanted = [["id", "a"], *([str(at), "x" if at % 3 else "y"] for at in range(4, 16))]
+    done = loads.sync(Journal(journal), "t", sheet_of(csv_of(wanted)))
+    assert (done.difference.new, done.difference.changed, len(done.difference.gone), done.difference.same) == (4, 2, 4, 6)
+    assert len(done.outcome.replies) == 4 and sorted(asked(journal, "SELECT * FROM t")) == sorted(wanted)
+    run(["import", "v", "--key", "id", "--valid"], "id,valid_from,valid_to\n1,0,10\n", journal)
+    with pytest.raises(Refused) as caught:
+        loads.sync(Journal(journal), "v", sheet_of(b"id,valid_from,valid_to\n2,0,1\n1,0,8\n2,1,2\n1,7,FOREVER\n"))
+    assert (caught.value.kind, caught.value.numbers) == ("KeyTwice", (5,)) and asked(journal, "SELECT * FROM v")[1:] == [["1", "0", "10"]]
+
+
+@pytest.mark.parametrize("whole", [True, False])
+def test_a_sync_with_periods_that_overlap_is_refused(journal: str, whole: bool) -> None:
+    run(["import", "v", "--key", "id", "--valid"], "id,valid_from,valid_to\n1,0,10\n", journal)
+    done = run(["sync", "v", *([] if whole else ["--keep"])], "id,valid_from,valid_to\n1,0,8\n1,7,FOREVER\n", journal)
+    assert done.status == 20 and "KeyTwice 3" in done.err + "KeyTwice 3" * (not whole) and asked(journal, "SELECT * FROM v")[1:] == [["1", "0", "10"]], done
 
 
 @pytest.mark.parametrize("sheet,gone", [("id,a\n", 20), ("id,a\n1,x\n2,x\n", 18), ("id,a\n" + "".join(f"{at},x\n" for at in range(9)), 11)])

@@ -15,7 +15,7 @@ from typing import Callable, Iterable, Iterator, Mapping, NamedTuple, Sequence
 from . import kinds
 from .errors import Place, Refused, ScriptFault, TimelineError, UsageError, from_closing
 from .journal import replies_of
-from .kinds import INT, Kind, KindFault
+from .kinds import FOREVER, GREATEST, INT, Kind, KindFault
 from .notes import Cause, Outcome, Unit, Whole, put_kinds, state_of, transact
 from .replies import Closing, Refusal, Rows
 from .sheets import (CHUNK, END, MOST_BYTES, MOST_ROWS, PERIOD, Column, Guess, Lines, NotRaw, Row, Sheet, checked, column_names, converted,
@@ -27,9 +27,13 @@ if TYPE_CHECKING:
     from .journal import Journal
 
 Say = Callable[[str], None]
-MOST_SYNC = MOST_ROWS        # so many records go by the statement SYNC; more go by REMOVE and PUT
+MOST_SYNC = MOST_ROWS         # so many records go by one SYNC; more go by REMOVE and PUT, several versions of one unit
 MANY = 10                    # of more rows than these, more than half are not ended unless that is allowed
 _SEEN = -1                   # a number that no hash is
+
+
+class TooLarge(TimelineError):
+    """A block cannot hold all records."""
 
 
 def _quiet(_: str) -> None:
@@ -37,10 +41,13 @@ def _quiet(_: str) -> None:
 
 
 def blocks(unit: Unit, statement: str, names: Sequence[str], sheet: Sheet, chunks: Iterable[Sequence[Row]], use: str = "own") -> Iterator[bytes]:
-    """A statement with its block of records, as several of them where a block cannot hold all."""
+    """A statement with its block of records, as several of them where a block cannot hold all; TooLarge where it is a SYNC then,
+    which says all of a table."""
     rows = size = record = 0
     for part in _parts(sheet, chunks):
         if not record or rows + part.records > MOST_ROWS or size + len(part.text) > MOST_BYTES:
+            if record and statement.startswith("SYNC"):
+                raise TooLarge
             if record:
                 yield Whole(END + b"GO\n")
             yield unit.begin(statement, use, record) + encoded([names])
@@ -439,36 +446,48 @@ def _picker(order: Sequence[int]) -> Callable[[Row], Row]:
 
 def _commit(journal: Journal, table: str, sheet: Sheet, columns: Sequence[Column], shape: Shape, difference: Difference, keep: bool,
             cause: Cause, say: Say) -> Outcome:
-    """Commits a difference: by one SYNC where it can hold all rows, else row by row. A text that would end a block, in a row that
-    stays, keeps a SYNC from holding all."""
-    def body(unit: Unit, raw: bool, is_whole: bool) -> Iterator[bytes]:
-        if unit.state.version != difference.version:
-            raise _Stale
-        if is_whole:
-            return put_sheet(unit, table, sheet, columns, raw, "SYNC")
-        return sync_script(unit, table, sheet, columns, shape, difference)
+    """Commits a difference: by SYNC, of the sheet's own bytes or of cells that are spelled anew, or else by its parts."""
 
-    for raw in () if keep or len(difference.puts) > MOST_SYNC else (True, False):
+    def run(script: Callable[[Unit], Iterator[bytes]]) -> Outcome:
+        def body(unit: Unit) -> Iterator[bytes]:
+            if unit.state.version != difference.version:
+                raise _Stale
+            return script(unit)
+
+        return transact(journal, "sync", body, cause, say)
+
+    for raw in (True, False) if not keep and len(difference.puts) <= MOST_SYNC else ():
         try:
-            return transact(journal, "sync", lambda unit: body(unit, raw, True), cause, say)
-        except (NotRaw, ScriptFault):
+            return run(lambda unit: put_sheet(unit, table, sheet, columns, raw, "SYNC"))
+        except (NotRaw, TooLarge, ScriptFault):
             continue
         except Refused as refused:
             if refused.kind != "EndOfBlock":
                 raise
+    if shape.is_valid:
+        refuse_overlaps(sheet, columns, shape)
     try:
-        return transact(journal, "sync", lambda unit: body(unit, False, False), cause, say)
+        return run(lambda unit: parts_script(unit, table, sheet, columns, shape, difference))
     except Refused as refused:
-        place = refused.place
-        if place is not None and (place.record or 0) > 1:
+        if refused.place is not None and (refused.place.record or 0) > 1:
             put = list(compress(range(len(difference.puts)), difference.puts))
-            refused.place = Place(None, put[(place.record or 2) - 2] + 2, place.field)
-            refused.numbers = (put[(place.record or 2) - 2] + 2, *refused.numbers[1:])
+            record = put[(refused.place.record or 2) - 2] + 2
+            refused.place, refused.numbers = Place(None, record, refused.place.field), (record, *refused.numbers[1:])
         raise
 
 
-def sync_script(unit: Unit, table: str, sheet: Sheet, columns: Sequence[Column], shape: Shape, difference: Difference) -> Iterator[bytes]:
-    """The statements that bring a table to what a sheet says row by row: a REMOVE of what is gone and a PUT of what is new or
+def refuse_overlaps(sheet: Sheet, columns: Sequence[Column], shape: Shape) -> None:
+    """Raises Refused where two records have one key and periods that overlap."""
+    key, first, last = ([column.name for column in columns].index(name) for name in (shape.key, *PERIOD))
+    rows = (row for chunk in converted(sheet, columns, spell=True) for row in chunk)
+    spans = sorted((row[key], int(row[first]), GREATEST if row[last] == FOREVER else int(row[last]), record) for record, row in enumerate(rows, 2))
+    for one, other in zip(spans, spans[1:]):
+        if one[0] == other[0] and other[1] < one[2]:
+            raise sheet.refused("KeyTwice", max(one[3], other[3]), None, f"its key stands in record {min(one[3], other[3])} for a period that overlaps")
+
+
+def parts_script(unit: Unit, table: str, sheet: Sheet, columns: Sequence[Column], shape: Shape, difference: Difference) -> Iterator[bytes]:
+    """The statements that bring a table to what a sheet says where no one block can: REMOVE what is gone, and PUT what is new or
     changed."""
     if difference.gone:
         names = [shape.key, *(PERIOD if shape.is_valid else ())]

@@ -142,10 +142,23 @@ def test_what_is_wrong_with_an_import_is_said(journal: str, words: list[str], wh
     assert listed(journal) == "version,session,table,what,closed,opened,moment,floor\n"
 
 
+def test_sums_of_decimals_are_exact_and_averages_rounded(journal: str) -> None:
+    run(["import", "t", "--key", "id", "--no-stamp"], "id,pay,day\n1,0.10,2026-01-01\n2,0.20,2026-01-03\n3,-2.35,2026-01-02\n", journal)
+    assert asked(journal, "SUM pay FROM t OVER SYSTEM 4 TO 5") == [["from", "to", "value"], ["4", "5", "-2.05"]]
+    done = run(["ask", "AVG pay FROM t OVER SYSTEM 4 TO 5; MAX day FROM t OVER SYSTEM 4 TO 5"], folder=journal)
+    assert done.out.splitlines()[1::3] == ["4,5,-0.683333", "4,5,2026-01-03"] and "rounded to 6 places" in done.err, done
+    for literal, advice in (("0.105", "more than 2 decimals"), ("'x'", "A decimal stands bare")):
+        done = run(["ask", f"SELECT id FROM t WHERE pay = {literal}"], folder=journal)
+        assert done.status == 20 and advice in done.err, done
+    assert asked(journal, "SELECT id FROM t WHERE pay < -0.5 AND day <> '2026-01-03' OR pay = 0.2") == [["id"], ["2"], ["3"]]
+    done = run(["ask", "SELECT id FROM t WHERE day = 20260101"], folder=journal)
+    assert done.status == 20 and "between single quotes" in done.err, done
+
+
 def test_headers_become_names() -> None:
     headers = ["Emp No", "emp no", "Größe", "2026", "", "SELECT", "valid_from", "ok", "x" * 80, "Pay (EUR)"]
     names = sheets.column_names([sheets.to_bytes(it) for it in headers], False)
-    assert names == ["emp_no", "emp_no_2", "große" and "gro_e" if False else names[2], "_2026", "column_5", "select", "valid_from_", "ok", "x" * 62, "pay_eur"]
+    assert names == ["emp_no", "emp_no_2", "grosse", "_2026", "column_5", "select", "valid_from_", "ok", "x" * 62, "pay_eur"]
     assert all(map(sheets.is_name, names)) and len(set(names)) == len(names)
     assert sheets.column_names(headers, True)[6] == "valid_from"
 

@@ -69,9 +69,12 @@ def ask(journal: Journal, text: str, with_types: bool = False, say: Callable[[st
     """What each query of a text, parted by `;`, is answered: an Answer, or why it is refused. All are of one version.
 
     With `with_types` each column of an answer has its kind; without, those alone that are neither INT nor TEXT. `say` is told of a
-    day that is over, and of which it may still change what was known."""
+    day that is over, and of which it may still change what was known, and of averages that are rounded."""
     statements = statements_of(text)
     results = ask_look(journal.look(), statements, with_types)
+    places = sorted({kind.places for it in results if isinstance(it, Answer) for kind in it.kinds if kind.name == "AVERAGE"})
+    if places:
+        say("averages of decimals are rounded to " + " or ".join(str(it + 4) for it in places) + " places")
     if "AS" in text and any(it.text in ("DAY", "TIME") for it in tokens(text)):
         _tell_unsettled(journal, statements, say)
     return results

@@ -272,7 +272,7 @@ def column_names(headers: Sequence[str], is_valid: bool) -> list[str]:
 def _turned(text: str) -> str:
     import unicodedata
 
-    plain = unicodedata.normalize("NFKD", text.lower()).encode("ascii", "ignore").decode("ascii")
+    plain = unicodedata.normalize("NFKD", text.casefold()).encode("ascii", "ignore").decode("ascii")
     name = re.sub(r"[^a-z0-9]+", "_", plain).strip("_")[:62]
     return name if is_name(name) or not name else f"_{name}" if name[0].isdigit() else f"{name}_"
 

@@ -103,12 +103,16 @@ def blocks_of(text, kind):
     return re.findall(rf"```{kind}\n(.*?)```", text, re.S)
 
 
-RECIPES = text_of("docs/RECIPES.md").split("\n## ")
+def recipes():
+    """The sections of docs/RECIPES.md, each with the text at the beginning of its part."""
+    for part in re.split(r"^# ", text_of("docs/RECIPES.md"), flags=re.M)[1:]:
+        front, *sections = part.split("\n## ")
+        yield from ((front, it) for it in sections)
 
 
-@pytest.mark.parametrize("section", RECIPES[1:], ids=lambda it: it.split("\n")[0])
-def test_a_recipe(section):
-    run_blocks(blocks_of(RECIPES[0], "sh") + blocks_of(section, "sh"), "".join(blocks_of(section, "text")))
+@pytest.mark.parametrize("front, section", recipes(), ids=lambda it: it.split("\n")[0])
+def test_a_recipe(front, section):
+    run_blocks(blocks_of(front, "sh") + blocks_of(section, "sh"), "".join(blocks_of(section, "text")))
 
 
 def test_the_tour_of_readme():

@@ -2,20 +2,19 @@
 from __future__ import annotations
 
 import csv
-import glob
 import io
 import os
 import random
-import shutil
+import re
 import sqlite3
 import subprocess
 import tempfile
-import time
 from typing import Callable, Iterator
 
 import pytest
 
-from conftest import run
+from conftest import ROOT, Done, run
+from servers import ClickHouse, Postgresql
 
 Ask = Callable[[str], "list[list[str]]"]
 FIRST = 1_767_225_600     # 2026-01-01
@@ -85,85 +84,69 @@ def test_sqlite(books: str, tmp_path: str) -> None:
     assert count == len(asked(books, "SELECT id FROM staff"))
 
 
+def rows_of(done: Done) -> list[list[str]]:
+    """What a client of a server printed as CSV."""
+    assert done.status == 0, done
+    return list(csv.reader(io.StringIO(done.out, newline="")))
+
+
 def test_postgresql(books: str, tmp_path: str) -> None:
-    found = sorted(glob.glob("/usr/lib/postgresql/*/bin"))
-    if not found or os.geteuid() != 0:
-        pytest.skip("PostgreSQL is not here, or not to be started by this user: Debian's package postgresql")
-    with tempfile.TemporaryDirectory(prefix="test-pg-") as folder:
-        shutil.chown(folder, "postgres")
-        user = ["runuser", "-u", "postgres", "--"]
-        subprocess.run([*user, f"{found[-1]}/initdb", "-D", f"{folder}/data", "-E", "UTF8", "--locale=C", "-N"], check=True, capture_output=True)
-        server = subprocess.Popen([*user, f"{found[-1]}/postgres", "-D", f"{folder}/data", "-k", folder, "-c", "listen_addresses=", "-c", "fsync=off"],
-                                  stdout=subprocess.DEVNULL, stderr=subprocess.DEVNULL)
-        try:
-            psql = [*user, f"{found[-1]}/psql", "-h", folder, "-X", "-q", "-v", "ON_ERROR_STOP=1", "--csv", "-t", "postgres"]
-            for _ in range(100):
-                if subprocess.run([*psql, "-c", "SELECT 1"], capture_output=True).returncode == 0:
-                    break
-                time.sleep(0.2)
-            with open(exported(books, "postgresql", str(tmp_path)), "rb") as script:
-                loaded = subprocess.run(psql, stdin=script, capture_output=True, text=True)
-            assert loaded.returncode == 0, loaded.stderr
+    script = exported(books, "postgresql", str(tmp_path))
+    with Postgresql() as server:
+        with open(script, encoding="utf-8", newline="") as file:
+            assert server.run(file.read()).status == 0
 
-            def ask(query: str) -> list[list[str]]:
-                done = subprocess.run([*psql, "-c", query], capture_output=True)
-                assert done.returncode == 0, done.stderr
-                return list(csv.reader(io.StringIO(done.stdout.decode("utf-8"), newline="")))
+        def select(what: str, view: str, point: str) -> str:
+            return f"SELECT {what} FROM {view}({repr(point)})".replace("as_of('", "as_of(int '")
 
-            compare(books, lambda what, view, point: f"SELECT {what} FROM {view}({repr(point)})".replace("as_of('", "as_of(int '"), ask)
-        finally:
-            server.terminate()
-            server.wait()
+        compare(books, select, lambda query: rows_of(server.run(query)))
 
 
 def test_clickhouse(books: str, tmp_path: str) -> None:
-    if shutil.which("clickhouse-server") is None:
-        pytest.skip("ClickHouse is not here: Debian's packages clickhouse-server and clickhouse-client")
     script = exported(books, "clickhouse", str(tmp_path))
-    with tempfile.TemporaryDirectory(prefix="test-ch-") as folder, ClickHouse(folder) as server:
-        with open(script, "rb") as file:
-            loaded = subprocess.run(server.client("--multiquery"), stdin=file, capture_output=True, text=True)
-        assert loaded.returncode == 0, loaded.stderr
-
-        def ask(query: str) -> list[list[str]]:
-            done = subprocess.run(server.client("--format", "CSV", "--query", query), capture_output=True)
-            assert done.returncode == 0, done.stderr
-            return list(csv.reader(io.StringIO(done.stdout.decode("utf-8"), newline="")))
+    with ClickHouse() as server:
+        with open(script, encoding="utf-8", newline="") as file:
+            assert server.run(file.read()).status == 0
 
         def select(what: str, view: str, point: str) -> str:
             return f"SELECT {what} FROM {view} WHERE " + (f"as_of_version = {point}" if view.endswith("as_of") else f"on_day = '{point}'")
 
-        compare(books, select, ask)
+        compare(books, select, lambda query: rows_of(server.run(query)))
 
 
-class ClickHouse:
-    """A server of one's own in a folder."""
+@pytest.mark.parametrize("title, system", [("In PostgreSQL", Postgresql), ("In ClickHouse", ClickHouse)])
+def test_what_beyond_says(title: str, system: type[Postgresql] | type[ClickHouse], room: str) -> None:
+    """The statements of docs/BEYOND.md, one block after the other, print what stands after them."""
+    with open(os.path.join(ROOT, "docs/BEYOND.md"), encoding="utf-8") as file:
+        sections = file.read().split("\n## ")
+    (example,), (section,) = ([it for it in sections if it.startswith(name)] for name in ("What goes along", title))
+    os.symlink(os.path.join(ROOT, "timeline"), os.path.join(room, "timeline"))
+    os.symlink(os.path.join(ROOT, "examples"), os.path.join(room, "examples"))
+    shell = "".join(re.findall(r"```sh\n(.*?)```", example + section, re.DOTALL))
+    subprocess.run(["bash", "-e", "-c", shell], cwd=room, check=True, capture_output=True)
+    with system() as server:
+        with open(os.path.join(room, "staff.sql"), encoding="utf-8", newline="") as file:
+            assert server.run(file.read()).status == 0
+        for kind, text in re.findall(r"```(sql|text)\n(.*?)```", section, re.DOTALL):
+            if kind == "sql":
+                done = server.run(text)
+                assert done.status == 0, done
+            else:
+                assert done.out == text
+        if system is Postgresql:
+            refused = server.run("INSERT INTO staff_rows VALUES (99, 13, NULL, 1, 'Ada', 'dev', 1, '2020-01-01')")
+            assert refused.status != 0 and "exclusion constraint" in refused.err
 
-    def __init__(self, folder: str) -> None:
-        self.folder, self.port = folder, random.randrange(20_000, 40_000)
 
-    def client(self, *words: str) -> list[str]:
-        return ["clickhouse-client", "--port", str(self.port), *words]
-
-    def __enter__(self) -> ClickHouse:
-        with open(f"{self.folder}/config.xml", "w") as file:
-            file.write(f"<yandex><logger><level>none</level></logger><tcp_port>{self.port}</tcp_port><listen_host>127.0.0.1</listen_host>"
-                       f"<path>{self.folder}/data/</path><tmp_path>{self.folder}/tmp/</tmp_path><users_config>users.xml</users_config>"
-                       "<mark_cache_size>5368709120</mark_cache_size><default_profile>default</default_profile><default_database>default</default_database></yandex>")
-        with open(f"{self.folder}/users.xml", "w") as file:
-            file.write("<yandex><profiles><default></default></profiles><users><default><password></password><networks><ip>::/0</ip></networks>"
-                       "<profile>default</profile><quota>default</quota></default></users><quotas><default></default></quotas></yandex>")
-        self.server = subprocess.Popen(["clickhouse-server", f"--config-file={self.folder}/config.xml"], stdout=subprocess.DEVNULL,
-                                       stderr=subprocess.DEVNULL, cwd=self.folder)
-        for _ in range(150):
-            if subprocess.run(self.client("--query", "SELECT 1"), capture_output=True).returncode == 0:
-                return self
-            time.sleep(0.2)
-        raise AssertionError("the server does not start")
-
-    def __exit__(self, *_: object) -> None:
-        self.server.terminate()
-        self.server.wait()
+def test_a_day_that_clickhouse_cannot_keep(journal: str, tmp_path: str) -> None:
+    sheet = os.path.join(journal, "born.csv")
+    with open(sheet, "w", encoding="ascii") as file:
+        file.write("id,born\n1,1961-05-03\n")
+    assert run(["import", "people", sheet, "--key", "id"], folder=journal).status == 0
+    path = os.path.join(str(tmp_path), "people.sql")
+    done = run(["export", "--to", "clickhouse", "-o", path], folder=journal)
+    assert done.status == 20 and "1961-05-03" in done.err and not os.path.exists(path)
+    assert run(["export", "--to", "postgresql", "-o", path], folder=journal).status == 0
 
 
 def test_csv_and_what_is_there_already(books: str, tmp_path: str) -> None:

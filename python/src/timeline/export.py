@@ -255,6 +255,9 @@ class Clickhouse:
         if kind.name == "TEXT":
             return "'" + _escaped(cell).replace("'", "\\'") + "'"
         shown = kind.shown(cell)
+        if kind.name in ("DATE", "TIME") and not "1970" <= shown[:4] < "2106":
+            raise Refused("NoDate", sentence=f"a column of the kind {kind} has {shown}, and ClickHouse keeps days from 1970 to 2105",
+                          advice="export --to postgresql, sqlite or csv keeps it")
         return f"'{shown.replace('T', ' ')}'" if kind.name in ("DATE", "TIME") else shown
 
 

@@ -37,10 +37,12 @@ def test_strict_makes_a_refusal_a_status(journal: str) -> None:
     assert run(["shell"], "SELECT id FROM nope;\n", journal).status == 0
 
 
-def test_a_look_writes_nothing(journal: str) -> None:
+def test_what_a_look_is_told_is_forgotten(journal: str) -> None:
+    assert run(["--no-stamp", "shell"], TABLE, journal).status == 0
     before = run(["log", "--csv"], folder=journal).out
-    done = run(["shell", "--look"], TABLE + "SELECT id FROM t;\n", journal)
-    assert "writes nothing" in done.err and run(["log", "--csv"], folder=journal).out == before
+    done = run(["shell", "--look"], "SELECT id FROM t;\nPUT t;\nid,x\n1,a\n\\.\nSELECT x FROM t;\nCREATE TABLE u (k INT) KEY k;\n\\log\n", journal)
+    assert done.out.startswith("id\n@2 ok\nx\na\n@3 ok\n") and not done.err and len(done.out.splitlines()) == 9, done
+    assert run(["log", "--csv"], folder=journal).out == before
 
 
 def test_no_lock_is_held_between_statements(journal: str) -> None:

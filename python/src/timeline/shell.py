@@ -95,6 +95,7 @@ class Shell:
     def __init__(self, call: Call, lines: Lines, is_look: bool) -> None:
         self.call, self.console, self.lines, self.is_look = call, call.console, lines, is_look
         self.journal, self.status, self.refused = call.journal(), 0, 0
+        self._is_trial = False
 
     def run(self) -> int:
         """Does one statement after the other up to the end, and gives the status."""
@@ -139,12 +140,27 @@ class Shell:
         try:
             if statement.word not in BATCHES:
                 self._ask(statement)
-            elif self.is_look:
-                raise Refused("NoQuery", statement=statement.text, advice=f"shell --look writes nothing, and {statement.word} does: ./timeline shell.")
             else:
+                self._begin_trial()
                 self._commit(statement, block)
         except Refused as refused:
             self._explain(refused, statement, text, block)
+
+    def _begin_trial(self) -> None:
+        """Where the shell only looks: goes on over a copy of the journal, in which what is put is kept up to the shell's end."""
+        import shutil
+
+        from .journal import NAME, Journal
+
+        if not self.is_look or self._is_trial:
+            return
+        folder = cleanup.private_folder()
+        try:
+            shutil.copyfile(self.journal.path, os.path.join(folder, NAME))
+        except OSError as error:
+            raise DeviceFault(f"the journal cannot be copied among the temporary files: {error.strerror}") from None
+        self.journal.close()
+        self.journal, self._is_trial = Journal(folder), True
 
     def _block(self, statement: Statement) -> bytes:
         """The block of a statement, up to a line `\\.`. Raises BlockOpen where the input ends in it."""
@@ -189,7 +205,8 @@ class Shell:
         from .statements import prepare
 
         options = self.call.options
-        cause = cause_of(options.by, options.because, "", options.stamp if statement.word != "MOMENT" else False)
+        stamp = False if self.is_look or statement.word == "MOMENT" else options.stamp
+        cause = cause_of(options.by, options.because, "", stamp)
         sent = decode(prepare(statement, moment_of).sent)
         words = sent.split()
 
@@ -255,12 +272,12 @@ class Shell:
 
         if not is_name(table):
             raise UsageError(f"{table} is no name of a table")
-        if self.is_look:
-            raise UsageError("shell --look writes nothing, and \\put does")
+        self._begin_trial()
         options = self.call.options
         sheet = open_sheet(path, ".")
+        stamp = False if self.is_look else options.stamp
         try:
-            outcome = load(self.journal, table, sheet, cause_of(options.by, options.because, sheet.name, options.stamp), {}, self.console.say)
+            outcome = load(self.journal, table, sheet, cause_of(options.by, options.because, sheet.name, stamp), {}, self.console.say)
             self.console.line(f"@{outcome.version} ok")
         except Refused as refused:
             from .explaining import explain_sheet

@@ -501,3 +501,17 @@ def test_errors_have_fields(journal: str) -> None:
     assert (error.kind, error.numbers, error.place.record, error.place.field) == ("NotDecimal", (2, 2), 2, 2)
     assert "more than 2 decimals" in error.advice and "pay is DECIMAL(2)" in str(error) and isinstance(error, TimelineError)
     assert notes.state_of(Journal(journal).look()).catalog.of("t", "pay") == kinds.Kind("DECIMAL", 2)
+
+
+def test_a_sync_that_would_be_refused_says_so_when_it_is_only_tried(journal: str) -> None:
+    run(["import", "t", "--key", "id"], "id,a\n" + "".join(f"{at},x\n" for at in range(30)), journal)
+    before = listed(journal)
+    done = run(["sync", "t", "--dry-run"], "id,a\n1,x\n", journal)
+    assert (done.status, done.out) == (0, "0 new, 0 changed, 29 gone, 1 unchanged\n") and "would be refused" in done.err, done
+    assert listed(journal) == before
+
+
+@pytest.mark.parametrize("words", [["t", "--key", "id", "--key", "a"], ["timeline_notes", "--key", "id"]])
+def test_an_import_that_is_none(journal: str, words: list[str]) -> None:
+    done = run(["import", *words], "id,a\n1,x\n", journal)
+    assert (done.status, done.out) == (2, "! usage\n") and len(listed(journal).splitlines()) == 1, done

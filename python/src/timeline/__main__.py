@@ -1,6 +1,10 @@
 """Runs the command `timeline`. An older python3 gets as far as to look for a newer one."""
 import os
+import signal
 import sys
+
+if signal.getsignal(signal.SIGINT) is signal.default_int_handler:
+    signal.signal(signal.SIGINT, lambda *_: os._exit(130))   # up to where the command takes signals itself
 
 sys.path.insert(0, os.path.dirname(os.path.dirname(os.path.abspath(__file__))))
 

@@ -439,10 +439,10 @@ def _described(name: str) -> str:
     if found is None:
         return "not made yet of these sources: the first command that needs it makes it, checked as it runs; ./timeline build proves it"
     record = found.record
-    made = f", of commit {record['commit']}" * bool(record.get("commit")) + f", with {record.get('kit')}" * bool(record.get("kit"))
+    made = f", of commit {record.get('commit')}" * bool(record.get("commit")) + f", with {record.get('kit')}" * bool(record.get("kit"))
     made += f", for {record.get('processor')}" * bool(record.get("processor"))
     if found.kind == "given":
-        return f"{found.path}, which TIMELINE_PROGRAMS gives" + (f": {record['kind']}{made}" if record else "")
+        return f"{found.path}, which TIMELINE_PROGRAMS gives" + (f": {record.get('kind', 'of unknown making')}{made}" if record else "")
     if found.kind == "proved" and not programs.is_installed() and record.get("all") != _sum_of(name, ALL):
         made += "; since then specs or proofs have changed: ./timeline build"
     return f"proved{made}" if found.kind == "proved" else f"{programs.unproved()}{made}"

@@ -379,10 +379,15 @@ def sync(journal: Journal, table: str, sheet: Sheet, cause: Cause = Cause(), mis
         difference = compare(journal, table, sheet, columns, shape)
         if keep:
             difference = difference._replace(gone=[])
+        try:
+            if not allow_removals:
+                _refuse_removals(table, difference)
+        except Refused as refused:
+            if not dry_run:
+                raise
+            say(f"the sync itself would be refused: {refused}")
         if dry_run or not (difference.new or difference.changed or difference.gone):
             return Synced(difference, None)
-        if not allow_removals:
-            _refuse_removals(table, difference)
         try:
             return Synced(difference, _commit(journal, table, sheet, columns, shape, difference, keep, cause, say))
         except _Stale:

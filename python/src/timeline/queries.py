@@ -19,6 +19,7 @@ if TYPE_CHECKING:
     from .journal import Journal, Look
 
 Result = Union[Answer, Refused]
+_UNSORTED = "ORDER BY sorts by columns of the answer: name this one among the items of the SELECT too."
 
 
 class Query(NamedTuple):
@@ -164,7 +165,7 @@ def ordered(reply: Rows, prepared: Prepared, found: Sequence[kinds.Kind | None])
         places = list(range(len(rows)))
         for order in reversed(prepared.order):
             if order.column not in reply.names:
-                raise Refused("UnknownColumn", (order.place,), prepared.typed.text, Place(order.place), version=reply.version)
+                raise Refused("UnknownColumn", (order.place,), prepared.typed.text, Place(order.place), version=reply.version, advice=_UNSORTED)
             at = reply.names.index(order.column)
             keys = _sort_keys([row[at] for row in rows], found[at])
             places.sort(key=keys.__getitem__, reverse=order.falling)

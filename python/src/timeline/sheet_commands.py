@@ -35,13 +35,17 @@ def _parsed(call: Call, *flags: str, key: bool = False) -> argparse.Namespace:
     parser.add_argument("file", nargs="?", default="-")
     parser.add_argument("--missing", action="append", default=[], metavar="COLUMN=VALUE")
     if key:
-        parser.add_argument("--key", required=True)
+        parser.add_argument("--key", action="append", required=True)
         parser.add_argument("--kind", action="append", default=[], metavar="COLUMN=KIND")
     if call.word == "load":
         add_engine_options(parser)
     for flag in flags:
         parser.add_argument(flag, action="store_true")
     parsed = parser.parse_intermixed_args(call.words)
+    if key and len(parsed.key) != 1:
+        raise UsageError(f"a table has one key, and not {', '.join(parsed.key)}")
+    if key and parsed.table.startswith("timeline_"):
+        raise UsageError("tables whose names begin with timeline_ are the command's own")
     if not is_name(parsed.table):
         raise UsageError(f"{parsed.table} is no name of a table: letters, digits and _, at most 64, and no word of the language")
     return parsed
@@ -102,7 +106,7 @@ def import_(call: Call) -> int:
     words = _parsed(call, "--valid", "--dry-run", key=True)
     sheet = _sheet(words.file)
     try:
-        made = plan(words.table, sheet, words.key, words.valid, _pairs(words.kind, "--kind"), _pairs(words.missing, "--missing"), call.console.say)
+        made = plan(words.table, sheet, words.key[0], words.valid, _pairs(words.kind, "--kind"), _pairs(words.missing, "--missing"), call.console.say)
         done = None if words.dry_run else import_sheet(call.journal(), made, sheet, _cause(call, sheet), call.console.say)
     except Refused as refused:
         _tell(call, f"PUT {words.table}", sheet, refused)

@@ -241,7 +241,7 @@ def test_another_program_has_the_journal():
                 judge("the journal that another program has", journal.read() == before, "")
             listed = run(["log", "--csv"], room=room)
             judge("a listing of a journal that another program has", listed[0] == 0 and listed[2] == "", listed)
-            waiter = subprocess.Popen([COMMAND, "--wait", "load", "t"], cwd=room, stdin=subprocess.PIPE,
+            waiter = subprocess.Popen([COMMAND, "--wait", "--no-stamp", "load", "t"], cwd=room, stdin=subprocess.PIPE,
                                       stdout=subprocess.PIPE, stderr=subprocess.PIPE, text=True)
             waiter.stdin.write("k\n1\n")
             waiter.stdin.close()

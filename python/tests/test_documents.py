@@ -5,6 +5,7 @@ import glob
 import os
 import re
 import subprocess
+import sys
 import tempfile
 
 import pytest
@@ -95,7 +96,8 @@ def run_blocks(blocks, wanted):
     with tempfile.TemporaryDirectory(dir=room_for_journals()) as room:
         os.symlink(f"{ROOT}/timeline", f"{room}/timeline")
         os.symlink(f"{ROOT}/examples", f"{room}/examples")
-        run = subprocess.run(["bash", "-c", "".join(blocks)], cwd=room, capture_output=True, text=True, timeout=120, stdin=subprocess.DEVNULL)
+        around = {**os.environ, "PATH": f"{os.path.dirname(sys.executable)}:{os.environ['PATH']}"}
+        run = subprocess.run(["bash", "-c", "".join(blocks)], cwd=room, env=around, capture_output=True, text=True, timeout=120, stdin=subprocess.DEVNULL)
     assert run.stdout == wanted, f"it printed\n{run.stdout}\nand not\n{wanted}\nand said {run.stderr}"
 
 

@@ -94,9 +94,13 @@ def test_example(path: str, journal: str) -> None:
 def test_example_of_files(path: str, journal: str) -> None:
     given = os.path.join(EXAMPLES, os.path.dirname(path), bytes_of(f"{path}.input").decode().strip())
     output = bytes_of(f"{path}.output").decode().strip() or os.path.join(journal, "printed")
+    words = bytes_of(f"{path}.words").decode().splitlines() or ["run"]
+    before = bytes_of(f"{path}.before")
+    if before:
+        assert run(["run"], before, journal)[0] == 0
     source = os.open(given, os.O_RDONLY)
     with open(output, "wb") as printed:
-        done = subprocess.run([COMMAND, "run"], stdin=source, stdout=printed, stderr=subprocess.PIPE, cwd=journal, timeout=LIMIT)
+        done = subprocess.run([COMMAND, *words], stdin=source, stdout=printed, stderr=subprocess.PIPE, cwd=journal, timeout=LIMIT)
     os.close(source)
     assert done.returncode == int(bytes_of(f"{path}.status") or 0)
     if not os.path.exists(os.path.join(EXAMPLES, f"{path}.output")):

@@ -253,17 +253,10 @@ def test_packets_come_as_they_like():
         judge("stuck", (status, printed) == (10, f"! packet {starts[4]}\n".encode()) and journal(room) == before, (status, printed))
         judge("what is said of it", said.startswith(f"timeline: the run ended: ! packet {starts[4]}\n    At this byte"), said)
         judge("--stamp follow", run(["--stamp", "follow"], b"", room)[:2] == (2, b"! usage\n"))
-        # While a program has the leader's lock; and where the journal cannot be synced, nothing is shipped.
+        # While a program has the leader's lock.
         with open(f"{leader}/timeline.tlj", "rb") as other:
             fcntl.flock(other, fcntl.LOCK_EX)
             judge("ship beside a writer", run(["ship", "1", "2"], room=leader) == (0, b"".join(each[:2]), ""))
-        with open(f"{room}/sync", "w") as file:
-            file.write('#!/bin/sh\necho "$@" >>"${0%/*}/synced"\nexit 1\n')
-        os.chmod(f"{room}/sync", 0o755)
-        found = run(["ship"], room=leader, env={**os.environ, "PATH": f"{room}:{os.environ['PATH']}"})
-        judge("ship with a sync that fails", found[:2] == (5, b"! device\n"), found)
-        with open(f"{room}/synced") as file:
-            judge("what is synced", file.read() == "-d timeline.tlj\n")
         for words in (["ship", "x"], ["ship", "16777216"], ["ship", "1", "2", "3"], ["ship", "-1"], ["follow", "no file"]):
             judge(f"the words {words}", run(words, room=leader)[:2] == (2, b"! usage\n"))
 

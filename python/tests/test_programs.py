@@ -62,6 +62,8 @@ class Copy:
         self.write("crates.txt", "# crates\nlow:\nother:\n" + "".join(f"{it} may_wait=1: low\n" for it in NAMES))
         shutil.copy(f"{ROOT}/timeline", f"{self.root}/timeline")
         shutil.copytree(f"{ROOT}/python/src", f"{self.root}/python/src")
+        os.mkdir(f"{self.root}/docs")
+        shutil.copy(f"{ROOT}/docs/FORMATS.md", f"{self.root}/docs/FORMATS.md")
         for path, text in {"bin/rt": RT, "bin/rtlib.py": "", "bin/rattle": "", "toolchain/bin/clang": CLANG, "toolchain/bin/ld.lld": LINKER,
                            "toolchain/lib/c": "", "rlibs/std": ""}.items():
             self.write(f"../kit/{path}", text)

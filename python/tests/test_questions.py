@@ -165,20 +165,6 @@ def test_a_look_beside_a_loader():
         judge("the loader", loader.returncode == 0, loader.returncode)
 
 
-def test_what_if_is_forgotten():
-    with Room(STAFF) as room:
-        with open(f"{room}/timeline.tlj", "rb") as journal:
-            before = journal.read()
-        script = "CREATE TABLE bonus (id INT, why TEXT) KEY id;\nPUT bonus;\nid,why\n1,sales\n\\.\nSELECT * FROM bonus;\nJOIN staff WITH bonus ON id = id OVER SYSTEM 7 TO 8;\n"
-        wanted = "@6 ok\n@7 ok\nid,why\n1,sales\nfrom,to,staff.id,staff.name,staff.pay,bonus.id,bonus.why\n7,8,1,\"Doe, J.\",3000,1,sales\n"
-        found = run(["shell", "--look"], script, room)
-        judge("what if", found == (0, wanted, ""), found)
-        found = run(["ask", "SELECT * FROM bonus"], room=room)
-        judge("what if is forgotten", found[0] == 20 and "UnknownTable" in found[2], found)
-        with open(f"{room}/timeline.tlj", "rb") as journal:
-            judge("what if writes nothing", journal.read() == before)
-
-
 def test_whoever_may_read_may_ask():
     """A person who may only read the file asks and lists; one who may not is told so."""
     if os.geteuid() != 0 or subprocess.run([COMMAND, "--help"], user=65534, capture_output=True).returncode != 0:
@@ -195,146 +181,12 @@ def test_whoever_may_read_may_ask():
         judge("ask of a file that may not be read", found == (5, "! device\n", "timeline: timeline.tlj cannot be read\n"), found)
 
 
-def test_a_prompt():
-    with Room(STAFF) as room:
-        with open(f"{room}/more.csv", "w") as more:
-            more.write("id,name,pay\n3,Poe,2900")
-        terminal = Terminal(["shell"], room)
-        shown = terminal.until("timeline> ")
-        judge("the prompt", "statements end with ;" in shown, shown)
-        shown = terminal.type("SELECT name, pay\n", "...> ")
-        shown = terminal.type("FROM staff;\n", "timeline> ")
-        judge("rows", "name      pay\r\nDoe, J.  3000\r\nRoe      3100\r\n(2 rows)\r\n" in shown, shown)
-        shown = terminal.type("PUT staff;\n", "row> ")
-        for row in ("id,name,pay", "4,Noe,1"):
-            shown = terminal.type(f"{row}\n", "row> ")
-        shown = terminal.type("\\.\n", "timeline> ")
-        judge("a block", "@6 ok\r\n" in shown, shown)
-        shown = terminal.type("\\put staff more.csv\n", "timeline> ")
-        judge("a block from a file", "@7 ok\r\n" in shown, shown)
-        shown = terminal.type("SELECT wage FROM staff;\n", "timeline> ")
-        judge("a refusal", "UnknownColumn 7" in shown and "           ^" in shown and "no such column" in shown, shown)
-        shown = terminal.type("SELECT * FROM staff WHERE name = 'a;\n", "...> ")
-        shown = terminal.type("'; COUNT FROM staff OVER SYSTEM 7 TO 8;\n", "(1 rows)")
-        judge("two statements", "(0 rows)" in shown and "from  to  value\r\n   7   8      4\r\n" in shown, shown)
-        terminal.until("timeline> ")
-        shown = terminal.type("\\tables\n", "timeline> ")
-        judge("\\tables", "staff" in shown and "price" in shown and "valid" in shown, shown)
-        shown = terminal.type("\\log\n", "timeline> ")
-        judge("\\log", "version" in shown and "change" in shown, shown)
-        shown = terminal.type("\\help FORGET\n", "timeline> ")
-        judge("\\help", "FORGET t BEFORE v" in shown and "CREATE" not in shown.partition("\n")[2], shown)
-        shown = terminal.type("\\what\n", "timeline> ")
-        judge("a word that is none", "\\put TABLE FILE" in shown, shown)
-        # The arrow up brings the statement before.
-        shown = terminal.type("SELECT id FROM staff WHERE id = 4;\n", "(1 rows)")
-        terminal.until("timeline> ")
-        shown = terminal.type("\x1b[A\n", "(1 rows)")
-        judge("history", "id\r\n 4\r\n" in shown, shown)
-        terminal.type("\\q\n", "\r\n")
-        judge("a shell's status", terminal.end() == 0)
-        terminal = Terminal(["shell"], room)
-        terminal.until("timeline> ")
-        terminal.type("SELECT \x03", "^C")
-        judge("Ctrl-C in a shell", terminal.end("\x03") == 130)
-        # Without a terminal it reads the same, and prints CSV.
-        found = run(["shell"], "SELECT id FROM staff\n WHERE id > 2;\nMOMENT 5;\nREMOVE staff;\nid\n4\n\\.\nCOUNT FROM staff OVER SYSTEM 8 TO 10;\n", room)
-        judge("shell from a pipe", found == (0, "id\n4\n3\n@8 ok\n@9 ok\nfrom,to,value\n8,9,4\n9,10,3\n", ""), found)
-        size = os.path.getsize(f"{room}/timeline.tlj")
-        with open(f"{room}/timeline.tlj", "rb") as other:
-            fcntl.flock(other, fcntl.LOCK_EX)
-            found = run(["shell"], "", room)
-            judge("shell beside a writer", found[:2] == (5, "! device\n") and "--look" in found[2], found)
-            found = run(["shell", "--look"], "REMOVE staff;\nid\n1\n\\.\nSELECT id FROM staff;\n", room)
-            judge("shell --look", found == (0, "@10 ok\nid\n2\n3\n", ""), found)
-        judge("what if", os.path.getsize(f"{room}/timeline.tlj") == size)
-    with tempfile.TemporaryDirectory(dir=JOURNALS) as room:
-        found = run(["shell"], "SELECT id FROM staff;\n", room)
-        judge("shell without a journal", found[0] == 7, found)
-
-
-def test_a_sheet_becomes_a_table():
-    with Room() as room:
-        with open(f"{room}/staff.csv", "w", newline="") as sheet:
-            sheet.write('\ufeffid,name,pay,code\r\n1,"Doe, J.",3000,007\r\n2,"a ""b""\nc",-5,x1\r\n')
-        found = run(["import", "staff", "staff.csv", "--key", "id"], room=room)
-        wanted = "CREATE TABLE staff (id INT, name TEXT, pay INT, code TEXT) KEY id\nimport @1 ok\nload @2 ok\n"
-        judge("import", found == (0, wanted, ""), found)
-        judge("what was imported", run(["ask", "SELECT id, code FROM staff"], room=room)[1] == "id,code\n1,007\n2,x1\n")
-        found = run(["import", "staff", "staff.csv", "--key", "id"], room=room)
-        judge("import of a table that is there", found[0] == 20 and "TableExists" in found[1], found)
-        for header, told in (("id,two words", "two words, is no name"), ("id,SELECT", "SELECT, is a word of the language"), ("a,b", "no column is called id"),
-                             ("id,a,a", "two columns are called a"), ("id," + ",".join(f"c{it}" for it in range(16)), "17 columns"), ("", "no header")):
-            with open(f"{room}/bad.csv", "w") as sheet:
-                sheet.write(f"{header}\n" if header else "")
-            found = run(["import", "bad", "bad.csv", "--key", "id"], room=room)
-            judge(f"import of {header}", found[:2] == (20, "") and told in found[2], found)
-        with open(f"{room}/price.csv", "w") as sheet:
-            sheet.write("item,cents,valid_from,valid_to\n7,250,0,FOREVER\n9223372036854775808,1,0,5\n")
-        found = run(["import", "price", "price.csv", "--key", "item", "--valid"], room=room)
-        judge("import --valid", found == (0, "CREATE TABLE price (item TEXT, cents INT) KEY item VALID\nimport @3 ok\nload @4 ok\n", ""), found)
-
-
-def test_a_nightly_sheet():
-    with Room(STAFF) as room:
-        def sync(text, *words):
-            with open(f"{room}/night.csv", "w") as sheet:
-                sheet.write(text)
-            return run([*words[1:], "sync", "staff", "night.csv", *words[:1]], room=room)
-
-        found = sync('pay,id,name\r\n+3000,1,"Doe, J."\r\n03200,2,Roe\r\n10,3,"Poe"\r\n')
-        judge("sync", found == (0, "2 put, 0 removed, 1 unchanged\n", ""), found)
-        judge("what was put", run(["ask", "SELECT * FROM staff"], room=room)[1] == 'id,name,pay\n1,"Doe, J.",3000\n2,Roe,3200\n3,Poe,10\n')
-        found = sync("id,name,pay\n3,Poe,10\n")
-        judge("sync that removes", found == (0, "0 put, 2 removed, 1 unchanged\n", ""), found)
-        found = sync("id,name,pay\n4,Noe,1\n", "--keep")
-        judge("sync --keep", found == (0, "1 put, 0 removed, 0 unchanged\n", ""), found)
-        size = os.path.getsize(f"{room}/timeline.tlj")
-        found = sync("id,name,pay\n4,Noe,1\n3,Poe,10\n")
-        judge("sync of the same", found == (0, "0 put, 0 removed, 2 unchanged\n", "") and os.path.getsize(f"{room}/timeline.tlj") == size, found)
-        for text, told in (("id,name,pay\n4,Noe,x\n", "NotInt 2 3"), ('id,name,pay\n4,"N\noe",1\n', "line break"), ("id,name\n4,Noe\n", "HeaderMissing 3")):
-            found = sync(text)
-            judge(f"sync of {text}", found[:2] == (20, "") and told in found[2], found)
-        judge("what is refused changes nothing", os.path.getsize(f"{room}/timeline.tlj") == size)
-        found = run(["sync", "price", "night.csv"], room=room)
-        judge("sync with valid time", found[0] == 20 and "valid time" in found[2], found)
-
-
-def test_days_are_moments():
-    with Room(STAFF) as room:
-        second = lambda text: int(subprocess.run(["date", "-d", text, "+%s"], capture_output=True, text=True).stdout)
-        script = ""
-        for day, pay in (("2026-01-31 09:00", 3300), ("2026-02-28 23:59:59", 3400)):
-            script += f"a> MOMENT {second(day)}\na> PUT staff\nid,name,pay\n2,Roe,{pay}\n\\.\n"
-        judge("days", run(["--strict", "run"], script, room)[0] == 0)
-        for what, pay in (("DAY 2026-01-30", 3100), ("DAY 2026-01-31", 3300), ("TIME 2026-01-31T08:59", 3100), ("TIME 2026-01-31T09:00", 3300),
-                          ("DAY 2026-02-27", 3300), ("DAY 2026-02-28", 3400), ("TIME 2026-02-28T23:59:58", 3300)):
-            found = run(["ask", f"SELECT pay FROM staff WHERE id = 2 AND name <> 'AS OF DAY 2026-01-01' AS OF {what}"], room=room)
-            judge(f"AS OF {what}", found == (0, f"pay\n{pay}\n", ""), found)
-        found = run(["shell"], "SELECT pay FROM staff WHERE id = 2 AS OF DAY 2026-01-31;\n", room)
-        judge("a day in a shell", found == (0, "pay\n3300\n", ""), found)
-        for what in ("DAY 2026-02-30", "DAY today", "TIME 2026-01-31", "DAY 2026-01-31T09:00"):
-            found = run(["ask", f"SELECT pay FROM staff AS OF {what}"], room=room)
-            judge(f"AS OF {what}", found[0] in (2, 20), found)
-        listed = run(["log", "--csv", "--times"], room=room)[1]
-        judge("log --times", "2026-01-31T09:00:00" in listed and "2026-02-28T23:59:59" in listed, listed)
-        # The present second is stated where it rises.
-        before = int(time.time())
-        found = run(["--stamp", "load", "staff"], "id,name,pay\n2,Roe,3500\n", room)
-        judge("--stamp load", found == (0, "load @11 ok\n", ""), found)
-        found = run(["ask", f"SELECT pay FROM staff WHERE id = 2 AS OF MOMENT {before - 1}; SELECT pay FROM staff WHERE id = 2 AS OF MOMENT {int(time.time())}"], room=room)
-        judge("what --stamp stated", found == (0, "pay\n3400\n\npay\n3500\n", ""), found)
-        judge("a later moment", run(["--strict", "run"], "a> MOMENT 99999999999\n", room)[0] == 0)
-        found = run(["--stamp", "run"], "a> SELECT pay FROM staff WHERE id = 2\n", room)
-        judge("--stamp that cannot rise", found == (0, "a @12 rows 1\n3500\n", "timeline: the last moment that was stated is 99999999999, later than now\n"), found)
-
-
 def test_evidence():
     with Room(STAFF) as room:
         status, first, said = run(["seal"], room=room)
         size = os.path.getsize(f"{room}/timeline.tlj")
         judge("seal", status == 0 and not said and re.fullmatch(rf"@5 {size - 1} [0-9a-f]{{64}}\n", first), (status, first, said))
-        run(["load", "staff"], "id,name,pay\n9,Noe,1\n", room)
+        run(["--no-stamp", "load", "staff"], "id,name,pay\n9,Noe,1\n", room)
         # What stands behind the last gate is not sealed.
         with open(f"{room}/timeline.tlj", "ab") as journal:
             journal.write(b"cut off")

@@ -64,15 +64,20 @@ def install(call: Call) -> int:
     parser.add_argument("prefix")
     prefix = os.path.abspath(parser.parse_args(call.words).prefix)
     found = _programs()
-    try:
-        _install(prefix, found)
-    except OSError as error:
-        raise TimelineError(f"{error.filename or prefix} cannot be written: {error.strerror}") from None
+    _install(prefix, found)
     call.console.say(f"installed as {prefix}/bin/timeline, with programs that are {'proved' if _kind(found) == 'proved' else 'checked as they run'}")
     return 0
 
 
 def _install(prefix: str, found: dict[str, Program]) -> None:
+    """Lays all out below a folder. TimelineError where that cannot be written."""
+    try:
+        _lay_out_below(prefix, found)
+    except OSError as error:
+        raise TimelineError(f"{error.filename or prefix} cannot be written: {error.strerror}") from None
+
+
+def _lay_out_below(prefix: str, found: dict[str, Program]) -> None:
     """Lays all out in a folder beside the one that is there, and then takes its place, so that none is there by half."""
     library = os.path.join(prefix, "lib/timeline")
     for folder in ("bin", "lib", os.path.dirname(PAGE), os.path.dirname(COMPLETIONS)):

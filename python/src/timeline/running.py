@@ -32,8 +32,18 @@ def state_moment(journal: Journal, call: Call) -> None:
 
 def add_engine_options(parser: argparse.ArgumentParser) -> None:
     """The options of the program itself."""
-    parser.add_argument("--workers", type=_number(1, 64))
-    parser.add_argument("--every", type=_number(0, 16_777_216))
+    import argparse
+
+    class Once(argparse.Action):
+        """An option that stands at most once."""
+
+        def __call__(self, parser: argparse.ArgumentParser, given: argparse.Namespace, value: object, option: str | None = None) -> None:
+            if getattr(given, self.dest) is not None:
+                parser.error(f"{option} stands twice")
+            setattr(given, self.dest, value)
+
+    parser.add_argument("--workers", type=_number(1, 64), action=Once)
+    parser.add_argument("--every", type=_number(0, 16_777_216), action=Once)
 
 
 def _number(least: int, most: int) -> type[int]:
@@ -119,7 +129,8 @@ def run_script(call: Call, journal: Journal, words: list[str], path: str | None)
     else:
         script = Script(number) if explains and words[0] != "sample" else None
         started = journal.begin(words, number if script is None else script.copy.source, beside=True)
-        explainer = Explainer(console, script, journal, None if options.explain else FEW) if explains else None
+        watched = words[1] if words[0] == "watch" else ""
+        explainer = Explainer(console, script, journal, None if options.explain else FEW, watched) if explains else None
         shows = journal if console.err_is_terminal and not is_typed else None
         status, count = watch_run(started, console, explainer, shows, words[0] == "watch")
         if count.refused:

@@ -59,6 +59,7 @@ def _counted(results: dict[str, str], wrong: list[str], seconds: float) -> str:
 def _programs(folder: str) -> str:
     """Puts links to the three programs into a folder, for all tests to use, and says what they are."""
     os.mkdir(os.path.join(folder, "programs"))
+    os.chmod(folder, 0o711)      # some tests run commands as nobody
     kinds = set()
     for name in programs.NAMES:
         path = programs.program(name)

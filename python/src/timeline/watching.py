@@ -42,10 +42,10 @@ class Passing:
 
 
 class Explainer:
-    """Says why statements of a script were refused, as they are: all, or the first few."""
+    """Says why statements of a script were refused, as they are: all, or the first few; and why what was to be `watched` was."""
 
-    def __init__(self, console: Console, script: Script | None, journal: Journal, most: int | None) -> None:
-        self.console, self.script, self.journal, self.most = console, script, journal, most
+    def __init__(self, console: Console, script: Script | None, journal: Journal, most: int | None, watched: str = "") -> None:
+        self.console, self.script, self.journal, self.most, self.watched = console, script, journal, most, watched
         self.left_out = 0
 
     def refused(self, number: int, fault: Fault) -> None:
@@ -69,6 +69,10 @@ class Explainer:
 
     def closing(self, words: tuple[str, ...]) -> None:
         """Explains how a run ended before its input did."""
+        if words[0] == "watch" and len(words) > 1:
+            fault = Fault(words[1], tuple(int(it) for it in words[2:]))
+            self.console.tell("\n".join(explain_statement(self.watched.encode("utf-8", "surrogateescape"), fault, "what is watched")))
+            return
         named = words[0] == "script" and self.script is not None and words[-1].isdigit()
         line = self.script.line(int(words[-1])) if named and self.script is not None else None
         self.console.tell("\n".join(explain_closing(words, line)))

@@ -1,6 +1,7 @@
 """What changed, and pictures: the history of a key, differences, and lines of steps, worked by hand."""
 from __future__ import annotations
 
+import functools
 import json
 import os
 import re
@@ -67,6 +68,7 @@ def books(journal: str) -> str:
                                                 "new,3,,dev,,1.00\n"),
     (["diff", "staff", "FROM", "2026-01-01", "TO", "2026-01-03"], "what,id,dept_old,dept_new,pay_old,pay_new\ngone,1,ops,,3000.50,\n"
                                                                   "changed,2,dev,dev,2800.00,3100.00\nnew,3,,dev,,1.00\n"),
+    (["diff", "staff", "FROM", "DAY", "2026-01-01", "TO", "TIME", "2026-01-01T12:00"], "what,id,dept_old,dept_new,pay_old,pay_new\n"),
     (["diff", "staff", "FROM", "8", "TO", "8"], "what,id,dept_old,dept_new,pay_old,pay_new\n"),
     (["diff", "price", "FROM", "10", "TO", "11"], "what,valid_from,valid_to,item,cents_old,cents_new\ngone,2026-01-01,FOREVER,1,5,\n"
                                                   "new,2026-01-01,2026-01-07,1,,5\nnew,2026-01-17,FOREVER,1,,5\nnew,2026-01-07,2026-01-17,1,,9\n"),
@@ -77,13 +79,66 @@ def test_what_changed(books: str, words: list[str], out: str) -> None:
 
 
 @pytest.mark.parametrize("words, status", [
-    (["history", "nope", "1"], 20), (["history", "staff", "x"], 20), (["diff", "staff", "FROM", "1"], 2), (["diff", "staff", "FROM", "x", "TO", "2"], 2),
+    (["history", "nope", "1"], 20), (["history", "staff", "x"], 20), (["diff", "staff", "FROM", "1"], 2), (["diff", "staff", "FROM", "DAY", "5", "TO", "8"], 2), (["diff", "staff", "FROM", "x", "TO", "2"], 2),
     (["diff", "staff", "FROM", "1", "TO", "99"], 20), (["plot", "SELECT id FROM staff"], 20), (["plot", "COUNT FROM nope OVER SYSTEM ALL"], 20),
+    (["plot", "SUM pay FROM staff WHERE id = 99 OVER SYSTEM ALL"], 20), (["plot", "COUNT FROM staff OVER SYSTEM 9 TO 10"], 20),
     (["plot", "COUNT FROM staff OVER SYSTEM ALL", "-o", "x.gif"], 2),
 ])
 def test_what_is_refused(books: str, words: list[str], status: int) -> None:
     done = run(words, folder=books)
     assert done.status == status and done.err and not os.path.exists(os.path.join(books, "x.gif")), done
+
+
+def test_times_of_a_history_are_those_of_the_log(books: str) -> None:
+    there = dict(os.environ, TZ="XYZ-5:30")      # five and a half hours east
+    told = run(["history", "staff", "2"], folder=books, env=there).out.splitlines()
+    assert told[1] == "5,7,2026-01-01T06:30:00,2026-01-03T06:30:00,2,dev,2800.00"
+    (line,) = (it.split() for it in run(["log"], folder=books, env=there).out.splitlines() if it.split()[0] == "5")
+    assert line[-1] == "2026-01-01T06:30:00"
+
+
+def test_listings_show_kinds(books: str) -> None:
+    listed = {words[0]: words for words in (it.split() for it in run(["rows", "price"], folder=books).out.splitlines())}
+    assert listed["id"] == ["id", "from", "to", "valid_from", "valid_to", "item", "cents"] and listed["0"][3:5] == ["2026-01-01", "FOREVER"]
+    assert run(["rows", "staff"], folder=books).out.splitlines()[1].split() == ["0", "5", "8", "1", "ops", "3000.50"]
+    assert run(["rows", "staff", "--csv"], folder=books).out.splitlines()[1] == "0,5,8,1,ops,300050"
+    types = {tuple(it.split()[:3]) for it in run(["tables"], folder=books).out.splitlines()}
+    assert {("staff", "pay", "DECIMAL(2)"), ("staff", "id", "INT"), ("staff", "dept", "TEXT")} <= types
+    assert "staff,pay,INT," in run(["tables", "--csv"], folder=books).out and run(["rows", "nope"], folder=books).status == 20
+    shell = run(["--no-stamp", "shell"], "\\d staff\n\\log\n", books, env=dict(os.environ, TZ="UTC")).out
+    assert re.search(r"^staff  pay +DECIMAL\(2\)", shell, re.MULTILINE) and shell.endswith(run(["log"], folder=books, env=dict(os.environ, TZ="UTC")).out)
+
+
+@pytest.mark.parametrize("name", ["link.svg", "none.svg", "folder.svg", "pipe.svg", "other/timeline.tlj", "hard.svg", "timeline.tlj", "/dev/null", ""])
+def test_where_no_file_is_put(books: str, name: str) -> None:
+    path = functools.partial(os.path.join, books)
+    with open(path("kept"), "w", encoding="ascii") as file:
+        file.write("kept")
+    os.symlink("kept", path("link.svg"))
+    os.symlink("gone", path("none.svg"))
+    os.mkfifo(path("pipe.svg"))
+    os.link(path("timeline.tlj"), path("hard.svg"))
+    for folder in ("folder.svg", "other"):
+        os.mkdir(path(folder))
+
+    def state() -> list[tuple[str, int, int]]:
+        return sorted((it.path, it.stat(follow_symlinks=False).st_ino, it.stat(follow_symlinks=False).st_mode) for it in os.scandir(books))
+
+    before = state()
+    for words in (["report"], ["plot", "COUNT FROM staff OVER SYSTEM ALL"], ["export", "--to", "csv"], ["export", "--to", "sqlite"]):
+        done = run([*words, "-o", name], folder=books)
+        assert done.status == 2 and done.err and done.out == "! usage\n", done
+        assert state() == before and os.listdir(path("other")) == [], words
+    with open(path("kept"), encoding="ascii") as file:
+        assert file.read() == "kept"
+
+
+def test_a_page_replaces_a_regular_file(books: str) -> None:
+    path = os.path.join(books, "r.html")
+    with open(path, "w", encoding="ascii") as file:
+        file.write("old")
+    assert run(["report", "-o", "r.html"], folder=books).status == 0 and os.path.getsize(path) > 1000
+    assert run(["export", "--to", "sqlite", "-o", "r.html"], folder=books).status == 2
 
 
 def test_json_has_types(books: str) -> None:

@@ -1,6 +1,7 @@
 """The history in other systems: what these answer for versions and days is what `ask` says."""
 from __future__ import annotations
 
+import contextlib
 import csv
 import io
 import os
@@ -156,3 +157,9 @@ def test_csv_and_what_is_there_already(books: str, tmp_path: str) -> None:
     listed = run(["rows", "staff", "--csv"], folder=books).out
     assert rows[0] == ["row_id", "from_version", "to_version", "id", "name", "pay"] and len(rows) == len(list(csv.reader(io.StringIO(listed, newline=""))))
     assert run(["export", "--to", "csv", "-o", folder], folder=books).status == 2
+    with open(os.path.join(folder, "timeline_versions.csv"), encoding="utf-8", newline="") as file:
+        made = [row[1] for row in list(csv.reader(file))[1:]]
+    wanted = [None if not it else it for it in made]
+    with contextlib.closing(sqlite3.connect(exported(books, "sqlite", str(tmp_path)))) as connection:
+        assert [row[0] for row in connection.execute("SELECT made_at FROM timeline_versions ORDER BY version")] == wanted
+    assert made[0] == "" and made[6:8] == ["2026-01-01T01:00:00Z", "2026-01-01T01:00:00Z"]

@@ -2,12 +2,13 @@
 from __future__ import annotations
 
 import os
+import re
 import subprocess
 import time
 
 import pytest
 
-from conftest import COMMAND, run
+from conftest import COMMAND, ROOT, run
 
 TABLE = "CREATE TABLE t (id INT, x TEXT) KEY id;\n"
 
@@ -58,8 +59,19 @@ def test_no_lock_is_held_between_statements(journal: str) -> None:
 
 
 def test_help_shows_a_statement(journal: str) -> None:
+    from timeline.shell import WORDS
+    from timeline.statements import BATCHES
+
     done = run(["shell"], "\\help SELECT\n\\help\n", journal)
     assert done.status == 0 and done.out.lstrip().startswith("SELECT ") and "CREATE TABLE" in done.out
+    with open(os.path.join(ROOT, "python/src/timeline/help.txt"), encoding="utf-8") as file:
+        page = file.read()
+    _, first, after = page.partition("  CREATE TABLE t ")
+    statements = (first + after).partition("\n\n")[0]
+    found = re.findall(r"^  [A-Z].*(?:\n   .*)*", statements, re.MULTILINE)
+    assert BATCHES <= {it.split()[0] for it in found} and "\n".join(found) == statements
+    assert run(["shell"], "\\help\n", journal).out == f"{statements}\n  Words of the shell: {WORDS}\n"
+    assert run(["shell"], "".join(f"\\help {it.split()[0]}\n" for it in found), journal).out == statements + "\n"
 
 
 def test_on_a_terminal(journal: str) -> None:

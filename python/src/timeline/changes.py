@@ -12,7 +12,7 @@ from . import days, kinds, notes
 from .answers import Answer, csv_line
 from .asking import add_forms, form_of
 from .errors import Refused, UsageError
-from .kinds import INT, TEXT, TIME, Kind
+from .kinds import INT, TEXT, Kind
 from .listing import Column, columns_of, rows_of
 from .replies import Rows
 
@@ -98,13 +98,14 @@ class Times:
         return next((version - 1 for version, stated in self.stated if stated > moment), self.last)
 
     def shown(self, version: int) -> str:
-        """When a version was made, as the last second that was stated by then; empty where none was, or they are no seconds."""
+        """When a version was made, in the machine's time zone, as the last second that was stated by then; empty where none was, or
+        they are no seconds."""
         if not self.has_seconds or not version:
             return ""
         from bisect import bisect_right
 
         at = bisect_right(self.stated, (version, 1 << 63))
-        return str(self.stated[at - 1][1]) if at else ""
+        return days.shown(self.stated[at - 1][1]) if at else ""
 
 
 def answer_of(names: Sequence[str], found: Sequence[Kind], rows: Iterable[Cells], version: int) -> Answer:
@@ -127,7 +128,7 @@ def history(journal: Journal, name: str, key: str) -> Answer:
     catalog, made = notes.catalog_of(look), notes.notes_of(look)
     table = table_of(journal, name, catalog)
     times, wanted = Times(journal, catalog.has_seconds), key_cell(table, key)
-    when = [("from_time", TIME), ("to_time", TIME)] if times.has_seconds else []
+    when = [("from_time", TEXT), ("to_time", TEXT)] if times.has_seconds else []
     who = [("who", TEXT), ("why", TEXT)] if made else []
     rows = []
     for row in rows_ever(journal, table):
@@ -194,13 +195,19 @@ def history_command(call: Call) -> int:
     return 0
 
 
+def _bare_points(words: Sequence[str]) -> list[str]:
+    """The words of diff, where DAY before a day and TIME before a time, as a query has them, are left out."""
+    sizes = {"DAY": (10,), "TIME": (16, 19)}
+    return [word for word, after in zip(words, [*words[1:], ""]) if len(after) not in sizes.get(word.upper(), ())]
+
+
 def diff_command(call: Call) -> int:
-    """Prints the difference of a table between two versions or days: `diff t FROM a TO b`."""
+    """Prints the difference of a table between two versions or days: `diff t FROM a TO b`, also `FROM DAY d TO DAY e`."""
     parser = call.parser()
     parser.add_argument("words", nargs="*")
     add_forms(parser)
     given = parser.parse_args(call.words)
-    words = given.words
+    words = _bare_points(given.words)
     if len(words) != 5 or (words[1].upper(), words[3].upper()) != ("FROM", "TO"):
         raise UsageError("diff wants a table, FROM a version or day, TO another")
     getattr(diff(call.journal(), words[0], words[2], words[4]), f"write_{form_of(call, given)}")(call.console)

@@ -158,6 +158,27 @@ def _remove_unlocked(path: str) -> None:
         os.close(number)
 
 
+def check_target(path: str, journal: str) -> None:
+    """Raises UsageError where a file may not be put at a path: where something else than a regular file is there, a link too, or where
+    it is the journal, or has the name of one. `journal` is the path of the folder's own."""
+    import stat
+
+    from .errors import UsageError
+
+    name = os.path.basename(path)
+    if not name:
+        raise UsageError(f"{path or 'an empty word'} names no file")
+    try:
+        mode = os.lstat(path).st_mode
+    except OSError:
+        mode = None          # nothing is there, or what is wrong shows when it is written
+    if mode is not None and not stat.S_ISREG(mode):
+        raise UsageError(f"{path} is there already, and is no regular file: it stays as it is")
+    is_journal = mode is not None and os.path.exists(journal) and os.path.samefile(path, journal)
+    if is_journal or name == os.path.basename(journal):
+        raise UsageError(f"{path} is the journal, or has a journal's name: nothing is written there")
+
+
 @contextmanager
 def whole(path: str) -> Iterator[str]:
     """A path for a file, or a folder, that is put in its place when the block ends: it is there whole, or what was there stays.

@@ -83,7 +83,12 @@ class Csv:
                     file.write(_line([str(number), str(row.begin), str(row.end or ""), *shown]))
         with _text(os.path.join(path, "timeline_versions.csv")) as file:
             file.write("version,made_at\n")
-            file.writelines(_line([str(version), "" if second is None else TIME.shown(str(second))]) for version, second in history.versions())
+            file.writelines(_line([str(version), "" if second is None else _utc(second)]) for version, second in history.versions())
+
+
+def _utc(second: int) -> str:
+    """A second as a time that says of itself that it is in UTC."""
+    return TIME.shown(str(second)) + "Z"
 
 
 def _text(path: str) -> IO[str]:
@@ -118,7 +123,7 @@ class Sqlite:
         connection.execute("PRAGMA journal_mode = OFF")
         connection.execute("CREATE TABLE timeline_versions (version INTEGER PRIMARY KEY, made_at TEXT)")
         connection.executemany("INSERT INTO timeline_versions VALUES (?, ?)",
-                               ((version, None if second is None else TIME.shown(str(second))) for version, second in history.versions()))
+                               ((version, None if second is None else _utc(second)) for version, second in history.versions()))
         connection.execute("CREATE TABLE timeline_days (day TEXT PRIMARY KEY, version INTEGER)")
         connection.executemany("INSERT INTO timeline_days VALUES (?, ?)", ((DATE.shown(str(day)), version) for day, version in history.days()))
         for table in history.tables:
@@ -166,7 +171,7 @@ class Postgresql:
             file.write("COMMIT;\n")
 
     def _second(self, second: int | None) -> str:
-        return "\\N" if second is None else TIME.shown(str(second)) + "Z"
+        return "\\N" if second is None else _utc(second)
 
     def _table(self, file: IO[str], history: History, table: Table) -> None:
         number, begin, end = fronts(table)
@@ -277,9 +282,11 @@ def export(call: Call) -> int:
     parser.add_argument("--to", required=True, choices=sorted(SYSTEMS))
     parser.add_argument("-o", dest="path", required=True)
     given = parser.parse_args(call.words)
+    journal = call.journal()
+    cleanup.check_target(given.path, journal.path)
     if os.path.exists(given.path):
         raise UsageError(f"{given.path} is there already")
-    history = history_of(call.journal())
+    history = history_of(journal)
     with cleanup.whole(given.path) as part:
         SYSTEMS[given.to]().write(history, part)
     call.console.say(f"{given.path}: {len(history.tables)} tables, {history.times.last} versions")

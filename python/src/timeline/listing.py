@@ -1,7 +1,9 @@
 """The commands log, tables and rows: what the journal of this folder has, as the program that lists gives it."""
 from __future__ import annotations
 
-from typing import NamedTuple
+from typing import List, NamedTuple, Tuple
+
+Listing = List[Tuple[str, ...]]    # the rows of a listing, its header first
 
 TYPE_CHECKING = False
 if TYPE_CHECKING:
@@ -21,7 +23,7 @@ class Column(NamedTuple):
     floor: int
 
 
-def rows_of(listing: bytes) -> list[tuple[str, ...]]:
+def rows_of(listing: bytes) -> Listing:
     """The records of a listing, its header first."""
     import csv
     import io
@@ -56,7 +58,7 @@ def log(call: Call) -> int:
     look = journal.look()
     is_timed, found = notes.catalog_of(look).has_seconds, notes.notes_of(look)
     if given.csv and not (given.times or given.between or is_timed or found):
-        return _write(call, listing, True)
+        return _write(call, listing)
     rows = notes.told(rows_of(listing), is_timed, found)
     if given.between:
         rows = notes.between(rows, is_timed, *given.between)
@@ -67,30 +69,64 @@ def log(call: Call) -> int:
     return _write_rows(call, rows, given.csv)
 
 
+def shown_log(journal: Journal) -> Listing:
+    """The commits as log shows them without an option."""
+    from . import notes
+
+    look = journal.look()
+    is_timed = notes.catalog_of(look).has_seconds
+    found = notes.told(rows_of(journal.listing(["log"])), is_timed, notes.notes_of(look))
+    return notes.with_times(found) if is_timed else found
+
+
+def shown_tables(journal: Journal, table: str = "") -> Listing:
+    """The columns of a table, or of all, each with its kind as its type where it has one."""
+    from .notes import catalog_of
+
+    listed, catalog = rows_of(journal.listing(["tables"])), catalog_of(journal.look())
+    at = listed[0].index("type")
+    return [listed[0], *((*row[:at], str(catalog.of(row[0], row[1]) or row[at]), *row[at + 1:])
+                         for row in listed[1:] if table in ("", row[0]))]
+
+
+def shown_rows(journal: Journal, table: str) -> Listing:
+    """Every row that a table ever had, its cells as people read them."""
+    from .changes import FRONT, table_of
+    from .kinds import Memo
+    from .notes import catalog_of
+
+    listed = rows_of(journal.listing(["rows", table]))
+    memos = [Memo(kind.shown) for kind in table_of(journal, table, catalog_of(journal.look())).kinds]
+    return [listed[0], *((*row[:FRONT], *(memo[cell] for memo, cell in zip(memos, row[FRONT:]))) for row in listed[1:])]
+
+
 def rows(call: Call) -> int:
-    """Lists every row that a table ever had, with the versions from which and up to which it stood."""
+    """Lists every row that a table ever had, with the versions from which and up to which it stood; with --csv as the engine keeps it."""
     parser = call.parser()
     parser.add_argument("table")
     parser.add_argument("--csv", action="store_true")
     given, journal = parser.parse_args(call.words), call.journal()
-    return _write(call, journal.listing(["rows", given.table]), given.csv)
+    if given.csv:
+        return _write(call, journal.listing(["rows", given.table]))
+    return _write_rows(call, shown_rows(journal, given.table), False)
 
 
 def tables(call: Call) -> int:
-    """Lists the tables."""
+    """Lists the tables; with --csv as the engine keeps them."""
     parser = call.parser()
     parser.add_argument("--csv", action="store_true")
-    return _write(call, call.journal().listing(["tables"]), parser.parse_args(call.words).csv)
+    given, journal = parser.parse_args(call.words), call.journal()
+    if given.csv:
+        return _write(call, journal.listing(["tables"]))
+    return _write_rows(call, shown_tables(journal), False)
 
 
-def _write(call: Call, listing: bytes, as_csv: bool) -> int:
-    if as_csv:
-        call.console.write(listing)
-        return 0
-    return _write_rows(call, rows_of(listing), False)
+def _write(call: Call, listing: bytes) -> int:
+    call.console.write(listing)
+    return 0
 
 
-def _write_rows(call: Call, rows: list[tuple[str, ...]], as_csv: bool) -> int:
+def _write_rows(call: Call, rows: Listing, as_csv: bool) -> int:
     from .answers import csv_line, write_table
 
     if as_csv:

@@ -129,6 +129,8 @@ def _drawn(answer: Answer, text: str, axis: _Axis) -> Picture:
             one.begins.append(begin)
             one.ends.append(end)
             one.values.append(_number(row[-1], answer.kinds[-1]))
+    if not any(value is not None for one in found.values() for value in one.values):
+        raise Refused("NoValue", statement=text, sentence=f"the answer has no value over {axis.name} that could be drawn")
     return Picture(" ".join(text.split()), axis.name, axis.kind, [one for one in found.values() if one.begins])
 
 
@@ -233,7 +235,10 @@ def plot(call: Call) -> int:
     parser.add_argument("text")
     parser.add_argument("-o", dest="path")
     given = parser.parse_args(call.words)
-    picture = picture_of(call.journal(), given.text)
+    journal = call.journal()
+    if given.path is not None:
+        cleanup.check_target(given.path, journal.path)
+    picture = picture_of(journal, given.text)
     if given.path is not None:
         draw(picture, given.path)
         call.console.say(f"{given.path}: {len(picture.series)} line{'' if len(picture.series) == 1 else 's'} over {picture.axis}")

@@ -197,7 +197,9 @@ def report(call: Call) -> int:
     parser = call.parser()
     parser.add_argument("-o", dest="path", required=True)
     given = parser.parse_args(call.words)
-    page, left = page_of(call.journal())
+    journal = call.journal()
+    cleanup.check_target(given.path, journal.path)
+    page, left = page_of(journal)
     with cleanup.whole(given.path) as part:
         with open(part, "w", encoding="utf-8", newline="") as file:
             file.write(page)

@@ -18,6 +18,7 @@ if TYPE_CHECKING:
     from typing import Iterator, Protocol
 
     from .cli import Call
+    from .listing import Listing
     from .notes import Unit
     from .sheets import Sheet
 
@@ -240,11 +241,13 @@ class Shell:
 
     def _word(self, words: list[str]) -> None:
         """What a word that begins with `\\` does."""
+        from .listing import shown_log, shown_tables
+
         word = words[0]
         if word in ("\\d", "\\tables") and len(words) <= 2:
-            self._tables(words[1] if len(words) == 2 else "")
+            self._listing(shown_tables(self.journal, words[1] if len(words) == 2 else ""))
         elif word == "\\log" and len(words) == 1:
-            self._listing(["log"])
+            self._listing(shown_log(self.journal))
         elif word == "\\put" and len(words) == 3:
             self._put(words[1], words[2])
         elif word == "\\help" and len(words) <= 2:
@@ -252,17 +255,12 @@ class Shell:
         else:
             self.console.say(f"there are {WORDS}")
 
-    def _listing(self, words: list[str], table: str = "") -> None:
+    def _listing(self, rows: Listing) -> None:
         from .answers import write_table
-        from .listing import rows_of
 
-        rows = rows_of(self.journal.listing(words))
         shown = io.BytesIO()
-        write_table([row for row in rows if row is rows[0] or table in ("", row[0])], shown)
+        write_table(rows, shown)
         self._show(shown.getvalue())
-
-    def _tables(self, table: str) -> None:
-        self._listing(["tables"], table)
 
     def _put(self, table: str, path: str) -> None:
         """Puts a file into a table, as `load` does."""
@@ -290,15 +288,13 @@ class Shell:
     def _help(self, word: str) -> None:
         """The statements, as the page of help has them."""
         with open(os.path.join(os.path.dirname(__file__), "help.txt"), encoding="utf-8") as file:
-            lines = file.read().split("\n")
+            page = file.read()
+        _, first, after = page.partition("\n  CREATE TABLE t ")
         shown, is_shown = [], False
-        for line in lines:
-            head = line.split(" ")[2:3] if line.startswith("  ") and line[2:3].isupper() and ">" not in line else []
-            if head:
-                is_shown = word in ("", head[0])
-            elif line[:1].isupper():
-                is_shown = False
-            if is_shown and (word or head):
+        for line in (first[1:] + after).partition("\n\n")[0].split("\n"):
+            if line[2:3] != " ":
+                is_shown = word in ("", line.split()[0])
+            if is_shown:
                 shown.append(line)
         self.console.write(encode("\n".join([*shown, f"  Words of the shell: {WORDS}" if not word else ""]).rstrip() + "\n"))
 

@@ -10,7 +10,7 @@ import subprocess
 import sys
 import time
 from decimal import Decimal
-from typing import Any
+from typing import Any, Iterator
 
 import pytest
 
@@ -125,6 +125,116 @@ def test_a_thousand_questions_take_little(journal: str) -> None:
         assert time.process_time() - begun < 0.5
 
 
+_IN_BERLIN = """
+import datetime, sys, time, timeline
+seconds = int(datetime.datetime(2026, 10, 24, 22, 30, tzinfo=datetime.timezone.utc).timestamp())
+with timeline.open(sys.argv[1]) as books:
+    books.execute("CREATE TABLE t (id INT, at INT) KEY id")
+    with books.unit(stamp=False) as unit:
+        unit.put("timeline_kinds", [{"place": "t.at", "kind": "TIME"}])
+    later = int(time.time()) // 3600 * 3600 + 86_400 * 500
+    for hour in range(3):
+        with books.unit(stamp=False) as unit:
+            unit.execute(f"MOMENT {later + 3600 * hour}")
+            at = datetime.datetime.fromtimestamp(later + 3600 * hour, datetime.timezone(datetime.timedelta(hours=-5)))
+            unit.put("t", [{"id": hour, "at": at}])
+    print([len(books.ask("SELECT id FROM t AS OF TIME ?", [datetime.datetime.fromtimestamp(later + 3600 * hour, zone)]))
+           for zone in (None, datetime.timezone.utc) for hour in range(3)])
+    print([it["at"].timestamp() - later for it in books.ask("SELECT at FROM t").dicts()])
+    print(len(books.ask("SELECT id FROM t WHERE at = ?", [at])))
+    print(len(books.ask("SELECT id FROM t AS OF DAY ?", [datetime.date.fromtimestamp(later + 86_400)])))
+    twice = datetime.datetime(2026, 10, 25, 0, 30, tzinfo=datetime.timezone.utc)
+    said = []
+    for hour in range(2):
+        try:
+            books.ask("SELECT id FROM t AS OF TIME ?", [twice + datetime.timedelta(hours=hour)])
+        except timeline.Refused as refused:
+            said.append(refused)
+    print([(it.kind, it.advice.startswith("Ask AS OF MOMENT 1792")) for it in said])
+"""
+
+
+def test_a_datetime_means_its_instant_in_each_place(journal: str) -> None:
+    around = {**os.environ, "TZ": "Europe/Berlin", "PYTHONPATH": os.path.join(ROOT, "python/src")}
+    done = subprocess.run([sys.executable, "-c", _IN_BERLIN, journal], env=around, capture_output=True, text=True, timeout=60)
+    assert (done.stdout.splitlines(), done.stderr) == (
+        ["[1, 2, 3, 1, 2, 3]", "[0.0, 3600.0, 7200.0]", "1", "3", "[('NoTime', True)]"], "")
+
+
+def test_parts_of_a_second_are_refused(journal: str) -> None:
+    moment = datetime.datetime(2026, 3, 1, 12, 0, 0, 5)
+    with timeline.open(journal) as books:
+        books.execute("CREATE TABLE t (id TEXT) KEY id")
+        before = books.version
+        for call in (lambda: books.put("t", [{"id": moment}]), lambda: books.ask("SELECT id FROM t WHERE id = ?", [moment]),
+                     lambda: books.ask("SELECT id FROM t AS OF TIME ?", [moment])):
+            with pytest.raises(timeline.Refused) as refused:
+                call()
+            assert refused.value.kind == "NotTime" and "whole seconds" in str(refused.value) and refused.value.statement
+        assert books.version == before
+
+
+def test_a_put_that_fails_leaves_no_lock(journal: str) -> None:
+    def script() -> Iterator[bytes]:
+        raise ZeroDivisionError
+        yield b""
+
+    with timeline.open(journal) as books:
+        books.execute("CREATE TABLE t (id INT, x INT) KEY id")
+        for number, wrong in enumerate([None, 1.5, True, b"x", [1]]):
+            with pytest.raises(TypeError):
+                books.put("t", [{"id": number, "x": wrong}])  # type: ignore[dict-item]
+            books.put("t", [{"id": number, "x": 0}])
+            with pytest.raises(ZeroDivisionError):
+                books.journal.transact(script())
+            books.put("t", [{"id": number, "x": 1}])
+        assert list(books.ask("SELECT id, x FROM t")) == [(number, 1) for number in range(5)]
+        with pytest.raises(TypeError, match="a row is a dict .* tuple"):
+            books.put("t", [(1, 2)])  # type: ignore[list-item]
+
+
+def test_a_refusal_names_the_statement_that_was_given(journal: str) -> None:
+    with timeline.open(journal) as books:
+        books.execute("CREATE TABLE t (id INT) KEY id")
+        with pytest.raises(timeline.Refused) as refused, books.unit(by="anna", because="so") as unit:
+            unit.put("t", [{"id": 1}])
+            unit.execute(" CREATE TABLE t (id INT) KEY id;")
+        assert (refused.value.kind, refused.value.number, refused.value.statement) == ("TableExists", 2, "CREATE TABLE t (id INT) KEY id")
+        assert refused.value.advice
+        with pytest.raises(timeline.Refused) as refused, books.unit() as unit:
+            unit.put("t", [{"id": 1}])
+            unit.put("t", [{"id": 2}, {"id": "two"}])
+        assert (refused.value.kind, refused.value.number, refused.value.statement) == ("NotInt", 2, "PUT t")
+        assert refused.value.advice and refused.value.place and refused.value.place.record == 3
+        with pytest.raises(timeline.Refused) as refused:
+            books.ask("SELECT nope FROM t")
+        assert refused.value.advice and refused.value.number == 1
+        assert len(books.ask("SELECT id FROM t")) == 0
+
+
+@pytest.mark.parametrize("statement, kind, word", [("SELECT id FROM t", "NoCommit", "ask"), ("COUNT FROM t OVER SYSTEM ALL", "NoCommit", "ask"),
+                                                   ("PUT t", "NoBlock", "put")])
+def test_execute_takes_no_question_and_no_rows(journal: str, statement: str, kind: str, word: str) -> None:
+    with timeline.open(journal) as books:
+        books.execute("CREATE TABLE t (id INT) KEY id")
+        before = books.version
+        with pytest.raises(timeline.Refused) as refused:
+            books.execute(statement, by="anna")
+        assert (refused.value.kind, refused.value.statement) == (kind, statement) and word in refused.value.advice
+        assert books.version == before
+
+
+def test_the_rows_of_an_answer_can_be_put_back(journal: str) -> None:
+    with timeline.open(journal) as books:
+        books.execute("CREATE TABLE t (id INT, x TEXT) KEY id VALID")
+        books.put("t", [{"id": 1, "x": "a", "valid_from": 0, "valid_to": 5}, {"id": 1, "x": "b", "valid_from": 5, "valid_to": None}])
+        rows: Any = list(books.ask("SELECT * FROM t").dicts())
+        assert [row["valid_to"] for row in rows] == [5, None]
+        books.remove("t", [{"id": 1, "valid_from": 0, "valid_to": None}])
+        books.put("t", rows)
+        assert list(books.ask("SELECT * FROM t").dicts()) == rows
+
+
 def test_pandas(journal: str) -> None:
     pytest.importorskip("pandas")
     with timeline.open(journal) as books:
@@ -181,3 +291,26 @@ def test_faults_of_statements_are_errors_of_the_interface(journal: str, operatio
 def test_no_journal_is_an_operational_error(room: str) -> None:
     with pytest.raises(dbapi.OperationalError):
         dbapi.connect(room)
+
+
+@pytest.mark.parametrize("create", [False, True])
+def test_a_folder_that_is_not_there_is_said(room: str, create: bool) -> None:
+    with pytest.raises((timeline.NoJournal, timeline.DeviceFault)) as raised:
+        timeline.open(os.path.join(room, "nowhere"), create=create)
+    assert not create or "nowhere is no folder" in str(raised.value)
+    with pytest.raises(dbapi.OperationalError):
+        dbapi.connect(os.path.join(room, "nowhere"), create=create)
+
+
+@pytest.mark.parametrize("row, kind", [((None,), "DataError"), ((1.5,), "DataError"), ((dbapi.Time(1, 2, 3),), "DataError"),
+                                       ((datetime.datetime(2026, 1, 1, 0, 0, 0, 1),), "DataError"), (1, "ProgrammingError"), ((1, 2), "ProgrammingError")])
+def test_a_cell_that_no_column_can_have_is_an_error_of_the_interface(journal: str, row: Any, kind: str) -> None:
+    with dbapi.connect(journal) as connection:
+        connection.cursor().execute("CREATE TABLE t (id INT) KEY id")
+    cursor = connection.cursor()
+    with pytest.raises(getattr(dbapi, kind)):
+        cursor.executemany("PUT t (id)", [row])
+        connection.commit()
+    cursor.executemany("PUT t (id)", [(7,)])
+    connection.commit()
+    assert cursor.execute("SELECT id FROM t").fetchall() == [(7,)]

@@ -6,13 +6,13 @@ from __future__ import annotations
 
 import os
 from contextlib import contextmanager
-from typing import Iterable, Iterator, Mapping, NamedTuple, Sequence, Union
+from typing import Iterable, Iterator, Mapping, NamedTuple, Optional, Sequence, Union
 
-from . import kinds, notes, queries
+from . import days, kinds, notes, queries
 from .answers import Answer
 from .errors import Place, Refused
 from .journal import Journal
-from .statements import Statement, is_open, statements_of, tokens
+from .statements import BLOCKS, Statement, encode, is_open, statements_of, tokens
 
 TYPE_CHECKING = False
 if TYPE_CHECKING:
@@ -23,12 +23,14 @@ if TYPE_CHECKING:
     from .sheets import Sheet
 
 Value = Union[int, str, "Decimal", "datetime.date"]
+Cell = Optional[Value]       # None is a valid_to without end
+_QUESTIONS = frozenset("SELECT COUNT SUM AVG MIN MAX JOIN".split())
 
 
 def open(folder: str | os.PathLike[str] = ".", wait: float | None = 0.0, create: bool = False) -> Database:
     """The journal of a folder. `wait` is how many seconds a change waits for the lock that another program has, None for ever;
     with `create` an empty journal is made where none is there. Raises NoJournal where there is none, DeviceFault where it
-    cannot be read."""
+    cannot be read or made."""
     journal = Journal(folder, wait)
     if create and journal.size() == 0:
         journal.init()
@@ -59,12 +61,13 @@ class Database:
 
     def ask_all(self, asked: Iterable[tuple[str, Sequence[Value]]]) -> list[Answer]:
         """The answers to some queries with their parameters, all over one version. Raises the first that is Refused."""
-        statements = [_one(with_parameters(query, parameters)) for query, parameters in asked]
-        results = queries.ask_look(self.journal.look(), statements, with_types=True)
-        for result in results:
-            if isinstance(result, Refused):
-                raise result
-        return [it for it in results if isinstance(it, Answer)]
+        with _advising():
+            statements = [_one(with_parameters(query, parameters)) for query, parameters in asked]
+            results = queries.ask_look(self.journal.look(), statements, with_types=True)
+            for result in results:
+                if isinstance(result, Refused):
+                    raise result
+            return [it for it in results if isinstance(it, Answer)]
 
     @property
     def version(self) -> int:
@@ -79,13 +82,13 @@ class Database:
         made it and why; `stamp` is whether the present second is stated first, None where the journal's moments are seconds."""
         return Unit(self, notes.Cause(by, because, "", stamp))
 
-    def put(self, table: str, rows: Iterable[Mapping[str, Value]], by: str = "", because: str = "") -> int:
+    def put(self, table: str, rows: Iterable[Mapping[str, Cell]], by: str = "", because: str = "") -> int:
         """Puts rows, each a value for each column by its name, and gives the version that this made. Raises Refused."""
         with self.unit(by, because) as unit:
             unit.put(table, rows)
         return unit.version
 
-    def remove(self, table: str, keys: Iterable[Mapping[str, Value]], by: str = "", because: str = "") -> int:
+    def remove(self, table: str, keys: Iterable[Mapping[str, Cell]], by: str = "", because: str = "") -> int:
         """Ends the rows of keys, and gives the version that this made. Raises Refused."""
         with self.unit(by, because) as unit:
             unit.remove(table, keys)
@@ -96,7 +99,7 @@ class Database:
         stands for an empty cell. Raises Refused, SourceFault, UsageError where no file can be read there."""
         from . import loads
 
-        with _sheet(path) as sheet:
+        with _advising(), _sheet(path) as sheet:
             return loads.load(self.journal, table, sheet, _cause(by, because, path), missing or {}).version
 
     def sync(self, table: str, path: str | os.PathLike[str], by: str = "", because: str = "",
@@ -105,7 +108,7 @@ class Database:
         differs. Raises Refused, also where more than half of the rows would be ended and `allow_removals` is not given."""
         from . import loads
 
-        with _sheet(path) as sheet:
+        with _advising(), _sheet(path) as sheet:
             synced = loads.sync(self.journal, table, sheet, _cause(by, because, path), {}, keep, allow_removals)
         return synced.outcome.version if synced.outcome is not None else self.version
 
@@ -115,16 +118,31 @@ class Database:
         are where that is not to be found out, as `{"pay": "DECIMAL(2)"}`. Raises Refused, UsageError."""
         from . import loads
 
-        with _sheet(path) as sheet:
+        with _advising(), _sheet(path) as sheet:
             plan = loads.plan(table, sheet, key, valid, kinds or {}, missing or {})
             outcome = loads.import_sheet(self.journal, plan, sheet, _cause(by, because, path))
         return outcome.version
 
     def execute(self, statement: str, by: str = "", because: str = "") -> int:
-        """Makes the commit of a CREATE, MOMENT or FORGET, and gives its version. Raises Refused."""
+        """Makes the commit of a CREATE, MOMENT or FORGET, and gives its version. Raises Refused, also for a question."""
         with self.unit(by, because) as unit:
             unit.execute(statement)
         return unit.version
+
+
+@contextmanager
+def _advising() -> Iterator[None]:
+    """Adds to what is refused in the block what to do about it, where nothing is said of that."""
+    try:
+        yield
+    except Refused as refused:
+        if not refused.advice:
+            from . import explaining
+
+            text, offset = encode(refused.statement), refused.place.offset if refused.place else None
+            case = explaining.text_case(text, offset, refused.kind) if offset is not None else ""
+            refused.advice = explaining.advice(refused.kind, case)
+        raise
 
 
 @contextmanager
@@ -145,11 +163,11 @@ def _cause(by: str, because: str, path: str | os.PathLike[str]) -> notes.Cause:
 
 
 class _Part(NamedTuple):
-    """A statement of a unit, and its block with the names of its columns, where it has one."""
+    """A statement of a unit, and its block with the names of its columns and its cells as people write them, where it has one."""
 
     statement: str
     names: Sequence[str] = ()
-    rows: Sequence[Sequence[Value]] = ()
+    rows: Sequence[Sequence[str]] = ()
 
 
 class Unit:
@@ -167,30 +185,48 @@ class Unit:
             self.commit()
 
     def execute(self, statement: str) -> None:
-        """Adds a statement that has no block."""
-        self._parts.append(_Part(_one(statement).text))
+        """Adds a statement that has no block. Raises Refused for a question, and for a statement with rows."""
+        found = _one(statement)
+        if found.word in _QUESTIONS:
+            raise self._refused("NoCommit", found.text, f"{found.word} is a question, and makes no commit", "Use ask for it.")
+        if found.word in BLOCKS:
+            raise self._refused("NoBlock", found.text, f"{found.word} has rows, and none were given", f"Use {found.word.lower()} of a unit for it.")
+        self._parts.append(_Part(found.text))
 
-    def put(self, table: str, rows: Iterable[Mapping[str, Value]]) -> None:
-        """Adds rows that are put, each a value for each column by its name."""
+    def _refused(self, kind: str, statement: str, sentence: str, advice: str = "") -> Refused:
+        return Refused(kind, statement=statement, place=Place(0), number=len(self._parts) + 1, sentence=sentence, advice=advice)
+
+    def put(self, table: str, rows: Iterable[Mapping[str, Cell]]) -> None:
+        """Adds rows that are put, each a value for each column by its name; None is a valid_to without end. Raises TypeError for what
+        no cell can be, and Refused."""
         self._add(f"PUT {_name(table)}", rows)
 
-    def remove(self, table: str, keys: Iterable[Mapping[str, Value]]) -> None:
+    def remove(self, table: str, keys: Iterable[Mapping[str, Cell]]) -> None:
         """Adds keys whose rows end, by the name of the key's column."""
         self._add(f"REMOVE {_name(table)}", keys)
 
-    def sync(self, table: str, rows: Iterable[Mapping[str, Value]]) -> None:
+    def sync(self, table: str, rows: Iterable[Mapping[str, Cell]]) -> None:
         """Adds rows that are to be all rows of a table."""
         self._add(f"SYNC {_name(table)}", rows)
 
-    def add_block(self, statement: str, names: Sequence[str], rows: Iterable[Sequence[Value]]) -> None:
-        """Adds a statement with a block of rows under the names of their columns."""
-        self._parts.append(_Part(_one(statement).text, tuple(map(_name, names)), [tuple(row) for row in rows]))
+    def add_block(self, statement: str, names: Sequence[str], rows: Iterable[Sequence[Cell]]) -> None:
+        """Adds a statement with a block of rows under the names of their columns. Raises as `put` does."""
+        text, known = _one(statement).text, tuple(map(_name, names))
+        try:
+            spelled = [[_spelled(name, value) for name, value in zip(known, row)] for row in rows]
+        except Refused as refused:
+            refused.statement, refused.number = text, len(self._parts) + 1
+            raise
+        self._parts.append(_Part(text, known, spelled))
 
-    def _add(self, statement: str, rows: Iterable[Mapping[str, Value]]) -> None:
+    def _add(self, statement: str, rows: Iterable[Mapping[str, Cell]]) -> None:
         taken = list(rows)
+        wrong = next((row for row in taken if not isinstance(row, Mapping)), None)
+        if wrong is not None:
+            raise TypeError(f"a row is a dict of values by the names of their columns, and not {type(wrong).__name__}")
         names = tuple(taken[0]) if taken else ()
         if any(tuple(row) != names and set(row) != set(names) for row in taken):
-            raise Refused("FieldCount", statement=statement, sentence="the rows do not have the same columns")
+            raise self._refused("FieldCount", statement, "the rows do not have the same columns")
         if taken:
             self.add_block(statement, names, ([row[name] for name in names] for row in taken))
 
@@ -198,7 +234,8 @@ class Unit:
         """Sends all that was added, which is kept whole, or Refused is raised. A unit without changes makes no version."""
         parts, self._parts = self._parts, []
         if parts:
-            outcome = notes.transact(self._database.journal, "python", lambda unit: _script(unit, parts), self._cause)
+            with _advising():
+                outcome = notes.transact(self._database.journal, "python", lambda unit: _script(unit, parts), self._cause)
             self.version = outcome.version
 
     def rollback(self) -> None:
@@ -207,28 +244,39 @@ class Unit:
 
 
 def _script(unit: notes.Unit, parts: Sequence[_Part]) -> Iterator[bytes]:
-    """The pieces of a unit's statements, with the engine's cells in place of values."""
-    for part in parts:
-        front = unit.begin(part.statement)
-        if part.names:
-            table = part.statement.split()[-1]
-            found = [unit.state.catalog.of(table, name) for name in part.names]
-            rows = [[_cell(value, kind, part.statement) for value, kind in zip(row, found)] for row in part.rows]
-            front += notes.block([part.names, *rows])
-        yield front
+    """The pieces of a unit's statements, with the engine's cells in place of what people write."""
+    for number, part in enumerate(parts, 1):
+        piece = unit.begin(part.statement)
+        try:
+            piece += _block(unit.state.catalog, part) if part.names else b""
+        except Refused as refused:
+            refused.statement, refused.number = part.statement, number
+            raise
+        yield piece
 
 
-def _cell(value: Value, kind: kinds.Kind | None, statement: str) -> str:
-    """The engine's cell of a value. Raises Refused where it is none of its column's kind."""
-    text = _written(value)
+def _block(catalog: kinds.Catalog, part: _Part) -> bytes:
+    """The block of a statement. Raises Refused where a cell is none of its column's kind."""
+    table = part.statement.split()[-1]
+    found = [catalog.of(table, name) for name in part.names]
+    return notes.block([part.names, *([_cell(text, kind) for text, kind in zip(row, found)] for row in part.rows)])
+
+
+def _cell(text: str, kind: kinds.Kind | None) -> str:
+    """The engine's cell for what people write. Raises Refused where it is none of its column's kind."""
     try:
         return kind.cell(text) if kind is not None else text
     except kinds.KindFault as fault:
-        raise Refused(fault.name, statement=statement, sentence=f"{text!r} is no {kind}", advice=fault.advice) from None
+        raise Refused(fault.name, sentence=f"{text!r} is no {kind}", advice=fault.advice) from None
 
 
-def _written(value: Value) -> str:
-    """A value as people write it. TypeError where it is none that a cell can have."""
+def _spelled(name: str, value: Cell) -> str:
+    """A cell of a column as people write it; None is a valid_to without end. Raises as `_written` does."""
+    return kinds.FOREVER if value is None and name == "valid_to" else _written(value)
+
+
+def _written(value: Cell) -> str:
+    """A value as people write it. Raises TypeError where it is none that a cell can have, Refused for parts of a second."""
     if isinstance(value, str):
         return value
     if isinstance(value, int) and not isinstance(value, bool):
@@ -237,39 +285,51 @@ def _written(value: Value) -> str:
     if name == "Decimal":
         return format(value, "f")
     if name == "datetime":
-        return _in_utc(value)
+        return _second(value, is_local=False)
     if name == "date":
         return str(value)
     raise TypeError(f"a cell is an int, a str, a Decimal, a date or a datetime, and not {name}")
 
 
-def _in_utc(value: object) -> str:
-    """A datetime to seconds, in UTC; one without a zone is taken as UTC."""
+def _second(value: object, is_local: bool) -> str:
+    """A datetime as a time in UTC, or in the time zone of the machine; one without a zone is taken to be in it already."""
     import datetime
 
     assert isinstance(value, datetime.datetime)
-    if value.tzinfo is not None:
-        value = value.astimezone(datetime.timezone.utc)
-    return value.strftime("%Y-%m-%dT%H:%M:%S")
+    if value.microsecond:
+        raise Refused("NotTime", sentence=f"a time has whole seconds, and {value} has parts of one",
+                      advice="Leave them out: value.replace(microsecond=0).")
+    if value.tzinfo is None:
+        return value.isoformat()
+    text = value.astimezone(None if is_local else datetime.timezone.utc).replace(tzinfo=None).isoformat()
+    moment = int(value.timestamp())
+    if is_local and days.moment_of("TIME", text) != moment:
+        raise Refused("NoTime", sentence=f"{text} comes twice, as the clocks are put back, and AS OF TIME means the other one",
+                      advice=f"Ask AS OF MOMENT {moment}.")
+    return text
 
 
-def _literal(value: Value) -> str:
+def _literal(value: Value, is_local: bool) -> str:
     """A value as a statement has it: texts, days and times between quotes, numbers bare."""
-    text = _written(value)
-    if type(value).__name__ in ("int", "Decimal"):
-        return text
-    return "'" + text.replace("'", "''") + "'"
+    name = type(value).__name__
+    text = _second(value, is_local) if name == "datetime" else _written(value)
+    return text if name in ("int", "Decimal") else "'" + text.replace("'", "''") + "'"
 
 
 def with_parameters(query: str, parameters: Sequence[Value]) -> str:
     """A query with a literal in place of each `?` outside of texts. Raises Refused where there are more or fewer of them."""
-    parts, left = [], list(parameters)
+    parts, words, left = [], list[str](), list(parameters)
     found = tokens(query)
     if sum(it.text == "?" for it in found) != len(left):
         raise Refused("Parameters", statement=query, place=Place(0),
                       sentence=f"the statement has {sum(it.text == '?' for it in found)} places for parameters, and {len(left)} were given")
     for token in found:
-        parts.append(_literal(left.pop(0)) if token.text == "?" else token.text)
+        try:
+            parts.append(_literal(left.pop(0), words[-3:] == ["AS", "OF", "TIME"]) if token.text == "?" else token.text)
+        except Refused as refused:
+            refused.statement, refused.place = query, Place(token.start)
+            raise
+        words += [] if token.kind == "blank" else [token.text]
     return "".join(parts)
 
 

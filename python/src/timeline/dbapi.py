@@ -250,13 +250,18 @@ class Cursor:
                     raise ProgrammingError("executemany is for statements that make commits")
             return self
         names = [it.strip() for it in found[2].split(",")]
-        rows = [tuple(row) for row in seq_of_parameters]
+        try:
+            rows = [tuple(row) for row in seq_of_parameters]
+        except TypeError as error:
+            raise ProgrammingError(f"each row is a sequence of values: {error}") from error
         if any(len(row) != len(names) for row in rows):
             raise ProgrammingError(f"each row wants {len(names)} values")
         try:
             connection.unit.add_block(found[1], names, rows)
         except errors.TimelineError as error:
             raise _raised(error) from error
+        except TypeError as error:
+            raise DataError(str(error)) from error
         self.description, self.rowcount, self._rows = None, len(rows), None
         return self
 

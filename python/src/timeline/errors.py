@@ -48,7 +48,7 @@ class Refused(TimelineError):
     """A statement, or a sheet, that was refused: nothing of it is kept.
 
     `kind` is the fault's name and `numbers` its numbers, `statement` the text as it was typed, `place` where in it,
-    `number` which statement of the script, from 1, and `version` the version of the journal over which it was refused. `sentence`
+    `number` which statement, from 1, of those that were given (0 is one that the front added), and `version` the version of the journal over which it was refused. `sentence`
     is what the front says of a fault that it found itself, else empty."""
 
     status = REFUSED

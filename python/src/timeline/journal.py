@@ -122,12 +122,14 @@ class Journal:
             raise from_closing(status, _closing_words(b"".join(output)))
 
     def check_writable(self) -> None:
-        """Raises DeviceFault where what has the journal's name is no file."""
+        """Raises DeviceFault where what has the journal's name is no file, or no folder is there for it."""
         import stat
 
         try:
             mode = os.stat(self.path).st_mode
         except OSError:
+            if not os.path.isdir(self.folder):
+                raise DeviceFault(f"{self.folder} is no folder" + ("" if os.path.exists(self.folder) else ": nothing is there")) from None
             return
         if not stat.S_ISREG(mode):
             raise DeviceFault(f"{NAME} is a folder" if stat.S_ISDIR(mode) else f"{NAME} is no file")
@@ -364,8 +366,19 @@ class Run:
 
             threading.Thread(target=given.send, args=(self._process,), daemon=True).start()
         elif given.number is None:
+            self._give(journal)
+
+    def _give(self, journal: Journal) -> None:
+        """Sends the input. Where that raises the program has ended before it goes on, so that it does not keep the lock."""
+        assert self._process.stdout is not None
+        try:
             self._await_lock(journal)
-            given.send(self._process)
+            self._given.send(self._process)
+        except BaseException:
+            self._process.kill()
+            self._process.stdout.close()
+            cleanup.end(self._process)
+            raise
 
     def _await_lock(self, journal: Journal) -> None:
         """Waits until the program has the lock, so that a script may be made of what the journal is then."""

@@ -75,12 +75,14 @@ class Unit:
 
     def __init__(self, session: str, state: State) -> None:
         self.session, self.state, self.version = session, state, state.version
-        self.uses: list[str] = []          # of each statement so far: `own` of the command, else what it is for
+        self.statements: list[str] = []    # each statement so far
+        self.uses: list[str] = []          # of each, `own` of the command, else what it is for
         self.records: list[int] = []       # of each, how many records of a sheet came before its block's
 
     def begin(self, statement: str, use: str = "own", records: int = 0) -> bytes:
         """The line of a statement that makes a commit; its block, where it has one, comes behind it."""
         self.version += 1
+        self.statements.append(statement)
         self.uses.append(use)
         self.records.append(records)
         return encode(f"{self.session}> {statement}\n")
@@ -219,15 +221,21 @@ def joined(pieces: Iterable[bytes]) -> Iterator[bytes]:
 
 
 def _placed(refused: Refused, unit: Unit) -> Refused:
-    """A refusal with the place in the sheet of what the program says of a block, and the version of which nothing is left out."""
+    """A refusal with its statement, its number among the command's own, the place in the sheet, and the version of the journal."""
     from .replies import Fault
 
     refused.version = unit.state.version
     fault = Fault(refused.kind, refused.numbers)
     refused.version = unit.state.version
-    if not 0 < refused.number <= len(unit.uses) or fault.record is None:
+    at = refused.number - 1
+    if not 0 <= at < len(unit.uses):
         return refused
-    record = fault.record + (unit.records[refused.number - 1] if fault.record > 1 else 0)
+    if not refused.sentence:
+        is_own = unit.uses[at] == "own"
+        refused.statement, refused.number = unit.statements[at] if is_own else "", unit.uses[:at + 1].count("own") if is_own else 0
+    if fault.record is None:
+        return refused
+    record = fault.record + (unit.records[at] if fault.record > 1 else 0)
     refused.place = Place(None, record, fault.field)
     if fault.record > 1:
         refused.numbers = (record, *refused.numbers[1:])

@@ -11,11 +11,14 @@ sys.path.insert(0, os.path.dirname(os.path.dirname(os.path.abspath(__file__))))
 
 def newer():
     # type: () -> None
-    """Goes on with a newer python3, where there is one on the path; else says what is wanted, and ends."""
+    """Goes on with a newer python3, where one on the path starts; else says what is wanted, and ends."""
+    import subprocess
+
+    nothing = open(os.devnull, "w")
     for folder in os.environ.get("PATH", os.defpath).split(os.pathsep):
         for number in range(20, 8, -1):
             path = os.path.join(folder, "python3.%d" % number)
-            if os.access(path, os.X_OK):
+            if os.access(path, os.X_OK) and subprocess.call([path, "-c", ""], stdout=nothing, stderr=nothing) == 0:
                 os.execv(path, [path, "-I", "-X", "utf8", os.path.abspath(__file__)] + sys.argv[1:])
     sys.stderr.write("timeline: this is Python %d.%d, and 3.9 or newer is wanted: TIMELINE_PYTHON names one\n" % sys.version_info[:2])
     sys.exit(125)

@@ -91,6 +91,17 @@ def test_links_lead_somewhere():
             judge(f"{document}: the link {link}", "://" in link or os.path.exists(path), "leads nowhere")
 
 
+# What a recipe needs beside the programs, and how to see whether it is there.
+NEEDS = {"sqlite3 ": ["sqlite3", "--version"], "pandas": [sys.executable, "-c", "import pandas"]}
+
+
+def is_there(words):
+    try:
+        return subprocess.run(words, stdout=subprocess.DEVNULL, stderr=subprocess.DEVNULL, check=False).returncode == 0
+    except OSError:
+        return False
+
+
 def bare(printed):
     """What was printed, but for the versions of replies."""
     return re.sub(r"^(\w+) @\d+", r"\1 @V", printed, flags=re.M)
@@ -98,6 +109,9 @@ def bare(printed):
 
 def run_blocks(blocks, wanted):
     """Runs blocks of commands in a folder of their own, and compares what they print."""
+    lacking = [words[0] for part, words in NEEDS.items() if part in "".join(blocks) and not is_there(words)]
+    if lacking:
+        pytest.skip(f"{' '.join(lacking)} is not here")
     with tempfile.TemporaryDirectory(dir=room_for_journals()) as room:
         os.symlink(f"{ROOT}/timeline", f"{room}/timeline")
         os.symlink(f"{ROOT}/examples", f"{room}/examples")

@@ -4,6 +4,7 @@ from __future__ import annotations
 import ast
 import glob
 import os
+import shutil
 import subprocess
 import sys
 from typing import Iterator
@@ -29,6 +30,8 @@ def shell_scripts() -> list[str]:
 
 
 def test_shellcheck_is_quiet_without_switches() -> None:
+    if shutil.which("shellcheck") is None:
+        pytest.skip("shellcheck is not here")
     scripts = shell_scripts()
     assert "timeline" in scripts and ".ci/run" in scripts
     done = subprocess.run(["shellcheck", *scripts], cwd=ROOT, capture_output=True, text=True, check=False)
@@ -36,6 +39,7 @@ def test_shellcheck_is_quiet_without_switches() -> None:
 
 
 def test_types() -> None:
+    pytest.importorskip("mypy")
     words = [sys.executable, "-m", "mypy", "--no-incremental", "--cache-dir", os.devnull, "--config-file", "python/pyproject.toml", "python/src/timeline"]
     done = subprocess.run(words, cwd=ROOT, capture_output=True, text=True, check=False)
     assert done.returncode == 0, done.stdout + done.stderr

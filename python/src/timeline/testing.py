@@ -47,7 +47,7 @@ def test(call: Call) -> int:
     if lacking:
         call.console.say(lacking)
     call.console.say(_counted(results, wrong, time.monotonic() - begun) + f", over programs that are {kinds}")
-    return FAILED if wrong or lost or lacking or not results else 0
+    return FAILED if wrong or lost or not results else 0
 
 
 def _counted(results: dict[str, str], wrong: list[str], seconds: float) -> str:
@@ -139,7 +139,8 @@ def _tell(results: dict[str, str], folder: str, console: Console) -> list[str]:
 
 
 def _needs(console: Console) -> tuple[str, str]:
-    """The python3 that runs the tests, and a line that names what is not here and could not be installed."""
+    """The python3 that runs the tests, and a line that names what is not here and could not be installed: tests that need it
+    are not tried."""
     python = next((it for it in (sys.executable, "/usr/bin/python3") if _has_modules(it, ["pytest"])), "/usr/bin/python3")
     lacking = _lacking(python)
     if lacking and os.geteuid() == 0 and shutil.which("apt-get"):

@@ -26,11 +26,11 @@ use Rattle.tl_batch.specs.Faults.{fault_from}
 use Rattle.tl_batch.specs.Made.{change_by, unless_fault, made_by, change_made, committed, floor_set, rows_fit_found, AreWithin, IsMade}
 use Rattle.tl_batch.specs.Pieces.{affected_ids, old_pieces, put_pieces}
 use Rattle.tl_batch.specs.declared.changing.RowChanges.{RowChanges}
-use Rattle.tl_batch.specs.KeyIndex.{IdsByKey, has_row}
-use Rattle.tl_batch.specs.Standing.{StandFor, table_has, rows_match}
+use Rattle.tl_batch.specs.KeyIndex.{IdsByKey}
+use Rattle.tl_batch.specs.Standing.{StandFor, IsIndexIfMade, IsIndexOfTable, index_at, rows_match}
 use Rattle.tl_batch.specs.Lines.{lines_of, line_of_row}
 use Rattle.tl_batch.proofs.ChangeLemmas.{affected_ids-ascend}
-use Rattle.tl_batch.proofs.FollowLemmas.{index_there, cells_number}
+use Rattle.tl_batch.proofs.FollowLemmas.{cells_number}
 use Rattle.tl_batch.proofs.ResolvedLemmas.{change-fault, change-full, change-made, change-fits}
 
 -- A NEW TABLE
@@ -58,6 +58,10 @@ found_now commits lent given name number store same e =
     (sym (e ∙ (ap (λ n. option_map (λ (found : ℕ × plain.Table). found.0) (find_table n (database_of lent).tables)) same
     ∙ ap (λ cs. option_map (λ (found : ℕ × plain.Table). found.0) (find_table name (database_of cs).tables)) store)))
 
+-- the table that was found
+pub found_there : (commits : List Commit) (found : Option ℕ) (name : List ℕ) (number : ℕ) → found ≡ option_map (λ f. f.0) (find_table name (database_of commits).tables) → Some number ≡ found → IsFound (database_of commits) name number
+found_there commits found name number is e = table_found (database_of commits) name number (sym (e ∙ is))
+
 -- a store that was lent has room for a commit
 pub room_now : (commits lent : List Commit) (versions : ℕ) (full : Bool) → lent ≡ commits → full ≡ nat_le versions (database_of lent).version → full ≡ false → (database_of commits).version < versions
 room_now commits lent versions full store e none = grind arith
@@ -71,8 +75,8 @@ named-match db name number lines n m = grind (arith, found-match db name number 
 
 -- THE TABLE THAT KEYS STAND FOR
 
-pub ids_there : (keys : List IdsByKey) (db : plain.Database) (number : ℕ) (index : IdsByKey) → StandFor keys db → number < length db.tables → index ≡ get_or keys number index → (x : Cell) (n : ℕ) → has_row index x n ≡ table_has (slice_get db.tables number) x n
-ids_there keys db number index s within is x n = grind (arith, index_there keys number index (omega arith) is)
+pub ids_there : (keys : List (Option IdsByKey)) (db : plain.Database) (number : ℕ) (index : IdsByKey) → StandFor keys db → Some index ≡ index_at keys number → IsIndexOfTable index (slice_get db.tables number)
+ids_there keys db number index s is = subst (λ (o : Option IdsByKey). IsIndexIfMade o (slice_get db.tables number)) (sym is) (s.ids number)
 
 -- what is made at the table that was found
 pub made_at : (tables : List plain.Table) (number limit : ℕ) (removes : Bool) (t : plain.Table) (lines : plain.Schema → List BatchLine) (made : Result plain.Change BatchFault) → Some t ≡ slice_get tables number → made ≡ made_by limit number removes t.schema t.rows (lines t.schema)

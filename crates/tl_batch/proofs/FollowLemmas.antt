@@ -14,10 +14,9 @@ use Rattle.tl_types.specs.declared.commits.Body.TheVariants as body
 use Rattle.tl_types.specs.Plain as plain
 use Rattle.tl_types.specs.History.{open_end, with_ids, row_after, new_row, new_table, table_after, at_place, with_floor, after_commit, nothing, matches, match_columns, is_of_kind, rows_of, is_open_at, fits_body, has_id}
 use Rattle.tl_types.proofs.Lists.{length-at_place, get-at_place-unseen}
-use Rattle.tl_batch.specs.KeyIndex.{IdsByKey, has_row, no_ids}
-use Rattle.tl_batch.specs.Standing.{opens_with, has_key, is_open_with, table_has, rows_match, index_at, StandFor, after_doing}
+use Rattle.tl_batch.specs.KeyIndex.{IdsByKey, has_row}
+use Rattle.tl_batch.specs.Standing.{opens_with, has_key, is_open_with, table_has, rows_match, index_at, is_made, IsIndexIfMade, IsIndexOfTable, StandFor, after_doing}
 use Rattle.tl_batch.proofs.IndexedRows.{opens_from}
-use Rattle.tl_batch.proofs.KeyIndexLemmas.{none_in}
 
 -- ONE TABLE
 
@@ -111,18 +110,18 @@ match_after version change t opened all = all_joined (λ r. matches t.schema (re
 
 -- no table
 pub stands_empty : StandFor [] nothing
-stands_empty = record { tables = refl; ids = λ table x id. none_in x id; matching = λ table. refl }
+stands_empty = record { tables = refl; ids = λ table. tt; matching = λ table. refl }
 
 -- a table more
-table_more : (keys : List IdsByKey) (fresh : IdsByKey) (tables : List plain.Table) (schema : plain.Schema) → length keys ≡ length tables → ((x : Cell) (n : ℕ) → has_row fresh x n ≡ false)
-    → ((t : ℕ) (x : Cell) (id : ℕ) → has_row (index_at keys t) x id ≡ table_has (slice_get tables t) x id)
-    → (t : ℕ) (x : Cell) (id : ℕ) → has_row (index_at (keys ++ fresh ∷ []) t) x id ≡ table_has (slice_get (tables ++ new_table schema ∷ []) t) x id
-table_more [] fresh [] schema same none old zero x id = none x id
-table_more [] fresh [] schema same none old (suc t) x id = none_in x id
-table_more [] fresh (s ∷ tables) schema same none old t x id = absurd (omega (arith, same))
-table_more (k ∷ keys) fresh [] schema same none old t x id = absurd (omega (arith, same))
-table_more (k ∷ keys) fresh (s ∷ tables) schema same none old zero x id = old zero x id
-table_more (k ∷ keys) fresh (s ∷ tables) schema same none old (suc t) x id = table_more keys fresh tables schema (omega (arith, same)) none (λ u y n. old (suc u) y n) t x id
+table_more : (keys : List (Option IdsByKey)) (tables : List plain.Table) (schema : plain.Schema) → length keys ≡ length tables
+    → ((t : ℕ) → IsIndexIfMade (index_at keys t) (slice_get tables t))
+    → (t : ℕ) → IsIndexIfMade (index_at (keys ++ None ∷ []) t) (slice_get (tables ++ new_table schema ∷ []) t)
+table_more [] [] schema same old zero = tt
+table_more [] [] schema same old (suc t) = tt
+table_more [] (s ∷ tables) schema same old t = absurd (omega (arith, same))
+table_more (k ∷ keys) [] schema same old t = absurd (omega (arith, same))
+table_more (k ∷ keys) (s ∷ tables) schema same old zero = old zero
+table_more (k ∷ keys) (s ∷ tables) schema same old (suc t) = table_more keys tables schema (omega (arith, same)) (λ u. old (suc u)) t
 
 match_more : (tables : List plain.Table) (schema : plain.Schema) → ((t : ℕ) → rows_match (slice_get tables t) ≡ true) → (t : ℕ) → rows_match (slice_get (tables ++ new_table schema ∷ []) t) ≡ true
 match_more [] schema old zero = refl
@@ -130,33 +129,43 @@ match_more [] schema old (suc t) = refl
 match_more (s ∷ tables) schema old zero = old zero
 match_more (s ∷ tables) schema old (suc t) = match_more tables schema (λ u. old (suc u)) t
 
-pub stands_created : (keys : List IdsByKey) (fresh : IdsByKey) (db : plain.Database) (author : ℕ) (schema : plain.Schema) → StandFor keys db → ((x : Cell) (n : ℕ) → has_row fresh x n ≡ false)
-    → StandFor (keys ++ fresh ∷ []) (after_commit db (record { author = author; body = body.Create schema }))
-stands_created keys fresh db author schema old none = record {
-  tables = length-append keys (fresh ∷ []) ∙ (ap (λ n. n + 1) old.tables ∙ sym (length-append db.tables (new_table schema ∷ [])));
-  ids = table_more keys fresh db.tables schema old.tables none old.ids;
+pub stands_created : (keys : List (Option IdsByKey)) (db : plain.Database) (author : ℕ) (schema : plain.Schema) → StandFor keys db
+    → StandFor (keys ++ None ∷ []) (after_commit db (record { author = author; body = body.Create schema }))
+stands_created keys db author schema old = record {
+  tables = length-append keys (None ∷ []) ∙ (ap (λ n. n + 1) old.tables ∙ sym (length-append db.tables (new_table schema ∷ [])));
+  ids = table_more keys db.tables schema old.tables old.ids;
   matching = match_more db.tables schema old.matching;
 }
 
-pub stands_more : (keys new : List IdsByKey) (fresh : IdsByKey) (db : plain.Database) (schema : plain.Schema) (b : Body) → StandFor keys db → fresh ≡ no_ids → new ≡ keys ++ fresh ∷ [] → b ≡ body.Create schema
+pub stands_more : (keys new : List (Option IdsByKey)) (db : plain.Database) (schema : plain.Schema) (b : Body) → StandFor keys db → new ≡ keys ++ None ∷ [] → b ≡ body.Create schema
     → StandFor new (after_doing db b)
-stands_more keys new fresh db schema b old none made is =
+stands_more keys new db schema b old made is =
     subst (λ (q : Body). StandFor new (after_doing db q)) (sym is)
-    (subst (λ (ks : List IdsByKey). StandFor ks (after_doing db (body.Create schema))) (sym made)
-    (stands_created keys fresh db 0 schema old (λ x n. ap (λ (ids : IdsByKey). has_row ids x n) none ∙ none_in x n)))
+    (subst (λ (ks : List (Option IdsByKey)). StandFor ks (after_doing db (body.Create schema))) (sym made)
+    (stands_created keys db 0 schema old))
+
+-- the table more has no ids that are made
+none_more : (keys : List (Option IdsByKey)) (t : ℕ) → is_made (keys ++ None ∷ []) t ≡ is_made keys t
+none_more [] zero = refl
+none_more [] (suc t) = refl
+none_more (k ∷ keys) zero = refl
+none_more (k ∷ keys) (suc t) = none_more keys t
+
+pub made_more : (keys new : List (Option IdsByKey)) → new ≡ keys ++ None ∷ [] → (t : ℕ) → is_made new t ≡ is_made keys t
+made_more keys new made t = ap (λ (ks : List (Option IdsByKey)). is_made ks t) made ∙ none_more keys t
 
 -- a table changed
-table_changed : (keys : List IdsByKey) (at : ℕ) (index : IdsByKey) (tables : List plain.Table) (f : plain.Table → plain.Table) → length keys ≡ length tables
-    → ((t : plain.Table) → slice_get tables at ≡ Some t → (x : Cell) (n : ℕ) → has_row index x n ≡ table_has (Some (f t)) x n)
-    → ((t : ℕ) (x : Cell) (id : ℕ) → has_row (index_at keys t) x id ≡ table_has (slice_get tables t) x id)
-    → (t : ℕ) (x : Cell) (id : ℕ) → has_row (index_at (slice_set keys at index) t) x id ≡ table_has (slice_get (at_place at f tables) t) x id
-table_changed [] at index [] f same here old t x id = none_in x id
-table_changed [] at index (s ∷ tables) f same here old t x id = absurd (omega (arith, same))
-table_changed (k ∷ keys) at index [] f same here old t x id = absurd (omega (arith, same))
-table_changed (k ∷ keys) zero index (s ∷ tables) f same here old zero x id = here s refl x id
-table_changed (k ∷ keys) zero index (s ∷ tables) f same here old (suc t) x id = old (suc t) x id
-table_changed (k ∷ keys) (suc at) index (s ∷ tables) f same here old zero x id = old zero x id
-table_changed (k ∷ keys) (suc at) index (s ∷ tables) f same here old (suc t) x id = table_changed keys at index tables f (omega (arith, same)) here (λ u y n. old (suc u) y n) t x id
+table_changed : (keys : List (Option IdsByKey)) (at : ℕ) (index : Option IdsByKey) (tables : List plain.Table) (f : plain.Table → plain.Table) → length keys ≡ length tables
+    → IsIndexIfMade index (slice_get (at_place at f tables) at)
+    → ((t : ℕ) → IsIndexIfMade (index_at keys t) (slice_get tables t))
+    → (t : ℕ) → IsIndexIfMade (index_at (slice_set keys at index) t) (slice_get (at_place at f tables) t)
+table_changed [] at index [] f same here old t = tt
+table_changed [] at index (s ∷ tables) f same here old t = absurd (omega (arith, same))
+table_changed (k ∷ keys) at index [] f same here old t = absurd (omega (arith, same))
+table_changed (k ∷ keys) zero index (s ∷ tables) f same here old zero = here
+table_changed (k ∷ keys) zero index (s ∷ tables) f same here old (suc t) = old (suc t)
+table_changed (k ∷ keys) (suc at) index (s ∷ tables) f same here old zero = old zero
+table_changed (k ∷ keys) (suc at) index (s ∷ tables) f same here old (suc t) = table_changed keys at index tables f (omega (arith, same)) here (λ u. old (suc u)) t
 
 place_length : (at : ℕ) (tables : List plain.Table) (f : plain.Table → plain.Table) → length (at_place at f tables) ≡ length tables
 place_length at [] f = refl
@@ -171,33 +180,38 @@ match_changed zero (s ∷ tables) f here old (suc t) = old (suc t)
 match_changed (suc at) (s ∷ tables) f here old zero = old zero
 match_changed (suc at) (s ∷ tables) f here old (suc t) = match_changed at tables f here (λ u. old (suc u)) t
 
--- the keys after a change of a table that is there
-pub stands_changed : (keys new : List IdsByKey) (index : IdsByKey) (db : plain.Database) (author : ℕ) (change : plain.Change) (t : plain.Table) → StandFor keys db
-    → slice_get db.tables change.table ≡ Some t → list_all (matches t.schema) change.opens ≡ true → new ≡ slice_set keys change.table index
-    → ((x : Cell) (n : ℕ) → has_row index x n ≡ is_open_with t.schema.key x (slice_get (table_after (db.version + 1) change t).rows n))
-    → StandFor new (after_commit db (record { author = author; body = body.Change change }))
-stands_changed keys new index db author change t old found opened made here = record {
-  tables = ap length made ∙ (length-set keys change.table index ∙ (old.tables ∙ sym (place_length change.table db.tables (table_after (db.version + 1) change))));
-  ids = λ u x n. ap (λ ks. has_row (index_at ks u) x n) made ∙ table_changed keys change.table index db.tables (table_after (db.version + 1) change) old.tables one old.ids u x n;
-  matching = match_changed change.table db.tables (table_after (db.version + 1) change) matched old.matching;
-} where
+-- each row matches after a change of a table that is there
+match_there : (db : plain.Database) (change : plain.Change) (t : plain.Table) → ((u : ℕ) → rows_match (slice_get db.tables u) ≡ true)
+    → slice_get db.tables change.table ≡ Some t → list_all (matches t.schema) change.opens ≡ true
+    → (u : ℕ) → rows_match (slice_get (at_place change.table (table_after (db.version + 1) change) db.tables) u) ≡ true
+match_there db change t old found opened = match_changed change.table db.tables (table_after (db.version + 1) change) matched old where
   only : (s : plain.Table) → slice_get db.tables change.table ≡ Some s → s ≡ t
   only s e = ap (λ (o : Option plain.Table). unwrap_or o t) (sym e ∙ found)
 
-  one : (s : plain.Table) → slice_get db.tables change.table ≡ Some s → (x : Cell) (n : ℕ) → has_row index x n ≡ table_has (Some (table_after (db.version + 1) change s)) x n
-  one s e x n = grind (arith, only s e)
-
   matched : (s : plain.Table) → slice_get db.tables change.table ≡ Some s → rows_match (Some (table_after (db.version + 1) change s)) ≡ true
-  matched s e = grind (arith, only s e, match_after (db.version + 1) change t opened (ap rows_match (sym found) ∙ old.matching change.table))
+  matched s e = grind (arith, only s e, match_after (db.version + 1) change t opened (ap rows_match (sym found) ∙ old change.table))
 
 -- a commit that changes no row leaves them as they are
-pub stands_stated : (keys : List IdsByKey) (db : plain.Database) (moment : ℤ) (b : Body) → StandFor keys db → b ≡ body.Moment moment → StandFor keys (after_doing db b)
+pub stands_stated : (keys : List (Option IdsByKey)) (db : plain.Database) (moment : ℤ) (b : Body) → StandFor keys db → b ≡ body.Moment moment → StandFor keys (after_doing db b)
 stands_stated keys db moment b old is = subst (λ (q : Body). StandFor keys (after_doing db q)) (sym is) (record { tables = old.tables; ids = old.ids; matching = old.matching })
 
-pub stands_floored : (keys : List IdsByKey) (db : plain.Database) (number floor : ℕ) (b : Body) → StandFor keys db → b ≡ body.Forget number floor → StandFor keys (after_doing db b)
+-- another floor changes nothing of the rows
+floored : (keys : List (Option IdsByKey)) (at floor : ℕ) (tables : List plain.Table) → length keys ≡ length tables
+    → ((t : ℕ) → IsIndexIfMade (index_at keys t) (slice_get tables t))
+    → (t : ℕ) → IsIndexIfMade (index_at keys t) (slice_get (at_place at (with_floor floor) tables) t)
+floored [] at floor [] same old t = tt
+floored [] at floor (s ∷ tables) same old t = absurd (omega (arith, same))
+floored (k ∷ keys) at floor [] same old t = absurd (omega (arith, same))
+floored (None ∷ keys) zero floor (s ∷ tables) same old zero = tt
+floored (Some k ∷ keys) zero floor (s ∷ tables) same old zero = old zero
+floored (k ∷ keys) zero floor (s ∷ tables) same old (suc t) = old (suc t)
+floored (k ∷ keys) (suc at) floor (s ∷ tables) same old zero = old zero
+floored (k ∷ keys) (suc at) floor (s ∷ tables) same old (suc t) = floored keys at floor tables (omega (arith, same)) (λ u. old (suc u)) t
+
+pub stands_floored : (keys : List (Option IdsByKey)) (db : plain.Database) (number floor : ℕ) (b : Body) → StandFor keys db → b ≡ body.Forget number floor → StandFor keys (after_doing db b)
 stands_floored keys db number floor b old is = subst (λ (q : Body). StandFor keys (after_doing db q)) (sym is) (record {
   tables = old.tables ∙ sym (length-at_place number (with_floor floor) db.tables);
-  ids = λ table x id. old.ids table x id ∙ sym (get-at_place-unseen (λ o. table_has o x id) (with_floor floor) (λ t. refl) db.tables number table);
+  ids = floored keys number floor db.tables old.tables old.ids;
   matching = λ table. get-at_place-unseen rows_match (with_floor floor) (λ t. refl) db.tables number table ∙ old.matching table;
 })
 
@@ -256,55 +270,119 @@ fitting-keyed db change f schema place e h among = λ k d l.
     omega arith
 
 -- the index at a place
-pub index_there : (keys : List IdsByKey) (n : ℕ) (index : IdsByKey) → n < length keys → index ≡ get_or keys n index → index_at keys n ≡ index
-index_there keys n index h e = ap (λ (o : Option IdsByKey). unwrap_or o no_ids) (slice_get_read keys (length keys) n index refl h e)
+pub index_there : (keys : List (Option IdsByKey)) (n : ℕ) (index : Option IdsByKey) → n < length keys → index ≡ get_or keys n index → index_at keys n ≡ index
+index_there keys n index h e = ap (λ (o : Option (Option IdsByKey)). unwrap_or o None) (slice_get_read keys (length keys) n index refl h e)
 
--- what they were before the change
-pub fitting-index : (keys : List IdsByKey) (db : plain.Database) (change : plain.Change) (f : Fitting db change) (index : IdsByKey) → StandFor keys db → index ≡ get_or keys change.table index
-    → (x : Cell) (n : ℕ) → has_row index x n ≡ is_open_with f.table.schema.key x (slice_get f.table.rows n)
-fitting-index keys db change f index old is x n =
+-- what stands at the place of a change that fits
+pub fitting-there : (keys : List (Option IdsByKey)) (db : plain.Database) (change : plain.Change) (index : Option IdsByKey) → Fitting db change → StandFor keys db → index ≡ get_or keys change.table index
+    → IsIndexIfMade index (slice_get db.tables change.table)
+fitting-there keys db change index f old is =
     let within = fitting-within db change f in
     let same = old.tables in
     let here : index_at keys change.table ≡ index = index_there keys change.table index (omega arith) is in
-    ap (λ ss. has_row ss x n) (sym here) ∙ (old.ids change.table x n ∙ ap (λ o. table_has o x n) f.at)
+    subst (λ (o : Option IdsByKey). IsIndexIfMade o (slice_get db.tables change.table)) here (old.ids change.table)
 
-pub fitting-below : (keys : List IdsByKey) (db : plain.Database) (change : plain.Change) (f : Fitting db change) (index : IdsByKey) (first : ℕ) → StandFor keys db → index ≡ get_or keys change.table index → first ≡ length (rows_of db change.table)
+-- what the ids by key were before the change
+pub fitting-index : (db : plain.Database) (change : plain.Change) (f : Fitting db change) (index : IdsByKey) → IsIndexOfTable index (slice_get db.tables change.table)
+    → (x : Cell) (n : ℕ) → has_row index x n ≡ is_open_with f.table.schema.key x (slice_get f.table.rows n)
+fitting-index db change f index is x n = is x n ∙ ap (λ o. table_has o x n) f.at
+
+pub fitting-below : (db : plain.Database) (change : plain.Change) (f : Fitting db change) (index : IdsByKey) (first : ℕ) → IsIndexOfTable index (slice_get db.tables change.table) → first ≡ length (rows_of db change.table)
     → (x : Cell) (n : ℕ) → first ≤ n → has_row index x n ≡ false
-fitting-below keys db change f index first old is number x n h =
+fitting-below db change f index first is number x n h =
     let rows = ap length (fitting-rows db change f) in
-    fitting-index keys db change f index old is x n ∙ ap (is_open_with f.table.schema.key x) (slice_get_past f.table.rows n (omega arith))
+    fitting-index db change f index is x n ∙ ap (is_open_with f.table.schema.key x) (slice_get_past f.table.rows n (omega arith))
 
--- the keys after the change
-pub fitting-after : (keys : List IdsByKey) (db : plain.Database) (change : plain.Change) (f : Fitting db change) (index : IdsByKey) (closing : Cell → ℕ → Bool) (new : IdsByKey) (place first : ℕ) → StandFor keys db → db.version < 16777215 → index ≡ get_or keys change.table index
+-- ids by key that have not changed
+pub index_kept : (index new : IdsByKey) (t : Option plain.Table) → IsIndexOfTable index t → ((x : Cell) (n : ℕ) → has_row new x n ≡ has_row index x n) → IsIndexOfTable new t
+index_kept index new t is same = λ x n. same x n ∙ is x n
+
+-- the table after a change, at its place
+changed_at : (tables : List plain.Table) (at : ℕ) (f : plain.Table → plain.Table) (t : plain.Table) → slice_get tables at ≡ Some t → slice_get (at_place at f tables) at ≡ Some (f t)
+changed_at [] at f t e = absurd (cc)
+changed_at (s ∷ tables) zero f t e = let same : s ≡ t = cc in ap (λ u. Some (f u)) same
+changed_at (s ∷ tables) (suc at) f t e = changed_at tables at f t e
+
+-- the ids by key after the change
+pub fitting-after : (db : plain.Database) (change : plain.Change) (f : Fitting db change) (index : IdsByKey) (closing : Cell → ℕ → Bool) (new : IdsByKey) (place first : ℕ) → db.version < 16777215 → IsIndexOfTable index (slice_get db.tables change.table)
     → first ≡ length (rows_of db change.table) → place ≡ f.table.schema.key
     → ((x : Cell) (n : ℕ) → closing x n ≡ (has_id change.closes n && has_key place x (slice_get (rows_of db change.table) n)))
     → ((x : Cell) (n : ℕ) → has_row new x n ≡ (not (closing x n) && (opens_with place first change.opens x n || has_row index x n)))
-    → StandFor (slice_set keys change.table new) (after_doing db (body.Change change))
-fitting-after keys db change f index closing new place first old version is number at gone left =
-    stands_changed keys (slice_set keys change.table new) new db 0 change f.table old f.at f.opened refl (λ x n.
-    new_after (db.version + 1) change f.table index closing new apart f.current (fitting-index keys db change f index old is)
+    → IsIndexOfTable new (slice_get (after_doing db (body.Change change)).tables change.table)
+fitting-after db change f index closing new place first version is number at gone left = λ x n.
+    new_after (db.version + 1) change f.table index closing new apart f.current (fitting-index db change f index is)
     (λ y m. gone y m ∙ (ap (λ p. has_id change.closes m && has_key p y (slice_get (rows_of db change.table) m)) at ∙ ap (λ rs. has_id change.closes m && has_key f.table.schema.key y (slice_get rs m)) rows))
-    (λ y m. left y m ∙ (ap (λ p. not (closing y m) && (opens_with p first change.opens y m || has_row index y m)) at ∙ ap (λ q. not (closing y m) && (opens_with f.table.schema.key q change.opens y m || has_row index y m)) (number ∙ ap length rows))) x n) where
+    (λ y m. left y m ∙ (ap (λ p. not (closing y m) && (opens_with p first change.opens y m || has_row index y m)) at ∙ ap (λ q. not (closing y m) && (opens_with f.table.schema.key q change.opens y m || has_row index y m)) (number ∙ ap length rows))) x n
+    ∙ sym (ap (λ o. table_has o x n) (changed_at db.tables change.table (table_after (db.version + 1) change) f.table f.at)) where
       rows : rows_of db change.table ≡ f.table.rows
       rows = fitting-rows db change f
 
       apart : nat_eq (db.version + 1) open_end ≡ false
       apart = grind arith
 
--- an index that is the same at a place
-pub stands_same : (keys : List IdsByKey) (db : plain.Database) (at : ℕ) (index new : IdsByKey) → StandFor keys db → at < length keys → index ≡ get_or keys at index → ((x : Cell) (n : ℕ) → has_row new x n ≡ has_row index x n)
-    → StandFor (slice_set keys at new) db
-stands_same keys db at index new old within is same = record {
-  tables = length-set keys at new ∙ old.tables;
-  ids = λ t x n. set_same keys at new (λ y m. same y m ∙ ap (λ ss. has_row ss y m) (sym (index_there keys at index within is))) t x n ∙ old.ids t x n;
+-- the keys after the change
+pub fitting-stands : (keys new : List (Option IdsByKey)) (db : plain.Database) (change : plain.Change) (index : Option IdsByKey) → Fitting db change → StandFor keys db → new ≡ slice_set keys change.table index
+    → IsIndexIfMade index (slice_get (after_doing db (body.Change change)).tables change.table)
+    → StandFor new (after_doing db (body.Change change))
+fitting-stands keys new db change index f old made is = subst (λ (ks : List (Option IdsByKey)). StandFor ks (after_doing db (body.Change change))) (sym made) (record {
+  tables = length-set keys change.table index ∙ (old.tables ∙ sym (place_length change.table db.tables (table_after (db.version + 1) change)));
+  ids = table_changed keys change.table index db.tables (table_after (db.version + 1) change) old.tables is old.ids;
+  matching = match_there db change f.table old.matching f.at f.opened;
+})
+
+-- another index at a place, for the same tables
+index_set : (keys : List (Option IdsByKey)) (at : ℕ) (index : Option IdsByKey) (tables : List plain.Table) → IsIndexIfMade index (slice_get tables at)
+    → ((t : ℕ) → IsIndexIfMade (index_at keys t) (slice_get tables t))
+    → (t : ℕ) → IsIndexIfMade (index_at (slice_set keys at index) t) (slice_get tables t)
+index_set [] at index tables is old t = tt
+index_set (k ∷ keys) zero index tables is old zero = is
+index_set (k ∷ keys) zero index tables is old (suc t) = old (suc t)
+index_set (k ∷ keys) (suc at) index tables is old zero = old zero
+index_set (k ∷ keys) (suc at) index [] is old (suc t) = index_set keys at index [] is (λ u. old (suc u)) t
+index_set (k ∷ keys) (suc at) index (s ∷ tables) is old (suc t) = index_set keys at index tables is (λ u. old (suc u)) t
+
+pub stands_set : (keys new : List (Option IdsByKey)) (db : plain.Database) (at : ℕ) (index : Option IdsByKey) → StandFor keys db → new ≡ slice_set keys at index → IsIndexIfMade index (slice_get db.tables at) → StandFor new db
+stands_set keys new db at index old made is = subst (λ (ks : List (Option IdsByKey)). StandFor ks db) (sym made) (record {
+  tables = length-set keys at index ∙ old.tables;
+  ids = index_set keys at index db.tables is old.ids;
   matching = old.matching;
-} where
-  set_same : (keys : List IdsByKey) (at : ℕ) (new : IdsByKey) → ((x : Cell) (n : ℕ) → has_row new x n ≡ has_row (index_at keys at) x n) → (t : ℕ) (x : Cell) (n : ℕ) → has_row (index_at (slice_set keys at new) t) x n ≡ has_row (index_at keys t) x n
-  set_same [] at new e t x n = refl
-  set_same (k ∷ keys) zero new e zero x n = e x n
-  set_same (k ∷ keys) zero new e (suc t) x n = refl
-  set_same (k ∷ keys) (suc at) new e zero x n = refl
-  set_same (k ∷ keys) (suc at) new e (suc t) x n = set_same keys at new e t x n
+})
+
+-- what is made once the index at a place is another
+set_at : (keys : List (Option IdsByKey)) (at : ℕ) (index : Option IdsByKey) → at < length keys → index_at (slice_set keys at index) at ≡ index
+set_at [] at index h = absurd (omega arith)
+set_at (k ∷ keys) zero index h = refl
+set_at (k ∷ keys) (suc at) index h = set_at keys at index (omega arith)
+
+made_set : (keys : List (Option IdsByKey)) (at : ℕ) (index : Option IdsByKey) → (is_made keys at ≡ true → is_some index ≡ true) → (t : ℕ) → is_made keys t ≡ true → is_made (slice_set keys at index) t ≡ true
+made_set [] at index some t e = e
+made_set (k ∷ keys) zero index some zero e = some e
+made_set (k ∷ keys) zero index some (suc t) e = e
+made_set (k ∷ keys) (suc at) index some zero e = e
+made_set (k ∷ keys) (suc at) index some (suc t) e = made_set keys at index some t e
+
+pub made_there : (keys new : List (Option IdsByKey)) (at : ℕ) (index : IdsByKey) → new ≡ slice_set keys at (Some index) → at < length keys → is_made new at ≡ true
+made_there keys new at index made h = ap (λ (ks : List (Option IdsByKey)). is_made ks at) made ∙ ap (λ (o : Option IdsByKey). is_some o) (set_at keys at (Some index) h)
+
+pub made_still : (keys new : List (Option IdsByKey)) (at : ℕ) (index : IdsByKey) → new ≡ slice_set keys at (Some index) → (t : ℕ) → is_made keys t ≡ true → is_made new t ≡ true
+made_still keys new at index made t e = ap (λ (ks : List (Option IdsByKey)). is_made ks t) made ∙ made_set keys at (Some index) (λ h. refl) t e
+
+made_same : (keys : List (Option IdsByKey)) (at : ℕ) (index : Option IdsByKey) → at < length keys → is_some index ≡ is_made keys at → (t : ℕ) → is_made (slice_set keys at index) t ≡ is_made keys t
+made_same [] at index h e t = absurd (omega arith)
+made_same (k ∷ keys) zero index h e zero = e
+made_same (k ∷ keys) zero index h e (suc t) = refl
+made_same (k ∷ keys) (suc at) index h e zero = refl
+made_same (k ∷ keys) (suc at) index h e (suc t) = made_same keys at index (omega arith) e t
+
+-- an index that follows is made where it was
+pub fitting-made : (keys new : List (Option IdsByKey)) (db : plain.Database) (change : plain.Change) (index later : Option IdsByKey) → Fitting db change → StandFor keys db → index ≡ get_or keys change.table index → new ≡ slice_set keys change.table later
+    → is_some later ≡ is_some index → (t : ℕ) → is_made new t ≡ is_made keys t
+fitting-made keys new db change index later f old is made same t =
+    let within = fitting-within db change f in
+    let as_many = old.tables in
+    let h : change.table < length keys = omega arith in
+    let here : index_at keys change.table ≡ index = index_there keys change.table index h is in
+    ap (λ (ks : List (Option IdsByKey)). is_made ks t) made ∙ made_same keys change.table later h (same ∙ ap (λ (o : Option IdsByKey). is_some o) (sym here)) t
 
 -- what holds anyway holds of a result
 pub on_err : {T F : Type 0} (P : Type 0) (r : Result T F) → P → OnErr r P

@@ -25,6 +25,7 @@ pub mod OpeningLemmas
 pub mod OverlapFaults
 pub mod OverlapLemmas
 pub mod FlagLemmas
+pub mod MakingLemmas
 pub mod MatchingLemmas
 pub mod MetLemmas
 pub mod RemovalLemmas

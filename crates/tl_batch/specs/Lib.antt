@@ -1,6 +1,7 @@
 pub mod KeyIndex
 pub mod ClosedRows
 pub mod Standing
+pub mod Making
 pub mod OpenTables
 pub mod Untimed
 pub mod Pieces

@@ -1,11 +1,22 @@
 -- A table of a store, and the ids of its open rows by their keys.
-use Rattle.std.specs.Prelude.{◌≡◌, ℕ, true, List, Some, slice_get, unwrap_or}
+use Rattle.std.specs.Prelude.{◌≡◌, ℕ, true, List, Option, Some, IfSome, slice_get, unwrap_or}
 use Rattle.tl_types.specs.declared.cells.Cell.{Cell}
 use Rattle.tl_types.specs.declared.commits.Commit.{Commit}
 use Rattle.tl_types.specs.Plain as plain
 use Rattle.tl_types.specs.History.{database_of, new_table}
 use Rattle.tl_batch.specs.KeyIndex.{IdsByKey, has_row}
-use Rattle.tl_batch.specs.Standing.{is_open_with, rows_match}
+use Rattle.tl_batch.specs.Standing.{StandFor, is_made, is_open_with, rows_match}
+
+-- the commits of a store, and the number of the table that was found, where one was
+pub record FoundTables : Type 0 where
+  pub commits : List Commit
+  pub found : Option ℕ
+
+-- the keys stand for the store, and the ids by key of the table that was found are made
+pub record AreFound (commits : List Commit) (keys : List (Option IdsByKey)) (found : Option ℕ)
+    : Type 0 where
+  pub stand : StandFor keys (database_of commits)
+  pub made : IfSome found (λ number. is_made keys number ≡ true)
 
 -- the table with a number, which has this schema
 abbrev pub table_at : List Commit → ℕ → plain.Schema → plain.Table

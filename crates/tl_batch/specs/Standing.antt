@@ -1,12 +1,14 @@
 -- The open rows of each key of the tables.
-use Rattle.std.specs.Prelude.{◌≡◌, ℕ, ◌+◌, Bool, true, false, ◌&&◌, ◌||◌, ◌==◌, List, [], ◌∷◌, length, Option, Some, None, slice_get, unwrap_or}
+use Rattle.std.specs.Prelude.{◌≡◌, ℕ, ◌+◌, Bool, true, false, ◌&&◌, ◌||◌, ◌==◌, List, [], ◌∷◌, length, Option, Some, None, is_some, option_map, slice_get, unwrap_or}
 use Rattle.std.specs.List.{list_all}
 use Rattle.tl_types.specs.declared.cells.Cell.{Cell}
 use Rattle.tl_types.specs.declared.commits.Body.{Body}
+use Rattle.tl_types.specs.declared.batches.Batch.{Batch}
+use Rattle.tl_types.specs.declared.batches.Batch.TheVariants as batch
 use Rattle.tl_types.specs.Plain as plain
 use Rattle.tl_types.specs.History.{after_commit, is_open, matches}
-use Rattle.tl_types.specs.Resolving.{same_key}
-use Rattle.tl_batch.specs.KeyIndex.{IdsByKey, has_row, no_ids}
+use Rattle.tl_types.specs.Resolving.{find_table, same_key}
+use Rattle.tl_batch.specs.KeyIndex.{IdsByKey, has_row}
 
 -- one of the opened rows, of which the first has this id, has this id and the key, which is the
 -- cell at a place
@@ -37,18 +39,45 @@ rows_match None = true
 rows_match (Some t) =
     list_all (λ r. matches t.schema (record { cells = r.cells; period = r.period })) t.rows
 
--- the ids by key of the table with this number
-abbrev pub index_at : List IdsByKey → ℕ → IdsByKey
-index_at keys table = unwrap_or (slice_get keys table) no_ids
+-- the ids by key are those of the open rows of the table
+abbrev pub IsIndexOfTable : IdsByKey → Option plain.Table → Type 0
+IsIndexOfTable index t = (x : Cell) (id : ℕ) → has_row index x id ≡ table_has t x id
 
--- the keys stand for the tables: there is an index for each table, and an id stands in it under a
--- key exactly where the table's row with this id is open and has the key. The tables are such as
--- fitting commits make: each row matches its schema
-pub record StandFor (keys : List IdsByKey) (db : plain.Database) : Type 0 where
+-- the ids by key are those of the open rows of the table, or they are not made
+abbrev pub IsIndexIfMade : Option IdsByKey → Option plain.Table → Type 0
+IsIndexIfMade None t = Unit {0}
+IsIndexIfMade (Some index) t = IsIndexOfTable index t
+
+-- the ids by key of the table with this number, where they are made
+abbrev pub index_at : List (Option IdsByKey) → ℕ → Option IdsByKey
+index_at keys table = unwrap_or (slice_get keys table) None
+
+-- the ids by key of the table with this number are made
+abbrev pub is_made : List (Option IdsByKey) → ℕ → Bool
+is_made keys table = is_some (index_at keys table)
+
+-- the keys stand for the tables: each table has its place, and where its ids by key are made, an id
+-- stands there under a key exactly where the table's row with this id is open and has the key. The
+-- tables are such as fitting commits make: each row matches its schema
+pub record StandFor (keys : List (Option IdsByKey)) (db : plain.Database) : Type 0 where
   pub tables : length keys ≡ length db.tables
-  pub ids : (table : ℕ) (x : Cell) (id : ℕ)
-      → has_row (index_at keys table) x id ≡ table_has (slice_get db.tables table) x id
+  pub ids : (table : ℕ) → IsIndexIfMade (index_at keys table) (slice_get db.tables table)
   pub matching : (table : ℕ) → rows_match (slice_get db.tables table) ≡ true
+
+-- the keys stand for the tables, and of each table whose ids by key were made they are made still
+pub record StandStill (before after : List (Option IdsByKey)) (db : plain.Database)
+    : Type 0 where
+  pub stand : StandFor after db
+  pub made : (table : ℕ) → is_made before table ≡ true → is_made after table ≡ true
+
+-- the number of the table whose rows a batch puts, removes or syncs, where there is one of its name
+abbrev pub number_of : plain.Database → Batch → Option ℕ
+number_of db (batch.Create schema) = None
+number_of db (batch.Put name lines) = option_map (λ found. found.0) (find_table name db.tables)
+number_of db (batch.Remove name lines) = option_map (λ found. found.0) (find_table name db.tables)
+number_of db (batch.Sync name lines) = option_map (λ found. found.0) (find_table name db.tables)
+number_of db (batch.Moment moment) = None
+number_of db (batch.Forget name floor) = None
 
 -- the database after one commit more that does this, whoever makes it
 abbrev pub after_doing : plain.Database → Body → plain.Database

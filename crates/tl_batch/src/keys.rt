@@ -1,17 +1,18 @@
-//! The open rows of each key of a store, table by table: they follow each commit, and resolve a
-//! batch to its commit or its first fault. Without memory they stand for the store before the
-//! commit.
-ghost use Rattle.std.specs.Prelude.{◌≡◌, ◌+◌, ◌<◌, ◌++◌, ◌∷◌, [], IsTrue, IfOk, IfErr, OnOk, OnErr, ◌⊎◌, Ok, Err};
+//! The open rows of each key of a store, table by table: those of a table are made when a batch
+//! first wants them, and then follow each commit. A batch becomes its commit or its first fault.
+//! Without memory the keys stand for the store that they stood for.
+ghost use Rattle.std.specs.Prelude.{◌≡◌, ◌+◌, ◌<◌, ◌++◌, ◌∷◌, [], ℕ, IsTrue, IfOk, IfErr, OnOk, OnErr, ◌⊎◌, Ok, Err, is_some, slice_get};
 ghost use Rattle.tl_types.specs.declared.batches.BatchFault.TheVariants as fault;
 ghost use Rattle.tl_types.specs.declared.commits.Body.TheVariants as body;
 ghost use Rattle.tl_types.specs.History.{database_of, fits, fits_body};
 ghost use Rattle.tl_types.specs.Limits.{standard_limits};
 ghost use Rattle.tl_types.specs.Resolving.{resolved};
 ghost use Rattle.tl_batch.specs.Made.{AreWithin, batch_matches};
-ghost use Rattle.tl_batch.specs.Standing.{StandFor, after_doing};
+ghost use Rattle.tl_batch.specs.Standing.{StandFor, StandStill, IsIndexIfMade, IsIndexOfTable, after_doing, is_made, number_of};
 
 use crate::following::{change_index, closed_keys};
 use crate::key_index::KeyIndex;
+use crate::making::make_for;
 use crate::open_tables::OpenTables;
 use crate::put_rows::PutRows;
 use crate::resolving::{
@@ -22,18 +23,19 @@ use std::marker::Model;
 use tl_store::Store;
 use tl_types::{Batch, BatchFault, Body, Change, Commit, Limits, NoMemory};
 
-/// The ids of the current rows of each key, table by table. `StandFor` says which tables the keys
-/// stand for.
+/// The ids of the current rows of each key, table by table, where they are made: those of a table
+/// are made when a batch first puts, removes or syncs its rows. `StandFor` says which tables the
+/// keys stand for, and a contract sees of each table whether they are made.
 #[derive(Drop)]
 pub struct Keys {
-    tables: Vec<KeyIndex>,
+    tables: Vec<Option<KeyIndex>>,
 }
 
 impl Model for Keys {
-    ghost use Rattle.std.specs.Prelude.{List};
+    ghost use Rattle.std.specs.Prelude.{List, Option};
     ghost use Rattle.tl_batch.specs.KeyIndex.{IdsByKey};
 
-    ghost Value = { List IdsByKey };
+    ghost Value = { List (Option IdsByKey) };
 
     ghost view = { λ k. k.tables.items };
 }
@@ -50,20 +52,24 @@ impl Keys {
     }
 
     /// Follows a commit that fits the store that the keys stand for: they then stand for the store
-    /// after it. The error is `NoMemory`, after which the keys stand for the store before the
-    /// commit, as they did.
+    /// after it. What is not made of a table stays so, and takes no time by row; what is made stays
+    /// made. The error is `NoMemory`, after which the keys stand for the store before the commit,
+    /// as they did.
     pub fn follow(&mut self, alloc: Global, before: &Store, commit: &Commit) -> Result<(), NoMemory>
         requires stands { StandFor self.old (database_of before.now) }
         requires fit { IsTrue (fits standard_limits (database_of before.now) commit.now) }
         ensures ok { OnOk result (StandFor self.new (database_of (before.now ++ commit.now ∷ []))) }
         ensures err { OnErr result (StandFor self.new (database_of before.now)) }
+        ensures made { (table : ℕ) → is_made self.new table ≡ is_made self.old table }
     {
         follow_body(&mut self.tables, alloc, before, &commit.body)?;
         Ok(())
     }
 
     /// What a batch of this author becomes over the store that the keys stand for: its one commit,
-    /// which fits the store, or its first fault.
+    /// which fits the store, or its first fault. The keys of the table whose rows the batch puts,
+    /// removes or syncs are made first, where they are not, by one pass over its rows; the keys
+    /// stand for the same store then, whatever is answered.
     ///
     /// The rows that a batch puts or syncs match the schema of the table that it names, where there
     /// is one. The first fault of a new table is `TableExists` where a table has the name,
@@ -80,14 +86,14 @@ impl Keys {
     /// ran out, or a batch is so large that its record numbers, or the number of rows that it opens,
     /// have no place in 32 bits.
     pub fn resolve(
-        &self,
+        &mut self,
         alloc: Global,
         store: &Store,
         batch: &Batch,
         author: u32,
         limits: &Limits,
     ) -> Result<Commit, BatchFault>
-        requires stands { StandFor self.now (database_of store.now) }
+        requires stands { StandFor self.old (database_of store.now) }
         requires matching { IsTrue (batch_matches (database_of store.now) batch.now) }
         ensures ok { IfOk result (λ c. resolved limits.now (database_of store.now) author batch.now
             ≡ Ok c) }
@@ -96,46 +102,27 @@ impl Keys {
             → IfOk result (λ c. IsTrue (fits standard_limits (database_of store.now) c)) }
         ensures err { IfErr result (λ e. (e ≡ fault.NoMemory)
             ⊎ (resolved limits.now (database_of store.now) author batch.now ≡ Err e)) }
+        ensures same { StandStill self.old self.new (database_of store.now) }
     {
-        match batch {
-            Batch::Create(schema) => {
-                let Ok(schema) = schema.clone() else {
-                    return Err(BatchFault::NoMemory);
-                };
-                resolve_create(store, author, schema, limits)
-            }
-            Batch::Put { table, lines } => {
-                let rows = PutRows::Lent(lines.as_slice());
-                let tables = OpenTables::new(store, self.tables.as_slice());
-                resolve_put(alloc, &tables, author, table, rows, limits)
-            }
-            Batch::Remove { table, lines } => {
-                let lines = lines.as_slice();
-                let tables = OpenTables::new(store, self.tables.as_slice());
-                resolve_remove(alloc, &tables, author, table, lines, limits)
-            }
-            Batch::Sync { table, lines } => {
-                let rows = PutRows::Lent(lines.as_slice());
-                let tables = OpenTables::new(store, self.tables.as_slice());
-                resolve_sync(alloc, &tables, author, table, rows, limits)
-            }
-            Batch::Moment { moment } => resolve_moment(store, author, *moment, limits),
-            Batch::Forget { table, floor } => resolve_floor(store, author, table, *floor, limits),
-        }
+        let Ok(found) = make_for(&mut self.tables, alloc, store, batch) else {
+            return Err(BatchFault::NoMemory);
+        };
+        let tables = OpenTables::new(store, self.tables.as_slice(), found);
+        resolve_lent(alloc, &tables, batch, author, limits)
     }
 
     /// As `resolve`, of a batch that is handed over: a commit of rows that are put takes the rows
     /// over and makes no copies of them, and so does one of rows that are synced where no row
     /// stands.
     pub fn resolve_owned(
-        &self,
+        &mut self,
         alloc: Global,
         store: &Store,
         batch: Batch,
         author: u32,
         limits: &Limits,
     ) -> Result<Commit, BatchFault>
-        requires stands { StandFor self.now (database_of store.now) }
+        requires stands { StandFor self.old (database_of store.now) }
         requires matching { IsTrue (batch_matches (database_of store.now) batch) }
         ensures ok { IfOk result (λ c. resolved limits.now (database_of store.now) author batch
             ≡ Ok c) }
@@ -144,32 +131,100 @@ impl Keys {
             → IfOk result (λ c. IsTrue (fits standard_limits (database_of store.now) c)) }
         ensures err { IfErr result (λ e. (e ≡ fault.NoMemory)
             ⊎ (resolved limits.now (database_of store.now) author batch ≡ Err e)) }
+        ensures same { StandStill self.old self.new (database_of store.now) }
     {
-        match batch {
-            Batch::Create(schema) => resolve_create(store, author, schema, limits),
-            Batch::Put { table, lines } => {
-                let rows = PutRows::Owned(lines.into_vec());
-                let tables = OpenTables::new(store, self.tables.as_slice());
-                resolve_put(alloc, &tables, author, &table, rows, limits)
-            }
-            Batch::Remove { table, lines } => {
-                let lines = lines.as_slice();
-                let tables = OpenTables::new(store, self.tables.as_slice());
-                resolve_remove(alloc, &tables, author, &table, lines, limits)
-            }
-            Batch::Sync { table, lines } => {
-                let rows = PutRows::Owned(lines.into_vec());
-                let tables = OpenTables::new(store, self.tables.as_slice());
-                resolve_sync(alloc, &tables, author, &table, rows, limits)
-            }
-            Batch::Moment { moment } => resolve_moment(store, author, moment, limits),
-            Batch::Forget { table, floor } => resolve_floor(store, author, &table, floor, limits),
-        }
+        let Ok(found) = make_for(&mut self.tables, alloc, store, &batch) else {
+            return Err(BatchFault::NoMemory);
+        };
+        let tables = OpenTables::new(store, self.tables.as_slice(), found);
+        resolve_given(alloc, &tables, batch, author, limits)
     }
 }
 
+// As `Keys::resolve`, where the ids by key that the batch wants are made.
+fn resolve_lent(
+    alloc: Global,
+    tables: &OpenTables<'_>,
+    batch: &Batch,
+    author: u32,
+    limits: &Limits,
+) -> Result<Commit, BatchFault>
+    requires found { tables.now.found ≡ number_of (database_of tables.now.commits) batch.now }
+    requires matching { IsTrue (batch_matches (database_of tables.now.commits) batch.now) }
+    ensures ok { IfOk result (λ c. resolved limits.now (database_of tables.now.commits) author
+        batch.now ≡ Ok c) }
+    ensures fit { IfOk result (λ c. IsTrue (fits limits.now (database_of tables.now.commits) c)) }
+    ensures standard { AreWithin limits.now standard_limits
+        → IfOk result (λ c. IsTrue (fits standard_limits (database_of tables.now.commits) c)) }
+    ensures err { IfErr result (λ e. (e ≡ fault.NoMemory)
+        ⊎ (resolved limits.now (database_of tables.now.commits) author batch.now ≡ Err e)) }
+{
+    let store = tables.store();
+    match batch {
+        Batch::Create(schema) => {
+            let Ok(schema) = schema.clone() else {
+                return Err(BatchFault::NoMemory);
+            };
+            resolve_create(store, author, schema, limits)
+        }
+        Batch::Put { table, lines } => {
+            let rows = PutRows::Lent(lines.as_slice());
+            resolve_put(alloc, tables, author, table, rows, limits)
+        }
+        Batch::Remove { table, lines } => {
+            let lines = lines.as_slice();
+            resolve_remove(alloc, tables, author, table, lines, limits)
+        }
+        Batch::Sync { table, lines } => {
+            let rows = PutRows::Lent(lines.as_slice());
+            resolve_sync(alloc, tables, author, table, rows, limits)
+        }
+        Batch::Moment { moment } => resolve_moment(store, author, *moment, limits),
+        Batch::Forget { table, floor } => resolve_floor(store, author, table, *floor, limits),
+    }
+}
+
+// As `Keys::resolve_owned`, where the ids by key that the batch wants are made.
+fn resolve_given(
+    alloc: Global,
+    tables: &OpenTables<'_>,
+    batch: Batch,
+    author: u32,
+    limits: &Limits,
+) -> Result<Commit, BatchFault>
+    requires found { tables.now.found ≡ number_of (database_of tables.now.commits) batch }
+    requires matching { IsTrue (batch_matches (database_of tables.now.commits) batch) }
+    ensures ok { IfOk result (λ c. resolved limits.now (database_of tables.now.commits) author batch
+        ≡ Ok c) }
+    ensures fit { IfOk result (λ c. IsTrue (fits limits.now (database_of tables.now.commits) c)) }
+    ensures standard { AreWithin limits.now standard_limits
+        → IfOk result (λ c. IsTrue (fits standard_limits (database_of tables.now.commits) c)) }
+    ensures err { IfErr result (λ e. (e ≡ fault.NoMemory)
+        ⊎ (resolved limits.now (database_of tables.now.commits) author batch ≡ Err e)) }
+{
+    let store = tables.store();
+    match batch {
+        Batch::Create(schema) => resolve_create(store, author, schema, limits),
+        Batch::Put { table, lines } => {
+            let rows = PutRows::Owned(lines.into_vec());
+            resolve_put(alloc, tables, author, &table, rows, limits)
+        }
+        Batch::Remove { table, lines } => {
+            let lines = lines.as_slice();
+            resolve_remove(alloc, tables, author, &table, lines, limits)
+        }
+        Batch::Sync { table, lines } => {
+            let rows = PutRows::Owned(lines.into_vec());
+            resolve_sync(alloc, tables, author, &table, rows, limits)
+        }
+        Batch::Moment { moment } => resolve_moment(store, author, moment, limits),
+        Batch::Forget { table, floor } => resolve_floor(store, author, &table, floor, limits),
+    }
+}
+
+// As `Keys::follow`, by what the commit does.
 fn follow_body(
-    tables: &mut Vec<KeyIndex>,
+    tables: &mut Vec<Option<KeyIndex>>,
     alloc: Global,
     before: &Store,
     body: &Body,
@@ -180,10 +235,11 @@ fn follow_body(
     ensures ok { OnOk result (StandFor tables.new.items
         (after_doing (database_of before.now) body.now)) }
     ensures err { OnErr result (StandFor tables.new.items (database_of before.now)) }
+    ensures made { (table : ℕ) → is_made tables.new.items table ≡ is_made tables.old.items table }
 {
     match body {
         Body::Create(_) => {
-            tables.push(KeyIndex::new(alloc))?;
+            tables.push(None)?;
             Ok(())
         }
         Body::Change(change) => {
@@ -195,8 +251,9 @@ fn follow_body(
     }
 }
 
+// As `Keys::follow`, of a commit that changes rows.
 fn follow_change(
-    tables: &mut Vec<KeyIndex>,
+    tables: &mut Vec<Option<KeyIndex>>,
     alloc: Global,
     before: &Store,
     change: &Change,
@@ -208,12 +265,65 @@ fn follow_change(
     ensures ok { OnOk result (StandFor tables.new.items
         (after_doing (database_of before.now) (body.Change change.now))) }
     ensures err { OnErr result (StandFor tables.new.items (database_of before.now)) }
+    ensures made { (table : ℕ) → is_made tables.new.items table ≡ is_made tables.old.items table }
+{
+    let index = &mut tables[change.table() as usize];
+    follow_if_made(index, alloc, before, change)?;
+    Ok(())
+}
+
+// Lets the ids by key of a table follow a change of it, where they are made. The error is
+// `NoMemory`, and leaves them as they were.
+fn follow_if_made(
+    index: &mut Option<KeyIndex>,
+    alloc: Global,
+    before: &Store,
+    change: &Change,
+) -> Result<(), NoMemory>
+    requires is { IsIndexIfMade index.old
+        (slice_get (database_of before.now).tables change.now.table) }
+    requires version { (database_of before.now).version < 16777215 }
+    requires fit { IsTrue (fits_body standard_limits (database_of before.now)
+        (body.Change change.now)) }
+    ensures ok { OnOk result (IsIndexIfMade index.new
+        (slice_get (after_doing (database_of before.now) (body.Change change.now)).tables
+        change.now.table)) }
+    ensures err { OnErr result (IsIndexIfMade index.new
+        (slice_get (database_of before.now).tables change.now.table)) }
+    ensures made { is_some index.new ≡ is_some index.old }
+{
+    match index {
+        Some(index) => {
+            follow_made(index, alloc, before, change)?;
+            Ok(())
+        }
+        None => Ok(()),
+    }
+}
+
+// Lets the ids by key of a table follow a change of it. The error is `NoMemory`, and leaves them as
+// they were.
+fn follow_made(
+    index: &mut KeyIndex,
+    alloc: Global,
+    before: &Store,
+    change: &Change,
+) -> Result<(), NoMemory>
+    requires is { IsIndexOfTable index.old
+        (slice_get (database_of before.now).tables change.now.table) }
+    requires version { (database_of before.now).version < 16777215 }
+    requires fit { IsTrue (fits_body standard_limits (database_of before.now)
+        (body.Change change.now)) }
+    ensures ok { OnOk result (IsIndexOfTable index.new
+        (slice_get (after_doing (database_of before.now) (body.Change change.now)).tables
+        change.now.table)) }
+    ensures err { OnErr result (IsIndexOfTable index.new
+        (slice_get (database_of before.now).tables change.now.table)) }
 {
     let number = change.table();
     let place = before.schema(number).key();
     let closed = closed_keys(alloc, before, change, place)?;
     let first = before.rows(number);
-    let index = &mut tables[number as usize];
     change_index(index, alloc, change, &closed, place, first)?;
     Ok(())
 }

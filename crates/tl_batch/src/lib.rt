@@ -1,5 +1,6 @@
 //! What a batch becomes over a store: its one commit, or its first fault. Beside the store stand
-//! the ids of the open rows of each key, which follow each commit.
+//! the ids of the open rows of each key of the tables that a batch has changed, which follow each
+//! commit.
 #![tactic(auto)]
 
 mod affected;
@@ -19,6 +20,7 @@ mod key_set;
 mod keys;
 mod line_matching;
 mod line_places;
+mod making;
 mod many_periods;
 mod open_table;
 mod open_tables;

@@ -278,14 +278,15 @@ fn rows_change(
     rows: PutRows<'_>,
     limit: u64,
 ) -> Result<Result<Change, BatchFault>, NoMemory>
-    requires there { number < length (database_of tables.now).tables }
+    requires found { tables.now.found ≡ Some number }
+    requires there { number < length (database_of tables.now.commits).tables }
     requires few { length (rows_put rows) + 1 < 2 ^ 32 }
-    requires matching { IfSome (slice_get (database_of tables.now).tables number)
+    requires matching { IfSome (slice_get (database_of tables.now.commits).tables number)
         (λ t. IsTrue (list_all (matches t.schema) (rows_put rows))) }
     ensures { IfOk result (λ made. Some made
         ≡ option_map (λ t. made_by limit number false t.schema t.rows
         (put_lines t.schema (rows_put rows.entry)))
-        (slice_get (database_of tables.now).tables number)) }
+        (slice_get (database_of tables.now.commits).tables number)) }
 {
     let table = tables.table(number);
     let made = put_made(alloc, &table, rows)?;
@@ -301,11 +302,12 @@ fn keys_change(
     lines: &[KeyLine],
     limit: u64,
 ) -> Result<Result<Change, BatchFault>, NoMemory>
-    requires there { number < length (database_of tables.now).tables }
+    requires found { tables.now.found ≡ Some number }
+    requires there { number < length (database_of tables.now.commits).tables }
     requires few { length lines.now + 1 < 2 ^ 32 }
     ensures { IfOk result (λ made. Some made
         ≡ option_map (λ t. made_by limit number true t.schema t.rows (removal_lines lines.now))
-        (slice_get (database_of tables.now).tables number)) }
+        (slice_get (database_of tables.now.commits).tables number)) }
 {
     let table = tables.table(number);
     let made = remove_made(alloc, &table, lines)?;
@@ -321,13 +323,14 @@ fn whole_change(
     rows: PutRows<'_>,
     limit: u64,
 ) -> Result<Result<Change, BatchFault>, NoMemory>
-    requires there { number < length (database_of tables.now).tables }
+    requires found { tables.now.found ≡ Some number }
+    requires there { number < length (database_of tables.now.commits).tables }
     requires few { length (rows_put rows) + 1 < 2 ^ 32 }
-    requires matching { IfSome (slice_get (database_of tables.now).tables number)
+    requires matching { IfSome (slice_get (database_of tables.now.commits).tables number)
         (λ t. IsTrue (list_all (matches t.schema) (rows_put rows))) }
     ensures { IfOk result (λ made. Some made
         ≡ option_map (λ t. synced_by limit number t (rows_put rows.entry))
-        (slice_get (database_of tables.now).tables number)) }
+        (slice_get (database_of tables.now.commits).tables number)) }
 {
     let table = tables.table(number);
     let made = sync_made(alloc, &table, rows)?;
@@ -348,7 +351,8 @@ fn commit_of(author: u32, made: Result<Change, BatchFault>) -> Result<Commit, Ba
     }
 }
 
-/// The commit of this author that puts rows into the table with this name, or its first fault.
+/// The commit of this author that puts rows into the table with this name, which is the one that
+/// was found, or its first fault.
 pub(crate) fn resolve_put(
     alloc: Global,
     tables: &OpenTables<'_>,
@@ -357,17 +361,19 @@ pub(crate) fn resolve_put(
     rows: PutRows<'_>,
     limits: &Limits,
 ) -> Result<Commit, BatchFault>
+    requires found { tables.now.found ≡ option_map (λ found. found.0)
+        (find_table name.now (database_of tables.now.commits).tables) }
     requires matching { IsTrue (rows_fit_found (rows_put rows)
-        (find_table name.now (database_of tables.now).tables)) }
-    ensures ok { IfOk result (λ c. resolved limits.now (database_of tables.now) author
+        (find_table name.now (database_of tables.now.commits).tables)) }
+    ensures ok { IfOk result (λ c. resolved limits.now (database_of tables.now.commits) author
         (batch.Put name.now (rows_put rows.entry)) ≡ Ok c) }
-    ensures fit { IfOk result (λ c. IsTrue (fits limits.now (database_of tables.now) c)) }
+    ensures fit { IfOk result (λ c. IsTrue (fits limits.now (database_of tables.now.commits) c)) }
     ensures err { IfErr result (λ e. (e ≡ fault.NoMemory)
-        ⊎ (resolved limits.now (database_of tables.now) author
+        ⊎ (resolved limits.now (database_of tables.now.commits) author
         (batch.Put name.now (rows_put rows.entry)) ≡ Err e)) }
 {
     let store = tables.store();
-    let Some(number) = store.find(name.as_str()) else {
+    let Some(number) = tables.found() else {
         return Err(BatchFault::UnknownTable);
     };
     if has_all_versions(store, limits) {
@@ -382,8 +388,8 @@ pub(crate) fn resolve_put(
     commit_of(author, made)
 }
 
-/// The commit of this author that makes rows all the open rows of the table with this name, or its
-/// first fault.
+/// The commit of this author that makes rows all the open rows of the table with this name, which
+/// is the one that was found, or its first fault.
 pub(crate) fn resolve_sync(
     alloc: Global,
     tables: &OpenTables<'_>,
@@ -392,17 +398,19 @@ pub(crate) fn resolve_sync(
     rows: PutRows<'_>,
     limits: &Limits,
 ) -> Result<Commit, BatchFault>
+    requires found { tables.now.found ≡ option_map (λ found. found.0)
+        (find_table name.now (database_of tables.now.commits).tables) }
     requires matching { IsTrue (rows_fit_found (rows_put rows)
-        (find_table name.now (database_of tables.now).tables)) }
-    ensures ok { IfOk result (λ c. resolved limits.now (database_of tables.now) author
+        (find_table name.now (database_of tables.now.commits).tables)) }
+    ensures ok { IfOk result (λ c. resolved limits.now (database_of tables.now.commits) author
         (batch.Sync name.now (rows_put rows.entry)) ≡ Ok c) }
-    ensures fit { IfOk result (λ c. IsTrue (fits limits.now (database_of tables.now) c)) }
+    ensures fit { IfOk result (λ c. IsTrue (fits limits.now (database_of tables.now.commits) c)) }
     ensures err { IfErr result (λ e. (e ≡ fault.NoMemory)
-        ⊎ (resolved limits.now (database_of tables.now) author
+        ⊎ (resolved limits.now (database_of tables.now.commits) author
         (batch.Sync name.now (rows_put rows.entry)) ≡ Err e)) }
 {
     let store = tables.store();
-    let Some(number) = store.find(name.as_str()) else {
+    let Some(number) = tables.found() else {
         return Err(BatchFault::UnknownTable);
     };
     if has_all_versions(store, limits) {
@@ -417,7 +425,8 @@ pub(crate) fn resolve_sync(
     commit_of(author, made)
 }
 
-/// The commit of this author that removes rows from the table with this name, or its first fault.
+/// The commit of this author that removes rows from the table with this name, which is the one that
+/// was found, or its first fault.
 pub(crate) fn resolve_remove(
     alloc: Global,
     tables: &OpenTables<'_>,
@@ -426,15 +435,17 @@ pub(crate) fn resolve_remove(
     lines: &[KeyLine],
     limits: &Limits,
 ) -> Result<Commit, BatchFault>
-    ensures ok { IfOk result (λ c. resolved limits.now (database_of tables.now) author
+    requires found { tables.now.found ≡ option_map (λ found. found.0)
+        (find_table name.now (database_of tables.now.commits).tables) }
+    ensures ok { IfOk result (λ c. resolved limits.now (database_of tables.now.commits) author
         (batch.Remove name.now lines.now) ≡ Ok c) }
-    ensures fit { IfOk result (λ c. IsTrue (fits limits.now (database_of tables.now) c)) }
+    ensures fit { IfOk result (λ c. IsTrue (fits limits.now (database_of tables.now.commits) c)) }
     ensures err { IfErr result (λ e. (e ≡ fault.NoMemory)
-        ⊎ (resolved limits.now (database_of tables.now) author (batch.Remove name.now lines.now)
+        ⊎ (resolved limits.now (database_of tables.now.commits) author (batch.Remove name.now lines.now)
         ≡ Err e)) }
 {
     let store = tables.store();
-    let Some(number) = store.find(name.as_str()) else {
+    let Some(number) = tables.found() else {
         return Err(BatchFault::UnknownTable);
     };
     if has_all_versions(store, limits) {

@@ -109,45 +109,54 @@ impl<D: Disk> Group<D> {
 
     /// The commit that a batch of an author becomes over the tables that the snapshot's commits
     /// make, under the limits that `attach` was given. It fits these tables. The batch's rows match
-    /// the schema of the table that it names, where there is one. The group stays as it is.
+    /// the schema of the table that it names, where there is one. What contracts see of the group
+    /// stays as it is; the keys of the table whose rows the batch puts, removes or syncs are made
+    /// where they are not.
     ///
     /// The faults are those of a batch that becomes no commit over these tables, and `NoMemory`:
     /// memory ran out.
-    pub fn resolve(&self, alloc: Global, batch: &Batch, author: u32) -> Result<Commit, BatchFault>
-        requires { IsTrue (batch_matches (database_of (commits_in self.now)) batch.now) }
-        ensures ok { IfOk result (λ commit. resolved self.now.limits
-            (database_of (commits_in self.now)) author batch.now ≡ Ok commit) }
-        ensures fit { IfOk result (λ commit. IsTrue (fits self.now.limits
-            (database_of (commits_in self.now)) commit)) }
+    pub fn resolve(
+        &mut self,
+        alloc: Global,
+        batch: &Batch,
+        author: u32,
+    ) -> Result<Commit, BatchFault>
+        requires { IsTrue (batch_matches (database_of (commits_in self.old)) batch.now) }
+        ensures ok { IfOk result (λ commit. resolved self.old.limits
+            (database_of (commits_in self.old)) author batch.now ≡ Ok commit) }
+        ensures fit { IfOk result (λ commit. IsTrue (fits self.old.limits
+            (database_of (commits_in self.old)) commit)) }
         ensures err { IfErr result (λ e. (e ≡ fault.NoMemory)
-            ⊎ (resolved self.now.limits (database_of (commits_in self.now)) author batch.now
+            ⊎ (resolved self.old.limits (database_of (commits_in self.old)) author batch.now
             ≡ Err e)) }
+        ensures same { self.new ≡ self.old }
     {
-        let store = self.waiting.snapshot().store();
-        self.keys
-            .resolve(alloc, store, batch, author, self.waiting.limits())
+        let Group { keys, waiting } = self;
+        let store = waiting.snapshot().store();
+        keys.resolve(alloc, store, batch, author, waiting.limits())
     }
 
     /// As `resolve`, of a batch that is handed over: a commit of rows takes the rows over and makes
     /// no copies of them.
     pub fn resolve_owned(
-        &self,
+        &mut self,
         alloc: Global,
         batch: Batch,
         author: u32,
     ) -> Result<Commit, BatchFault>
-        requires { IsTrue (batch_matches (database_of (commits_in self.now)) batch) }
-        ensures ok { IfOk result (λ commit. resolved self.now.limits
-            (database_of (commits_in self.now)) author batch ≡ Ok commit) }
-        ensures fit { IfOk result (λ commit. IsTrue (fits self.now.limits
-            (database_of (commits_in self.now)) commit)) }
+        requires { IsTrue (batch_matches (database_of (commits_in self.old)) batch) }
+        ensures ok { IfOk result (λ commit. resolved self.old.limits
+            (database_of (commits_in self.old)) author batch ≡ Ok commit) }
+        ensures fit { IfOk result (λ commit. IsTrue (fits self.old.limits
+            (database_of (commits_in self.old)) commit)) }
         ensures err { IfErr result (λ e. (e ≡ fault.NoMemory)
-            ⊎ (resolved self.now.limits (database_of (commits_in self.now)) author batch
+            ⊎ (resolved self.old.limits (database_of (commits_in self.old)) author batch
             ≡ Err e)) }
+        ensures same { self.new ≡ self.old }
     {
-        let store = self.waiting.snapshot().store();
-        self.keys
-            .resolve_owned(alloc, store, batch, author, self.waiting.limits())
+        let Group { keys, waiting } = self;
+        let store = waiting.snapshot().store();
+        keys.resolve_owned(alloc, store, batch, author, waiting.limits())
     }
 
     /// Makes a batch of an author one commit more that waits, and answers its version: the number

@@ -251,7 +251,7 @@ struct Settled<D: Disk> {
 // for memory, is the disk.
 fn settle<D: Disk>(
     alloc: Global,
-    playing: Playing<D>,
+    mut playing: Playing<D>,
     author: u32,
     batch: Batch,
 ) -> Result<Settled<D>, D>

@@ -1,5 +1,5 @@
 -- Commits that fit one after the other.
-use Rattle.std.proofs.Common.{◌≡◌, ℕ, Bool, true, false, List, [], ◌∷◌, ◌++◌, sym, ap, ◌∙◌, subst}
+use Rattle.std.proofs.Common.{◌≡◌, ℕ, Bool, true, false, List, Option, [], ◌∷◌, ◌++◌, sym, ap, ◌∙◌, subst}
 use Rattle.std.specs.Prelude.{Ok}
 use Rattle.tl_types.specs.declared.commits.Commit.{Commit}
 use Rattle.tl_types.specs.declared.commits.Entry.{Entry}
@@ -29,7 +29,7 @@ pub fit_within : (limits others : Limits) (commits : List Commit) → AreWithin 
 fit_within limits others commits within fitting = fit_from_within limits others nothing commits within fitting
 
 -- what a replay keeps, with one commit more
-pub replay_more : (k : ℕ) (old new : List Entry) (keys later : List IdsByKey) (store : List Commit) (c : Commit) → IsReplay old keys → new ≡ paced_step k old c → store ≡ commits_of old → StandFor later (database_of (store ++ c ∷ [])) → IsReplay new later
+pub replay_more : (k : ℕ) (old new : List Entry) (keys later : List (Option IdsByKey)) (store : List Commit) (c : Commit) → IsReplay old keys → new ≡ paced_step k old c → store ≡ commits_of old → StandFor later (database_of (store ++ c ∷ [])) → IsReplay new later
 replay_more k old new keys later store c replay more is stand =
     subst (λ es. IsReplay es later) (sym more)
     (record {

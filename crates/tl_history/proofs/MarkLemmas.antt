@@ -1,5 +1,5 @@
 -- A history with one mark more.
-use Rattle.std.proofs.Common.{◌≡◌, ℕ, List, [], ◌∷◌, ◌++◌, refl, sym, ap, ◌∙◌, subst}
+use Rattle.std.proofs.Common.{◌≡◌, ℕ, List, Option, [], ◌∷◌, ◌++◌, refl, sym, ap, ◌∙◌, subst}
 use Rattle.std.specs.declared.option.Option.{Option}
 use Rattle.tl_types.specs.declared.commits.Entry.{Entry}
 use Rattle.tl_types.specs.declared.commits.Entry.TheVariants as entry
@@ -19,7 +19,7 @@ tried_with_mark (entry.Mark table version ∷ entries) t v = tried_with_mark ent
 tried_with_mark (entry.Break d ∷ entries) t v = ap (λ cs. d ∷ cs) (tried_with_mark entries t v)
 
 -- what a history keeps speaks of its commits and its break alone
-pub keeps_with_mark : {D : Type 0} (faults : D → ℕ) (keys : List IdsByKey) (old new : plain.History D) (t v : ℕ)
+pub keeps_with_mark : {D : Type 0} (faults : D → ℕ) (keys : List (Option IdsByKey)) (old new : plain.History D) (t v : ℕ)
     → new.entries ≡ old.entries ++ mark_entry t v ∷ [] → new.journal ≡ old.journal → new.first_count ≡ old.first_count → new.limits ≡ old.limits
     → IsHistory faults keys old → IsHistory faults keys new
 keeps_with_mark faults keys old new t v more journal first limits kept =

@@ -1,5 +1,5 @@
 -- The commits of a journal while they are applied to a history.
-use Rattle.std.specs.Prelude.{◌≡◌, ℕ, Bool, true, false, IsTrue, List}
+use Rattle.std.specs.Prelude.{◌≡◌, ℕ, Bool, true, false, IsTrue, List, Option}
 use Rattle.tl_types.specs.declared.commits.Commit.{Commit}
 use Rattle.tl_types.specs.declared.commits.Entry.{Entry}
 use Rattle.tl_types.specs.declared.limits.Limits.{Limits}
@@ -10,7 +10,7 @@ use Rattle.tl_batch.specs.KeyIndex.{IdsByKey}
 use Rattle.tl_batch.specs.Standing.{StandFor}
 
 -- there is no break among the entries, and the keys stand for their tables
-pub record IsReplay (entries : List Entry) (keys : List IdsByKey) : Type 0 where
+pub record IsReplay (entries : List Entry) (keys : List (Option IdsByKey)) : Type 0 where
   pub whole : has_break entries ≡ false
   pub keys_stand : StandFor keys (database_of (commits_of entries))
 

@@ -23,13 +23,13 @@ IsCount false first now = now ≡ first
 IsCount true first now = Rose first now
 
 -- while there is no break, the keys stand for the commits' tables and the journal is not broken
-pub record KeepsUp {D : Type 0} (entries : List Entry) (keys : List IdsByKey)
+pub record KeepsUp {D : Type 0} (entries : List Entry) (keys : List (Option IdsByKey))
     (journal : journal.Journal D) : Type 0 where
   pub keys_stand : has_break entries ≡ false → StandFor keys (database_of (commits_of entries))
   pub unbroken : has_break entries ≡ false → journal.broken ≡ None
 
 -- what every history keeps
-pub record IsHistory {D : Type 0} (faults : D → ℕ) (keys : List IdsByKey)
+pub record IsHistory {D : Type 0} (faults : D → ℕ) (keys : List (Option IdsByKey))
     (history : plain.History D) : Type 0 where
   pub within : AreWithin history.limits standard_limits
   pub keeps_up : KeepsUp history.entries keys history.journal

@@ -7,7 +7,7 @@ ghost use Rattle.tl_types.specs.History.{database_of, fits};
 ghost use Rattle.tl_types.specs.Limits.{standard_limits};
 ghost use Rattle.tl_types.specs.Resolving.{resolved};
 ghost use Rattle.tl_batch.specs.Made.{AreWithin, batch_matches};
-ghost use Rattle.tl_batch.specs.Standing.{StandFor};
+ghost use Rattle.tl_batch.specs.Standing.{StandFor, StandStill};
 ghost use Rattle.tl_journal.specs.Image.{BeforeOrAfter, IsBodyOf};
 ghost use Rattle.tl_journal.specs.Moments.{EachMoment};
 ghost use Rattle.tl_journal.specs.Stands.{JournalStandsFor};
@@ -24,16 +24,17 @@ use tl_record::encode_with_gate;
 use tl_shared::{Shareable, Shared};
 use tl_types::{Batch, BatchFault, Bytes, Commit, Limits, NoMemory};
 
-/// What a batch of an author becomes over the commits of a snapshot, or why it becomes none.
+/// What a batch of an author becomes over the commits of a snapshot, or why it becomes none. The
+/// keys stand for the same commits then.
 pub(crate) fn resolve(
     alloc: Global,
     snapshot: &Snapshot,
-    keys: &Keys,
+    keys: &mut Keys,
     author: u32,
     batch: Batch,
     limits: &Limits,
 ) -> Result<Commit, CommitFault>
-    requires stands { StandFor keys.now (database_of (commits_of snapshot.now)) }
+    requires stands { StandFor keys.old (database_of (commits_of snapshot.now)) }
     requires matching { IsTrue (batch_matches (database_of (commits_of snapshot.now)) batch) }
     requires within { AreWithin limits.now standard_limits }
     ensures ok { IfOk result (λ c.
@@ -42,6 +43,7 @@ pub(crate) fn resolve(
         IsTrue (fits standard_limits (database_of (commits_of snapshot.now)) c)) }
     ensures err { IfErr result
         (IsRefusal limits.now (commits_of snapshot.now) author batch) }
+    ensures same { StandStill keys.old keys.new (database_of (commits_of snapshot.now)) }
 {
     let store = snapshot.store();
     let version = store.versions();

@@ -10,7 +10,7 @@ use tl_types::{Batch, Body, Cell, KeyLine, Limits, Opened, Schema, Seq, Text};
 
 // Whether a batch, lent to the first commit, becomes a commit that makes a table of three columns.
 fn makes_a_table(alloc: Global, batch: &Batch) -> bool {
-    let keys = Keys::empty(alloc);
+    let mut keys = Keys::empty(alloc);
     let store = Store::empty(alloc);
     match keys.resolve(alloc, &store, batch, 7, &Limits::standard()) {
         Ok(commit) => match &commit.body {

@@ -12,5 +12,5 @@ pub change_within-requires-clause-few : goal.change_within-requires-clause-few
 change_within-requires-clause-few c = made-few true c.table-table.result.schema c.table-table.result.rows (removal_lines c.args.lines.now) c.in_ok-made.made c.in_ok-made.ensures (rows-few c.table-table.result.rows c.rows.result c.rows.ensures.number c.rows.ensures.few)
 
 pub returns : goal.returns
-returns c = made_at (database_of c.args.tables.now).tables c.args.number c.args.limit true c.table-table.result (λ schema. removal_lines c.args.lines.now) c.in_ok-change.change c.table-table.ensures
+returns c = made_at (database_of c.args.tables.now.commits).tables c.args.number c.args.limit true c.table-table.result (λ schema. removal_lines c.args.lines.now) c.in_ok-change.change c.table-table.ensures
     (made-change c.args.limit c.args.number true c.table-table.result.schema c.table-table.result.rows (removal_lines c.args.lines.now) c.in_ok-made.made c.in_ok-change.change c.in_ok-made.ensures (c.in_ok-change.ensures ∙ ap (λ n. change_made c.args.limit c.args.number n c.in_ok-made.made) c.rows.ensures.number))

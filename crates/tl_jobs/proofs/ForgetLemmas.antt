@@ -1,15 +1,14 @@
 -- A floor changes no answer, and which queries may be asked.
 use mathlib.Core.Path.{fun_ext}
-use Rattle.std.proofs.Common.{◌≡◌, ◌≢◌, ℕ, zero, suc, ℤ, pos, negsuc, ◌+◌, ◌<◌, ◌≤◌, nat_abs, Bool, true, false, ◌||◌, nat_lt, max, List, [], ◌∷◌, ◌++◌, map, Option, Some, None, option_map, option_and_then, Result, Ok, Err, IsTrue, slice_get, refl, sym, ◌∙◌, ap, ap₂, subst, arith, append-nil}
+use Rattle.std.proofs.Common.{◌≡◌, ℕ, zero, suc, ℤ, pos, negsuc, ◌+◌, ◌<◌, ◌≤◌, nat_abs, Bool, true, false, ◌||◌, nat_lt, List, [], ◌∷◌, ◌++◌, map, Option, Some, None, option_map, option_and_then, Result, Ok, Err, IsTrue, slice_get, refl, sym, ◌∙◌, ap, ap₂, subst, arith}
 use Rattle.std.specs.List.{filter, flat_map}
 use Rattle.std.proofs.lemmas.Bool.Decides.{nat_tests}
 use Rattle.tl_types.specs.declared.cells.Cell.{Cell}
 use Rattle.tl_types.specs.declared.commits.Commit.{Commit}
 use Rattle.tl_types.specs.declared.commits.Body.{Body}
-use Rattle.tl_types.specs.declared.commits.Body.TheVariants as body
 use Rattle.tl_types.specs.declared.limits.Limits.{Limits}
 use Rattle.tl_types.specs.Plain as plain
-use Rattle.tl_types.specs.History.{with_floor, at_place, after_body, stamps_of, after_commit, fits, fits_body, fits_floor, has_name, without_floors, visible_rows, rows_of, rows_valid_at}
+use Rattle.tl_types.specs.History.{with_floor, at_place, after_body, after_commit, fits, fits_body, fits_floor, has_name, without_floors, rows_of}
 use Rattle.tl_types.specs.Resolving.{find_from, find_table}
 use Rattle.tl_types.proofs.Lists.{and_left, and_right}
 use Rattle.tl_query.specs.declared.ast.AggKind.{AggKind}

@@ -1,2 +1,3 @@
 pub mod OnePlay
 pub mod ReadingLemmas
+pub mod ForgetLemmas

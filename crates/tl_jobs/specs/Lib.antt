@@ -5,3 +5,4 @@ pub mod Turns
 pub mod Replies
 pub mod Play
 pub mod Written
+pub mod Forgetting

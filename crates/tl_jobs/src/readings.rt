@@ -1,7 +1,7 @@
 //! What a job is over the commits of a snapshot: a batch, an answered query, or the first fault.
 //! The block of the job is the one at the crew's place among those of its reader, which stays as it
 //! is.
-ghost use Rattle.std.specs.Prelude.{◌≡◌, ◌≢◌, ◌<◌, ◌≤◌, IfOk, OnOk, length, Some};
+ghost use Rattle.std.specs.Prelude.{◌≡◌, ◌≢◌, ◌<◌, ◌≤◌, IfOk, OnOk, OnErr, length, Some};
 ghost use Rattle.tl_types.specs.Entries.{commits_of};
 ghost use Rattle.tl_types.specs.History.{database_of};
 ghost use Rattle.tl_types.specs.Plain.{Database};
@@ -50,6 +50,7 @@ pub enum JobReading {
 pub fn check_refusal(fault: CheckFault) -> Result<Refusal, NoMemory>
     ensures why { IfOk result (λ why. why ≡ refusal.CheckFault fault) }
     ensures told { OnOk result (fault ≢ check_fault.NoMemory) }
+    ensures memory { OnErr result (fault ≡ check_fault.NoMemory) }
 {
     match fault {
         CheckFault::NoMemory => Err(AllocError),
@@ -73,6 +74,7 @@ fn create(alloc: Global, form: &CreateForm) -> Result<JobReading, NoMemory>
 fn csv_refusal(fault: CsvFault) -> Result<Refusal, NoMemory>
     ensures why { IfOk result (λ why. why ≡ refusal.CsvFault fault) }
     ensures told { OnOk result (fault ≢ csv_fault.NoMemory) }
+    ensures memory { OnErr result (fault ≡ csv_fault.NoMemory) }
 {
     match fault {
         CsvFault::NoMemory => Err(AllocError),
@@ -223,6 +225,7 @@ fn read_statement<R: AllocGlobal + Threads + Sync, G: Gate>(
 pub fn text_refusal(fault: TextFault) -> Result<Refusal, NoMemory>
     ensures why { IfOk result (λ why. why ≡ refusal.TextFault fault) }
     ensures told { OnOk result (fault ≢ text_fault.NoMemory) }
+    ensures memory { OnErr result (fault ≡ text_fault.NoMemory) }
 {
     match fault {
         TextFault::NoMemory => Err(AllocError),

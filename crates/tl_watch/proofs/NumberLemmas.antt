@@ -7,7 +7,7 @@ use Rattle.tl_running.specs.Standing.{Kept, is_ordered, number_in, StandsFor, En
 use Rattle.std.proofs.lemmas.List.{length-map}
 use Rattle.tl_types.specs.Plain as plain
 use Rattle.tl_watch.specs.Sums.{AddsUp}
-use Rattle.tl_watch.specs.Numbers.{counted_as, kept_of}
+use Rattle.tl_watch.specs.Numbers.{IsBagFor, IsListFor, counted_as, kept_of}
 
 pub none_kept : (k : AggKind) (counted : Kept) (bag : List (ℤ × ℕ)) → ((column : Option ℕ) → StandsFor counted column []) → ((v : ℤ) → times bag v ≡ 0) → (column : Option ℕ) → StandsFor (kept_of k counted bag) column []
 none_kept k counted bag stands none column = record { count = (stands column).count; sum = (stands column).sum; short = tt; bag = λ ordered v. none v }
@@ -28,4 +28,12 @@ enters_counted k old new was now n is adds = record { kind = refl; count = ap (�
 pub kind_counted : (k : AggKind) (old new : Kept) (count : ℕ) (sum : ℤ) → old.kind ≡ counted_as k → new ≡ summing old count sum → new.kind ≡ counted_as k
 kind_counted k old new count sum kind_is is = ap (λ (x : Kept). x.kind) is ∙ kind_is
 
-pub ruleset counts_more = (enters_counted, kind_counted)
+-- the bag stays without numbers
+pub bag_stays : (k : AggKind) (old new : List (ℤ × ℕ)) → IsBagFor k old → (is_ordered k ≡ false → new ≡ old) → IsBagFor k new
+bag_stays k old new none same free v = ap (λ b. times b v) (same free) ∙ none free v
+
+-- so does the list
+pub list_stays : (k : AggKind) (old new : List ℤ) → IsListFor k old → (is_ordered k ≡ false → new ≡ old) → IsListFor k new
+list_stays k old new none same free = same free ∙ none free
+
+pub ruleset counts_more = (enters_counted, kind_counted, bag_stays)

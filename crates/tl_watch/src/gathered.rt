@@ -1,6 +1,6 @@
 //! What is gathered of the numbers of rows while they only come: they are counted and added, and
 //! where the kind asks for their order put into a list. None goes out of it.
-ghost use Rattle.std.specs.Prelude.{◌≡◌, ◌+◌, ◌-◌, ◌^◌, ◌<◌, ◌+ℤ◌, ◌≤ℤ◌, pos, neg_ℤ, ◌++◌, ◌∷◌, [], true, ℕ, Option, IfOk, OnOk};
+ghost use Rattle.std.specs.Prelude.{◌≡◌, ◌+◌, ◌-◌, ◌^◌, ◌<◌, ◌+ℤ◌, ◌≤ℤ◌, pos, neg_ℤ, ◌++◌, ◌∷◌, [], true, false, ℕ, Option, IfOk, OnOk};
 ghost use Rattle.tl_running.specs.Standing.{is_ordered, StandsFor, HasRoom, Enters};
 ghost use Rattle.tl_watch.specs.Gathering.{KeepsAs};
 
@@ -11,7 +11,8 @@ use tl_query::AggKind;
 use tl_types::NoMemory;
 
 /// What is gathered of the numbers of rows for an aggregate of one kind. A contract sees how many
-/// there are, their sum, and where the kind asks for their order all of them.
+/// there are, their sum, and where the kind asks for their order all of them; else none of them is
+/// kept.
 #[derive(Drop)]
 pub(crate) struct Gathered {
     kind: AggKind,
@@ -23,17 +24,21 @@ pub(crate) struct Gathered {
 impl Model for Gathered {
     ghost use Rattle.tl_running.specs.Standing.{Kept};
     ghost use Rattle.tl_watch.specs.Gathering.{gathered_of};
+    ghost use Rattle.tl_watch.specs.Numbers.{IsListFor};
 
     ghost Value = { Kept };
 
     ghost view = { λ g. gathered_of g.kind g.count g.sum g.numbers.items };
+
+    ghost invariant = { λ g. IsListFor g.kind g.numbers.items };
 }
 
 // Puts a number behind the others, where the kind asks for their order.
 #[inline]
 fn put_behind(numbers: &mut Vec<i64>, kind: AggKind, number: i64) -> Result<(), NoMemory>
-    ensures { OnOk result (is_ordered kind ≡ true
+    ensures puts { OnOk result (is_ordered kind ≡ true
         → numbers.new.items ≡ numbers.old.items ++ number ∷ []) }
+    ensures same { is_ordered kind ≡ false → numbers.new.items ≡ numbers.old.items }
 {
     if !is_ordered(kind) {
         return Ok(());

@@ -11,7 +11,7 @@ ghost use Rattle.tl_query.specs.Aggregates.{least_field, greatest_field};
 ghost use Rattle.tl_running.specs.Standing.{is_ordered, number_in, StandsFor, HasRoom, CanLeave, Enters, summing};
 ghost use Rattle.tl_watch.specs.Gathering.{gathered_of, KeepsAs};
 ghost use Rattle.tl_watch.specs.Groups.{TellsValue};
-ghost use Rattle.tl_watch.specs.Numbers.{counted_as};
+ghost use Rattle.tl_watch.specs.Numbers.{IsBagFor, counted_as};
 ghost use Rattle.tl_watch.specs.Sums.{AddsUp};
 
 use std::alloc::Global;
@@ -22,7 +22,7 @@ use tl_running::Running;
 use tl_types::{Field, NoMemory};
 
 /// What is kept of the numbers of rows for an aggregate of one kind. A contract sees how many there
-/// are, their sum, and where the kind asks for their order all of them.
+/// are, their sum, and where the kind asks for their order all of them; else none of them is kept.
 #[derive(Drop)]
 pub(crate) struct Numbers {
     kind: AggKind,
@@ -33,13 +33,13 @@ pub(crate) struct Numbers {
 impl Model for Numbers {
     ghost use Rattle.std.specs.Prelude.{◌≡◌};
     ghost use Rattle.tl_running.specs.Standing.{Kept};
-    ghost use Rattle.tl_watch.specs.Numbers.{counted_as, kept_of};
+    ghost use Rattle.tl_watch.specs.Numbers.{IsBagFor, counted_as, kept_of};
 
     ghost Value = { Kept };
 
     ghost view = { λ n. kept_of n.kind n.counted n.bag };
 
-    ghost invariant = { λ n. n.counted.kind ≡ counted_as n.kind };
+    ghost invariant = { λ n. (n.counted.kind ≡ counted_as n.kind) × IsBagFor n.kind n.bag };
 }
 
 // The kind as which numbers are counted and added.
@@ -65,7 +65,8 @@ pub(crate) fn is_ordered(kind: AggKind) -> bool
 
 // Puts a number in, where the kind asks for the order of the numbers.
 fn put_in(bag: &mut Bag, kind: AggKind, number: i64) -> Result<(), NoMemory>
-    ensures { OnOk result (is_ordered kind ≡ true → AddsOne bag.old bag.new number) }
+    ensures adds { OnOk result (is_ordered kind ≡ true → AddsOne bag.old bag.new number) }
+    ensures same { is_ordered kind ≡ false → bag.new ≡ bag.old }
 {
     if !is_ordered(kind) {
         return Ok(());
@@ -77,7 +78,8 @@ fn put_in(bag: &mut Bag, kind: AggKind, number: i64) -> Result<(), NoMemory>
 // Takes a number out, where the kind asks for the order of the numbers.
 fn take_out(bag: &mut Bag, kind: AggKind, number: i64)
     requires { is_ordered kind ≡ true → 0 < times bag.old number }
-    ensures { is_ordered kind ≡ true → AddsOne bag.new bag.old number }
+    ensures takes { is_ordered kind ≡ true → AddsOne bag.new bag.old number }
+    ensures same { is_ordered kind ≡ false → bag.new ≡ bag.old }
 {
     if is_ordered(kind) {
         bag.remove(number);
@@ -128,8 +130,9 @@ fn count_in(counted: &mut Running, number: i64)
 
 // The numbers as a bag, where the kind asks for their order, else the bag of none.
 fn bag_of(alloc: Global, kind: AggKind, numbers: Vec<i64>) -> Result<Bag, NoMemory>
-    ensures { IfOk result (λ bag. is_ordered kind ≡ true
+    ensures bag { IfOk result (λ bag. is_ordered kind ≡ true
         → (v : ℤ) → times bag v ≡ count_by (int_eq v) numbers.items) }
+    ensures none { IfOk result (IsBagFor kind) }
 {
     if !is_ordered(kind) {
         return Ok(Bag::none(alloc));

@@ -1,6 +1,6 @@
 -- What a text is that is to name a plan: the plan, or the first fault. Its parse comes first, then
 -- its kind, then its check.
-use Rattle.std.specs.Prelude.{ℕ, Bool, true, false, List, length, Result, Ok, Err, if◌then◌else◌}
+use Rattle.std.specs.Prelude.{◌≡◌, ◌⊎◌, ℕ, Bool, true, false, List, length, Result, Ok, Err, if◌then◌else◌}
 use Rattle.tl_types.specs.declared.commits.Commit.{Commit}
 use Rattle.tl_types.specs.Plain as plain
 use Rattle.tl_types.specs.History.{database_of}
@@ -16,7 +16,7 @@ use Rattle.tl_query.specs.declared.faults.TextFault.TheVariants as text_fault
 use Rattle.tl_query.specs.declared.typed_queries.Typed.{Typed}
 use Rattle.tl_query.specs.declared.typed_queries.Typed.TheVariants as typed
 use Rattle.tl_query.specs.CheckingQueries.{checked}
-use Rattle.tl_query.specs.Texts.{text_read}
+use Rattle.tl_query.specs.Texts.{Spells, IsFault, text_read}
 use Rattle.tl_jobs.specs.declared.replies.Refusal.{Refusal}
 use Rattle.tl_jobs.specs.declared.replies.Refusal.TheVariants as refusal
 use Rattle.tl_watch.specs.declared.plans.WatchPlan.{WatchPlan}
@@ -73,3 +73,13 @@ read_plan db now (Ok s) = statement_plan db now s
 -- is no aggregate over all versions, then that of its check
 abbrev pub plan_reading : List Commit → List ℕ → Result WatchPlan Refusal
 plan_reading commits text = read_plan (database_of commits) (length commits) (text_read text)
+
+-- what the statement that a text spells is over these commits
+abbrev pub IsSpelledPlan : List Commit → List ℕ → Result WatchPlan Refusal → Type 0
+IsSpelledPlan commits text read =
+    (s : Statement) × Spells text s
+    × (read ≡ statement_plan (database_of commits) (length commits) s)
+
+-- the refusal is the fault of the text
+abbrev pub IsTextFault : List ℕ → Refusal → Type 0
+IsTextFault text why = (f : TextFault) × IsFault text f × (why ≡ refusal.TextFault f)

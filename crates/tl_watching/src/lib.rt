@@ -3,6 +3,7 @@
 //! journal and makes no commit.
 #![tactic(auto)]
 
+pub mod laws;
 mod plans;
 mod rows;
 mod watching;

@@ -10,4 +10,4 @@ returns c =
     let whole = to_z-of_z w64 c.args.number c.ranges.number in
     gathers_number c.self.inside.kind c.self.inside.count c.count_in.new.count c.self.inside.sum c.count_in.new.sum c.args.number c.self.inside.numbers.items c.put_behind.new.numbers.items c.args.self.now c.self.view_is c.count_in.ensures.count
     (subst (λ n. c.count_in.new.sum ≡ c.self.inside.sum +ℤ n) whole c.count_in.ensures.sum)
-    (subst (λ n. is_ordered c.self.inside.kind ≡ true → c.put_behind.new.numbers.items ≡ c.self.inside.numbers.items ++ n ∷ []) whole c.in_ok-put_behind.ensures)
+    (subst (λ n. is_ordered c.self.inside.kind ≡ true → c.put_behind.new.numbers.items ≡ c.self.inside.numbers.items ++ n ∷ []) whole c.in_ok-put_behind.ensures.puts)

@@ -1,4 +1,5 @@
 pub mod AnswerLemmas
+pub mod WidthLemmas
 pub mod PhaseLemmas
 pub mod EndLemmas
 pub mod Examples

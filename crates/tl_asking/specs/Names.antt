@@ -1,6 +1,8 @@
 -- The names of the columns of an answer.
-use Rattle.std.specs.Prelude.{ℕ, ◌==◌, List, [], ◌∷◌, ◌++◌, map, codes, Option, Some, None, slice_get, if◌then◌else◌}
+use Rattle.std.specs.Prelude.{◌≡◌, ℕ, ◌==◌, List, [], ◌∷◌, ◌++◌, length, map, codes, Option, Some, None, slice_get, if◌then◌else◌}
+use Rattle.std.specs.List.{AllByRecursion}
 use Rattle.tl_types.specs.declared.answers.Answer.{Answer}
+use Rattle.tl_types.specs.declared.answers.Field.{Field}
 use Rattle.tl_types.specs.declared.answers.Field.TheVariants as field
 use Rattle.tl_types.specs.declared.schemas.Column.{Column}
 use Rattle.tl_types.specs.Plain as plain
@@ -9,6 +11,7 @@ use Rattle.tl_query.specs.declared.typed_queries.Typed.{Typed}
 use Rattle.tl_query.specs.declared.typed_queries.Typed.TheVariants as typed
 use Rattle.tl_query.specs.declared.typed_queries.TypedItem.{TypedItem}
 use Rattle.tl_query.specs.declared.typed_queries.TypedItem.TheVariants as item
+use Rattle.tl_query.specs.Answers.{answer_of}
 use Rattle.tl_query.specs.TypedFor.{schema_at}
 
 -- COLUMNS
@@ -83,3 +86,13 @@ names_answer names = record { rows = map field.Text names ∷ [] }
 -- names as a line of CSV
 abbrev pub names_text : List (List ℕ) → List ℕ
 names_text names = answer_text (names_answer names)
+
+-- ROWS
+
+-- the row has as many fields as there are names
+abbrev pub IsNamedBy : List (List ℕ) → List Field → Type 0
+IsNamedBy names row = length row ≡ length names
+
+-- each row of the answer to a query has as many fields as its columns have names
+abbrev pub HasNamedRows : plain.Database → Typed → Type 0
+HasNamedRows db query = AllByRecursion (IsNamedBy (names_of db query)) (answer_of db query)

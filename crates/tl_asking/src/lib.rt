@@ -8,7 +8,9 @@
 
 mod answers;
 mod asking;
+mod laws;
 mod names;
 mod phases;
 
 pub use asking::ask;
+pub use laws::rows_have_their_names;

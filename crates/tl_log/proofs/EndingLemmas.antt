@@ -40,9 +40,9 @@ module _ (asked : Listing) (commits : List Commit) (image : List ℕ) (stands : 
   pub ends_whole : (text : List ℕ) (old new : Option (List ℕ)) (before after : ℕ) (ended : ListStatus)
       → listing_text asked commits ≡ Some text → WritesAll text status.Done old new before after ended
       → EndsListing asked (Some image) old new before after ended
-  ends_whole text old new before after ended is (inl (e, w)) =
-      rw e (λ other told. (text, listing_is text other is told, w))
-  ends_whole text old new before after ended is (inr (inl (e, w))) = rw e (ends_empty asked (Some image) old new w)
+  ends_whole text old new before after ended is (inl (e, w, sure)) =
+      rw e ((λ other told. (text, listing_is text other is told, w)), sure)
+  ends_whole text old new before after ended is (inr (inl (e, w, sure))) = rw e (ends_empty asked (Some image) old new w, sure)
   ends_whole text old new before after ended is (inr (inr (e, rose, part))) =
       rw e (refl, rose, λ other told. (text, inl (listing_is text other is told), part))
 
@@ -56,9 +56,9 @@ writes_same text other wanted old new before after ended same writes =
 pub ends_refused : (asked : Listing) (image : List ℕ) (f : ListFault) (old new : Option (List ℕ)) (before after : ℕ) (ended : ListStatus)
     → IsRefusedFor asked image f → WritesAll (refusal_line asked f) (status.Refused f) old new before after ended
     → EndsListing asked (Some image) old new before after ended
-ends_refused asked image f old new before after ended why (inl (e, w)) =
-    rw e (λ other told. subst (λ i. IsRefusedFor asked i f) (told_same image other told) why, w)
-ends_refused asked image f old new before after ended why (inr (inl (e, w))) = rw e (ends_empty asked (Some image) old new w)
+ends_refused asked image f old new before after ended why (inl (e, w, sure)) =
+    rw e (((λ other told. subst (λ i. IsRefusedFor asked i f) (told_same image other told) why), w), sure)
+ends_refused asked image f old new before after ended why (inr (inl (e, w, sure))) = rw e (ends_empty asked (Some image) old new w, sure)
 ends_refused asked image f old new before after ended why (inr (inr (e, rose, part))) =
     rw e (refl, rose, λ other told. (refusal_line asked f, inr (f, subst (λ i. IsRefusedFor asked i f) (told_same image other told) why, refl), part))
 
@@ -66,10 +66,10 @@ ends_refused asked image f old new before after ended why (inr (inr (e, rose, pa
 ends_pieces : (name : List ℕ) (commits : List Commit) (image text : List ℕ) (old new : Option (List ℕ)) (before after : ℕ) (ended : ListStatus)
     → ImageStandsOnlyFor commits image → FitInTurn standard_limits commits → listing_text (listing.Rows name) commits ≡ Some text
     → WritesPieces text old new before after ended → EndsListing (listing.Rows name) (Some image) old new before after ended
-ends_pieces name commits image text old new before after ended stands fitting is (inl (e, w)) =
-    rw e (λ other told. (text, listing_is (listing.Rows name) commits image stands fitting text other is told, w))
-ends_pieces name commits image text old new before after ended stands fitting is (inr (inl (e, part))) =
-    rw e (inr (λ other told. (text, listing_is (listing.Rows name) commits image stands fitting text other is told, part)))
+ends_pieces name commits image text old new before after ended stands fitting is (inl (e, w, sure)) =
+    rw e ((λ other told. (text, listing_is (listing.Rows name) commits image stands fitting text other is told, w)), sure)
+ends_pieces name commits image text old new before after ended stands fitting is (inr (inl (e, part, sure))) =
+    rw e (inr (λ other told. (text, listing_is (listing.Rows name) commits image stands fitting text other is told, part)), sure)
 ends_pieces name commits image text old new before after ended stands fitting is (inr (inr (e, rose, part))) =
     rw e (refl, rose, λ other told. (text, inl (listing_is (listing.Rows name) commits image stands fitting text other is told), part))
 

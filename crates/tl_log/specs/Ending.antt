@@ -68,21 +68,22 @@ exit_status (status.SourceFault faults) = 3
 exit_status (status.SinkFault faults) = 4
 exit_status (status.Refused f) = fault_status f
 
--- a text is written whole, or the sink failed behind a part of it, or memory ran out before it
+-- a text is written whole; or memory ran out before it; or the sink failed behind a part of it,
+-- and only then its count of faults rose
 abbrev pub WritesAll : List ℕ → ListStatus → Option (List ℕ) → Option (List ℕ)
     → ℕ → ℕ → ListStatus → Type 0
 WritesAll text wanted old new before after ended =
-    ((ended ≡ wanted) × (new ≡ append_known old text))
-    ⊎ ((ended ≡ status.NoMemory) × (new ≡ old))
+    ((ended ≡ wanted) × (new ≡ append_known old text) × (after ≡ before))
+    ⊎ ((ended ≡ status.NoMemory) × (new ≡ old) × (after ≡ before))
     ⊎ ((ended ≡ status.SinkFault after) × Rose before after × WritesPart text old new)
 
--- a text is written in pieces: whole, or up to a part behind which the sink failed or memory ran
--- out
+-- a text is written in pieces: whole; or up to a part behind which memory ran out; or up to one
+-- behind which the sink failed, and only then its count of faults rose
 abbrev pub WritesPieces : List ℕ → Option (List ℕ) → Option (List ℕ) → ℕ → ℕ → ListStatus
     → Type 0
 WritesPieces text old new before after ended =
-    ((ended ≡ status.Done) × (new ≡ append_known old text))
-    ⊎ ((ended ≡ status.NoMemory) × WritesPart text old new)
+    ((ended ≡ status.Done) × (new ≡ append_known old text) × (after ≡ before))
+    ⊎ ((ended ≡ status.NoMemory) × WritesPart text old new × (after ≡ before))
     ⊎ ((ended ≡ status.SinkFault after) × Rose before after × WritesPart text old new)
 
 -- some first part of the listing was written, or of the line that says why there is none
@@ -98,13 +99,16 @@ EndsShort (listing.Rows name) told old new =
     (new ≡ old) ⊎ ListsPart (listing.Rows name) told old new
 
 -- how a listing ends of a source that had these bytes left, where it tells them, by what is written
--- and the sink's count of faults, before and after
+-- and the sink's count of faults, before and after, which rises only where the sink fails
 abbrev pub EndsListing : Listing → Option (List ℕ) → Option (List ℕ) → Option (List ℕ)
     → ℕ → ℕ → ListStatus → Type 0
-EndsListing listing told old new before after status.Done = Lists listing told old new
-EndsListing listing told old new before after status.NoMemory = EndsShort listing told old new
-EndsListing listing told old new before after (status.SourceFault faults) = new ≡ old
+EndsListing listing told old new before after status.Done =
+    Lists listing told old new × (after ≡ before)
+EndsListing listing told old new before after status.NoMemory =
+    EndsShort listing told old new × (after ≡ before)
+EndsListing listing told old new before after (status.SourceFault faults) =
+    (new ≡ old) × (after ≡ before)
 EndsListing listing told old new before after (status.SinkFault faults) =
     (faults ≡ after) × Rose before after × WritesSome listing told old new
 EndsListing listing told old new before after (status.Refused f) =
-    Refuses listing f told old new
+    Refuses listing f told old new × (after ≡ before)

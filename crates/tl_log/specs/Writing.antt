@@ -15,10 +15,10 @@ pub record Sends (text rest : List ℕ) (old new : Option (List ℕ)) : Type 0 w
   pub written : new ≡ append_known old sent
   pub left : sent ++ rest ≡ text
 
--- the count of faults of a sink, whose writing failed
+-- the count of faults of a sink, whose writing failed or for which memory ran out
 abbrev pub CountsWritten : WriteFault → ℕ → ℕ → Type 0
 CountsWritten (fault.Sink faults) before after = (faults ≡ after) × Rose before after
-CountsWritten fault.NoMemory before after = Unit {0}
+CountsWritten fault.NoMemory before after = after ≡ before
 
 -- where memory runs out before a text is begun, nothing is written
 abbrev pub LeavesUnwritten : WriteFault → Option (List ℕ) → Option (List ℕ) → Type 0

@@ -5,3 +5,4 @@ pub mod PileLemmas
 pub mod StandingLemmas
 pub mod TellLemmas
 pub mod TouchLemmas
+pub mod LastingLemmas

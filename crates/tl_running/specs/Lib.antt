@@ -1,4 +1,5 @@
 pub mod Heaps
+pub mod Lasting
 pub mod Standing
 pub mod Telling
 pub mod Touching

@@ -4,13 +4,17 @@
 //! tells it which number comes and which goes.
 #![tactic(auto)]
 
+mod extreme;
 mod far;
 mod heap;
 mod heaps;
+mod lasting;
+mod lasting_heap;
 pub mod laws;
 mod pile;
 mod running;
 mod touching;
 
+pub use extreme::Extreme;
 pub use running::Running;
 pub use touching::add_touching;

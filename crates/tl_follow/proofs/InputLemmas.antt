@@ -7,12 +7,11 @@ use Rattle.tl_types.specs.declared.commits.Commit.{Commit}
 use Rattle.tl_types.specs.declared.limits.Limits.{Limits}
 use Rattle.tl_record.specs.Spelling.{number, spelling}
 use Rattle.tl_record.proofs.RecordsRead.{no_prefix}
-use Rattle.tl_follow.specs.declared.inputs.TheConstants.{INPUT_LIMIT}
 use Rattle.tl_follow.specs.declared.packets.Packet.{Packet}
 use Rattle.tl_follow.specs.Packets.{packet_spelling, IsPacket, IsNoPacket, BeginsWithPacket}
 use Rattle.tl_follow.specs.Following.{first_of, followed}
 use Rattle.tl_follow.specs.Calls.{FollowsAll}
-use Rattle.tl_follow.specs.Inputs.{input_of, IsInput, place_of, stuck_at, input_fault, FollowsInput}
+use Rattle.tl_follow.specs.Inputs.{input_of, IsInput, place_of, stuck_at, input_fault, FollowsInput, input_limit}
 use Rattle.tl_follow.specs.Readers.{IsReadTo}
 use Rattle.tl_follow.proofs.Numbers.{one_number}
 use Rattle.tl_follow.proofs.PacketsRead.{version_small}
@@ -102,13 +101,13 @@ place_some version (p ∷ packets) c e = by_test (p.version == version) refl (pl
       let r : first_of version (p ∷ packets) ≡ first_of version packets = rw t refl in
       rw t (mapped (place_of version packets) (h (sym r ∙ e)))
 
-pub not_long : (bytes : List ℕ) → length bytes ≤ INPUT_LIMIT → nat_lt INPUT_LIMIT (length bytes) ≡ false
+pub not_long : (bytes : List ℕ) → length bytes ≤ input_limit → nat_lt input_limit (length bytes) ≡ false
 not_long bytes h = grind (arith, nat_tests)
 
-pub whole_fault : (limits : Limits) (start : List Commit) (bytes : List ℕ) (packets : List Packet) → length bytes ≤ INPUT_LIMIT → input_fault limits start bytes packets [] ≡ stuck_at limits start packets
+pub whole_fault : (limits : Limits) (start : List Commit) (bytes : List ℕ) (packets : List Packet) → length bytes ≤ input_limit → input_fault limits start bytes packets [] ≡ stuck_at limits start packets
 whole_fault limits start bytes packets short = let long = not_long bytes short in rw long refl
 
-pub follows_input : (limits : Limits) (start : List Commit) (bytes : List ℕ) (packets : List Packet) (commits : List Commit) → length bytes ≤ INPUT_LIMIT → IsInput bytes packets [] → FollowsAll limits start packets commits → FollowsInput limits start bytes commits
+pub follows_input : (limits : Limits) (start : List Commit) (bytes : List ℕ) (packets : List Packet) (commits : List Commit) → length bytes ≤ input_limit → IsInput bytes packets [] → FollowsAll limits start packets commits → FollowsInput limits start bytes commits
 follows_input limits start bytes packets commits short i h =
     let version : length (start ++ commits) ≡ length (followed limits start packets) = ap length h.history in
     let none : first_of (length (followed limits start packets) + 1) packets ≡ None = ap (λ n. first_of (n + 1) packets) (sym version) ∙ h.last in

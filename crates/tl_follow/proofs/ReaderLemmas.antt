@@ -6,7 +6,6 @@ use Rattle.std.proofs.lemmas.Bool.Decides.{nat_tests}
 use Rattle.tl_types.specs.declared.commits.Commit.{Commit}
 use Rattle.tl_types.specs.declared.commits.Entry.{Entry}
 use Rattle.tl_types.specs.declared.limits.Limits.{Limits}
-use Rattle.tl_follow.specs.declared.inputs.TheConstants.{INPUT_LIMIT}
 use Rattle.tl_follow.specs.declared.packets.Packet.{Packet}
 use Rattle.tl_follow.specs.declared.places.InputFollower.{InputFollower}
 use Rattle.tl_follow.specs.declared.inputs.PacketReader.{PacketReader}
@@ -14,7 +13,7 @@ use Rattle.tl_follow.specs.declared.in_place.Followed.{Followed}
 use Rattle.tl_follow.specs.declared.faults.PacketFault.{PacketFault}
 use Rattle.tl_follow.specs.declared.faults.PacketFault.TheVariants as fault
 use Rattle.tl_follow.specs.Packets.{packet_spelling, IsPacket, IsNoPacket, BeginsWithPacket}
-use Rattle.tl_follow.specs.Inputs.{input_of, IsInput, IsInputFault, FollowsInput}
+use Rattle.tl_follow.specs.Inputs.{input_of, IsInput, IsInputFault, FollowsInput, input_limit}
 use Rattle.tl_follow.specs.Calls.{FollowsAll}
 use Rattle.tl_follow.specs.Places.{HasTaken, IsStuckAt, TakesAt}
 use Rattle.tl_follow.specs.Readers.{IsReadTo, TakesFront, IsRest, KeepsRest, IsRead, ReadsOn}
@@ -122,11 +121,11 @@ whole_input l s bytes r h all = by_behind h.behind (input_is l s bytes r h) wher
       let count = h.count_is in
       absurd (omega (arith, total, ends, count, all))
 
-short_bytes : (l : Limits) (s : List Entry) (bytes : List ℕ) (r : PacketReader) → IsRead l s bytes r → r.count ≤ INPUT_LIMIT → length bytes ≤ INPUT_LIMIT
-short_bytes l s bytes r h short = subst (λ n. n ≤ INPUT_LIMIT) h.count_is short
+short_bytes : (l : Limits) (s : List Entry) (bytes : List ℕ) (r : PacketReader) → IsRead l s bytes r → r.count ≤ input_limit → length bytes ≤ input_limit
+short_bytes l s bytes r h short = subst (λ n. n ≤ input_limit) h.count_is short
 
 -- bytes are left behind the packets
-pub cut_input : (limits : Limits) (start : List Commit) (s : List Entry) (bytes : List ℕ) (r : PacketReader) → IsRead limits s bytes r → r.count ≤ INPUT_LIMIT → r.end < r.count → IsInputFault limits start bytes (fault.BadPacket r.end)
+pub cut_input : (limits : Limits) (start : List Commit) (s : List Entry) (bytes : List ℕ) (r : PacketReader) → IsRead limits s bytes r → r.count ≤ input_limit → r.end < r.count → IsInputFault limits start bytes (fault.BadPacket r.end)
 cut_input limits start s bytes r h short cut =
     let total = ap length h.bytes_are ∙ length-append (input_of h.packets) h.behind in
     let ends = h.end_is in
@@ -137,17 +136,17 @@ cut_input limits start s bytes r h short cut =
     (h.packets, h.behind, input_is limits s bytes r h, rw (long, some) (ap (λ n. Some n) place))
 
 -- the packets of the whole input were followed
-pub follows_whole : (result : Result Followed PacketFault) (limits : Limits) (start : List Commit) (s : List Entry) (bytes : List ℕ) (r : PacketReader) (h : IsRead limits s bytes r) → r.count ≤ INPUT_LIMIT → r.count ≤ r.end → IfOk result (λ f. FollowsAll limits start h.packets f.commits) → IfOk result (λ f. FollowsInput limits start bytes f.commits)
+pub follows_whole : (result : Result Followed PacketFault) (limits : Limits) (start : List Commit) (s : List Entry) (bytes : List ℕ) (r : PacketReader) (h : IsRead limits s bytes r) → r.count ≤ input_limit → r.count ≤ r.end → IfOk result (λ f. FollowsAll limits start h.packets f.commits) → IfOk result (λ f. FollowsInput limits start bytes f.commits)
 follows_whole (Ok f) limits start s bytes r h short all follows =
     follows_input limits start bytes h.packets f.commits (short_bytes limits s bytes r h short) (whole_input limits s bytes r h all) follows
 follows_whole (Err e) limits start s bytes r h short all follows = tt
 
 -- or they are stuck
-stuck_by : (e : PacketFault) (limits : Limits) (start : List Commit) (s : List Entry) (bytes : List ℕ) (r : PacketReader) (h : IsRead limits s bytes r) → r.count ≤ INPUT_LIMIT → r.count ≤ r.end → IsStuckAt limits start h.packets e → IsInputFault limits start bytes e
+stuck_by : (e : PacketFault) (limits : Limits) (start : List Commit) (s : List Entry) (bytes : List ℕ) (r : PacketReader) (h : IsRead limits s bytes r) → r.count ≤ input_limit → r.count ≤ r.end → IsStuckAt limits start h.packets e → IsInputFault limits start bytes e
 stuck_by (fault.BadPacket at) limits start s bytes r h short all stuck =
     (h.packets, [], whole_input limits s bytes r h all, whole_fault limits start bytes h.packets (short_bytes limits s bytes r h short) ∙ stuck)
 stuck_by fault.NoMemory limits start s bytes r h short all stuck = tt
 
-pub stuck_whole : (result : Result Followed PacketFault) (limits : Limits) (start : List Commit) (s : List Entry) (bytes : List ℕ) (r : PacketReader) (h : IsRead limits s bytes r) → r.count ≤ INPUT_LIMIT → r.count ≤ r.end → IfErr result (IsStuckAt limits start h.packets) → IfErr result (IsInputFault limits start bytes)
+pub stuck_whole : (result : Result Followed PacketFault) (limits : Limits) (start : List Commit) (s : List Entry) (bytes : List ℕ) (r : PacketReader) (h : IsRead limits s bytes r) → r.count ≤ input_limit → r.count ≤ r.end → IfErr result (IsStuckAt limits start h.packets) → IfErr result (IsInputFault limits start bytes)
 stuck_whole (Ok f) limits start s bytes r h short all stuck = tt
 stuck_whole (Err e) limits start s bytes r h short all stuck = stuck_by e limits start s bytes r h short all stuck

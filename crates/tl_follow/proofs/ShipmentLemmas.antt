@@ -1,8 +1,9 @@
 -- What is shipped of a history, version by version, and where it leads.
-use Rattle.std.proofs.Common.{◌≡◌, ℕ, zero, suc, ◌+◌, ◌-◌, ◌<◌, ◌≤◌, Bool, true, false, ◌&&◌, cond, nat_le, nat_lt, ◌==◌, List, [], ◌∷◌, ◌++◌, length, Some, None, IsSome, is_some, slice_get, refl, sym, ap, ap₂, ◌∙◌, arith, append_assoc, append-nil, length-append}
+use Rattle.std.proofs.Common.{◌≡◌, ℕ, zero, suc, ◌+◌, ◌-◌, ◌<◌, ◌≤◌, Bool, true, false, ◌&&◌, cond, nat_le, nat_lt, ◌==◌, List, [], ◌∷◌, ◌++◌, length, take, drop, Some, None, IsSome, is_some, slice_get, refl, sym, ap, ap₂, ◌∙◌, subst, arith, append_assoc, append-nil, length-append}
 use Rattle.std.specs.List.{AllByRecursion, filter}
 use Rattle.std.proofs.lemmas.Grind.{flat_map-append}
 use Rattle.std.proofs.lemmas.List.Elements.{filter-append}
+use Rattle.std.proofs.lemmas.List.{take-append-drop, length-take-le}
 use Rattle.std.proofs.lemmas.Bool.Decides.{nat_tests}
 use Rattle.tl_types.specs.declared.commits.Commit.{Commit}
 use Rattle.tl_types.specs.declared.limits.Limits.{Limits}
@@ -12,14 +13,13 @@ use Rattle.tl_types.specs.Limits.{standard_limits}
 use Rattle.tl_types.specs.Plain as plain
 use Rattle.tl_types.proofs.Lists.{and_left}
 use Rattle.tl_record.specs.Spelling.{IsCommit}
-use Rattle.tl_follow.specs.declared.inputs.TheConstants.{INPUT_LIMIT}
 use Rattle.tl_follow.specs.declared.packets.Packet.{Packet}
 use Rattle.tl_follow.specs.Packets.{packet_spelling, IsPacket}
 use Rattle.tl_follow.specs.Following.{IsPrefixOf, first_of, followed}
 use Rattle.tl_follow.specs.Leading.{IsOf, AreFrom}
 use Rattle.tl_follow.specs.declared.faults.PacketFault.{PacketFault}
 use Rattle.tl_follow.specs.declared.faults.PacketFault.TheVariants as fault
-use Rattle.tl_follow.specs.Inputs.{input_of, IsInput, input_fault, FollowsInput, IsInputFault}
+use Rattle.tl_follow.specs.Inputs.{input_of, IsInput, input_fault, FollowsInput, IsInputFault, input_limit}
 use Rattle.tl_follow.specs.Shipping.{packet_of, packets_from, packets_between, shipment}
 use Rattle.tl_follow.proofs.Growing.{prefix_length, grown_prefix}
 use Rattle.tl_follow.proofs.Led.{is_led, get_past}
@@ -155,7 +155,7 @@ whole_front : (leader front : List Commit) → IsPrefixOf front leader → lengt
 whole_front leader front ([], e) l = sym (e ∙ append-nil front)
 whole_front leader front (c ∷ more, e) l = absurd (let k = ap length e in let m = length-append front (c ∷ more) in omega (arith, k, m, l))
 
-shipment_from : (limits : Limits) (leader start : List Commit) (from to : ℕ) → FitInTurn limits leader → IsPrefixOf start leader → AreFrom limits leader start (packets_between from to leader)
+pub shipment_from : (limits : Limits) (leader start : List Commit) (from to : ℕ) → FitInTurn limits leader → IsPrefixOf start leader → AreFrom limits leader start (packets_between from to leader)
 shipment_from limits leader start from to fit begins = record {
   fit = fit;
   begins = begins;
@@ -196,7 +196,7 @@ packets_all k db (c ∷ cs) e fit all =
 pub shipment_packets : (commits : List Commit) (from to : ℕ) → FitInTurn standard_limits commits → AllByRecursion IsCommit commits → AllByRecursion IsPacket (packets_between from to commits)
 shipment_packets commits from to fit all = all_filtered IsPacket (is_between from to) (packets_from 1 commits) (packets_all 1 nothing commits refl fit all)
 
-pub shipment_no_fault : (limits : Limits) (leader start : List Commit) (from to : ℕ) → FitInTurn limits leader → IsPrefixOf start leader → length (shipment from to leader) ≤ INPUT_LIMIT → input_fault limits start (shipment from to leader) (packets_between from to leader) [] ≡ None
+pub shipment_no_fault : (limits : Limits) (leader start : List Commit) (from to : ℕ) → FitInTurn limits leader → IsPrefixOf start leader → length (shipment from to leader) ≤ input_limit → input_fault limits start (shipment from to leader) (packets_between from to leader) [] ≡ None
 shipment_no_fault limits leader start from to fit begins short =
     let packets = packets_between from to leader in
     let led = is_led limits leader start packets (shipment_from limits leader start from to fit begins) in
@@ -209,7 +209,7 @@ shipment_copies limits leader start commits from to all fit begins f t (packets,
     let one = one_input (shipment from to leader) packets (packets_between from to leader) [] [] i (shipment_is_input leader from to all) in
     h.history ∙ ap (followed limits start) one.0 ∙ shipment_leads limits leader start from to fit begins f t
 
-pub shipment_no_bad : (limits : Limits) (leader start : List Commit) (from to : ℕ) (e : PacketFault) → AllByRecursion IsPacket (packets_between from to leader) → FitInTurn limits leader → IsPrefixOf start leader → length (shipment from to leader) ≤ INPUT_LIMIT → IsInputFault limits start (shipment from to leader) e → e ≡ fault.NoMemory
+pub shipment_no_bad : (limits : Limits) (leader start : List Commit) (from to : ℕ) (e : PacketFault) → AllByRecursion IsPacket (packets_between from to leader) → FitInTurn limits leader → IsPrefixOf start leader → length (shipment from to leader) ≤ input_limit → IsInputFault limits start (shipment from to leader) e → e ≡ fault.NoMemory
 shipment_no_bad limits leader start from to (fault.BadPacket at) all fit begins short (packets, rest, i, bad) =
     let bytes = shipment from to leader in
     let one = one_input bytes packets (packets_between from to leader) rest [] i (shipment_is_input leader from to all) in
@@ -217,3 +217,81 @@ shipment_no_bad limits leader start from to (fault.BadPacket at) all fit begins 
     let same = ap₂ (λ (ps : List Packet) (r : List ℕ). input_fault limits start bytes ps r) one.0 one.1 in
     absurd (let q = sym bad ∙ same ∙ none in cc)
 shipment_no_bad limits leader start from to fault.NoMemory all fit begins short bad = refl
+
+-- A SHIPMENT UP TO A VERSION
+
+all_joined : (leader : List Commit) (ps qs : List Packet) → AllByRecursion (IsOf leader) ps → AllByRecursion (IsOf leader) qs → AllByRecursion (IsOf leader) (ps ++ qs)
+all_joined leader [] qs f g = g
+all_joined leader (p ∷ ps) qs f g = (f.0, all_joined leader ps qs f.1 g)
+
+pub several_from : (limits : Limits) (leader start : List Commit) (packets more : List Packet) → AreFrom limits leader start packets → AreFrom limits leader start more → AreFrom limits leader start (packets ++ more)
+several_from limits leader start packets more f g = record { fit = f.fit; begins = f.begins; each = all_joined leader packets more f.each g.each }
+
+fit_front : (limits : Limits) (db : plain.Database) (front more : List Commit) → FitFrom limits db (front ++ more) → FitFrom limits db front
+fit_front limits db [] more fit = tt
+fit_front limits db (c ∷ front) more fit = (fit.0, fit_front limits (after_commit db c) front more fit.1)
+
+packets_on : (k n : ℕ) (front more : List Commit) → n ≡ k + length front → packets_from k (front ++ more) ≡ packets_from k front ++ packets_from n more
+packets_on k n [] more e =
+    let same : k ≡ n = omega (arith, e) in
+    ap (λ v. packets_from v more) same
+packets_on k n (c ∷ front) more e =
+    let on : n ≡ k + 1 + length front = omega (arith, e) in
+    ap (λ ps. packet_of k c ∷ ps) (packets_on (k + 1) n front more on)
+
+between_front : (leader front more : List Commit) (from to : ℕ) → leader ≡ front ++ more → length front ≡ to → packets_between from to leader ≡ packets_between from to front
+between_front leader front more from to e n =
+    let on : to + 1 ≡ 1 + length front = omega (arith, n) in
+    let over : to < to + 1 = omega arith in
+    ap (λ cs. filter (is_between from to) (packets_from 1 cs)) e
+    ∙ ap (filter (is_between from to)) (packets_on 1 (to + 1) front more on)
+    ∙ filter-append (is_between from to) (packets_from 1 front) (packets_from (to + 1) more)
+    ∙ ap (λ ps. filter (is_between from to) (packets_from 1 front) ++ ps) (none_over from to (to + 1) more over)
+    ∙ append-nil (packets_between from to front)
+
+prefix_within : (start front rest : List Commit) → IsPrefixOf start (front ++ rest) → length start ≤ length front → IsPrefixOf start front
+prefix_within [] front rest a l = (front, refl)
+prefix_within (c ∷ start) [] rest a l = absurd (omega (arith, l))
+prefix_within (c ∷ start) (d ∷ front) rest (more, e) l =
+    let less : length start ≤ length front = omega (arith, l) in
+    let head : d ≡ c = cc in
+    let tail : front ++ rest ≡ start ++ more = cc in
+    let inner = prefix_within start front rest (more, tail) less in
+    (inner.0, ap₂ (λ (x : Commit) (xs : List Commit). x ∷ xs) head inner.1)
+
+-- the leader's commits up to a version
+module _ (limits : Limits) (leader start : List Commit) (from to : ℕ) (fit : FitInTurn limits leader) (begins : IsPrefixOf start leader) (f : from ≤ length start + 1) (s : length start ≤ to) (t : to ≤ length leader) where
+  parts : leader ≡ take to leader ++ drop to leader
+  parts = sym (take-append-drop to leader)
+
+  front_length : length (take to leader) ≡ to
+  front_length = length-take-le to leader t
+
+  front_fits : FitInTurn limits (take to leader)
+  front_fits = fit_front limits nothing (take to leader) (drop to leader) (subst (FitInTurn limits) parts fit)
+
+  front_begins : IsPrefixOf start (take to leader)
+  front_begins =
+      let l : length start ≤ length (take to leader) = omega (arith, s, front_length) in
+      prefix_within start (take to leader) (drop to leader) (subst (IsPrefixOf start) parts begins) l
+
+  front_packets : packets_between from to leader ≡ packets_between from to (take to leader)
+  front_packets = between_front leader (take to leader) (drop to leader) from to parts front_length
+
+  front_end : length (take to leader) ≤ to
+  front_end = omega (arith, front_length)
+
+  pub shipment_leads_to : followed limits start (packets_between from to leader) ≡ take to leader
+  shipment_leads_to = ap (followed limits start) front_packets ∙ shipment_leads limits (take to leader) start from to front_fits front_begins f front_end
+
+pub shipment_copies_to : (limits : Limits) (leader start commits : List Commit) (from to : ℕ) → AllByRecursion IsPacket (packets_between from to leader) → FitInTurn limits leader → IsPrefixOf start leader → from ≤ length start + 1 → length start ≤ to → to ≤ length leader → FollowsInput limits start (shipment from to leader) commits → start ++ commits ≡ take to leader
+shipment_copies_to limits leader start commits from to all fit begins f s t (packets, i, none, h) =
+    let one = one_input (shipment from to leader) packets (packets_between from to leader) [] [] i (shipment_is_input leader from to all) in
+    h.history ∙ ap (followed limits start) one.0 ∙ shipment_leads_to limits leader start from to fit begins f s t
+
+pub shipment_copies_first : (limits : Limits) (leader start commits : List Commit) (from to : ℕ) → AllByRecursion IsPacket (packets_between from to leader) → FitInTurn limits leader → IsPrefixOf start leader → FollowsInput limits start (shipment from to leader) commits → IsPrefixOf (start ++ commits) leader
+shipment_copies_first limits leader start commits from to all fit begins (packets, i, none, h) =
+    let one = one_input (shipment from to leader) packets (packets_between from to leader) [] [] i (shipment_is_input leader from to all) in
+    let end : start ++ commits ≡ followed limits start (packets_between from to leader) = h.history ∙ ap (followed limits start) one.0 in
+    let led = is_led limits leader start (packets_between from to leader) (shipment_from limits leader start from to fit begins) in
+    subst (λ cs. IsPrefixOf cs leader) (sym end) led.along

@@ -65,6 +65,10 @@ abbrev pub IsUnfit : Following → Type 0
 IsUnfit f =
     (c : Commit) × (next_held f ≡ Some c) × (fits f.limits (database_of (commits_in f)) c ≡ false)
 
+-- the fault of a commit that does not fit, with the next version
+abbrev pub unfit_next : Following → FollowFault
+unfit_next f = fault.Unfit (length (commits_in f) + 1)
+
 -- the follower after it advanced
 abbrev pub after_advance : Following → Following
 after_advance f = advanced_by f (next_held f)

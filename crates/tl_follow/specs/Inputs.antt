@@ -3,13 +3,16 @@ use Rattle.std.specs.Prelude.{◌≡◌, ℕ, ◌+◌, ◌-◌, nat_lt, ◌==◌
 use Rattle.std.specs.List.{flat_map, AllByRecursion}
 use Rattle.tl_types.specs.declared.commits.Commit.{Commit}
 use Rattle.tl_types.specs.declared.limits.Limits.{Limits}
-use Rattle.tl_follow.specs.declared.inputs.TheConstants.{INPUT_LIMIT}
 use Rattle.tl_follow.specs.declared.packets.Packet.{Packet}
 use Rattle.tl_follow.specs.declared.faults.PacketFault.{PacketFault}
 use Rattle.tl_follow.specs.declared.faults.PacketFault.TheVariants as fault
 use Rattle.tl_follow.specs.Following.{followed}
 use Rattle.tl_follow.specs.Calls.{FollowsAll}
 use Rattle.tl_follow.specs.Packets.{packet_spelling, IsPacket, IsNoPacket}
+
+-- the most bytes that an input may have: 2 GiB
+abbrev pub input_limit : ℕ
+input_limit = 2147483648
 
 -- packets as bytes, one behind the other
 abbrev pub input_of : List Packet → List ℕ
@@ -35,7 +38,7 @@ stuck_at limits start packets = place_of (length (followed limits start packets)
 -- else where the packets are stuck
 abbrev pub input_fault : Limits → List Commit → List ℕ → List Packet → List ℕ → Option ℕ
 input_fault limits start bytes packets rest =
-    if nat_lt INPUT_LIMIT (length bytes) then Some INPUT_LIMIT
+    if nat_lt input_limit (length bytes) then Some input_limit
     else if nat_lt 0 (length rest) then Some (length bytes - length rest)
     else stuck_at limits start packets
 

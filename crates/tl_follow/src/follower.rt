@@ -1,7 +1,7 @@
 //! The follower: it keeps a snapshot of its history, and of each version past its commits the first
 //! packet that it took. It refuses a commit that does not fit by its limits, and each call that
 //! fails leaves it as it was.
-ghost use Rattle.std.specs.Prelude.{◌≡◌, ◌≢◌, ◌++◌, ◌∷◌, [], List, Some, None, Ok, Err, map, false, IfOk, IsErr, OnOk, OnErr, IsTrue};
+ghost use Rattle.std.specs.Prelude.{◌≡◌, ◌≢◌, ◌++◌, ◌∷◌, [], List, Some, None, Ok, Err, map, false, IfOk, OnOk, OnErr, IsTrue};
 ghost use Rattle.std.specs.Map.{remove_entry};
 ghost use Rattle.std.specs.BTreeMap.{is_at};
 ghost use Rattle.std.specs.Ordering.{nat_cmp};
@@ -15,7 +15,7 @@ ghost use Rattle.tl_index.specs.Snapshots.{commit_entry};
 ghost use Rattle.tl_follow.specs.declared.packets.Packet.{Packet};
 ghost use Rattle.tl_follow.specs.declared.faults.FollowFault.TheVariants as fault;
 ghost use Rattle.tl_follow.specs.Following.{IsFollowing, commits_in, held_at, next_held};
-ghost use Rattle.tl_follow.specs.Calls.{is_new, taken_as, after_take, follower_of, IsUnfit, IsAdvanced, after_advance, IsEnd, IsDone};
+ghost use Rattle.tl_follow.specs.Calls.{is_new, taken_as, after_take, follower_of, IsUnfit, IsAdvanced, unfit_next, after_advance, IsEnd, IsDone};
 
 use crate::faults::FollowFault;
 use crate::packets::{Packet, Taken};
@@ -122,7 +122,7 @@ impl Follower {
     pub fn advance(&mut self) -> Result<Option<Commit>, FollowFault>
         ensures step { IsAdvanced self.old result self.new }
         ensures none { next_held self.old ≡ None → result ≡ Ok None }
-        ensures unfit { IsUnfit self.old → IsErr result }
+        ensures unfit { IsUnfit self.old → result ≡ Err (unfit_next self.old) }
         ensures moved { result ≢ Err fault.NoMemory → self.new ≡ after_advance self.old }
         // Whatever it began with and took, it goes on following them; and where it can go no
         // further, its commits are all that the packets make.
@@ -138,7 +138,7 @@ impl Follower {
     fn step(&mut self) -> Result<Option<Commit>, FollowFault>
         ensures step { IsAdvanced self.old result self.new }
         ensures none { next_held self.old ≡ None → result ≡ Ok None }
-        ensures unfit { IsUnfit self.old → IsErr result }
+        ensures unfit { IsUnfit self.old → result ≡ Err (unfit_next self.old) }
     {
         let version = self.snapshot.store().versions() + 1;
         let Some(commit) = self.held.get(&version) else {

@@ -8,7 +8,7 @@ ghost use Rattle.tl_types.specs.Legality.{FitFrom};
 ghost use Rattle.tl_index.specs.Snapshots.{commit_entry};
 ghost use Rattle.tl_follow.specs.declared.packets.Packet.{Packet};
 ghost use Rattle.tl_follow.specs.Following.{IsFollowing, IsWhole, commits_in, next_held};
-ghost use Rattle.tl_follow.specs.Calls.{IsAdvanced, IsEndOfAll, with_commit};
+ghost use Rattle.tl_follow.specs.Calls.{IsAdvanced, IsEndOfAll, IsUnfit, unfit_next, with_commit};
 
 use crate::faults::FollowFault;
 use crate::follower::Follower;
@@ -57,6 +57,7 @@ impl Follower {
     fn step_over(self) -> Result<(Follower, Option<Commit>), FollowFault>
         ensures ok { IfOk result (λ r. IsAdvanced self (Ok r.1) r.0) }
         ensures err { IfErr result (λ e. IsAdvanced self (Err e) self) }
+        ensures unfit { IsUnfit self → result ≡ Err (unfit_next self) }
     {
         let version = self.snapshot.store().versions() + 1;
         let Some(commit) = self.held.get(&version) else {

@@ -1,5 +1,5 @@
 //! What holds of every follower, said in contracts of functions that do nothing.
-ghost use Rattle.std.specs.Prelude.{◌≡◌, ◌+◌, ◌<◌, ◌≤◌, ◌++◌, ℕ, List, [], length, None, Some, slice_get};
+ghost use Rattle.std.specs.Prelude.{◌≡◌, ◌+◌, ◌<◌, ◌≤◌, ◌++◌, ℕ, List, [], length, take, None, Some, slice_get};
 ghost use Rattle.std.specs.List.{AllByRecursion};
 ghost use Rattle.tl_types.specs.declared.answers.Field.{Field};
 ghost use Rattle.tl_types.specs.declared.commits.Commit.{Commit};
@@ -12,7 +12,6 @@ ghost use Rattle.tl_types.specs.Limits.{standard_limits};
 ghost use Rattle.tl_query.specs.declared.typed_queries.Typed.{Typed};
 ghost use Rattle.tl_query.specs.Answers.{answer_of};
 ghost use Rattle.tl_record.specs.Spelling.{IsCommit};
-ghost use Rattle.tl_follow.specs.declared.inputs.TheConstants.{INPUT_LIMIT};
 ghost use Rattle.tl_follow.specs.declared.packets.Packet.{Packet};
 ghost use Rattle.tl_follow.specs.Following.{Following, IsFollowing, IsPrefixOf, commits_in, next_held, next_of, followed};
 ghost use Rattle.tl_follow.specs.Calls.{Call, follower_of, after_calls, packets_of};
@@ -20,7 +19,7 @@ ghost use Rattle.tl_follow.specs.Leading.{AreFrom, IsLed};
 ghost use Rattle.tl_follow.specs.Packets.{packet_spelling, IsPacket};
 ghost use Rattle.tl_follow.specs.declared.faults.PacketFault.{PacketFault};
 ghost use Rattle.tl_follow.specs.declared.faults.PacketFault.TheVariants as fault;
-ghost use Rattle.tl_follow.specs.Inputs.{FollowsInput, IsInput, IsInputFault, input_fault};
+ghost use Rattle.tl_follow.specs.Inputs.{FollowsInput, IsInput, IsInputFault, input_fault, input_limit};
 ghost use Rattle.tl_follow.specs.Shipping.{packet_of, packets_between, shipment};
 
 /// Carries a law in its contract, and does nothing: what packets make of commits ends, since no
@@ -108,9 +107,37 @@ pub fn shipments_are_inputs()
         → IsInput (shipment from to commits) (packets_between from to commits) [] }
     ensures whole { (limits : Limits) (leader start : List Commit) (from to : ℕ)
         → FitInTurn limits leader → IsPrefixOf start leader
-        → length (shipment from to leader) ≤ INPUT_LIMIT
+        → length (shipment from to leader) ≤ input_limit
         → input_fault limits start (shipment from to leader) (packets_between from to leader) []
         ≡ None }
+{}
+
+/// Carries a law in its contract, and does nothing: where the leader's commits fit one after the
+/// other by the follower's limits, and the follower begins with the first ones of them, each
+/// shipment of them has the leader's commits with their versions, and so have several together.
+/// One that begins at the follower's next version or before it, and ends at a version that the
+/// leader has, leads the follower to just that version: who follows that input ends there. And
+/// whatever is shipped, who follows it ends with first commits of the leader's.
+pub fn shipments_of_a_leader()
+    ensures come { (limits : Limits) (leader start : List Commit) (from to : ℕ)
+        → FitInTurn limits leader → IsPrefixOf start leader
+        → AreFrom limits leader start (packets_between from to leader) }
+    ensures several { (limits : Limits) (leader start : List Commit) (packets more : List Packet)
+        → AreFrom limits leader start packets → AreFrom limits leader start more
+        → AreFrom limits leader start (packets ++ more) }
+    ensures leads { (limits : Limits) (leader start : List Commit) (from to : ℕ)
+        → FitInTurn limits leader → IsPrefixOf start leader → from ≤ length start + 1
+        → length start ≤ to → to ≤ length leader
+        → followed limits start (packets_between from to leader) ≡ take to leader }
+    ensures copies { (limits : Limits) (leader start commits : List Commit) (from to : ℕ)
+        → AllByRecursion IsPacket (packets_between from to leader) → FitInTurn limits leader
+        → IsPrefixOf start leader → from ≤ length start + 1 → length start ≤ to
+        → to ≤ length leader → FollowsInput limits start (shipment from to leader) commits
+        → start ++ commits ≡ take to leader }
+    ensures first { (limits : Limits) (leader start commits : List Commit) (from to : ℕ)
+        → AllByRecursion IsPacket (packets_between from to leader) → FitInTurn limits leader
+        → IsPrefixOf start leader → FollowsInput limits start (shipment from to leader) commits
+        → IsPrefixOf (start ++ commits) leader }
 {}
 
 /// Carries a law in its contract, and does nothing: where the leader's commits fit one after the
@@ -131,7 +158,7 @@ pub fn shipments_lead()
     ensures sound { (limits : Limits) (leader start : List Commit) (from to : ℕ)
         (found : PacketFault) → AllByRecursion IsPacket (packets_between from to leader)
         → FitInTurn limits leader → IsPrefixOf start leader
-        → length (shipment from to leader) ≤ INPUT_LIMIT
+        → length (shipment from to leader) ≤ input_limit
         → IsInputFault limits start (shipment from to leader) found
         → found ≡ fault.NoMemory }
 {}

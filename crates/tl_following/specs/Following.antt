@@ -21,11 +21,10 @@ use Rattle.tl_script.specs.Taking.{IsAtEnd}
 use Rattle.tl_group.specs.Keeping.{commits_in}
 use Rattle.tl_group.specs.Plain as group
 use Rattle.tl_group.specs.Standing.{IsGivenBack}
-use Rattle.tl_follow.specs.declared.inputs.TheConstants.{INPUT_LIMIT}
 use Rattle.tl_follow.specs.declared.inputs.PacketReader.{PacketReader}
 use Rattle.tl_follow.specs.declared.packets.Packet.{Packet}
 use Rattle.tl_follow.specs.Following.{followed}
-use Rattle.tl_follow.specs.Inputs.{IsInput, FollowsInput, input_fault}
+use Rattle.tl_follow.specs.Inputs.{IsInput, FollowsInput, input_fault, input_limit}
 use Rattle.tl_follow.specs.Readers.{IsRead}
 use Rattle.tl_command.specs.declared.statuses.Status.{Status}
 use Rattle.tl_command.specs.declared.statuses.Status.TheVariants as status
@@ -44,7 +43,7 @@ follow_line n = codes "follow @" ++ (decimal n ++ codes "\n")
 -- these bytes are the whole input, and were taken
 abbrev pub TakesBytes : List ℕ → Option (List ℕ) → Option (List ℕ) → Type 0
 TakesBytes bytes before after =
-    (length bytes ≤ INPUT_LIMIT) × IfSome before (λ left. left ≡ bytes) × IsAtEnd after
+    (length bytes ≤ input_limit) × IfSome before (λ left. left ≡ bytes) × IsAtEnd after
 
 -- the whole input was taken, and makes these commits behind those of the opening
 abbrev pub TakesCommits : List Commit → Option (List ℕ) → Option (List ℕ) → List Commit → Type 0
@@ -54,12 +53,12 @@ TakesCommits opening before after commits =
 
 -- the input has more bytes than it may have
 abbrev pub IsTooLong : Option (List ℕ) → Type 0
-IsTooLong before = IfSome before (λ left. INPUT_LIMIT < length left)
+IsTooLong before = IfSome before (λ left. input_limit < length left)
 
 -- the input has more bytes than it may have, or it has a fault, at this offset
 abbrev pub HasInputFault : List Commit → ℕ → Option (List ℕ) → Type 0
 HasInputFault opening at before =
-    ((at ≡ INPUT_LIMIT) × IsTooLong before)
+    ((at ≡ input_limit) × IsTooLong before)
     ⊎ ((bytes : List ℕ) × (packets : List Packet) × (rest : List ℕ)
     × IfSome before (λ left. left ≡ bytes) × IsInput bytes packets rest
     × (input_fault standard_limits opening bytes packets rest ≡ Some at))
@@ -106,7 +105,7 @@ FailsBytes before first last (status.NotInitialised len) = ⊥
 FailsBytes before first last (status.AlreadyInitialised len) = ⊥
 FailsBytes before first last (status.Damaged at) = ⊥
 FailsBytes before first last (status.PacketFault at) =
-    (at ≡ INPUT_LIMIT) × IsTooLong before × (last ≡ first)
+    (at ≡ input_limit) × IsTooLong before × (last ≡ first)
 FailsBytes before first last (status.WatchFault f) = ⊥
 FailsBytes before first last (status.StatementRefused number) = ⊥
 

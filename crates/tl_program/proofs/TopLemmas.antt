@@ -25,8 +25,7 @@ use Rattle.tl_command.specs.Closing.{wanted_by, Writes, ClosesAfter, EndsFor, En
 use Rattle.tl_program.specs.Ending.{EndsBy}
 use Rattle.tl_program.specs.Headline.{AcceptsAll, IsDoneOrNoMemory, StaysSure, IsHonest, IsFaultless, IsFollowed, NamesPlan, RefusesFirst, RunCompletes, CompletesBy, TransactCompletes}
 use Rattle.tl_command.specs.Outside.{Outside, Streams, streams_of}
-use Rattle.tl_follow.specs.declared.inputs.TheConstants.{INPUT_LIMIT}
-use Rattle.tl_follow.specs.Inputs.{IsInput, input_fault}
+use Rattle.tl_follow.specs.Inputs.{IsInput, input_fault, input_limit}
 use Rattle.tl_follow.specs.Shipping.{shipment}
 use Rattle.tl_follow.proofs.InputLemmas.{one_input}
 use Rattle.tl_csv.proofs.NumberLemmas.{lt_true}
@@ -210,9 +209,9 @@ ship_complete from to before after ended (inr (opening, h)) honest sure =
 -- packets that are followed to their end have no fault
 no_input_fault : (start : List Commit) (at : ℕ) (before : Outside) → IsFollowed start before → HasInputFault start at before.left → ⊥
 no_input_fault start at before followed (inl (is, long)) =
-    let much : INPUT_LIMIT < length followed.input = subst (λ (o : Option (List ℕ)). IfSome o (λ l. INPUT_LIMIT < length l)) followed.told long in
-    let fault : input_fault standard_limits start followed.input followed.packets [] ≡ Some INPUT_LIMIT = rw (lt_true INPUT_LIMIT (length followed.input) much) refl in
-    absurd (let e : None ≡ Some INPUT_LIMIT = sym followed.faultless ∙ fault in cc)
+    let much : input_limit < length followed.input = subst (λ (o : Option (List ℕ)). IfSome o (λ l. input_limit < length l)) followed.told long in
+    let fault : input_fault standard_limits start followed.input followed.packets [] ≡ Some input_limit = rw (lt_true input_limit (length followed.input) much) refl in
+    absurd (let e : None ≡ Some input_limit = sym followed.faultless ∙ fault in cc)
 no_input_fault start at before followed (inr (bytes, packets, rest, told, input, fault)) =
     let same : followed.input ≡ bytes = told_script before.left bytes followed.input followed.told told in
     let one = one_input followed.input followed.packets packets [] rest followed.whole (subst (λ (b : List ℕ). IsInput b packets rest) (sym same) input) in

@@ -6,6 +6,7 @@
 //! runs out.
 #![tactic(auto)]
 
+pub mod laws;
 mod shipments;
 mod shipping;
 

@@ -269,20 +269,26 @@ def test_another_file_is_locked():
             judge("another file's lock", found == (0, "", ""), found)
 
 
-def test_a_disk_that_fails_says_why():
-    """A file that may not be written, a folder that may not, and a full disk are told apart, where this may be tried."""
+def test_what_may_not_be_written_is_named(run_as_nobody):
+    """A file that may not be written, and a folder that may not, are told apart."""
     with tempfile.TemporaryDirectory(dir=JOURNALS) as room:
         make_journal(room)
         os.chmod(room, 0o755)
         os.chmod(f"{room}/timeline.tlj", 0o444)
         os.mkdir(f"{room}/none")
-        if os.geteuid() == 0 and subprocess.run([COMMAND, "--help"], user=65534, capture_output=True).returncode == 0:
-            told = "timeline: timeline.tlj may not be read and written here; ./timeline ask needs to read alone\n"
-            for words in (["run"], ["--strict", "run"]):
-                found = run(words, "", room, user=65534)
-                judge(f"{words} of a file that may not be written", found == (5, "! device\n", told), found)
-            found = run(["init"], "", f"{room}/none", user=65534)
-            judge("a folder that may not be written", found == (5, "! device\n", "timeline: this folder may not be written\n"), found)
+        os.chmod(f"{room}/none", 0o755)
+        told = "timeline: timeline.tlj may not be read and written here; ./timeline ask needs to read alone\n"
+        for words in (["run"], ["--strict", "run"]):
+            found = run_as_nobody(words, "", room)
+            judge(f"{words} of a file that may not be written", found == (5, "! device\n", told), found)
+        found = run_as_nobody(["init"], "", f"{room}/none")
+        judge("a folder that may not be written", found == (5, "! device\n", "timeline: this folder may not be written\n"), found)
+
+
+def test_a_disk_that_fails_says_why():
+    """That a disk is full is said, where one may be made that is."""
+    with tempfile.TemporaryDirectory(dir=JOURNALS) as room:
+        os.mkdir(f"{room}/none")
         commands = 'mount -t tmpfs -o size=16k none none && cd none && head -c 16384 /dev/zero >filler; "$0" init'
         if subprocess.run(["unshare", "-rm", "bash", "-c", "mount -t tmpfs -o size=16k none none"], cwd=room, capture_output=True).returncode == 0:
             done = subprocess.run(["unshare", "-rm", "bash", "-c", commands, COMMAND], cwd=room, capture_output=True, text=True, timeout=60)

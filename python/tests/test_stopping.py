@@ -212,18 +212,12 @@ def test_no_room_for_temporary_files(table: str) -> None:
 
 
 def test_full_disk_is_named(table: str) -> None:
-    """A disk that has no room for a commit, a file that may not be written, and a journal that another has, are told apart."""
+    """A disk that has no room for a commit fails that commit, and keeps what was there."""
     limit = os.path.getsize(f"{table}/timeline.tlj") // 512 + 1
     rows = "a> PUT t\nk,v\n" + "".join(f"{key},{'x' * 50}\n" for key in range(10, 100)) + "\\.\n"
     done = subprocess.run(["sh", "-c", f'ulimit -f {limit}; exec "$0" run', COMMAND], input=rows.encode(), cwd=table, capture_output=True, timeout=60)
     assert (done.returncode, done.stdout) == (5, b"a @2 ! device\n! device\n")
     assert run(["ask", "SELECT v FROM t"], folder=table).out == "v\none\ntwo\n"
-    if os.geteuid() == 0:
-        os.chmod(table, 0o755)
-        os.chmod(f"{table}/timeline.tlj", 0o444)
-        found = run(["run"], "", table, user=65534)
-        if found.status != 126:
-            assert found == (5, "! device\n", "timeline: timeline.tlj may not be read and written here; ./timeline ask needs to read alone\n")
 
 
 @pytest.mark.parametrize("words", (["run"], ["--strict", "run"], ["init"], ["load", "t"], ["group"], ["follow"], ["--stamp", "run"]), ids=" ".join)

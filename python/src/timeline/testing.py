@@ -53,19 +53,23 @@ def test(call: Call) -> int:
 def _counted(results: dict[str, str], wrong: list[str], seconds: float) -> str:
     passed = sum(it == "passed" for it in results.values())
     skipped = sum(it == "skipped" for it in results.values())
-    return f"{passed} passed, {len(wrong)} failed" + f", {skipped} not tried" * bool(skipped) + f", in {seconds:.0f} s"
+    return f"{passed} passed, {len(wrong)} failed, in {seconds:.0f} s" + f", {skipped} not tried" * bool(skipped)
 
 
 def _programs(folder: str) -> str:
-    """Puts links to the three programs into a folder, for all tests to use, and says what they are."""
-    os.mkdir(os.path.join(folder, "programs"))
-    os.chmod(folder, 0o711)      # some tests run commands as nobody
+    """Copies the three programs into a folder, for all tests to use, and says what they are. Each user may run them there,
+    wherever they stood: some tests run commands as nobody."""
+    copies = os.path.join(folder, "programs")
+    os.mkdir(copies)
     kinds = set()
     for name in programs.NAMES:
         path = programs.program(name)
         found = programs.find(name)
         kinds.add(found.kind if found else "not of these sources")
-        os.symlink(path, os.path.join(folder, "programs", name))
+        shutil.copyfile(path, os.path.join(copies, name))
+        os.chmod(os.path.join(copies, name), 0o755)
+    for it in (folder, copies):
+        os.chmod(it, 0o755)
     words = {"checked": "checked as they run", "given": "in " + os.environ.get("TIMELINE_PROGRAMS", "")}
     return " and ".join(sorted(words.get(it, it) for it in kinds))
 
@@ -125,12 +129,19 @@ def _lines(path: str, at: dict[int, int], number: int) -> Iterator[dict[str, str
 
 
 def _tell(results: dict[str, str], folder: str, console: Console) -> list[str]:
-    """Says what the tests said that failed, and how each is run alone; gives their names, and those that never ended."""
+    """Says what the tests said that failed, how each is run alone, and why some were not tried; gives the names of those that
+    failed, and those that never ended."""
     wrong = sorted(it for it, outcome in results.items() if outcome == "failed")
+    reasons: dict[str, int] = {}
     for name in (it for it in os.listdir(folder) if it.endswith(".results")):
         for result in _lines(os.path.join(folder, name), {0: 0}, 0):
             if result["outcome"] == "failed":
                 console.tell("\n".join([f"== {result['test']}", *result["said"].splitlines()[-_LINES:]]))
+            elif result["outcome"] == "skipped":
+                reason = result["said"].strip().removeprefix("Skipped: ")
+                reasons[reason] = reasons.get(reason, 0) + 1
+    for reason, count in sorted(reasons.items()):
+        console.tell(f"{count} not tried: {reason}")
     if results and _total(folder) > len(results):
         wrong.append(f"{_total(folder) - len(results)} tests that did not end")
     for name in wrong:

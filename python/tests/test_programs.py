@@ -4,6 +4,7 @@ from __future__ import annotations
 
 import os
 import pty
+import re
 import shutil
 import signal
 import subprocess
@@ -13,7 +14,8 @@ from typing import Iterator
 import pytest
 from conftest import ROOT, Done
 
-# Stands in for `rt`: it says what the prover says of two crates; it compiles and links by its own folder's compiler.
+# Stands in for `rt`: it says what the gate says of the crates that it finds, and leaves programs where they are; it
+# compiles and links by its own folder's compiler.
 RT = r"""#!/bin/sh
 here=$(dirname "$0")/..
 [ "$1" = version ] && echo a kit && exit
@@ -25,17 +27,20 @@ case $1 in
         [ -e "$CALLS.fails" ] && echo 'error: no such name' >&2 && exit 1
         "$here/toolchain/bin/clang" -O0 -fsanitize=address -march=x86-64 -c "a b.c" -o a.o
         "$here/toolchain/bin/ld.lld" -o "$TMPDIR/linked" a.o --whole-archive asan.a --no-whole-archive -lc ;;
-    run)
-        echo 'so far: 0 of 2 functions checked; the verdict comes last' >&2
-        echo "fn low::add: proved" >&2
-        echo "fn low::take: proved" >&2
-        [ -e "$CALLS.fails" ] && echo 'error: not proved' >&2 && exit 1
-        mkdir -p out
-        printf '#!/bin/sh\necho "proved %s: $*"\n' "$name" >"out/$name"
-        chmod +x "out/$name"
-        [ "$name" = timeline_log ] && echo '! journal NotInitialised 0' && exit 7
-        echo '! usage'
-        exit 2 ;;
+    ci)
+        find . -type f | sort >"$CALLS.files"
+        cp crates.txt "$CALLS.crates"
+        echo 'rt: note: the disk has 7 MB left'
+        for it in $(sed 's/[ :].*//' crates.txt); do
+            [ -e "$CALLS.fails" ] && [ "$it" = timeline ] && echo "rt: $it NOT PROVED" && exit 1
+            [ "$it" = low ] && echo "rt: $it is kept: an earlier run on this machine proved the same files" && continue
+            mkdir "crates/$it/out"
+            printf '#!/bin/sh\necho "proved %s: $*"\n' "$it" >"crates/$it/out/$it"
+            chmod +x "crates/$it/out/$it"
+            echo "rt: $it proved"
+        done
+        [ -e "$CALLS.edits" ] && echo 'meanwhile' >"$(cat "$CALLS.edits")"
+        echo '4 passed, 0 failed' ;;
 esac
 """
 CLANG = '#!/bin/sh\nfor it do echo "clang [$it]" >>"$CALLS.words"; done\n'
@@ -59,7 +64,10 @@ class Copy:
         self.around.pop("TIMELINE_PROGRAMS", None)
         for crate in (*NAMES, "low", "other"):
             self.write(f"crates/{crate}/src/main.rt", "\n")
+        self.write("crates/low/must-fail/wrong.edit", "file: src/main.rt\n")
+        self.write("crates/low/proofs/out/kept.antt", "\n")
         self.write("crates.txt", "# crates\nlow:\nother:\n" + "".join(f"{it} may_wait=1: low\n" for it in NAMES))
+        self.write("HANDLES", "Handles allowed: none.\n")
         shutil.copy(f"{ROOT}/timeline", f"{self.root}/timeline")
         shutil.copytree(f"{ROOT}/python/src", f"{self.root}/python/src")
         os.mkdir(f"{self.root}/docs")
@@ -186,51 +194,102 @@ def test_a_command_that_is_stopped_leaves_no_process_and_no_folder(copy: Copy) -
 def test_build_proves_and_replaces(copy: Copy) -> None:
     copy("sample", "2", "7")
     done = copy("build")
-    assert done.status == 0 and "building timeline, with proof" in done.err and "crate 1 of 2 to be proved, low" in done.err, done
-    cpu = [it for it in copy.calls() if it.startswith("run")]
-    assert [it.split()[:2] for it in cpu] == [["run", it] for it in NAMES]
+    assert done.status == 0 and "proving timeline, timeline_log, timeline_look; from nothing" in done.err, done
+    assert "timeline: the disk has 7 MB left\n" in done.err and done.err.endswith("timeline: all three are proved\n")
+    assert [it for it in copy.calls() if it.startswith("ci")] == ["ci sources "]
     assert copy("sample", "2", "7") == (0, "proved timeline: sample 2 7\n", "")
     assert copy("build").err == "timeline: all three are proved already\n"
     said = copy("--version").out.splitlines()
     assert [it.partition(": ")[2].startswith("proved") for it in said[1:]] == [True] * 3, said
     copy.write("crates/low/proofs/main.antt", "another proof\n")
     assert "since then specs or proofs have changed" in copy("--version").out
+    assert copy("build").status == 0 and "since then" not in copy("--version").out
     copy.write("crates/low/src/main.rt", "other code\n")
     assert copy("sample", "2", "7").out == "checked: sample 2 7\n"
+
+
+def test_build_is_the_gate_over_the_crates_of_the_programs_alone(copy: Copy) -> None:
+    copy.write("crates/low/out/left", "what an earlier check left\n")
+    assert copy("build").status == 0
+    files = [*(f"./crates/{it}/src/main.rt" for it in ("low", *NAMES)), "./crates/low/proofs/out/kept.antt", "./crates.txt", "./HANDLES"]
+    assert sorted(copy.calls(".files")) == sorted(files)
+    assert copy.calls(".crates") == ["low:", *(f"{it} may_wait=1: low" for it in NAMES)]
+
+
+def test_build_says_how_far_it_is(copy: Copy) -> None:
+    ours, theirs = pty.openpty()
+    subprocess.run([f"{copy.root}/timeline", "build"], cwd=copy.room, env=copy.around, stderr=theirs, stdin=subprocess.DEVNULL, timeout=60, check=True)
+    said = os.read(ours, 100_000).decode()
+    assert "timeline: 0 of 4 crates proved; " in said and "timeline: 4 of 4 crates proved; " in said, said
 
 
 def test_a_build_that_fails_says_how_it_ended(copy: Copy) -> None:
     with open(f"{copy.room}/calls.fails", "w"):
         pass
     done = copy("build")
-    assert (done.status, done.out) == (125, "") and "timeline was not built; " in done.err and "error: not proved\n" in done.err
+    assert (done.status, done.out) == (125, "") and "not all was proved; " in done.err and done.err.endswith("rt: timeline NOT PROVED\n")
+    assert not os.path.exists(f"{copy.root}/crates/timeline/out")
 
 
-def test_a_build_that_is_stopped_says_that_it_goes_on(copy: Copy) -> None:
+def test_a_change_while_it_is_built_keeps_no_program(copy: Copy) -> None:
+    with open(f"{copy.room}/calls.edits", "w", encoding="utf-8") as file:
+        file.write(f"{copy.root}/crates/low/specs.antt")
+    assert copy("build").status == 0, "what is no source"
+    os.mkdir(f"{copy.root}/crates/low/specs")
+    with open(f"{copy.room}/calls.edits", "w", encoding="utf-8") as file:
+        file.write(f"{copy.root}/crates/low/specs/low.antt")
+    copy.write("crates/low/proofs/main.antt", "another proof\n")
+    done = copy("build")
+    assert done.status == 125 and "the sources of timeline were changed while it was proved" in done.err
+    assert copy("--version").out.count("since then specs or proofs have changed") == 3
+    os.remove(f"{copy.room}/calls.edits")
+    assert copy("build").status == 0 and "since then" not in copy("--version").out
+
+
+def test_a_build_that_is_stopped_goes_on_from_what_is_kept(copy: Copy) -> None:
+    os.mkdir(f"{copy.room}/tmp")
+    copy.around["TMPDIR"] = f"{copy.room}/tmp"
     with open(f"{copy.room}/calls.slow", "w"):
         pass
-    process = subprocess.Popen([f"{copy.root}/timeline", "build"], cwd=copy.room, env=copy.around, stdout=subprocess.PIPE, stderr=subprocess.PIPE)
-    ends = time.monotonic() + 30
-    while not os.path.exists(f"{copy.room}/calls") and time.monotonic() < ends:
-        time.sleep(0.05)
-    process.send_signal(signal.SIGINT)
-    _, said = process.communicate(timeout=30)
-    assert process.returncode == 130 and b"./timeline build goes on where it stopped" in said
+    for is_kept, told in ((True, "./timeline build goes on after the crates that were proved"), (False, "/rattle-kept may not be written: ./timeline build begins again")):
+        if is_kept:
+            os.mkdir(f"{copy.room}/rattle-kept")
+        process = subprocess.Popen([f"{copy.root}/timeline", "build"], cwd=copy.room, env=copy.around, stdout=subprocess.PIPE, stderr=subprocess.PIPE, text=True)
+        ends = time.monotonic() + 30
+        while not os.path.exists(f"{copy.room}/calls") and time.monotonic() < ends:
+            time.sleep(0.05)
+        process.send_signal(signal.SIGINT)
+        _, said = process.communicate(timeout=30)
+        assert process.returncode == 130 and told in said, said
+        assert copy.calls() == ["ci sources "] and os.listdir(f"{copy.room}/tmp") == []
+        os.remove(f"{copy.room}/calls")
+        if is_kept:
+            os.rmdir(f"{copy.room}/rattle-kept")
 
 
-def test_what_the_gate_leaves_is_taken_where_no_source_is_newer(copy: Copy) -> None:
-    time.sleep(0.02)
-    for name in NAMES:
-        copy.write(f"crates/{name}/out/{name}", '#!/bin/sh\necho "of the gate: $*"\n')
-        os.chmod(f"{copy.root}/crates/{name}/out/{name}", 0o755)
-    assert copy("build").err == "timeline: all three are proved already\n"
-    assert copy("sample", "2", "7").out == "of the gate: sample 2 7\n"
-    assert copy.calls() == []
-    time.sleep(0.02)
-    copy.write("crates/low/specs/low.antt", "a later statement\n")
-    for name in NAMES:
-        os.remove(f"{copy.root}/crates/{name}/out/{name}.built")
+def test_only_a_record_says_that_a_program_is_proved(copy: Copy) -> None:
+    """What the gate leaves has no record of its sources, however new it is; and a record is of one program."""
+    def put(text: str) -> None:
+        for name in NAMES:
+            copy.write(f"crates/{name}/out/{name}", f'#!/bin/sh\necho "{text}: $*"\n')
+            os.chmod(f"{copy.root}/crates/{name}/out/{name}", 0o755)
+
+    put("of the gate")
     assert copy("sample", "2", "7").out == "checked: sample 2 7\n"
+    assert copy("--version").out.count(": proved") == 0
+    assert copy("build").status == 0 and copy("sample", "2", "7").out == "proved timeline: sample 2 7\n"
+    path = f"{copy.root}/crates/timeline/out/timeline"
+    found = os.stat(path)
+    put("provef timeline")      # of the same size, and said to be of the same time
+    os.utime(path, ns=(found.st_atime_ns, found.st_mtime_ns))
+    assert (os.stat(path).st_size, os.stat(path).st_mtime_ns) == (found.st_size, found.st_mtime_ns)
+    assert copy("sample", "2", "7").out == "checked: sample 2 7\n"
+    assert copy("build").status == 0
+    before = len(copy.calls())
+    for name in NAMES:
+        os.utime(f"{copy.root}/crates/{name}/out/{name}", (1, 1))
+    assert copy("sample", "2", "7").out == "proved timeline: sample 2 7\n" and copy("build").err == "timeline: all three are proved already\n"
+    assert len(copy.calls()) == before
 
 
 def test_a_program_for_another_kind_of_processor_is_not_run(copy: Copy) -> None:
@@ -301,7 +360,7 @@ def test_an_installed_copy_needs_no_sources_and_no_kit(copy: Copy) -> None:
 
 def test_only_what_is_proved_is_packaged_unless_it_is_wanted_so(copy: Copy) -> None:
     done = copy("package")
-    assert (done.status, done.out) == (125, "") and "package --checked" in done.err
+    assert (done.status, done.out) == (125, "") and "package --checked" in done.err, done
     done = copy("package", "--checked")
     assert done.status == 0 and done.out.startswith("timeline-checked-")
     copy("build")
@@ -313,3 +372,24 @@ def test_only_what_is_proved_is_packaged_unless_it_is_wanted_so(copy: Copy) -> N
     copy.has_no_kit()
     ran = subprocess.run([command, "sample", "2", "7"], cwd=copy.room, env=copy.around, capture_output=True, text=True, timeout=60, check=False)
     assert (ran.returncode, ran.stdout, ran.stderr) == (0, "proved timeline: sample 2 7\n", "")
+
+
+# What is said of a proof
+
+def test_the_time_of_a_proof_is_one_figure(copy: Copy) -> None:
+    from timeline import building
+
+    told = copy("build").err.splitlines()[0]
+    assert told.endswith(f"all three take {building.PROOF_TIME} and {building.PROOF_ROOM} of disk")
+
+
+@pytest.mark.parametrize("page", ("README.md", "docs/CONTRIBUTING.md", "python/src/timeline/help.txt"))
+def test_pages_state_that_time_for_build(page: str) -> None:
+    from timeline import building
+
+    with open(f"{ROOT}/{page}", encoding="utf-8") as file:
+        lines = [line for line in file if "./timeline build" in line and re.search(r"\bhours?\b|\bminutes?\b|[0-9]+ s\b", line)]
+    assert lines, f"{page} does not say how long ./timeline build takes"
+    for line in lines:
+        stated = re.findall(r"(?:about )?(?:an|one|two|three|[0-9]+)(?: to (?:an|one|two|three|[0-9]+))? (?:hours?|minutes?)\b", line)
+        assert stated == [building.PROOF_TIME], f"{page}: {line}"

@@ -7,12 +7,14 @@ import random
 import shutil
 import signal
 import subprocess
+import sys
 import time
 from typing import Iterator, Sequence
 
 import pytest
 
-from conftest import COMMAND, run
+from conftest import COMMAND, ROOT, run
+from timeline import cleanup
 
 TABLE = "a> CREATE TABLE t (k INT, v TEXT) KEY k\na> PUT t\nk,v\n1,one\n2,two\n\\.\n"
 SIGNALS = (signal.SIGINT, signal.SIGTERM, signal.SIGHUP)
@@ -159,6 +161,22 @@ def test_killed_at_any_moment_nothing_is_lost(table: str, temporary: str) -> Non
     words = [line[3] for line in log]
     assert all(after == "change" or after == "create" for before, after in zip(words, words[1:]) if before == "moment"), "a moment alone is none"
     assert words[-1] != "moment"
+
+
+def test_commands_that_begin_at_once_keep_their_own_folders(temporary: str) -> None:
+    """What a command clears that was killed is no folder that another has just made, and has not locked yet."""
+    words = [sys.executable, "-c", "import sys; from timeline import cleanup\nwhile True: cleanup.sweep(sys.argv[1])", temporary]
+    clearing = [subprocess.Popen(words, env={**os.environ, "PYTHONPATH": f"{ROOT}/python/src"}) for _ in range(2)]
+    try:
+        ends = time.monotonic() + 2
+        while time.monotonic() < ends:
+            folder = cleanup.private_folder(temporary)
+            assert os.path.isdir(folder)
+            cleanup.remove(folder)
+    finally:
+        for process in clearing:
+            process.kill()
+            process.wait()
 
 
 # A folder for temporary files that is none, or has no room, or an odd name.

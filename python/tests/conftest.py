@@ -10,12 +10,13 @@ import signal
 import subprocess
 import sys
 import tempfile
+import time
 from typing import Any, Callable, Iterator, NamedTuple, Sequence
 
 import pytest
 
 ROOT = os.path.dirname(os.path.dirname(os.path.dirname(os.path.abspath(__file__))))
-LIMIT = 200     # seconds that a test may take
+LIMIT = 200     # seconds that a test may take, where no more processes want to run than there are processors
 COMMAND = os.path.join(ROOT, "timeline")
 NOBODY = {"user": 65534, "group": 65534, "extra_groups": []}     # how a command is run as another user
 sys.path.insert(0, os.path.join(ROOT, "python/src"))
@@ -107,9 +108,15 @@ def pytest_configure(config: pytest.Config) -> None:
 
 @pytest.fixture(autouse=True)
 def limit() -> Iterator[None]:
-    """Has a test fail that does not end."""
+    """Has a test fail that does not end. Where others share the machine, it may take as much longer as there are more of them."""
+    begun = time.monotonic()
+
     def end(number: int, frame: object) -> None:
-        raise AssertionError(f"not ended after {LIMIT} seconds")
+        others = max(1.0, os.getloadavg()[0] / len(os.sched_getaffinity(0)))
+        taken = time.monotonic() - begun
+        if taken >= LIMIT * others:
+            raise AssertionError(f"not ended after {taken:.0f} seconds")
+        signal.alarm(int(LIMIT * others - taken) + 1)
 
     before = signal.signal(signal.SIGALRM, end)
     signal.alarm(LIMIT)

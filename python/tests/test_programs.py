@@ -156,12 +156,12 @@ def test_what_cannot_be_made_is_said(copy: Copy) -> None:
 
 
 def test_with_no_kit_the_programs_of_earlier_sources_run(copy: Copy) -> None:
-    copy("sample", "2", "7")
+    assert copy("sample", "2", "7") == (0, "checked: sample 2 7\n", MAKING + SAID)
     copy.calls()
     copy.has_no_kit()
     copy.write("crates/low/src/main.rt", "other code\n")
     done = copy("sample", "2", "7")
-    assert (done.status, done.out) == (0, "checked: sample 2 7\n")
+    assert (done.status, done.out) == (0, "checked: sample 2 7\n"), done
     assert "the sources are newer than the program" in done.err
     shutil.rmtree(f"{copy.root}/out")
     done = copy("sample", "2", "7")

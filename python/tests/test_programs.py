@@ -251,10 +251,11 @@ def test_a_build_that_is_stopped_goes_on_from_what_is_kept(copy: Copy) -> None:
     copy.around["TMPDIR"] = f"{copy.room}/tmp"
     with open(f"{copy.room}/calls.slow", "w"):
         pass
-    for is_kept, told in ((True, "./timeline build goes on after the crates that were proved"), (False, "/rattle-kept may not be written: ./timeline build begins again")):
+    for is_kept, told in ((True, "./timeline build goes on after the crates that were proved"),
+                          (False, "/rattle-kept may not be written: ./timeline build begins again")):
         if is_kept:
             os.mkdir(f"{copy.room}/rattle-kept")
-        process = subprocess.Popen([f"{copy.root}/timeline", "build"], cwd=copy.room, env=copy.around, stdout=subprocess.PIPE, stderr=subprocess.PIPE, text=True)
+        process = subprocess.Popen([f"{copy.root}/timeline", "build"], cwd=copy.room, env=copy.around, stderr=subprocess.PIPE, text=True)
         ends = time.monotonic() + 30
         while not os.path.exists(f"{copy.room}/calls") and time.monotonic() < ends:
             time.sleep(0.05)

@@ -22,6 +22,7 @@ if TYPE_CHECKING:
 TESTS = "python/tests"
 NEEDS = os.path.join(programs.ROOT, TESTS, "needs.txt")
 FAILED = 1
+_OF_SYSTEM = "/usr/bin/python3"      # for which apt installs modules
 _LINES = 60      # of what a test said that failed
 _EACH = 30       # seconds between two lines that say how far the tests are, where no terminal is
 
@@ -152,21 +153,24 @@ def _tell(results: dict[str, str], folder: str, console: Console) -> list[str]:
 def _needs(console: Console) -> tuple[str, str]:
     """The python3 that runs the tests, and a line that names what is not here and could not be installed: tests that need it
     are not tried."""
-    python = next((it for it in (sys.executable, "/usr/bin/python3") if _has_modules(it, ["pytest"])), "/usr/bin/python3")
-    lacking = _lacking(python)
+    python, lacking = _best()
     if lacking and os.geteuid() == 0 and shutil.which("apt-get"):
-        python = "/usr/bin/python3"
-        console.say(f"installing what the tests need: {' '.join(_lacking(python))}")
+        console.say(f"installing what the tests need: {' '.join(_lacking(_OF_SYSTEM))}")
         for words in (["install"], ["update"], ["install"]):
-            if _lacking(python):
-                packages = _lacking(python) if words == ["install"] else []
-                subprocess.run(["apt-get", "-y", "-q", *words, *packages], stdin=subprocess.DEVNULL, stdout=subprocess.DEVNULL,
-                               stderr=subprocess.DEVNULL, env={**os.environ, "DEBIAN_FRONTEND": "noninteractive"}, check=False)
-        lacking = _lacking(python)
-    line = f"what needs these was not tried: apt-get install {' '.join(lacking)}" if lacking else ""
+            packages = _lacking(_OF_SYSTEM)
+            if packages:
+                subprocess.run(["apt-get", "-y", "-q", *words, *(packages if words == ["install"] else [])], stdin=subprocess.DEVNULL, check=False,
+                               stdout=subprocess.DEVNULL, stderr=subprocess.DEVNULL, env={**os.environ, "DEBIAN_FRONTEND": "noninteractive"})
+        python, lacking = _best()
     if "python3-pytest" in lacking:
         raise ProgramFault(NOT_BUILT, f"the tests need more than is here: apt-get install {' '.join(lacking)}")
-    return python, line
+    return python, f"what needs these was not tried: apt-get install {' '.join(lacking)}" if lacking else ""
+
+
+def _best() -> tuple[str, list[str]]:
+    """The python3 with which most tests can be tried, and the packages of what they need and is not here."""
+    found = [(it, _lacking(it)) for it in dict.fromkeys((sys.executable, _OF_SYSTEM))]
+    return min(found, key=lambda it: ("python3-pytest" in it[1], len(it[1])))
 
 
 def _lacking(python: str) -> list[str]:

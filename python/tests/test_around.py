@@ -137,8 +137,8 @@ def test_a_terminal_is_told():
             os.execv(COMMAND, [COMMAND, "run"])
 
         def until(wanted):
-            """What the terminal shows up to this text, and for 20 seconds at most."""
-            shown, ends = "", time.time() + 20
+            """What the terminal shows up to this text, and for a minute at most."""
+            shown, ends = "", time.time() + 60
             while wanted not in shown and time.time() < ends:
                 if select.select([terminal], [], [], 0.2)[0]:
                     try:
@@ -167,8 +167,8 @@ def test_progress_is_told():
         os.close(terminal)
 
         def shown_until(wanted):
-            """What the terminal shows up to this text, and for 20 seconds at most."""
-            shown, ends = "", time.time() + 20
+            """What the terminal shows up to this text, and for a minute at most."""
+            shown, ends = "", time.time() + 60
             while wanted not in shown and time.time() < ends:
                 if select.select([shows], [], [], 0.2)[0]:
                     try:
@@ -191,7 +191,7 @@ def test_progress_is_told():
             judge("the progress of a run", told in shown, shown)
         runs.stdin.close()
         shown = shown_until("\r\x1b[K")
-        judge("a run whose progress was told", runs.wait(timeout=20) == 0 and shown.endswith("\r\x1b[K"), shown)
+        judge("a run whose progress was told", runs.wait(timeout=60) == 0 and shown.endswith("\r\x1b[K"), shown)
         os.close(shows)
 
 

@@ -89,7 +89,7 @@ class Copy:
 
     def calls(self, ending: str = "") -> list[str]:
         """How the kit was called so far, once nothing is made any more."""
-        ends = time.monotonic() + 30
+        ends = time.monotonic() + 60
         while time.monotonic() < ends and subprocess.run(["pgrep", "-f", f"{self.root}/python/src"], stdout=subprocess.DEVNULL, check=False).returncode == 0:
             time.sleep(0.05)
         try:
@@ -181,7 +181,7 @@ def test_a_command_that_is_stopped_leaves_no_process_and_no_folder(copy: Copy) -
     copy.around["TMPDIR"] = f"{copy.room}/tmp"
     os.mkdir(f"{copy.room}/tmp")
     process = subprocess.Popen([f"{copy.root}/timeline", "sample", "2", "7"], cwd=copy.room, env=copy.around, stdout=subprocess.PIPE, stderr=subprocess.PIPE)
-    ends = time.monotonic() + 30
+    ends = time.monotonic() + 60
     while not os.path.exists(f"{copy.room}/calls") and time.monotonic() < ends:
         time.sleep(0.05)
     process.send_signal(signal.SIGINT)
@@ -256,7 +256,7 @@ def test_a_build_that_is_stopped_goes_on_from_what_is_kept(copy: Copy) -> None:
         if is_kept:
             os.mkdir(f"{copy.room}/rattle-kept")
         process = subprocess.Popen([f"{copy.root}/timeline", "build"], cwd=copy.room, env=copy.around, stderr=subprocess.PIPE, text=True)
-        ends = time.monotonic() + 30
+        ends = time.monotonic() + 60
         while not os.path.exists(f"{copy.room}/calls") and time.monotonic() < ends:
             time.sleep(0.05)
         process.send_signal(signal.SIGINT)

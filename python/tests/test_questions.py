@@ -70,8 +70,8 @@ class Terminal:
         self.shown = ""
 
     def until(self, wanted):
-        """What the terminal shows up to this text, and for 20 seconds at most."""
-        shown, ends = "", time.time() + 20
+        """What the terminal shows up to this text, and for a minute at most."""
+        shown, ends = "", time.time() + 60
         while wanted not in shown and time.time() < ends:
             if select.select([self.terminal], [], [], 0.2)[0]:
                 try:

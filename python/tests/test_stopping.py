@@ -17,6 +17,7 @@ from conftest import COMMAND, ROOT, run
 from timeline import cleanup
 
 TABLE = "a> CREATE TABLE t (k INT, v TEXT) KEY k\na> PUT t\nk,v\n1,one\n2,two\n\\.\n"
+PATIENCE = 60.0      # seconds: what takes a moment may take longer where other programs run
 SIGNALS = (signal.SIGINT, signal.SIGTERM, signal.SIGHUP)
 # Commands of which each has its input open for as long as the test lasts, and one that ends by itself.
 WAITING = (["run"], ["--explain", "run"], ["group"], ["load", "t"], ["follow"], ["try"], ["watch", "COUNT FROM t OVER SYSTEM ALL"],
@@ -67,7 +68,14 @@ def is_free(folder: str) -> bool:
     return True
 
 
-def until(is_so: object, seconds: float = 10.0) -> bool:
+def catches_signals(process: int) -> bool:
+    """Whether a command has come so far that a signal is its own to deal with; before, it ends as any process does."""
+    with open(f"/proc/{process}/status") as status:
+        caught = next(line.split()[1] for line in status if line.startswith("SigCgt:"))
+    return int(caught, 16) >> signal.SIGTERM - 1 & 1 == 1
+
+
+def until(is_so: object, seconds: float = PATIENCE) -> bool:
     """Whether something comes to be so in time."""
     assert callable(is_so)
     ends = time.monotonic() + seconds
@@ -83,9 +91,10 @@ def test_signal_ends_a_command_whose_input_is_open(words: Sequence[str], table: 
     before = os.path.getsize(f"{table}/timeline.tlj")
     for number in SIGNALS:
         command = start(words, table, temporary)
-        time.sleep(0.6)
+        assert until(lambda: catches_signals(command.pid))
+        time.sleep(0.4)      # by then it waits for its input, on most machines
         os.kill(command.pid, number)
-        assert command.wait(10) == 128 + number
+        assert command.wait(PATIENCE) == 128 + number
         assert until(lambda: not processes_of(command.pid)), "a process is left"
         assert is_free(table) and not os.listdir(temporary)
         for pipe in (command.stdin, command.stdout):
@@ -104,7 +113,7 @@ def test_signals_at_any_moment(table: str, temporary: str) -> None:
         os.kill(command.pid, SIGNALS[turn % 3])
         started.append(command)
     for command in started:
-        command.wait(20)
+        command.wait(PATIENCE)
         assert until(lambda: not processes_of(command.pid)), "a process is left"
     assert is_free(table)
     assert run(["ask", "SELECT v FROM t"], folder=table, env={**os.environ, "TMPDIR": temporary}) == (0, "v\none\ntwo\n", "")
@@ -134,7 +143,7 @@ def test_private_folder_of_a_command_that_runs_stays(table: str, temporary: str)
         assert run(["ask", "SELECT v FROM t"], folder=table, env={**os.environ, "TMPDIR": temporary}).status == 0
     command.stdin.write(b"a> SELECT * FROM u\n")
     command.stdin.close()
-    assert command.stdout.read() == b"a @1 rows 0\n" and command.wait(10) == 0
+    assert command.stdout.read() == b"a @1 rows 0\n" and command.wait(PATIENCE) == 0
 
 
 def test_killed_at_any_moment_nothing_is_lost(table: str, temporary: str) -> None:
@@ -265,7 +274,7 @@ def test_wait_goes_on_once_the_lock_is_free(table: str) -> None:
             assert waiter.stderr.readline().startswith(b"timeline: another program has this journal: process ")
             time.sleep(0.3)
             assert waiter.poll() is None
-        assert waiter.stdout.read().endswith(b" ok\n") and waiter.wait(20) == 0
+        assert waiter.stdout.read().endswith(b" ok\n") and waiter.wait(PATIENCE) == 0
         waiter.stdout.close()
         waiter.stderr.close()
 

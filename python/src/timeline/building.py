@@ -319,6 +319,8 @@ def build(call: Call) -> int:
     call.console.say(f"proving {', '.join(lacking)}; from nothing all three take {PROOF_TIME} and {PROOF_ROOM} of disk")
     try:
         _prove(lacking)
+    except OSError as error:
+        raise ProgramFault(NOT_BUILT, f"the programs were not built: {error.filename or programs.ROOT}: {error.strerror or error}") from None
     except cleanup.Stopped:
         call.console.say("stopped; " + ("./timeline build goes on after the crates that were proved" if _keeps() else
                                         f"nothing is kept, since {_store()} may not be written: ./timeline build begins again"))

@@ -33,7 +33,7 @@ class Done(NamedTuple):
 def run(words: Sequence[str], given: str | bytes = "", folder: str | None = None, command: str = COMMAND, **more: Any) -> Done:
     """Runs `timeline`, or another command, with these words in a folder."""
     given = given if isinstance(given, bytes) else given.encode("utf-8", "surrogateescape")
-    done = subprocess.run([command, *words], input=given, cwd=folder, capture_output=True, timeout=120, **more)
+    done = subprocess.run([command, *words], input=given, cwd=folder, capture_output=True, **more)
     return Done(done.returncode, *(it.decode("utf-8", "surrogateescape") for it in (done.stdout, done.stderr)))
 
 
@@ -82,7 +82,7 @@ def run_as_nobody() -> Iterator[Callable[..., Done]]:
         command = f"{folder}/bin/timeline"
         around = {**os.environ, "TIMELINE_PROGRAMS": f"{folder}/lib/timeline/programs"}
         try:
-            subprocess.run([command, "--help"], stdout=subprocess.DEVNULL, env=around, timeout=60, check=True, **NOBODY)
+            subprocess.run([command, "--help"], stdout=subprocess.DEVNULL, env=around, check=True, **NOBODY)
         except (PermissionError, subprocess.CalledProcessError):
             if _all_may_pass(folder):
                 raise
@@ -108,7 +108,8 @@ def pytest_configure(config: pytest.Config) -> None:
 
 @pytest.fixture(autouse=True)
 def limit() -> Iterator[None]:
-    """Has a test fail that does not end. Where others share the machine, it may take as much longer as there are more of them."""
+    """Has a test fail that does not end, with what it has started. Where others share the machine, it may take as much longer as
+    there are more of them."""
     begun = time.monotonic()
 
     def end(number: int, frame: object) -> None:

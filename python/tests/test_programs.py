@@ -84,7 +84,7 @@ class Copy:
 
     def __call__(self, *words: str) -> Done:
         done = subprocess.run([f"{self.root}/timeline", *words], cwd=self.room, env=self.around, capture_output=True, text=True,
-                              stdin=subprocess.DEVNULL, timeout=60, check=False)
+                              stdin=subprocess.DEVNULL, check=False)
         return Done(done.returncode, done.stdout, done.stderr)
 
     def calls(self, ending: str = "") -> list[str]:
@@ -171,7 +171,7 @@ def test_with_no_kit_the_programs_of_earlier_sources_run(copy: Copy) -> None:
 def test_two_commands_at_once_make_a_program_once(copy: Copy) -> None:
     words = [f"{copy.root}/timeline", "sample", "2", "7"]
     both = [subprocess.Popen(words, cwd=copy.room, env=copy.around, stdout=subprocess.PIPE, stderr=subprocess.DEVNULL) for _ in range(2)]
-    assert [it.communicate(timeout=60)[0] for it in both] == [b"checked: sample 2 7\n"] * 2
+    assert [it.communicate()[0] for it in both] == [b"checked: sample 2 7\n"] * 2
     assert copy.calls().count("try timeline ") == 1
 
 
@@ -185,7 +185,7 @@ def test_a_command_that_is_stopped_leaves_no_process_and_no_folder(copy: Copy) -
     while not os.path.exists(f"{copy.room}/calls") and time.monotonic() < ends:
         time.sleep(0.05)
     process.send_signal(signal.SIGINT)
-    process.communicate(timeout=30)
+    process.communicate()
     assert process.returncode == 130
     copy.calls()
     assert os.listdir(f"{copy.room}/tmp") == []
@@ -218,7 +218,7 @@ def test_build_is_the_gate_over_the_crates_of_the_programs_alone(copy: Copy) -> 
 
 def test_build_says_how_far_it_is(copy: Copy) -> None:
     ours, theirs = pty.openpty()
-    subprocess.run([f"{copy.root}/timeline", "build"], cwd=copy.room, env=copy.around, stderr=theirs, stdin=subprocess.DEVNULL, timeout=60, check=True)
+    subprocess.run([f"{copy.root}/timeline", "build"], cwd=copy.room, env=copy.around, stderr=theirs, stdin=subprocess.DEVNULL, check=True)
     said = os.read(ours, 100_000).decode()
     assert "timeline: 0 of 4 crates proved; " in said and "timeline: 4 of 4 crates proved; " in said, said
 
@@ -260,7 +260,7 @@ def test_a_build_that_is_stopped_goes_on_from_what_is_kept(copy: Copy) -> None:
         while not os.path.exists(f"{copy.room}/calls") and time.monotonic() < ends:
             time.sleep(0.05)
         process.send_signal(signal.SIGINT)
-        _, said = process.communicate(timeout=30)
+        _, said = process.communicate()
         assert process.returncode == 130 and told in said, said
         assert copy.calls() == ["ci sources "] and os.listdir(f"{copy.room}/tmp") == []
         os.remove(f"{copy.room}/calls")
@@ -308,7 +308,7 @@ def test_a_terminal_is_told_each_time_which_program_runs(copy: Copy) -> None:
     copy("sample", "2", "7")
     ours, theirs = pty.openpty()
     subprocess.run([f"{copy.root}/timeline", "sample", "2", "7"], cwd=copy.room, env=copy.around, stdout=subprocess.DEVNULL, stderr=theirs,
-                   stdin=subprocess.DEVNULL, timeout=60, check=False)
+                   stdin=subprocess.DEVNULL, check=False)
     assert b"checked as it runs; ./timeline build proves it" in os.read(ours, 1000)
 
 
@@ -349,9 +349,9 @@ def test_an_installed_copy_needs_no_sources_and_no_kit(copy: Copy) -> None:
     shutil.rmtree(copy.root)
     copy.has_no_kit()
     installed = f"{copy.room}/prefix/bin/timeline"
-    done = subprocess.run([installed, "sample", "2", "7"], cwd=copy.room, env=copy.around, capture_output=True, text=True, timeout=60, check=False)
+    done = subprocess.run([installed, "sample", "2", "7"], cwd=copy.room, env=copy.around, capture_output=True, text=True, check=False)
     assert (done.returncode, done.stdout, done.stderr) == (0, "proved timeline: sample 2 7\n", "")
-    said = subprocess.run([installed, "--version"], cwd=copy.room, env=copy.around, capture_output=True, text=True, timeout=60, check=False)
+    said = subprocess.run([installed, "--version"], cwd=copy.room, env=copy.around, capture_output=True, text=True, check=False)
     assert said.stdout.count(": proved") == 3
     page = f"{copy.room}/prefix/share/man/man1/timeline.1"
     with open(page, encoding="utf-8") as file:
@@ -371,7 +371,7 @@ def test_only_what_is_proved_is_packaged_unless_it_is_wanted_so(copy: Copy) -> N
     subprocess.run(["tar", "-xzf", f"{copy.room}/{done.out.strip()}", "-C", f"{copy.room}/other"], check=True)
     command = f"{copy.room}/other/{done.out.strip()[:-7]}/bin/timeline"
     copy.has_no_kit()
-    ran = subprocess.run([command, "sample", "2", "7"], cwd=copy.room, env=copy.around, capture_output=True, text=True, timeout=60, check=False)
+    ran = subprocess.run([command, "sample", "2", "7"], cwd=copy.room, env=copy.around, capture_output=True, text=True, check=False)
     assert (ran.returncode, ran.stdout, ran.stderr) == (0, "proved timeline: sample 2 7\n", "")
 
 

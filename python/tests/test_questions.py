@@ -39,7 +39,7 @@ def judge(name, is_right, found=""):
 
 def run(words, given="", room=None, **more):
     """Runs the command, and gives its status, what it printed and what it said."""
-    done = subprocess.run([COMMAND, *words], input=given, cwd=room, capture_output=True, text=True, timeout=120, **more)
+    done = subprocess.run([COMMAND, *words], input=given, cwd=room, capture_output=True, text=True, **more)
     return done.returncode, done.stdout, done.stderr
 
 

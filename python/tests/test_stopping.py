@@ -224,7 +224,7 @@ def test_no_room_for_temporary_files(table: str) -> None:
 
     def small(words: str, given: str = "") -> tuple[int, str, str]:
         done = subprocess.run(["unshare", "-rm", "sh", "-c", script + f'"$0" {words}', COMMAND], input=given, cwd=table, capture_output=True,
-                              text=True, timeout=60)
+                              text=True)
         return done.returncode, done.stdout, done.stderr
 
     assert small("ask 'SELECT v FROM t'")[:2] == (0, "v\none\ntwo\n")
@@ -242,7 +242,7 @@ def test_full_disk_is_named(table: str) -> None:
     """A disk that has no room for a commit fails that commit, and keeps what was there."""
     limit = os.path.getsize(f"{table}/timeline.tlj") // 512 + 1
     rows = "a> PUT t\nk,v\n" + "".join(f"{key},{'x' * 50}\n" for key in range(10, 100)) + "\\.\n"
-    done = subprocess.run(["sh", "-c", f'ulimit -f {limit}; exec "$0" run', COMMAND], input=rows.encode(), cwd=table, capture_output=True, timeout=60)
+    done = subprocess.run(["sh", "-c", f'ulimit -f {limit}; exec "$0" run', COMMAND], input=rows.encode(), cwd=table, capture_output=True)
     assert (done.returncode, done.stdout) == (5, b"a @2 ! device\n! device\n")
     assert run(["ask", "SELECT v FROM t"], folder=table).out == "v\none\ntwo\n"
 
@@ -297,10 +297,10 @@ def test_journal_that_is_no_file(words: Sequence[str], room: str) -> None:
 def test_output_that_fails(words: Sequence[str], table: str) -> None:
     given = "k,v\n1,one\n" if "load" in words else "a> SELECT v FROM t\n"
     with open("/dev/full", "wb") as full:
-        done = subprocess.run([COMMAND, *words], input=given.encode(), cwd=table, stdout=full, stderr=subprocess.PIPE, timeout=60)
+        done = subprocess.run([COMMAND, *words], input=given.encode(), cwd=table, stdout=full, stderr=subprocess.PIPE)
     assert done.returncode == 4
     reads, writes = os.pipe()
     os.close(reads)
-    done = subprocess.run([COMMAND, *words], input=given.encode(), cwd=table, stdout=writes, stderr=subprocess.PIPE, timeout=60)
+    done = subprocess.run([COMMAND, *words], input=given.encode(), cwd=table, stdout=writes, stderr=subprocess.PIPE)
     os.close(writes)
     assert (done.returncode, done.stderr) == (4, b"")

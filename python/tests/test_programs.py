@@ -25,6 +25,7 @@ name=${PWD##*/}
 case $1 in
     try)
         [ -e "$CALLS.fails" ] && echo 'error: no such name' >&2 && exit 1
+        [ -e "$CALLS.killed" ] && echo 'run=none proved=no' >&2 && exit 2
         "$here/toolchain/bin/clang" -O0 -fsanitize=address -march=x86-64 -c "a b.c" -o a.o
         "$here/toolchain/bin/ld.lld" -o "$TMPDIR/linked" a.o --whole-archive asan.a --no-whole-archive -lc ;;
     ci)
@@ -153,6 +154,8 @@ def test_what_cannot_be_made_is_said(copy: Copy) -> None:
     done = copy("sample", "2", "7")
     assert (done.status, done.out) == (125, "")
     assert "timeline was not made; " in done.err and done.err.endswith("error: no such name\n")
+    os.rename(f"{copy.room}/calls.fails", f"{copy.room}/calls.killed")
+    assert "the compiler was ended from outside" in copy("sample", "2", "7").err
 
 
 def test_with_no_kit_the_programs_of_earlier_sources_run(copy: Copy) -> None:

@@ -30,6 +30,7 @@ _NO_SOURCES = ("out", "must-fail")     # of the folder of a crate
 ALL = ("src", "specs", "proofs")
 _KEPT = 3                # so many programs of other sources stay, beside those of these
 _MEMORY = 2_000_000      # KiB that one compilation may take
+_ENDED = "\nthe compiler was ended from outside, as the system does where memory is short: it takes up to 2 GB for each program"
 # What stands in for the kit's compiler: it optimizes, and leaves the sanitizer out, and the checks in.
 _CLANG = """#!/bin/sh
 for word do
@@ -195,7 +196,9 @@ def _make(name: str) -> None:
                                 {**os.environ, "TMPDIR": folder})
         _follow(process, f"making {name}, checked as it runs, which takes two to three minutes")
     if not os.access(made, os.X_OK):
-        raise ProgramFault(NOT_BUILT, f"{name} was not made; {log} has all that was said, and ends so:\n{_end_of(log)}")
+        end = _end_of(log)
+        end += _ENDED * (end == "run=none proved=no")
+        raise ProgramFault(NOT_BUILT, f"{name} was not made; {log} has all that was said, and ends so:\n{end}")
     if programs.source_sum(name) == total:
         path = programs.checked_path(name, total)
         shutil.copy(made, path + ".new")

@@ -117,7 +117,7 @@ def _total(folder: str) -> int:
 
 
 def _lines(path: str, at: dict[int, int], number: int) -> Iterator[dict[str, str]]:
-    """The results in a file after a place, which is moved behind them; a line that is not whole waits."""
+    """The results in a file after a place, which is moved past them; a line that is not whole waits."""
     try:
         with open(path, encoding="utf-8") as file:
             file.seek(at[number])

@@ -32,7 +32,7 @@ case $1 in
         find . -type f | sort >"$CALLS.files"
         cp crates.txt "$CALLS.crates"
         echo 'rt: note: the disk has 7 MB left'
-        for it in $(sed 's/[ :].*//' crates.txt); do
+        for it in $(sed '/^#/d; s/[ :].*//' crates.txt); do
             [ -e "$CALLS.fails" ] && [ "$it" = timeline ] && echo "rt: $it NOT PROVED" && exit 1
             [ "$it" = low ] && echo "rt: $it is kept: an earlier run on this machine proved the same files" && continue
             mkdir "crates/$it/out"
@@ -71,6 +71,10 @@ class Copy:
         self.write("HANDLES", "Handles allowed: none.\n")
         shutil.copy(f"{ROOT}/timeline", f"{self.root}/timeline")
         shutil.copytree(f"{ROOT}/python/src", f"{self.root}/python/src")
+        with open(f"{ROOT}/python/src/timeline/building.py", encoding="utf-8") as file:
+            text = file.read()
+        assert text.count("\n_MEMORY = 2_000_000 ") == 1      # what a compilation takes of memory, and this kit's does not
+        self.write("python/src/timeline/building.py", text.replace("\n_MEMORY = 2_000_000 ", "\n_MEMORY = 1 "))
         os.mkdir(f"{self.root}/docs")
         shutil.copy(f"{ROOT}/docs/FORMATS.md", f"{self.root}/docs/FORMATS.md")
         for path, text in {"bin/rt": RT, "bin/rtlib.py": "", "bin/rattle": "", "toolchain/bin/clang": CLANG, "toolchain/bin/ld.lld": LINKER,
@@ -90,8 +94,7 @@ class Copy:
 
     def calls(self, ending: str = "") -> list[str]:
         """How the kit was called so far, once nothing is made any more."""
-        ends = time.monotonic() + 60
-        while time.monotonic() < ends and subprocess.run(["pgrep", "-f", f"{self.root}/python/src"], stdout=subprocess.DEVNULL, check=False).returncode == 0:
+        while subprocess.run(["pgrep", "-f", f"{self.root}/python/src"], stdout=subprocess.DEVNULL, check=False).returncode == 0:
             time.sleep(0.05)
         try:
             with open(f"{self.room}/calls{ending}", encoding="utf-8") as file:
@@ -342,6 +345,34 @@ def test_programs_that_are_named_are_run(copy: Copy) -> None:
     done = copy("sample", "2", "7")
     assert (done.status, done.out) == (125, "") and "nowhere/timeline is no program that can be run" in done.err
     assert copy.calls() == []
+
+
+# The gate
+
+def test_the_gate_tries_the_programs_that_it_has_proved(copy: Copy) -> None:
+    """The proofs run once, then the tests over what they left, which all may run whatever the umask is; the first that fails
+    ends it with its status."""
+    with open(f"{ROOT}/.ci/run", encoding="utf-8") as file:
+        copy.write(".ci/run", file.read())
+    copy.write("timeline", '#!/bin/sh\necho "$*"\nfor it in "$TIMELINE_PROGRAMS" "$TIMELINE_PROGRAMS"/*; do stat -c %a "$it"; done\n'
+               'for it in timeline timeline_log timeline_look; do "$TIMELINE_PROGRAMS/$it" 7; done\necho "$TIMELINE_PROGRAMS" >&2\nexit 3\n')
+    os.chmod(f"{copy.root}/timeline", 0o755)
+
+    def gate() -> subprocess.CompletedProcess[str]:
+        return subprocess.run(["bash", f"{copy.root}/.ci/run"], cwd=copy.room, env=copy.around, capture_output=True, text=True,
+                              stdin=subprocess.DEVNULL, umask=0o077, check=False)
+
+    done = gate()
+    assert done.returncode == 3 and copy.calls() == ["ci root "], done
+    wanted = ["4 passed, 0 failed", "test", "755", "755", "755", "755", *(f"proved {it}: 7" for it in NAMES)]
+    assert done.stdout.splitlines()[-len(wanted):] == wanted, done
+    assert not os.path.exists(done.stderr.strip()), "what was copied is left"
+    for name in ("low", *NAMES, "other"):
+        shutil.rmtree(f"{copy.root}/crates/{name}/out", ignore_errors=True)
+    with open(f"{copy.room}/calls.fails", "w"):
+        pass
+    done = gate()
+    assert done.returncode == 1 and done.stdout.endswith("rt: timeline NOT PROVED\n") and done.stderr == "", done
 
 
 # Installed

@@ -26,7 +26,7 @@ def judge(name, is_right, found=""):
 
 def run(words, given="", room=None, command=COMMAND, **more):
     """Runs the command, and gives its status, what it printed and what it said."""
-    done = subprocess.run([command, *words], input=given, cwd=room, capture_output=True, text=True, timeout=120, **more)
+    done = subprocess.run([command, *words], input=given, cwd=room, capture_output=True, text=True, **more)
     return done.returncode, done.stdout, done.stderr
 
 
@@ -71,7 +71,7 @@ def test_refusals_are_told():
         judge("--strict without a journal", ends == (7, "! journal NotInitialised 0\n", ""), ends)
         with open("/dev/full", "w") as full:
             found = subprocess.run([COMMAND, "--strict", "run"], input=script, cwd=room, stdout=full, text=True,
-                                   stderr=subprocess.DEVNULL, timeout=60).returncode
+                                   stderr=subprocess.DEVNULL).returncode
         judge("--strict with an output that fails", found == 4, found)
         # A row that looks like a reply, in a text of several lines, is none.
         odd = 'a> CREATE TABLE o (k TEXT) KEY k\na> PUT o\nk\n"x\na @1 ! NotInt 2 1"\n\\.\na> SELECT k FROM o\n'
@@ -83,12 +83,12 @@ def test_refusals_are_told():
             quoted = {'"': '""'}
             rows = "".join(f'{it},"{quoted.get(chr(it), chr(it))}""x"\n' for it in range(first, first + 64))
             asked = f"a> PUT b\nk,t\n{rows}\\.\na> SELECT t, k FROM b\na> SELECT x FROM b\n"
-            done = subprocess.run([COMMAND, "--strict", "run"], input=asked.encode(), cwd=room, capture_output=True, timeout=60)
+            done = subprocess.run([COMMAND, "--strict", "run"], input=asked.encode(), cwd=room, capture_output=True)
             told = "timeline: 1 of 3 statements was refused\n"
             judge(f"--strict behind the bytes from {first} on", (done.returncode, done.stderr.decode()) == (20, told), done)
-            passed = subprocess.run([f"{ROOT}/examples/rows", "2"], input=done.stdout, capture_output=True, timeout=60).stdout
+            passed = subprocess.run([f"{ROOT}/examples/rows", "2"], input=done.stdout, capture_output=True).stdout
             judge(f"examples/rows of the bytes from {first} on", passed == done.stdout.split(b" rows 64\n")[1].rpartition(b"a @2")[0], passed)
-            explained = subprocess.run([COMMAND, "--explain", "run"], input=asked.encode(), cwd=room, capture_output=True, timeout=60)
+            explained = subprocess.run([COMMAND, "--explain", "run"], input=asked.encode(), cwd=room, capture_output=True)
             judge(f"--explain behind the bytes from {first} on", b"UnknownColumn 7\n    SELECT x FROM b\n           ^\n" in explained.stderr, explained)
 
 
@@ -121,7 +121,7 @@ def test_what_is_not_open_fails():
         make_journal(room)
         create = "echo 'a> CREATE TABLE t (k INT) KEY k' | "
         for words, wanted in (("run >&-", 4), ("--strict run >&-", 4), ("run <&-", 3), ("run 2>&-", 0), ("--explain run 2>&-", 0)):
-            done = subprocess.run(["bash", "-c", f'{create}"$0" {words}', COMMAND], cwd=room, capture_output=True, timeout=60)
+            done = subprocess.run(["bash", "-c", f'{create}"$0" {words}', COMMAND], cwd=room, capture_output=True)
             judge(f"the command with {words}", done.returncode == wanted, done)
         printed = run(["run"], "a> SELECT k FROM t\n", room)[1]
         judge("the journal afterwards", printed == "a @1 rows 0\n", printed)
@@ -137,8 +137,8 @@ def test_a_terminal_is_told():
             os.execv(COMMAND, [COMMAND, "run"])
 
         def until(wanted):
-            """What the terminal shows up to this text, and for 20 seconds at most."""
-            shown, ends = "", time.time() + 20
+            """What the terminal shows up to this text, and for a minute at most."""
+            shown, ends = "", time.time() + 60
             while wanted not in shown and time.time() < ends:
                 if select.select([terminal], [], [], 0.2)[0]:
                     try:
@@ -167,8 +167,8 @@ def test_progress_is_told():
         os.close(terminal)
 
         def shown_until(wanted):
-            """What the terminal shows up to this text, and for 20 seconds at most."""
-            shown, ends = "", time.time() + 20
+            """What the terminal shows up to this text, and for a minute at most."""
+            shown, ends = "", time.time() + 60
             while wanted not in shown and time.time() < ends:
                 if select.select([shows], [], [], 0.2)[0]:
                     try:
@@ -191,7 +191,7 @@ def test_progress_is_told():
             judge("the progress of a run", told in shown, shown)
         runs.stdin.close()
         shown = shown_until("\r\x1b[K")
-        judge("a run whose progress was told", runs.wait(timeout=20) == 0 and shown.endswith("\r\x1b[K"), shown)
+        judge("a run whose progress was told", runs.wait(timeout=60) == 0 and shown.endswith("\r\x1b[K"), shown)
         os.close(shows)
 
 
@@ -269,23 +269,29 @@ def test_another_file_is_locked():
             judge("another file's lock", found == (0, "", ""), found)
 
 
-def test_a_disk_that_fails_says_why():
-    """A file that may not be written, a folder that may not, and a full disk are told apart, where this may be tried."""
+def test_what_may_not_be_written_is_named(run_as_nobody):
+    """A file that may not be written, and a folder that may not, are told apart."""
     with tempfile.TemporaryDirectory(dir=JOURNALS) as room:
         make_journal(room)
         os.chmod(room, 0o755)
         os.chmod(f"{room}/timeline.tlj", 0o444)
         os.mkdir(f"{room}/none")
-        if os.geteuid() == 0 and subprocess.run([COMMAND, "--help"], user=65534, capture_output=True).returncode == 0:
-            told = "timeline: timeline.tlj may not be read and written here; ./timeline ask needs to read alone\n"
-            for words in (["run"], ["--strict", "run"]):
-                found = run(words, "", room, user=65534)
-                judge(f"{words} of a file that may not be written", found == (5, "! device\n", told), found)
-            found = run(["init"], "", f"{room}/none", user=65534)
-            judge("a folder that may not be written", found == (5, "! device\n", "timeline: this folder may not be written\n"), found)
+        os.chmod(f"{room}/none", 0o755)
+        told = "timeline: timeline.tlj may not be read and written here; ./timeline ask needs to read alone\n"
+        for words in (["run"], ["--strict", "run"]):
+            found = run_as_nobody(words, "", room)
+            judge(f"{words} of a file that may not be written", found == (5, "! device\n", told), found)
+        found = run_as_nobody(["init"], "", f"{room}/none")
+        judge("a folder that may not be written", found == (5, "! device\n", "timeline: this folder may not be written\n"), found)
+
+
+def test_a_disk_that_fails_says_why():
+    """That a disk is full is said, where one may be made that is."""
+    with tempfile.TemporaryDirectory(dir=JOURNALS) as room:
+        os.mkdir(f"{room}/none")
         commands = 'mount -t tmpfs -o size=16k none none && cd none && head -c 16384 /dev/zero >filler; "$0" init'
         if subprocess.run(["unshare", "-rm", "bash", "-c", "mount -t tmpfs -o size=16k none none"], cwd=room, capture_output=True).returncode == 0:
-            done = subprocess.run(["unshare", "-rm", "bash", "-c", commands, COMMAND], cwd=room, capture_output=True, text=True, timeout=60)
+            done = subprocess.run(["unshare", "-rm", "bash", "-c", commands, COMMAND], cwd=room, capture_output=True, text=True)
             judge("a full disk", (done.returncode, done.stdout) == (5, "! device\n") and done.stderr.endswith("timeline: the disk is full\n"), done)
 
 

@@ -116,7 +116,7 @@ def run_blocks(blocks, wanted):
         os.symlink(f"{ROOT}/timeline", f"{room}/timeline")
         os.symlink(f"{ROOT}/examples", f"{room}/examples")
         around = {**os.environ, "PATH": f"{os.path.dirname(sys.executable)}:{os.environ['PATH']}"}
-        run = subprocess.run(["bash", "-c", "".join(blocks)], cwd=room, env=around, capture_output=True, text=True, timeout=120, stdin=subprocess.DEVNULL)
+        run = subprocess.run(["bash", "-c", "".join(blocks)], cwd=room, env=around, capture_output=True, text=True, stdin=subprocess.DEVNULL)
     # Two loads within one second state one moment for both, so that later versions are less by one.
     assert run.stdout == wanted or bare(run.stdout) == bare(wanted), f"it printed\n{run.stdout}\nand not\n{wanted}\nand said {run.stderr}"
 

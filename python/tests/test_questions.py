@@ -39,7 +39,7 @@ def judge(name, is_right, found=""):
 
 def run(words, given="", room=None, **more):
     """Runs the command, and gives its status, what it printed and what it said."""
-    done = subprocess.run([COMMAND, *words], input=given, cwd=room, capture_output=True, text=True, timeout=120, **more)
+    done = subprocess.run([COMMAND, *words], input=given, cwd=room, capture_output=True, text=True, **more)
     return done.returncode, done.stdout, done.stderr
 
 
@@ -70,8 +70,8 @@ class Terminal:
         self.shown = ""
 
     def until(self, wanted):
-        """What the terminal shows up to this text, and for 20 seconds at most."""
-        shown, ends = "", time.time() + 20
+        """What the terminal shows up to this text, and for a minute at most."""
+        shown, ends = "", time.time() + 60
         while wanted not in shown and time.time() < ends:
             if select.select([self.terminal], [], [], 0.2)[0]:
                 try:
@@ -165,19 +165,17 @@ def test_a_look_beside_a_loader():
         judge("the loader", loader.returncode == 0, loader.returncode)
 
 
-def test_whoever_may_read_may_ask():
+def test_whoever_may_read_may_ask(run_as_nobody):
     """A person who may only read the file asks and lists; one who may not is told so."""
-    if os.geteuid() != 0 or subprocess.run([COMMAND, "--help"], user=65534, capture_output=True).returncode != 0:
-        return
     with Room(STAFF) as room:
         os.chmod(room, 0o755)
         os.chmod(f"{room}/timeline.tlj", 0o444)
         for words, wanted in ((["ask", "SELECT cents FROM price"], "cents\n250\n"), (["shell", "--look"], "id\n1\n2\n")):
-            found = run(words, "SELECT id FROM staff;\n", room, user=65534)
+            found = run_as_nobody(words, "SELECT id FROM staff;\n", room)
             judge(f"{words} of a file that may only be read", found == (0, wanted, ""), found)
-        judge("log of it", run(["log"], room=room, user=65534)[0] == 0)
+        judge("log of it", run_as_nobody(["log"], room=room)[0] == 0)
         os.chmod(f"{room}/timeline.tlj", 0o600)
-        found = run(["ask", "SELECT cents FROM price"], room=room, user=65534)
+        found = run_as_nobody(["ask", "SELECT cents FROM price"], room=room)
         judge("ask of a file that may not be read", found == (5, "! device\n", "timeline: timeline.tlj cannot be read\n"), found)
 
 

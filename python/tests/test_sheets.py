@@ -482,7 +482,7 @@ def test_a_command_that_is_stopped_has_done_all_or_nothing(journal: str, signal:
         except subprocess.TimeoutExpired:
             process.send_signal(getattr(__import__("signal"), f"SIG{signal}"))
         process.communicate()
-        deadline = time.time() + 20
+        deadline = time.time() + 60
         while Journal(journal).is_held() and time.time() < deadline:
             time.sleep(0.02)
         done = run(["ask", f"COUNT FROM t{number} OVER SYSTEM ALL"], folder=journal)

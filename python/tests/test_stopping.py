@@ -7,14 +7,17 @@ import random
 import shutil
 import signal
 import subprocess
+import sys
 import time
 from typing import Iterator, Sequence
 
 import pytest
 
-from conftest import COMMAND, run
+from conftest import COMMAND, ROOT, run
+from timeline import cleanup
 
 TABLE = "a> CREATE TABLE t (k INT, v TEXT) KEY k\na> PUT t\nk,v\n1,one\n2,two\n\\.\n"
+PATIENCE = 60.0      # seconds: what takes a moment may take longer where other programs run
 SIGNALS = (signal.SIGINT, signal.SIGTERM, signal.SIGHUP)
 # Commands of which each has its input open for as long as the test lasts, and one that ends by itself.
 WAITING = (["run"], ["--explain", "run"], ["group"], ["load", "t"], ["follow"], ["try"], ["watch", "COUNT FROM t OVER SYSTEM ALL"],
@@ -65,7 +68,14 @@ def is_free(folder: str) -> bool:
     return True
 
 
-def until(is_so: object, seconds: float = 10.0) -> bool:
+def catches_signals(process: int) -> bool:
+    """Whether a command has come so far that a signal is its own to deal with; before, it ends as any process does."""
+    with open(f"/proc/{process}/status") as status:
+        caught = next(line.split()[1] for line in status if line.startswith("SigCgt:"))
+    return int(caught, 16) >> signal.SIGTERM - 1 & 1 == 1
+
+
+def until(is_so: object, seconds: float = PATIENCE) -> bool:
     """Whether something comes to be so in time."""
     assert callable(is_so)
     ends = time.monotonic() + seconds
@@ -81,9 +91,10 @@ def test_signal_ends_a_command_whose_input_is_open(words: Sequence[str], table: 
     before = os.path.getsize(f"{table}/timeline.tlj")
     for number in SIGNALS:
         command = start(words, table, temporary)
-        time.sleep(0.6)
+        assert until(lambda: catches_signals(command.pid))
+        time.sleep(0.4)      # by then it waits for its input, on most machines
         os.kill(command.pid, number)
-        assert command.wait(10) == 128 + number
+        assert command.wait(PATIENCE) == 128 + number
         assert until(lambda: not processes_of(command.pid)), "a process is left"
         assert is_free(table) and not os.listdir(temporary)
         for pipe in (command.stdin, command.stdout):
@@ -102,7 +113,7 @@ def test_signals_at_any_moment(table: str, temporary: str) -> None:
         os.kill(command.pid, SIGNALS[turn % 3])
         started.append(command)
     for command in started:
-        command.wait(20)
+        command.wait(PATIENCE)
         assert until(lambda: not processes_of(command.pid)), "a process is left"
     assert is_free(table)
     assert run(["ask", "SELECT v FROM t"], folder=table, env={**os.environ, "TMPDIR": temporary}) == (0, "v\none\ntwo\n", "")
@@ -132,7 +143,7 @@ def test_private_folder_of_a_command_that_runs_stays(table: str, temporary: str)
         assert run(["ask", "SELECT v FROM t"], folder=table, env={**os.environ, "TMPDIR": temporary}).status == 0
     command.stdin.write(b"a> SELECT * FROM u\n")
     command.stdin.close()
-    assert command.stdout.read() == b"a @1 rows 0\n" and command.wait(10) == 0
+    assert command.stdout.read() == b"a @1 rows 0\n" and command.wait(PATIENCE) == 0
 
 
 def test_killed_at_any_moment_nothing_is_lost(table: str, temporary: str) -> None:
@@ -159,6 +170,22 @@ def test_killed_at_any_moment_nothing_is_lost(table: str, temporary: str) -> Non
     words = [line[3] for line in log]
     assert all(after == "change" or after == "create" for before, after in zip(words, words[1:]) if before == "moment"), "a moment alone is none"
     assert words[-1] != "moment"
+
+
+def test_commands_that_begin_at_once_keep_their_own_folders(temporary: str) -> None:
+    """What a command clears that was killed is no folder that another has just made, and has not locked yet."""
+    words = [sys.executable, "-c", "import sys; from timeline import cleanup\nwhile True: cleanup.sweep(sys.argv[1])", temporary]
+    clearing = [subprocess.Popen(words, env={**os.environ, "PYTHONPATH": f"{ROOT}/python/src"}) for _ in range(2)]
+    try:
+        ends = time.monotonic() + 2
+        while time.monotonic() < ends:
+            folder = cleanup.private_folder(temporary)
+            assert os.path.isdir(folder)
+            cleanup.remove(folder)
+    finally:
+        for process in clearing:
+            process.kill()
+            process.wait()
 
 
 # A folder for temporary files that is none, or has no room, or an odd name.
@@ -197,7 +224,7 @@ def test_no_room_for_temporary_files(table: str) -> None:
 
     def small(words: str, given: str = "") -> tuple[int, str, str]:
         done = subprocess.run(["unshare", "-rm", "sh", "-c", script + f'"$0" {words}', COMMAND], input=given, cwd=table, capture_output=True,
-                              text=True, timeout=60)
+                              text=True)
         return done.returncode, done.stdout, done.stderr
 
     assert small("ask 'SELECT v FROM t'")[:2] == (0, "v\none\ntwo\n")
@@ -212,18 +239,12 @@ def test_no_room_for_temporary_files(table: str) -> None:
 
 
 def test_full_disk_is_named(table: str) -> None:
-    """A disk that has no room for a commit, a file that may not be written, and a journal that another has, are told apart."""
+    """A disk that has no room for a commit fails that commit, and keeps what was there."""
     limit = os.path.getsize(f"{table}/timeline.tlj") // 512 + 1
     rows = "a> PUT t\nk,v\n" + "".join(f"{key},{'x' * 50}\n" for key in range(10, 100)) + "\\.\n"
-    done = subprocess.run(["sh", "-c", f'ulimit -f {limit}; exec "$0" run', COMMAND], input=rows.encode(), cwd=table, capture_output=True, timeout=60)
+    done = subprocess.run(["sh", "-c", f'ulimit -f {limit}; exec "$0" run', COMMAND], input=rows.encode(), cwd=table, capture_output=True)
     assert (done.returncode, done.stdout) == (5, b"a @2 ! device\n! device\n")
     assert run(["ask", "SELECT v FROM t"], folder=table).out == "v\none\ntwo\n"
-    if os.geteuid() == 0:
-        os.chmod(table, 0o755)
-        os.chmod(f"{table}/timeline.tlj", 0o444)
-        found = run(["run"], "", table, user=65534)
-        if found.status != 126:
-            assert found == (5, "! device\n", "timeline: timeline.tlj may not be read and written here; ./timeline ask needs to read alone\n")
 
 
 @pytest.mark.parametrize("words", (["run"], ["--strict", "run"], ["init"], ["load", "t"], ["group"], ["follow"], ["--stamp", "run"]), ids=" ".join)
@@ -253,7 +274,7 @@ def test_wait_goes_on_once_the_lock_is_free(table: str) -> None:
             assert waiter.stderr.readline().startswith(b"timeline: another program has this journal: process ")
             time.sleep(0.3)
             assert waiter.poll() is None
-        assert waiter.stdout.read().endswith(b" ok\n") and waiter.wait(20) == 0
+        assert waiter.stdout.read().endswith(b" ok\n") and waiter.wait(PATIENCE) == 0
         waiter.stdout.close()
         waiter.stderr.close()
 
@@ -276,10 +297,10 @@ def test_journal_that_is_no_file(words: Sequence[str], room: str) -> None:
 def test_output_that_fails(words: Sequence[str], table: str) -> None:
     given = "k,v\n1,one\n" if "load" in words else "a> SELECT v FROM t\n"
     with open("/dev/full", "wb") as full:
-        done = subprocess.run([COMMAND, *words], input=given.encode(), cwd=table, stdout=full, stderr=subprocess.PIPE, timeout=60)
+        done = subprocess.run([COMMAND, *words], input=given.encode(), cwd=table, stdout=full, stderr=subprocess.PIPE)
     assert done.returncode == 4
     reads, writes = os.pipe()
     os.close(reads)
-    done = subprocess.run([COMMAND, *words], input=given.encode(), cwd=table, stdout=writes, stderr=subprocess.PIPE, timeout=60)
+    done = subprocess.run([COMMAND, *words], input=given.encode(), cwd=table, stdout=writes, stderr=subprocess.PIPE)
     os.close(writes)
     assert (done.returncode, done.stderr) == (4, b"")

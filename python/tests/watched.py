@@ -36,7 +36,7 @@ def compare(text, script, journal=None):
             shutil.copy(journal, f"{room}/timeline.tlj")
         else:
             subprocess.run([COMMAND, "init"], cwd=room, check=True)
-        run = lambda words, given: subprocess.run([COMMAND, *words], input=given, cwd=room, capture_output=True, text=True, timeout=300)
+        run = lambda words, given: subprocess.run([COMMAND, *words], input=given, cwd=room, capture_output=True, text=True)
         done = run(["watch", text], script)
         if done.returncode:
             return 0, f"it ended with {done.returncode}: {done.stdout[-200:]}"

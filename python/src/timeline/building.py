@@ -1,4 +1,4 @@
-"""Makes the programs: checked as they run, in minutes, by `rt try`'s compiler with an optimizer; or proved, by `rt run`.
+"""Makes the programs: checked as they run, in minutes, by `rt try`'s compiler with an optimizer; or proved, by `rt ci`.
 
 It starts the kit's processes, writes below out/ and crates/*/out alone, and says how far it is; it runs no journal."""
 from __future__ import annotations
@@ -21,15 +21,16 @@ from . import cleanup, programs
 from .errors import NOT_BUILT, ProgramFault
 
 if TYPE_CHECKING:
-    from typing import IO
-
     from .cli import Call
 
 NO_KIT = "the command rt, which makes the programs, is not here: it comes with the Rattle kit"
-PROOF_TIME = "one to three hours on four processors, and 10 GB of disk"     # from nothing
+PROOF_TIME, PROOF_ROOM = "about an hour", "10 GB"     # all three from nothing, on four processors; README.md and the help say so too
+_OFTEN, _SELDOM = 15, 60     # seconds between two lines that say how far a proof is, where no terminal is
+_NO_SOURCES = ("out", "must-fail")     # of the folder of a crate
 ALL = ("src", "specs", "proofs")
 _KEPT = 3                # so many programs of other sources stay, beside those of these
 _MEMORY = 2_000_000      # KiB that one compilation may take
+_ENDED = "\nthe compiler was ended from outside, as the system does where memory is short: it takes up to 2 GB for each program"
 # What stands in for the kit's compiler: it optimizes, and leaves the sanitizer out, and the checks in.
 _CLANG = """#!/bin/sh
 for word do
@@ -66,12 +67,12 @@ def kit() -> str | None:
     return os.path.dirname(os.path.dirname(os.path.realpath(command))) if command else None
 
 
-def _sum_of(name: str, parts: tuple[str, ...]) -> str:
+def _sum_of(name: str, parts: tuple[str, ...], top: str = programs.ROOT) -> str:
     """The checksum of these parts of a program's sources, and of what crates.txt says of its crates."""
     total = hashlib.sha256(repr(programs.crates_of(name)).encode())
-    for path in sorted(it.path for it in programs.files_of(name, parts) if it.is_file()):
+    for path in sorted(it.path for it in programs.files_of(name, parts, top) if it.is_file()):
         with open(path, "rb") as file:
-            total.update(repr((os.path.relpath(path, programs.ROOT), file.read())).encode())
+            total.update(repr((os.path.relpath(path, top), file.read())).encode())
     return total.hexdigest()
 
 
@@ -89,22 +90,10 @@ def keep_sum(name: str, size: str, path: str) -> str:
     return total
 
 
-def adopt(name: str) -> dict[str, str] | None:
-    """What is to be written of a proved program of which nothing is written: its sources are these where none is newer."""
-    path = programs.proved_path(name)
-    if programs.source_size(name, ALL).time >= os.stat(path).st_mtime_ns:
-        return None
-    record = _record(name, "proved", programs.PLAIN)
-    try:
-        programs.write_record(path, record)
-    except OSError:
-        return record
-    return record
-
-
-def _record(name: str, kind: str, processor: str) -> dict[str, str]:
+def _record(name: str, kind: str, processor: str, top: str = programs.ROOT) -> dict[str, str]:
+    """What is to be written of a program that is made of the sources in a folder."""
     return {"kind": kind, "commit": commit(), "kit": _said_by(["rt", "version"]), "processor": processor,
-            "sources": _sum_of(name, ("src",)), "all": _sum_of(name, ALL)}
+            "sources": _sum_of(name, ("src",), top), "all": _sum_of(name, ALL, top)}
 
 
 def _said_by(words: list[str]) -> str:
@@ -207,7 +196,9 @@ def _make(name: str) -> None:
                                 {**os.environ, "TMPDIR": folder})
         _follow(process, f"making {name}, checked as it runs, which takes two to three minutes")
     if not os.access(made, os.X_OK):
-        raise ProgramFault(NOT_BUILT, f"{name} was not made; {log} has all that was said, and ends so:\n{_end_of(log)}")
+        end = _end_of(log)
+        end += _ENDED * (end == "run=none proved=no")
+        raise ProgramFault(NOT_BUILT, f"{name} was not made; {log} has all that was said, and ends so:\n{end}")
     if programs.source_sum(name) == total:
         path = programs.checked_path(name, total)
         shutil.copy(made, path + ".new")
@@ -262,54 +253,46 @@ def _end_of(log: str) -> str:
 
 # Proved
 
-# The words with which each program is run once it is built, where no journal is, and what it then prints and ends with.
-_TRIALS: dict[str, tuple[list[str], str, int]] = {
-    "timeline": ([], "! usage\n", 2), "timeline_look": ([], "! usage\n", 2),
-    "timeline_log": (["--", "log"], "! journal NotInitialised 0\n", 7),
-}
-
-
 class _Report:
-    """How far a proof is: by what the prover says, and before it says anything by which of its processes runs."""
+    """How far a proof is: which crates the prover has said are proved, and which of them its processes are at work on."""
 
-    def __init__(self, name: str) -> None:
-        self.count, self.crates, self.functions, self.all, self._next = len(programs.crates_of(name)), [""], 0, "", ""
+    def __init__(self, count: int) -> None:
+        self.count, self.proved, self.awaited = count, 0, ""
         self.begun = self._told = time.monotonic()
+        self._said = 0
 
     def take(self, line: str) -> None:
-        """Takes a line of the prover's down."""
-        if line.startswith("so far: "):
-            self._next = line.partition(" of ")[2].partition(" ")[0]
-        elif re.match(r"[a-z]+ \S+: proved$", line):
-            crate = line.split()[1].partition("::")[0].rstrip(":")
-            if crate not in self.crates:
-                self.crates.append(crate)
-                self.functions, self.all, self._next = 0, self._next, ""
-                self._told = 0
-            self.functions += line.startswith("fn ")
+        """Takes a line of the prover's down, and says what it notes of the machine."""
+        if re.match(r"rt: \w+ (proved$|is kept: )", line):
+            self.proved, self.awaited = self.proved + 1, ""
+        elif re.match(r"rt: \w+: another run on this machine is proving the same", line):
+            self.awaited = line.split()[1].rstrip(":")
+        elif line.startswith("rt: note: "):
+            programs.console.say(line[len("rt: note: "):])
 
     def tell(self, process: int) -> None:
-        """Says how far it is: on a terminal always, and else where a crate is new and each minute."""
-        now, is_new = time.monotonic(), self._told == 0
-        text = f"{_under_way(process)}; {(now - self.begun) / 60:.0f} minutes gone"
-        if self.crates[-1]:
-            text = f"crate {len(self.crates) - 1} of {self.count} to be proved, {self.crates[-1]}: {self.functions}" + \
-                f" of {self.all}" * bool(self.all) + f" functions checked; {text}"
+        """Says how far it is: on a terminal always, and else each minute, or after some seconds where a crate was proved since."""
+        now = time.monotonic()
+        crates = _under_way(process)
+        does = f"at work on {', '.join(crates)}" if crates else "comparing the sources with what was proved before"
+        if self.awaited and not crates:
+            does = f"waiting for another run on this machine that proves {self.awaited}"
+        text = f"{self.proved} of {self.count} crates proved; {does}; {(now - self.begun) / 60:.0f} minutes gone"
         programs.console.progress(text)
-        if not programs.console.err_is_terminal and (is_new or now - self._told >= 60):
-            self._told = now
+        if not programs.console.err_is_terminal and now - self._told >= (_OFTEN if self.proved > self._said else _SELDOM):
+            self._told, self._said = now, self.proved
             programs.console.say(text)
 
 
-def _under_way(process: int) -> str:
-    """What the prover does now, by the processes that it has started."""
+def _under_way(process: int) -> list[str]:
+    """The crates that the prover is at work on, by the processes that it has started."""
+    crates = []
     for path in glob.glob(f"/proc/{process}/task/*/children"):
         for child in _text_of(path).split():
             words = _text_of(f"/proc/{child}/cmdline").split("\0")
-            if "--crate-name" in words:
-                crate = words[words.index("--crate-name") + 1]
-                return "reading all sources once, to find what needs no proof to be found" if "--only" in words else f"at work on {crate}"
-    return "comparing the sources with what was proved before"
+            if "--crate-name" in words[:-1]:
+                crates.append(words[words.index("--crate-name") + 1])
+    return sorted(crates)
 
 
 def _text_of(path: str) -> str:
@@ -323,72 +306,110 @@ def _text_of(path: str) -> str:
 def is_proved(name: str) -> bool:
     """Whether a program is there that is proved of just these sources, and can run here."""
     path = programs.proved_path(name)
-    if not os.access(path, os.X_OK):
-        return False
-    record = programs.read_record(path) or adopt(name)
+    record = programs.read_record(path) if os.access(path, os.X_OK) else None
     return bool(record and programs.suits(record) and record.get("all") == _sum_of(name, ALL))
 
 
 def build(call: Call) -> int:
-    """Proves and builds each program that is not proved of these sources."""
+    """Proves and builds the programs that are not proved of these sources."""
     call.parser().parse_args(call.words)
     lacking = [it for it in programs.NAMES if not is_proved(it)]
-    if lacking and kit() is None:
+    if not lacking:
+        call.console.say("all three are proved already")
+        return 0
+    if kit() is None:
         raise ProgramFault(NOT_BUILT, NO_KIT)
-    for name in lacking:
-        call.console.say(f"building {name}, with proof; from nothing all three take {PROOF_TIME}")
-        try:
-            _build(name)
-        except cleanup.Stopped:
-            call.console.say("stopped; ./timeline build goes on where it stopped")
-            raise
-    call.console.say(f"all three are proved, for {_processors()}" if lacking else "all three are proved already")
+    call.console.say(f"proving {', '.join(lacking)}; from nothing all three take {PROOF_TIME} and {PROOF_ROOM} of disk")
+    try:
+        _prove(lacking)
+    except OSError as error:
+        raise ProgramFault(NOT_BUILT, f"the programs were not built: {error.filename or programs.ROOT}: {error.strerror or error}") from None
+    except cleanup.Stopped:
+        call.console.say("stopped; " + ("./timeline build goes on after the crates that were proved" if _keeps() else
+                                        f"nothing is kept, since {_store()} may not be written: ./timeline build begins again"))
+        raise
+    call.console.say("all three are proved")
     return 0
 
 
-def _processors() -> str:
-    return ", ".join(sorted({(programs.read_record(programs.proved_path(it)) or {}).get("processor", "") for it in programs.NAMES}))
+def _store() -> str:
+    """The folder in which the kit keeps what it has proved, for any copy of the sources on this machine."""
+    return os.path.join(os.path.dirname(kit() or ""), "rattle-kept")
 
 
-def _build(name: str) -> None:
-    """Proves and builds one program, and writes down of what it is made."""
-    path, kind = programs.proved_path(name), programs.processor()
-    record, log = _record(name, "proved", kind), path + ".log"
-    words, printed, status = _TRIALS[name]
-    if kind != programs.PLAIN:
-        words = [f"--cpu={kind}", *words]
+def _keeps() -> bool:
+    return os.access(_store(), os.W_OK)
+
+
+def _prove(names: list[str]) -> None:
+    """Proves and builds programs by the gate's command, over a copy of the crates that they are made of, and puts them where
+    proved ones are kept. ProgramFault where one is not proved, or where the sources have changed meanwhile."""
+    folder = cleanup.private_folder()
+    top, own = os.path.join(folder, "sources"), os.path.join(folder, "temporary")
+    for it in (folder, own):
+        os.makedirs(it, exist_ok=True)
+        os.chmod(it, 0o711)      # as root the kit runs each program as nobody
+    report = _Report(_copy_crates(names, top))
+    records = {it: _record(it, "proved", programs.PLAIN, top) for it in names}
+    os.makedirs(programs.CHECKED, exist_ok=True)
+    log = os.path.join(programs.CHECKED, "build.log")
+    status = _gate(top, own, log, report)
+    made = {it: os.path.join(top, "crates", it, "out", it) for it in names}
+    if status or not all(os.access(it, os.X_OK) for it in made.values()):
+        raise ProgramFault(NOT_BUILT, f"not all was proved; {log} has all that was said, and ends so:\n{_end_of(log)}")
+    for name in names:
+        if _sum_of(name, ALL) != records[name]["all"]:
+            raise ProgramFault(NOT_BUILT, f"the sources of {name} were changed while it was proved: ./timeline build")
+    for name, path in made.items():
+        _put(path, programs.proved_path(name), records[name])
+    cleanup.remove(folder)
+
+
+def _put(made: str, path: str, record: dict[str, str]) -> None:
+    """Puts a program in its place, with what is written of it."""
     os.makedirs(os.path.dirname(path), exist_ok=True)
-    with open(log, "w", encoding="utf-8") as said:
-        ended, output = _proof(name, words, said)
-    if (ended, output) != (status, printed) or not os.access(path, os.X_OK):
-        raise ProgramFault(NOT_BUILT, f"{name} was not built; {log} has all that was said, and ends so:\n{_end_of(log)}")
-    if _sum_of(name, ALL) != record["all"]:
-        raise ProgramFault(NOT_BUILT, f"the sources were changed while {name} was built: ./timeline build")
+    shutil.copyfile(made, path + ".new")
+    os.chmod(path + ".new", 0o755)
+    os.replace(path + ".new", path)
     programs.write_record(path, record)
 
 
-def _proof(name: str, words: list[str], said: IO[str]) -> tuple[int, str]:
-    """Runs the prover, keeps what it says, and tells how far it is. Gives how the built program ended, and what it printed."""
-    report = _Report(name)
-    folder = os.path.join(programs.ROOT, "crates", name)
-    process = cleanup.start(["rt", "run", *words], folder, subprocess.DEVNULL, subprocess.PIPE, subprocess.PIPE)
-    pipes, left = {process.stdout: b"", process.stderr: b""}, [process.stdout, process.stderr]
-    while left:
-        for pipe in select.select(left, [], [], 1)[0]:
-            piece = os.read(pipe.fileno(), 1 << 16)
-            pipes[pipe] += piece
+def _copy_crates(names: list[str], top: str) -> int:
+    """Copies the crates that programs are made of, without what is made of them and without wrong bodies that are only tried,
+    and gives how many they are. The kit tells them by their files alone, so what it keeps of them serves the gate too."""
+    crates = list(dict.fromkeys(crate for name in names for crate in programs.crates_of(name)))
+    for crate in crates:
+        source = os.path.join(programs.ROOT, "crates", crate)
+        shutil.copytree(source, os.path.join(top, "crates", crate), ignore=lambda at, _, own=source: _NO_SOURCES if at == own else ())
+    with open(os.path.join(programs.ROOT, "crates.txt"), encoding="utf-8") as file:
+        lines = [line for line in file if (line.partition(":")[0].split() or [""])[0] in crates]
+    with open(os.path.join(top, "crates.txt"), "w", encoding="utf-8") as file:
+        file.writelines(lines)
+    shutil.copyfile(os.path.join(programs.ROOT, "HANDLES"), os.path.join(top, "HANDLES"))
+    os.mkdir(os.path.join(top, ".git"))      # what stands below this is a repository of its own
+    return len(crates)
+
+
+def _gate(top: str, own: str, log: str, report: _Report) -> int:
+    """Runs the gate in a folder, with its temporary files in another, and gives its status; all that it says is in the log."""
+    process = cleanup.start(["rt", "ci"], top, subprocess.DEVNULL, subprocess.PIPE, subprocess.STDOUT, {**os.environ, "TMPDIR": own})
+    assert process.stdout is not None
+    rest = b""
+    with open(log, "wb") as said:
+        while True:
+            report.tell(process.pid)
+            if not select.select([process.stdout], [], [], 1)[0]:
+                continue
+            piece = os.read(process.stdout.fileno(), 1 << 16)
             if not piece:
-                left.remove(pipe)
-        *lines, pipes[process.stderr] = pipes[process.stderr].split(b"\n")
-        for line in (it.decode("utf-8", "replace") for it in lines):
-            said.write(line + "\n")
-            report.take(line)
-        said.flush()
-        report.tell(process.pid)
+                break
+            said.write(piece)
+            said.flush()
+            *lines, rest = (rest + piece).split(b"\n")
+            for line in lines:
+                report.take(line.decode("utf-8", "replace"))
     programs.console.progress("")
-    output = pipes[process.stdout].decode("utf-8", "replace")
-    said.write(output)
-    return cleanup.end(process), output
+    return cleanup.end(process)
 
 
 def clean(call: Call) -> int:

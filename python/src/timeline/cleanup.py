@@ -113,7 +113,10 @@ def private_folder(beside: str | None = None) -> str:
     while True:
         with deferred():
             path = tempfile.mkdtemp(prefix=PREFIX, dir=beside)
-            number = os.open(path, os.O_RDONLY)
+            try:
+                number = os.open(path, os.O_RDONLY)
+            except FileNotFoundError:
+                continue      # another command removed it, since nobody had locked it yet
             _folders[path] = number
             fcntl.flock(number, fcntl.LOCK_EX)
         if os.path.isdir(path):

@@ -80,6 +80,7 @@ def _install(prefix: str, found: dict[str, Program]) -> None:
 def _lay_out_below(prefix: str, found: dict[str, Program]) -> None:
     """Lays all out in a folder beside the one that is there, and then takes its place, so that none is there by half."""
     library = os.path.join(prefix, "lib/timeline")
+    os.umask(0o022)      # all may run what is installed, whatever of their own others may not see
     for folder in ("bin", "lib", os.path.dirname(PAGE), os.path.dirname(COMPLETIONS)):
         os.makedirs(os.path.join(prefix, folder), exist_ok=True)
     new = cleanup.private_folder(os.path.join(prefix, "lib"))
@@ -104,10 +105,18 @@ def _lay_out(root: str, found: dict[str, Program]) -> None:
     os.mkdir(os.path.join(root, "programs"))
     for name, one in found.items():
         path = os.path.join(root, "programs", name)
-        shutil.copy(one.path, path)
+        shutil.copyfile(one.path, path)
         os.chmod(path, 0o755)
         programs.write_record(path, one.record)
     _compile(package)
+    _open_to_all(root)
+
+
+def _open_to_all(root: str) -> None:
+    """Has all users read, and pass or run, what was copied of files that may be their owner's alone."""
+    for at, _, names in os.walk(root):
+        for path in (at, *(os.path.join(at, it) for it in names)):
+            os.chmod(path, 0o755 if os.stat(path).st_mode & 0o100 else 0o644)
 
 
 def _compile(package: str) -> None:

@@ -147,39 +147,44 @@ def checked_paths(name: str) -> list[tuple[float, str]]:
 
 
 def _proved(name: str, total: str) -> Program | None:
-    """The proved program, where its code is that of these sources."""
+    """The proved program, where its code is that of these sources; one of which nothing is written is not called proved."""
     path = proved_path(name)
     if not os.access(path, os.X_OK):
         return None
     record = read_record(path)
-    if record is None:
-        # It was left by `rt` itself, which leaves none that is not proved, and is of these sources where none is newer.
-        from . import building
-
-        record = building.adopt(name)
     return Program(path, "proved", record) if record and record.get("sources") == total else None
 
 
 def read_record(path: str, looks: bool = True) -> dict[str, str] | None:
-    """What was written of how a program was made, None where nothing was, or, where it `looks`, another program stands there now."""
+    """What was written of how a program was made, None where nothing was, or, where it `looks`, another program stands there now:
+    one with another checksum, which is not taken again of a file that was not touched since."""
     try:
         with open(path + ".built", encoding="utf-8") as file:
             record = dict(line.rstrip("\n").partition(" ")[::2] for line in file)
-        return record if not looks or record.get("file") == str(_size_of(os.stat(path))) else None
+        if not looks or record.get("file") == str(_size_of(os.stat(path))):
+            return record
+        return record if record.get("program") == _sum_of_file(path) else None
     except (OSError, UnicodeDecodeError):
         return None
 
 
 def write_record(path: str, record: Mapping[str, str]) -> None:
     """Writes how a program was made, beside it; OSError where that cannot be written."""
-    lines = {**record, "file": str(_size_of(os.stat(path)))}
+    lines = {**record, "file": str(_size_of(os.stat(path))), "program": _sum_of_file(path)}
     with open(path + ".built.new", "w", encoding="utf-8") as file:
         file.writelines(f"{key} {value}\n" for key, value in lines.items())
     os.replace(path + ".built.new", path + ".built")
 
 
 def _size_of(found: os.stat_result) -> _Size:
-    return _Size(1, found.st_size, found.st_mtime_ns)
+    return _Size(1, found.st_size, found.st_ctime_ns)
+
+
+def _sum_of_file(path: str) -> str:
+    import hashlib
+
+    with open(path, "rb") as file:
+        return hashlib.sha256(file.read()).hexdigest()
 
 
 def crates_of(name: str) -> list[str]:
@@ -196,9 +201,9 @@ def crates_of(name: str) -> list[str]:
     return found
 
 
-def files_of(name: str, parts: tuple[str, ...] = ("src",)) -> Iterator[os.DirEntry[str]]:
-    """The files and folders of a program's sources: of these parts of each crate that it is made of."""
-    folders = [os.path.join(ROOT, "crates", crate, part) for crate in crates_of(name) for part in parts]
+def files_of(name: str, parts: tuple[str, ...] = ("src",), top: str = ROOT) -> Iterator[os.DirEntry[str]]:
+    """The files and folders of a program's sources: of these parts of each crate that it is made of, below a folder."""
+    folders = [os.path.join(top, "crates", crate, part) for crate in crates_of(name) for part in parts]
     while folders:
         try:
             entries = list(os.scandir(folders.pop()))
@@ -210,10 +215,10 @@ def files_of(name: str, parts: tuple[str, ...] = ("src",)) -> Iterator[os.DirEnt
                 folders.append(entry.path)
 
 
-def source_size(name: str, parts: tuple[str, ...] = ("src",)) -> _Size:
+def source_size(name: str) -> _Size:
     """What tells whether a program's sources have changed: their number, their bytes, and when the last change was made."""
     number = size = last = 0
-    for entry in files_of(name, parts):
+    for entry in files_of(name):
         found = entry.stat()
         number, size, last = number + 1, size + found.st_size, max(last, found.st_ctime_ns)
     return _Size(number, size, last)

@@ -22,6 +22,7 @@ if TYPE_CHECKING:
 TESTS = "python/tests"
 NEEDS = os.path.join(programs.ROOT, TESTS, "needs.txt")
 FAILED = 1
+_OF_SYSTEM = "/usr/bin/python3"      # for which apt installs modules
 _LINES = 60      # of what a test said that failed
 _EACH = 30       # seconds between two lines that say how far the tests are, where no terminal is
 
@@ -53,19 +54,23 @@ def test(call: Call) -> int:
 def _counted(results: dict[str, str], wrong: list[str], seconds: float) -> str:
     passed = sum(it == "passed" for it in results.values())
     skipped = sum(it == "skipped" for it in results.values())
-    return f"{passed} passed, {len(wrong)} failed" + f", {skipped} not tried" * bool(skipped) + f", in {seconds:.0f} s"
+    return f"{passed} passed, {len(wrong)} failed, in {seconds:.0f} s" + f", {skipped} not tried" * bool(skipped)
 
 
 def _programs(folder: str) -> str:
-    """Puts links to the three programs into a folder, for all tests to use, and says what they are."""
-    os.mkdir(os.path.join(folder, "programs"))
-    os.chmod(folder, 0o711)      # some tests run commands as nobody
+    """Copies the three programs into a folder, for all tests to use, and says what they are. Each user may run them there,
+    wherever they stood: some tests run commands as nobody."""
+    copies = os.path.join(folder, "programs")
+    os.mkdir(copies)
     kinds = set()
     for name in programs.NAMES:
         path = programs.program(name)
         found = programs.find(name)
         kinds.add(found.kind if found else "not of these sources")
-        os.symlink(path, os.path.join(folder, "programs", name))
+        shutil.copyfile(path, os.path.join(copies, name))
+        os.chmod(os.path.join(copies, name), 0o755)
+    for it in (folder, copies):
+        os.chmod(it, 0o755)
     words = {"checked": "checked as they run", "given": "in " + os.environ.get("TIMELINE_PROGRAMS", "")}
     return " and ".join(sorted(words.get(it, it) for it in kinds))
 
@@ -112,7 +117,7 @@ def _total(folder: str) -> int:
 
 
 def _lines(path: str, at: dict[int, int], number: int) -> Iterator[dict[str, str]]:
-    """The results in a file after a place, which is moved behind them; a line that is not whole waits."""
+    """The results in a file after a place, which is moved past them; a line that is not whole waits."""
     try:
         with open(path, encoding="utf-8") as file:
             file.seek(at[number])
@@ -125,12 +130,19 @@ def _lines(path: str, at: dict[int, int], number: int) -> Iterator[dict[str, str
 
 
 def _tell(results: dict[str, str], folder: str, console: Console) -> list[str]:
-    """Says what the tests said that failed, and how each is run alone; gives their names, and those that never ended."""
+    """Says what the tests said that failed, how each is run alone, and why some were not tried; gives the names of those that
+    failed, and those that never ended."""
     wrong = sorted(it for it, outcome in results.items() if outcome == "failed")
+    reasons: dict[str, int] = {}
     for name in (it for it in os.listdir(folder) if it.endswith(".results")):
         for result in _lines(os.path.join(folder, name), {0: 0}, 0):
             if result["outcome"] == "failed":
                 console.tell("\n".join([f"== {result['test']}", *result["said"].splitlines()[-_LINES:]]))
+            elif result["outcome"] == "skipped":
+                reason = result["said"].strip().removeprefix("Skipped: ")
+                reasons[reason] = reasons.get(reason, 0) + 1
+    for reason, count in sorted(reasons.items()):
+        console.tell(f"{count} not tried: {reason}")
     if results and _total(folder) > len(results):
         wrong.append(f"{_total(folder) - len(results)} tests that did not end")
     for name in wrong:
@@ -141,21 +153,24 @@ def _tell(results: dict[str, str], folder: str, console: Console) -> list[str]:
 def _needs(console: Console) -> tuple[str, str]:
     """The python3 that runs the tests, and a line that names what is not here and could not be installed: tests that need it
     are not tried."""
-    python = next((it for it in (sys.executable, "/usr/bin/python3") if _has_modules(it, ["pytest"])), "/usr/bin/python3")
-    lacking = _lacking(python)
+    python, lacking = _best()
     if lacking and os.geteuid() == 0 and shutil.which("apt-get"):
-        python = "/usr/bin/python3"
-        console.say(f"installing what the tests need: {' '.join(_lacking(python))}")
+        console.say(f"installing what the tests need: {' '.join(_lacking(_OF_SYSTEM))}")
         for words in (["install"], ["update"], ["install"]):
-            if _lacking(python):
-                packages = _lacking(python) if words == ["install"] else []
-                subprocess.run(["apt-get", "-y", "-q", *words, *packages], stdin=subprocess.DEVNULL, stdout=subprocess.DEVNULL,
-                               stderr=subprocess.DEVNULL, env={**os.environ, "DEBIAN_FRONTEND": "noninteractive"}, check=False)
-        lacking = _lacking(python)
-    line = f"what needs these was not tried: apt-get install {' '.join(lacking)}" if lacking else ""
+            packages = _lacking(_OF_SYSTEM)
+            if packages:
+                subprocess.run(["apt-get", "-y", "-q", *words, *(packages if words == ["install"] else [])], stdin=subprocess.DEVNULL, check=False,
+                               stdout=subprocess.DEVNULL, stderr=subprocess.DEVNULL, env={**os.environ, "DEBIAN_FRONTEND": "noninteractive"})
+        python, lacking = _best()
     if "python3-pytest" in lacking:
         raise ProgramFault(NOT_BUILT, f"the tests need more than is here: apt-get install {' '.join(lacking)}")
-    return python, line
+    return python, f"what needs these was not tried: apt-get install {' '.join(lacking)}" if lacking else ""
+
+
+def _best() -> tuple[str, list[str]]:
+    """The python3 with which most tests can be tried, and the packages of what they need and is not here."""
+    found = [(it, _lacking(it)) for it in dict.fromkeys((sys.executable, _OF_SYSTEM))]
+    return min(found, key=lambda it: ("python3-pytest" in it[1], len(it[1])))
 
 
 def _lacking(python: str) -> list[str]:

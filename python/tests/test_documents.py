@@ -119,7 +119,7 @@ def test_pages_are_listed_and_short():
 
 
 # What a recipe needs beside the programs, and how to see whether it is there.
-NEEDS = {"sqlite3 ": ["sqlite3", "--version"], "pandas": [sys.executable, "-c", "import pandas"]}
+NEEDS = {"sqlite3 ": ["sqlite3", "--version"]}
 
 
 def is_there(words):

@@ -1,5 +1,5 @@
 #!/usr/bin/env python3
-"""Prints what `timeline sample N START` is to print, worked out anew from the rule of its rows in docs/FORMATS.md:
+"""Prints what `timeline sample N START` is to print, worked out anew from the rule of its rows in docs/SCRIPTS.md:
 sample.py N START [OPTIONS..]"""
 import sys
 

@@ -1,4 +1,4 @@
-"""What `follow` makes of packets, worked out anew: packets read byte by byte as docs/FORMATS.md spells them, and the commits
+"""What `follow` makes of packets, worked out anew: packets read byte by byte as docs/JOURNAL.md spells them, and the commits
 that fit, one after the other, over tables that keep of each row whether it stands."""
 import re
 

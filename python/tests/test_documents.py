@@ -1,6 +1,6 @@
 """Compares what the documents say with what there is: the table of what to do with the faults of the program, the
-statements of docs/LANGUAGE.md with the examples that it shows, links with files; and
-runs the recipes of docs/RECIPES.md and the tour of README.md."""
+scripts of docs/LANGUAGE.md and docs/SCRIPTS.md with the examples that they show, links with files and headings, the
+list of pages with the pages, and their lengths; and runs the recipes of docs/RECIPES.md and the tour of README.md."""
 import glob
 import os
 import re
@@ -67,32 +67,59 @@ def test_the_table_has_each_fault():
         if " " not in fault:
             judge(f"the numbers of {fault}", re.search(rf"\b{fault}\b", formats), "docs/FORMATS.md does not have them")
     for fault in sorted(it.split()[1] for it in wanted if " " in it):
-        judge(f"the closing line of {fault}", re.search(rf"\b{fault}\b", text_of("docs/LANGUAGE.md") + text_of("docs/FORMATS.md")))
+        judge(f"the closing line of {fault}", re.search(rf"\b{fault}\b", text_of("docs/SCRIPTS.md") + text_of("docs/FORMATS.md")))
 
 
 def test_examples_are_as_shown():
-    """What docs/LANGUAGE.md shows of an example is what stands in its files, and so is the script of README.md, but for
-    its comments."""
-    text = text_of("docs/LANGUAGE.md")
-    shown = re.findall(r"\(\.\./(examples/[\w/]+)\.tl\)[^\n]*:\n\n```\n(.*?)```\n.*?\n```\n(.*?)```\n", text, re.S)
-    judge("the examples of docs/LANGUAGE.md", shown, "none were found")
-    for path, script, replies in shown:
-        judge(f"docs/LANGUAGE.md: {path}.tl", script == text_of(f"{path}.tl"), script)
-        judge(f"docs/LANGUAGE.md: {path}.expected", replies == text_of(f"{path}.expected"), replies)
+    """What a page shows of an example is what stands in its files, and each example of examples/language with a script
+    is shown; so is the script of README.md, but for its comments."""
+    found = set()
+    for page in ("docs/LANGUAGE.md", "docs/SCRIPTS.md"):
+        shown = re.findall(r"\(\.\./(examples/[\w/]+)\.tl\)[^\n]*:\n\n```\n(.*?)```\n.*?\n```\n(.*?)```\n", text_of(page), re.S)
+        for path, script, replies in shown:
+            judge(f"{page}: {path}.tl", script == text_of(f"{path}.tl"), script)
+            judge(f"{page}: {path}.expected", replies == text_of(f"{path}.expected"), replies)
+            found.add(path)
+    wanted = {os.path.relpath(it, ROOT)[:-3] for it in glob.glob(f"{ROOT}/examples/language/*.tl")}
+    judge("the examples of examples/language", wanted and wanted <= found, sorted(wanted - found))
     scripts = re.findall(r"\n\n((?:    [^\n]*\n)+)", text_of("README.md"))
     wanted = [re.sub(r"^#.*\n", "", text_of("examples/first.tl"), flags=re.M)]
     judge("the script of README.md", [re.sub("^    ", "", it, flags=re.M) for it in scripts] == wanted, scripts)
 
 
+def pages():
+    return sorted(os.path.relpath(it, ROOT) for it in glob.glob(f"{ROOT}/docs/*.md"))
+
+
+def anchors(page):
+    """The places of a page that a link may name: its headings, as web sites that show Markdown spell them."""
+    text = re.sub(r"^```.*?^```$", "", text_of(page), flags=re.M | re.S)
+    return {re.sub(r"[^\w -]", "", it.lower()).replace(" ", "-") for it in re.findall(r"^#+ (.*)$", text, re.M)}
+
+
 def test_links_lead_somewhere():
-    for document in ["README.md", *sorted(os.path.relpath(it, ROOT) for it in glob.glob(f"{ROOT}/docs/*.md"))]:
-        for link in re.findall(r"\]\(([^)#]+)[^)]*\)", text_of(document)):
-            path = os.path.join(ROOT, os.path.dirname(document), link)
-            judge(f"{document}: the link {link}", "://" in link or os.path.exists(path), "leads nowhere")
+    for document in ["README.md", *pages()]:
+        links = re.findall(r"\]\(([^)#]*)#?([^)]*)\)", text_of(document))
+        for link, anchor in (it for it in links if "://" not in it[0]):
+            path = os.path.relpath(os.path.join(ROOT, os.path.dirname(document), link), ROOT) if link else document
+            judge(f"{document}: the link {link}", os.path.exists(os.path.join(ROOT, path)), "leads nowhere")
+            judge(f"{document}: the link {link}#{anchor}", not anchor or anchor in anchors(path), "leads to no heading")
+    for path in (it for kind in ("py", "txt", "rt", "sh") for it in glob.glob(f"{ROOT}/*/**/*.{kind}", recursive=True) if "/out/" not in it):
+        for page in re.findall(r"\bdocs/[A-Z_]+\.md", text_of(path)):
+            judge(f"{os.path.relpath(path, ROOT)}: {page}", os.path.exists(os.path.join(ROOT, page)), "is not there")
+
+
+def test_pages_are_listed_and_short():
+    """README.md and docs/ARCHITECTURE.md list each page, and no page has more than 6,000 words."""
+    for page in pages():
+        judge(f"{page} in README.md", f"]({page})" in text_of("README.md"), "is not listed")
+        name = os.path.basename(page)
+        judge(f"{page} in docs/ARCHITECTURE.md", name == "ARCHITECTURE.md" or f"]({name})" in text_of("docs/ARCHITECTURE.md"), "is not listed")
+        judge(f"the length of {page}", len(text_of(page).split()) <= 6000, f"{len(text_of(page).split())} words")
 
 
 # What a recipe needs beside the programs, and how to see whether it is there.
-NEEDS = {"sqlite3 ": ["sqlite3", "--version"], "pandas": [sys.executable, "-c", "import pandas"]}
+NEEDS = {"sqlite3 ": ["sqlite3", "--version"]}
 
 
 def is_there(words):

@@ -258,6 +258,33 @@ def test_records_are_parted_as_the_program_parts_them(journal: str) -> None:
         assert [[sheets.to_bytes(it) for it in row] for row in seen.rows()] == list(standing.values()), data
 
 
+CUT_OFF = ('id,a\n1,"two\nlines"\n\n2,"y\n3,z\n', "line 5, record 3: the file ends within a quoted field"), ('id,"a\n1,x\n', "line 1, record 1: the file ends within")
+
+
+@pytest.mark.parametrize("words", [["import", "u", "--key", "id"], ["load", "t"], ["load", "t", "--no-stamp"], ["sync", "t"]], ids=" ".join)
+@pytest.mark.parametrize("data, told", CUT_OFF)
+def test_a_sheet_that_is_cut_off_is_refused_with_its_line(journal: str, words: list[str], data: str, told: str) -> None:
+    run(["import", "t", "--key", "id"], "id,a\n1,x\n", journal)
+    before = listed(journal)
+    done = run(words, data, journal)
+    assert done.status == 20 and told in done.err and listed(journal) == before, done
+
+
+@pytest.mark.parametrize("words", [["import", "u", "--key", "id", "--kind", "id=INT"], ["load", "t"], ["load", "t", "--no-stamp"], ["sync", "t"]], ids=" ".join)
+def test_a_refusal_names_the_line(journal: str, words: list[str]) -> None:
+    run(["import", "t", "--key", "id"], "id,a\n1,x\n", journal)
+    done = run(words, 'id,a\r\n\r\n1,"two\r\nlines"\r\n7,LONG\r\n'.replace("LONG", "x" * 65_536), journal)
+    assert done.status == 20 and "TextTooLong 3 2" in done.err and "line 5" in done.err and "record 3" in done.err, done
+
+
+@pytest.mark.parametrize("mark, code", [(b"\xff\xfe", "utf-16-le"), (b"\xfe\xff", "utf-16-be")])
+def test_a_sheet_of_another_encoding_is_named(journal: str, mark: bytes, code: str) -> None:
+    for words in (["import", "u", "--key", "id"], ["load", "t"], ["sync", "t"]):
+        run(["import", "t", "--key", "id"], "id,a\n1,x\n", journal)
+        done = run(words, mark + "id,a\n2,y\n".encode(code), journal)
+        assert done.status == 20 and "it is UTF-16" in done.err and "CSV UTF-8" in done.err, done
+
+
 # Blocks
 
 def test_a_sheet_that_no_block_can_hold_is_one_unit(journal: str, monkeypatch: pytest.MonkeyPatch) -> None:
@@ -361,7 +388,8 @@ def test_a_sync_is_what_the_sheet_says(journal: str) -> None:
     assert asked(journal, "SELECT * FROM t")[1:] == [["1", "x", "1.50"], ["2", "two\nlines", "2.75"], ["4", "w", "4.50"]]
     assert listed(journal).count(",t,change,") == before.count(",t,change,") + 1, "a night is one version"
     before = listed(journal)
-    assert run(["sync", "t"], sheet, journal).out == "0 new, 0 changed, 0 gone, 3 unchanged\n" and listed(journal) == before
+    done = run(["sync", "t"], sheet, journal)
+    assert done == (0, "0 new, 0 changed, 0 gone, 3 unchanged\n", "timeline: nothing differs: no version was made\n") and listed(journal) == before
     assert run(["sync", "t", "--keep"], "id,a,pay\n5,v,5.00\n", journal).out == "1 new, 0 changed, 0 gone, 0 unchanged\n"
     assert len(asked(journal, "SELECT id FROM t")) == 5
 

@@ -16,7 +16,13 @@ TABLE = "CREATE TABLE t (id INT, x TEXT) KEY id;\n"
 @pytest.mark.parametrize("given, status, out, said", [
     ("PUT t;\r\nid,x\r\n1,a\r\n\\.\r\nSELECT x FROM t;\r\n", 0, "@N ok\nx\na\n", ""),                   # lines that end in CRLF
     ("SELECT x FROM t", 0, "x\n", ""),                                                                     # a last statement without `;`
-    ("PUT t;\nid,x\n1,a\n", 6, "! script BlockOpen 3\n", "the block of PUT t has no end"),                # a block that is cut off
+    ("\nPUT t;\nid,x\n1,a\n", 6, "! script BlockOpen 2\n", "the block of PUT t that begins in line 2 has no end"),   # a block that is cut off
+    ("SELECT id FROM t;\nSELECT id FROM t\nWHERE x = 'a;\nCREATE TABLE u (k INT) KEY k;\n", 6, "id\n! script OpenText 3\n",
+     "the text that begins in line 3 has no end"),                                                         # a text that is cut off
+    ("PUT t;\nid,x\n1,\"a\n\\.\nSELECT id FROM t;\n", 0, "id\n", "line 2, record 2: the file ends within a quoted field"),
+    ("SELECT id FROM t;\nSELECT \udcc3 FROM t;\nCREATE TABLE \udcff (k INT) KEY k;\nSELECT x FROM t;\n", 0, "id\nx\n",
+     "line 2 was refused: BadByte 7"),                                                                     # no UTF-8
+    ("", 0, "", "the input is empty"),
     ("PUT t;\nid,x\n1,\"a\nb\"\n\\.\nSELECT id FROM t;\n", 0, "@N ok\nid\n1\n", ""),                      # a line break in a text
     ("SELECT id FROM t WHERE x = 'a\nb';\n", 0, "", "LineBreak"),
     ("# a comment\n-- another\n\n;\nSELECT id\n  FROM t;\n", 0, "id\n", ""),
@@ -72,6 +78,39 @@ def test_help_shows_a_statement(journal: str) -> None:
     assert BATCHES <= {it.split()[0] for it in found} and "\n".join(found) == statements
     assert run(["shell"], "\\help\n", journal).out == f"{statements}\n  Words of the shell: {WORDS}\n"
     assert run(["shell"], "".join(f"\\help {it.split()[0]}\n" for it in found), journal).out == statements + "\n"
+
+
+def test_many_lines_of_one_text_take_little(journal: str) -> None:
+    """A quote that is left open reaches over all that comes after it: time grows with its length, not with its square."""
+    begun = time.monotonic()
+    done = run(["--no-stamp", "shell"], "SELECT id FROM t WHERE x = 'a;\n" + "SELECT id FROM t;\n" * 100_000, journal)
+    assert (done.status, done.out) == (6, "! script OpenText 1\n") and time.monotonic() - begun < 20, done
+
+
+def test_a_prompt_takes_signals_and_half_characters(journal: str) -> None:
+    """SIGINT while a prompt waits and while a query runs, a byte that is no UTF-8, and a history that has one."""
+    pexpect = pytest.importorskip("pexpect")
+    pytest.importorskip("prompt_toolkit")
+    os.makedirs(f"{journal}/timeline")
+    with open(f"{journal}/timeline/history", "wb") as file:
+        file.write(b"\n# now\n+SELECT '\xc3\n+\xff")
+    env = dict(os.environ, TERM="xterm", XDG_STATE_HOME=journal, PROMPT_TOOLKIT_NO_CPR="1")
+    shell = pexpect.spawn(COMMAND, ["--no-stamp", "shell"], cwd=journal, env=env, timeout=30, dimensions=(40, 120))
+    shell.expect(b"timeline>")
+    for turn in range(6):
+        shell.send(b"SELECT x FROM nothing;\r")
+        time.sleep(0.02 * turn)
+        shell.kill(2)
+        time.sleep(0.1)
+    shell.send(b"\x03")
+    shell.send(b"SELECT '\xe9';\r")
+    shell.expect(b"BadByte 8")
+    shell.send(b"quit\r")
+    shell.expect(pexpect.EOF)
+    shell.close()
+    assert shell.exitstatus == 0
+    with open(f"{journal}/timeline/history", "rb") as file:
+        assert file.read().endswith(b"\n+quit\n")
 
 
 def test_on_a_terminal(journal: str) -> None:

@@ -247,6 +247,25 @@ def test_full_disk_is_named(table: str) -> None:
     assert run(["ask", "SELECT v FROM t"], folder=table).out == "v\none\ntwo\n"
 
 
+WRITERS = ("group big.tl", "transact big.tl", "group <big.tl", "transact <big.tl", "group", "transact", "--explain group big.tl", "watch 'COUNT FROM t OVER SYSTEM ALL'",
+           "load t big.csv", "load t big.csv --no-stamp", "import u big.csv --key k", "sync t big.csv", "--lenient load t big.csv")
+
+
+@pytest.mark.parametrize("words", WRITERS)
+def test_a_full_disk_keeps_nothing_and_is_said(words: str, table: str) -> None:
+    """What has no room is not there, and the status is not 0, whatever the input is read from; nothing is tried with half of it."""
+    rows = "k,v\n" + "".join(f"{key},{'x' * 50}\n" for key in range(10, 9_000))
+    for name, text in (("big.csv", rows), ("big.tl", f"a> PUT t\n{rows}\\.\n")):
+        with open(f"{table}/{name}", "w") as file:
+            file.write(text)
+    given = "" if "big" in words else "cat big.tl | "
+    limit = os.path.getsize(f"{table}/timeline.tlj") // 1024 + 100
+    before = run(["log", "--csv"], folder=table).out
+    done = subprocess.run(["bash", "-c", f'ulimit -f {limit}; {given}"$0" {words}', COMMAND], cwd=table, capture_output=True, text=True, timeout=60)
+    assert (done.returncode, done.stdout) == (5, "! device\n") and ("disk" in done.stderr or "--explain" not in words), done
+    assert run(["log", "--csv"], folder=table).out == before and run(["ask", "SELECT v FROM t"], folder=table).out == "v\none\ntwo\n"
+
+
 @pytest.mark.parametrize("words", (["run"], ["--strict", "run"], ["init"], ["load", "t"], ["group"], ["follow"], ["--stamp", "run"]), ids=" ".join)
 def test_journal_that_another_has(words: Sequence[str], table: str) -> None:
     with open(f"{table}/timeline.tlj", "rb") as other:

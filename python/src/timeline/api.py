@@ -194,7 +194,7 @@ class Unit:
         self._parts.append(_Part(found.text))
 
     def _refused(self, kind: str, statement: str, sentence: str, advice: str = "") -> Refused:
-        return Refused(kind, statement=statement, place=Place(0), number=len(self._parts) + 1, sentence=sentence, advice=advice)
+        return Refused(kind, (), statement, Place(0), sentence, advice).over(0, len(self._parts) + 1)
 
     def put(self, table: str, rows: Iterable[Mapping[str, Cell]]) -> None:
         """Adds rows that are put, each a value for each column by its name; None is a valid_to without end. Raises TypeError for what

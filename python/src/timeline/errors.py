@@ -47,23 +47,31 @@ class UsageError(TimelineError):
 class Refused(TimelineError):
     """A statement, or a sheet, that was refused: nothing of it is kept.
 
-    `kind` is the fault's name and `numbers` its numbers, `statement` the text as it was typed, `place` where in it,
-    `number` which statement, from 1, of those that were given (0 is one that the front added), and `version` the version of the journal over which it was refused. `sentence`
-    is what the front says of a fault that it found itself, else empty."""
+    `kind` is the fault's name and `numbers` its numbers, `statement` the text as it was typed,
+    `place` where in it, and `advice` what to do. `sentence` is what the front says of a fault that
+    it found itself, else empty. `number` is which statement, from 1, of those that were given (0 is
+    one that the front added), and `version` that of the journal over which it was refused."""
 
     status = REFUSED
 
-    def __init__(self, kind: str, numbers: Sequence[int] = (), statement: str = "", place: Place | None = None,
-                 number: int = 1, version: int = 0, sentence: str = "", advice: str = "") -> None:
+    def __init__(self, kind: str, numbers: Sequence[int] = (), statement: str = "",
+                 place: Place | None = None, sentence: str = "", advice: str = "") -> None:
         self.kind, self.numbers, self.statement = kind, tuple(numbers), statement
-        self.place, self.number, self.version, self.advice, self.sentence = place, number, version, advice, sentence
+        self.place, self.advice, self.sentence = place, advice, sentence
+        self.number, self.version = 1, 0
         super().__init__(sentence or "refused: " + " ".join([kind, *map(str, self.numbers)]))
+
+    def over(self, version: int, number: int = 1) -> Refused:
+        """The same of the statement with a number, over a version of the journal."""
+        self.number, self.version = number, version
+        return self
 
 
 class NoJournal(TimelineError):
     """No journal is in the folder, or a file of `size` bytes that is less than one."""
 
     status = 7
+    advice = "./timeline init makes one in this folder; from Python, timeline.open(folder, create=True)"
 
     def __init__(self, size: int = 0) -> None:
         self.size, self.closing = size, f"journal NotInitialised {size}"
@@ -168,7 +176,7 @@ class CheckFailed(TimelineError):
 
 
 def from_closing(status: int, words: Sequence[str]) -> TimelineError:
-    """The error of a program that ended with a status, behind a closing line `! ` and these words."""
+    """The error of a program that ended with a status, after a closing line `! ` and these words."""
     number = int(words[-1]) if words and words[-1].isdigit() else 0
     what = words[0] if words else ""
     if what == "journal":

@@ -13,7 +13,7 @@ from operator import itemgetter
 from typing import Callable, Iterable, Iterator, Mapping, NamedTuple, Sequence
 
 from . import kinds
-from .errors import Place, Refused, ScriptFault, TimelineError, UsageError, from_closing
+from .errors import Place, Refused, ScriptFault, TimelineError, UsageError
 from .journal import replies_of
 from .kinds import FOREVER, GREATEST, INT, Kind, KindFault
 from .notes import Cause, Outcome, Unit, Whole, put_kinds, state_of, transact
@@ -108,6 +108,11 @@ def load(journal: Journal, table: str, sheet: Sheet, cause: Cause = Cause(), mis
     if cause.stamp is False and not (cause.who or cause.why) and sheet.is_plain(names):
         state = state_of(journal.look())
         if not any(column.changes for column in columns_of(state.catalog, table, sheet, names, given)):
+            try:
+                sheet.check_end()
+            except Refused as refused:
+                refused.version = state.version
+                raise
             return _load_alone(journal, table, sheet, state.version)
 
     def body(unit: Unit, raw: bool) -> Iterator[bytes]:
@@ -138,10 +143,10 @@ def _load_alone(journal: Journal, table: str, sheet: Sheet, before: int) -> Outc
     replies = replies_of(b"".join(output))
     if status:
         closing = replies[-1] if replies else None
-        raise from_closing(status, closing.words if isinstance(closing, Closing) else ())
+        raise journal.fault(status, closing.words if isinstance(closing, Closing) else ())
     if isinstance(replies[0], Refusal):
         fault = replies[0].fault
-        raise Refused(fault.name, fault.numbers, place=Place(None, fault.record, fault.field), version=replies[0].version)
+        raise Refused(fault.name, fault.numbers, place=fault.place).over(replies[0].version)
     return Outcome(replies, before)
 
 

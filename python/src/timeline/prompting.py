@@ -5,10 +5,11 @@ from __future__ import annotations
 
 import os
 import shutil
+import signal
 import sys
 
 from . import cleanup
-from .statements import is_open, tokens
+from .statements import encode, is_open, tokens
 
 TYPE_CHECKING = False
 if TYPE_CHECKING:
@@ -30,7 +31,8 @@ def history_path() -> str:
     except OSError:
         return ""
     path = os.path.join(folder, "history")
-    return path if os.access(path if os.path.exists(path) else folder, os.W_OK) else ""
+    is_there = os.path.lexists(path)
+    return path if os.access(path if is_there else folder, os.W_OK) and os.path.isfile(path) == is_there else ""
 
 
 def prompt_lines(call: Call) -> Lines:
@@ -72,10 +74,8 @@ class ToolkitLines:
 
     def __init__(self, call: Call) -> None:
         import prompt_toolkit
-        from prompt_toolkit.history import FileHistory, InMemoryHistory
 
-        path = history_path()
-        history = FileHistory(path) if path else InMemoryHistory()
+        history = _history(history_path())
         self._session: prompt_toolkit.PromptSession[str] = prompt_toolkit.PromptSession(
             history=history, lexer=_lexer(), completer=_completer(Completions(call)), complete_while_typing=False,
             multiline=True, key_bindings=_bindings(), prompt_continuation=lambda *_: MORE)
@@ -85,7 +85,7 @@ class ToolkitLines:
         """What was typed up to a `;`; Ctrl-C forgets it, Ctrl-D at its start ends the shell."""
         while True:
             try:
-                return self._session.prompt(FIRST)
+                return _typed(self._session, FIRST)
             except KeyboardInterrupt:
                 continue
             except EOFError:
@@ -94,9 +94,38 @@ class ToolkitLines:
     def row(self) -> bytes | None:
         """A line of a block; Ctrl-C or Ctrl-D leave the block."""
         try:
-            return self._rows.prompt(ROW).encode("utf-8", "surrogateescape")
+            return encode(_typed(self._rows, ROW))
         except (KeyboardInterrupt, EOFError):
             return None
+
+
+def _typed(session: Any, prompt: str) -> str:
+    """What is typed after a prompt. The prompt has signals its own way while it waits, and leaves them so: they are set back."""
+    taken, wakes = signal.getsignal(signal.SIGINT), signal.set_wakeup_fd(-1)
+    try:
+        text = session.prompt(prompt)
+    finally:
+        signal.signal(signal.SIGINT, taken)
+        signal.set_wakeup_fd(wakes, warn_on_full_buffer=False)
+    assert isinstance(text, str)
+    return text
+
+
+def _history(path: str) -> Any:
+    """What was typed before, in a file, or for as long as the shell runs where no path is given."""
+    from prompt_toolkit.history import FileHistory, InMemoryHistory
+
+    class Kept(FileHistory):
+        """The file as prompt_toolkit has it; what cannot be kept is passed over, and half a character kept as `?`."""
+
+        def store_string(self, string: str) -> None:
+            """Adds what was typed to the file."""
+            try:
+                super().store_string(string.encode("utf-8", "replace").decode())
+            except OSError:
+                return
+
+    return Kept(path) if path else InMemoryHistory()
 
 
 def _bindings() -> Any:
@@ -188,7 +217,7 @@ class ReadlineLines:
     def row(self) -> bytes | None:
         """A line of a block; Ctrl-C or Ctrl-D leave the block."""
         try:
-            return input(ROW).encode("utf-8", "surrogateescape")
+            return encode(input(ROW))
         except (KeyboardInterrupt, EOFError, cleanup.Stopped):
             cleanup.go_on()
             return None
@@ -201,4 +230,8 @@ def page(text: bytes, console: Console) -> None:
     if text.count(b"\n") < shutil.get_terminal_size().lines or pager is None or not console.out_is_terminal:
         console.write(text)
         return
-    cleanup.show([pager, *words[1:], *(["-S", "-R"] if os.path.basename(pager) == "less" else [])], text)
+    before = signal.signal(signal.SIGINT, signal.SIG_IGN)       # Ctrl-C is the pager's own for as long as it runs
+    try:
+        cleanup.show([pager, *words[1:], *(["-S", "-R"] if os.path.basename(pager) == "less" else [])], text)
+    finally:
+        signal.signal(signal.SIGINT, before)

@@ -138,7 +138,7 @@ def _answer(look: Look, query: Query, reply: object, with_types: bool) -> Answer
     fault = reply.fault
     offset = None if fault.offset is None else query.prepared.typed_offset(fault.offset)
     numbers = fault.numbers if offset is None else (offset, *fault.numbers[1:])
-    raise Refused(fault.name, numbers, query.prepared.typed.text, Place(offset), version=reply.version)
+    raise Refused(fault.name, numbers, query.prepared.typed.text, Place(offset)).over(reply.version)
 
 
 def _with_types(look: Look, query: Query, names: Sequence[str], found: Sequence[kinds.Kind | None]) -> tuple[kinds.Kind | None, ...]:
@@ -165,7 +165,7 @@ def ordered(reply: Rows, prepared: Prepared, found: Sequence[kinds.Kind | None])
         places = list(range(len(rows)))
         for order in reversed(prepared.order):
             if order.column not in reply.names:
-                raise Refused("UnknownColumn", (order.place,), prepared.typed.text, Place(order.place), version=reply.version, advice=_UNSORTED)
+                raise Refused("UnknownColumn", (order.place,), prepared.typed.text, Place(order.place), advice=_UNSORTED).over(reply.version)
             at = reply.names.index(order.column)
             keys = _sort_keys([row[at] for row in rows], found[at])
             places.sort(key=keys.__getitem__, reverse=order.falling)

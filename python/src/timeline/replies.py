@@ -5,7 +5,7 @@ from __future__ import annotations
 
 from typing import Iterator, NamedTuple, Protocol, Union
 
-from .errors import ProgramFault
+from .errors import Place, ProgramFault
 
 PIECE = 1 << 18          # so many bytes are read at once
 _OFFSET = frozenset("BadByte OpenText NumberTooLarge Unexpected UnknownTable UnknownColumn WrongType NotValidTable VersionAhead Forgotten "
@@ -47,6 +47,11 @@ class Fault(NamedTuple):
         if self.name in ("HeaderName", "HeaderTwice"):
             return self.numbers[0]
         return self.numbers[1] if self.name in _RECORD and len(self.numbers) > 1 else None
+
+    @property
+    def place(self) -> Place:
+        """Where it is."""
+        return Place(self.offset, self.record, self.field)
 
 
 class Ok(NamedTuple):
@@ -121,7 +126,7 @@ class _Reader:
         self.stream, self.piece, self.at = stream, b"", 0
 
     def more(self) -> bool:
-        """Reads the next piece behind what is left; False at the end."""
+        """Reads the next piece after what is left; False at the end."""
         piece = self.stream.read(PIECE)
         self.piece, self.at = self.piece[self.at:] + piece, 0
         return bool(piece)

@@ -70,17 +70,21 @@ def _print(call: Call, outcome: Outcome) -> None:
 
 
 def _tell(call: Call, statement: str, sheet: Sheet, refused: Refused) -> None:
-    """Says why a sheet was refused, and shows the record that is meant where that is wanted."""
+    """Says why a sheet was refused and in which line, and shows the record that is meant where that is wanted."""
     from .explaining import explain_sheet
     from .scripts import Copy
     from .watching import missing_column
 
-    shows = call.options.explain or call.console.err_is_terminal
-    if call.word == "load" and not shows and not refused.sentence:
-        return                  # the reply has said it
-    lines = Copy(sheet.file.fileno(), 0, sheet.start).lines() if shows else None
-    missing = missing_column(call.journal(), statement, Fault(refused.kind, refused.numbers)) if shows else ""
-    call.console.tell("\n".join(explain_sheet(f"the {call.word}", statement, refused, lines, missing)))
+    record = refused.place.record if refused.place else None
+    if call.options.explain or call.console.err_is_terminal:
+        lines = Copy(sheet.file.fileno(), 0, sheet.start).lines()
+        missing = missing_column(call.journal(), statement, Fault(refused.kind, refused.numbers))
+        call.console.tell("\n".join(explain_sheet(f"the {call.word}", statement, refused, lines, missing)))
+    elif record is not None and not refused.sentence:
+        fault = Fault(refused.kind, refused.numbers)
+        call.console.say(f"the {call.word} was refused: {fault}: line {sheet.line_of(record)} of {sheet.name}, record {record}")
+    elif call.word != "load" or refused.sentence:          # else the reply has said it
+        call.console.tell("\n".join(explain_sheet(f"the {call.word}", statement, refused, None, "")))
 
 
 def load(call: Call) -> int:
@@ -137,4 +141,6 @@ def sync(call: Call) -> int:
     call.console.line(f"{found.new} new, {found.changed} changed, {len(found.gone)} gone, {found.same} unchanged")
     if words.dry_run:
         call.console.say("nothing was changed")
+    elif done.outcome is None:
+        call.console.say("nothing differs: no version was made")
     return 0

@@ -10,6 +10,7 @@ import io
 import os
 import re
 import sys
+from collections import deque
 from itertools import chain, islice
 from typing import IO, Callable, Iterable, Iterator, NamedTuple, Sequence
 
@@ -23,11 +24,12 @@ MOST_ROWS = 1_000_000        # of a block, as the engine takes it
 MOST_BYTES = 48 << 20        # of a block that is made here, of the 64 MiB that a phase has
 END = b"\\.\n"
 MARK = b"\xef\xbb\xbf"
+WIDE_MARKS = (b"\xff\xfe", b"\xfe\xff")     # of UTF-16
 KEYWORDS = frozenset("CREATE TABLE KEY VALID INT TEXT PUT REMOVE SELECT FROM WHERE AND OR AS OF AT COUNT SUM AVG MIN MAX BY OVER "
                      "SYSTEM ALL TO JOIN WITH ON FOREVER valid_from valid_to".split())
 PERIOD = ("valid_from", "valid_to")
 _NAME = re.compile(r"[A-Za-z_][A-Za-z0-9_]{0,63}")
-_LAST = "\u0101"             # a record behind the last one: where it is part of that, the file ends within quotes
+_LAST = "\u0101"             # a record after the last one: where it is part of that, the file ends within quotes
 _NUL = "\u0100"              # what stands for a NUL, which the csv module of Python 3.10 refuses
 _NUMBER = re.compile(r"([-+]?[0-9]+)(?:\.([0-9]{1,18}))?")
 _ODD = re.compile(r"[+].*|-?0[0-9]+|-0")
@@ -75,7 +77,7 @@ def _copied(file: IO[bytes], room: str) -> IO[bytes]:
     folder = room if os.access(room, os.W_OK) else None
     try:
         copy: IO[bytes] = tempfile.TemporaryFile(dir=folder)
-        for piece in iter(lambda: _read(file), b""):
+        for piece in _pieces(file):
             copy.write(piece)
         copy.seek(0)
     except OSError as error:
@@ -83,28 +85,23 @@ def _copied(file: IO[bytes], room: str) -> IO[bytes]:
     return copy
 
 
-def _read(file: IO[bytes]) -> bytes:
-    try:
-        return file.read(PIECE)
-    except OSError as error:
-        raise SourceFault(f"reading the input failed: {error.strerror}") from None
-
-
 class Sheet:
-    """A CSV file: the fields of its header, and its records as often as they are asked for, one reader at a time."""
+    """A CSV file: the fields of its header, and its records as often as they are asked for, one
+    reader at a time."""
 
     def __init__(self, file: IO[bytes], name: str) -> None:
         """`file` is one in which places can be sought; the sheet begins where it is read now."""
         csv.field_size_limit(1 << 30)
         self.file, self.name, self.delimiter = file, name, ","
         self.start = self.body = file.tell()
-        while self._at(self.start, 3) == MARK:
+        while (front := self._at(self.start, 3)) == MARK:
             self.start += 3
-        self.header = self._header()
+        self._is_wide = front[:2] in WIDE_MARKS
+        self._fields = self._header()
 
     def _at(self, place: int, count: int) -> bytes:
         self.file.seek(place)
-        return _read_some(self.file, count)
+        return _read(self.file, count)
 
     def _header(self) -> list[str]:
         """Reads the header, and keeps where the records begin."""
@@ -117,7 +114,7 @@ class Sheet:
             else:
                 return []
             self.delimiter = _delimiter(line)
-            rest = self._counted(lines)
+            rest = chain(self._counted(lines), [_LAST])
             return next(csv.reader(chain([line], rest), delimiter=self.delimiter))
 
     def _counted(self, lines: Iterable[str]) -> Iterator[str]:
@@ -125,18 +122,36 @@ class Sheet:
             self.body += len(line)
             yield line
 
+    @property
+    def header(self) -> list[str]:
+        """The fields of the header. Raises Refused where the file ends within one, or is UTF-16."""
+        if self._is_wide:
+            raise self.refused("NotUtf8", 1, None, "it is UTF-16, and a sheet is UTF-8",
+                               "Save it as CSV UTF-8, or turn it by `iconv -f UTF-16 -t UTF-8`.")
+        if self._fields and self._fields[-1].endswith(_LAST):
+            raise self._cut_off(1)
+        return self._fields
+
+    def _cut_off(self, record: int) -> Refused:
+        return self.refused("OpenQuotes", record, None, "the file ends within a quoted field: it is cut off",
+                            "Get the file whole, or close the quote; a quote within a field is written twice.")
+
+    def _records(self, lines: Iterable[str]) -> Iterator[list[str]]:
+        """The records of lines, and after the last one, where no quote is open there, `[_LAST]`."""
+        return filter(None, csv.reader(chain(lines, [_LAST]), delimiter=self.delimiter))
+
     def chunks(self) -> Iterator[list[list[str]]]:
         """The records after the header, some thousand at once, each with as many fields as it. Raises Refused for one that has
         another number of them, and where the file ends within quotes; SourceFault where reading fails."""
         record, width = 1, len(self.header)
         with Lines(self.file, self.body) as lines:
-            reader = filter(None, csv.reader(chain(lines, [_LAST]), delimiter=self.delimiter))
+            reader = self._records(lines)
             is_last = False
             while not is_last:
                 chunk = list(islice(reader, CHUNK))
                 is_last = len(chunk) < CHUNK or chunk[-1][-1].endswith(_LAST)
                 if is_last and (not chunk or chunk.pop() != [_LAST]):
-                    raise self.refused("OpenQuotes", record + len(chunk) + 1, None, "the file ends within a quoted field: it is cut off")
+                    raise self._cut_off(record + len(chunk) + 1)
                 if chunk and set(map(len, chunk)) != {width}:
                     at = next(at for at, row in enumerate(chunk) if len(row) != width)
                     raise self.refused("FieldCount", record + at + 1, None, f"it has {len(chunk[at])} fields and the header {width}")
@@ -144,17 +159,25 @@ class Sheet:
                     yield chunk
                 record += len(chunk)
 
+    def check_end(self) -> None:
+        """Raises Refused where the file ends within quotes. Without a quote in it nothing is parted into records."""
+        self.file.seek(self.body)
+        if self.header and any(b'"' in piece for piece in _pieces(self.file)):
+            with Lines(self.file, self.body) as lines:
+                record, last = deque(enumerate(self._records(lines), 2), maxlen=1).pop()
+            if last != [_LAST]:
+                raise self._cut_off(record)
+
     def raw(self, names: Sequence[str]) -> Iterator[bytes]:
         """The sheet's bytes with these names in its header, and an end of line at their end. NotRaw where that is another sheet,
-        or one that ends a block too early."""
-        self.file.seek(0, os.SEEK_END)
-        size = self.file.tell()
-        if self.delimiter != "," or size > self.body and self._at(size - 1, 1) != b"\n" and b'"' in self._all(self.body):
+        or one that ends a block too early; Refused where it ends within quotes."""
+        self.check_end()
+        if self.delimiter != ",":
             raise NotRaw
         yield encoded([names])
         self.file.seek(self.body)
         seam = b"\n"
-        for piece in iter(lambda: _read(self.file), b""):
+        for piece in _pieces(self.file):
             if b"\n\\." in piece or b"\n\\." in seam + piece[:2]:
                 raise NotRaw
             yield piece
@@ -169,15 +192,35 @@ class Sheet:
     def bytes(self) -> Iterator[bytes]:
         """The file as it is."""
         self.file.seek(self.start)
-        return iter(lambda: _read(self.file), b"")
+        return _pieces(self.file)
 
-    def _all(self, place: int) -> _Bytes:
-        return _Bytes(self.file, place)
+    def size(self) -> int:
+        """How many bytes it has."""
+        return self.file.seek(0, os.SEEK_END) - self.start
+
+    def line_of(self, record: int) -> int:
+        """The line in which a record begins, both from 1; the header is record 1, which begins in the first line that is not empty."""
+        ended, begins = 0, list[int]()
+
+        def counted(lines: Iterable[str]) -> Iterator[str]:
+            nonlocal ended
+            for line in lines:
+                begins.append(ended)
+                yield line
+                ended += line.endswith("\n")
+
+        with Lines(self.file, self.start) as lines:
+            for row in csv.reader(counted(lines), delimiter=self.delimiter):
+                record -= bool(row)
+                if not record:
+                    break
+                begins.clear()
+        return begins[0] + 1 if begins else ended + 1
 
     def refused(self, kind: str, record: int, field: int | None, sentence: str, advice: str = "") -> Refused:
         """The refusal of a record, from 1 for the header, and of its field, from 1."""
         numbers = (record,) if field is None else (record, field)
-        where = f"record {record}" + (f", field {field}" if field else "")
+        where = f"line {self.line_of(record)}, record {record}" + (f", field {field}" if field else "")
         return Refused(kind, numbers, place=Place(None, record, field), sentence=f"{self.name}, {where}: {sentence}", advice=advice)
 
     def close(self) -> None:
@@ -185,22 +228,16 @@ class Sheet:
         self.file.close()
 
 
-class _Bytes:
-    """The bytes of a file from a place on, in which one byte may be looked for."""
-
-    def __init__(self, file: IO[bytes], place: int) -> None:
-        self.file, self.place = file, place
-
-    def __contains__(self, byte: bytes) -> bool:
-        self.file.seek(self.place)
-        return any(byte in piece for piece in iter(lambda: _read(self.file), b""))
-
-
-def _read_some(file: IO[bytes], count: int) -> bytes:
+def _read(file: IO[bytes], count: int = PIECE) -> bytes:
     try:
         return file.read(count)
     except OSError as error:
         raise SourceFault(f"reading the input failed: {error.strerror}") from None
+
+
+def _pieces(file: IO[bytes]) -> Iterator[bytes]:
+    """What is left of a file."""
+    return iter(lambda: _read(file), b"")
 
 
 class Lines:

@@ -45,8 +45,7 @@ def is_whole(text: str) -> bool:
     bare = text.strip()
     if not bare or bare[0] == "\\" or bare in ("quit", "exit") or bare.startswith(_COMMENT):
         return True
-    words = [it for it in tokens(bare) if it.kind != "blank"]
-    return words[-1].text == ";"
+    return bare.endswith(";") and bare.count("'") % 2 == 0
 
 
 class PipedLines:
@@ -68,26 +67,34 @@ class PipedLines:
         return (line[:-1] if line.endswith(b"\n") else line) if line else None
 
     def statement(self) -> str | None:
-        """Lines up to where a statement is whole; what stands at the end without its `;` is one too."""
-        text, self.line = "", self._read + 1
-        while True:
-            line = self.row()
-            if line is None:
-                return text if text.strip() else None
-            text += ("\n" if text else "") + decode(line.rstrip(b"\r"))
-            if is_whole(text):
-                return text
+        """Lines up to where a statement is whole; what stands at the end without its `;` is one too. Raises CutOff where the input
+        ends within a text."""
+        lines: list[str] = []
+        quotes, self.line, begun = 0, self._read + 1, 0
+        while (row := self.row()) is not None:
+            line = decode(row.rstrip(b"\r"))
+            lines.append(line)
+            if len(lines) == 1 and is_whole(line):
+                return line
+            if line.count("'") % 2:
+                quotes, begun = quotes + 1, self._read
+            if quotes % 2 == 0 and line.rstrip().endswith(";"):
+                break
+        if quotes % 2:
+            raise CutOff("OpenText", begun, "the text", "nothing from its statement on")
+        return "\n".join(lines) if lines else None
 
 
-class BlockOpen(ScriptFault):
-    """The input ended within the block of a statement, before row `line` of it: nothing of the block was done."""
+class CutOff(ScriptFault):
+    """The input ended within the block of a statement, or within a text, that began in a line: nothing of it was done."""
 
-    def __init__(self, statement: str, line: int) -> None:
-        super().__init__("BlockOpen", line)
-        self.statement = statement
+    def __init__(self, kind: str, line: int, what: str, lost: str) -> None:
+        super().__init__(kind, line)
+        self.what, self.lost = what, lost
 
     def __str__(self) -> str:
-        return f"the block of {self.statement} has no end, a line \\. alone: nothing of it was done"
+        wanted = "a line \\. alone" if self.kind == "BlockOpen" else "a single quote"
+        return f"{self.what} that begins in line {self.line} has no end, {wanted}: {self.lost} was done"
 
 
 class Shell:
@@ -96,21 +103,23 @@ class Shell:
     def __init__(self, call: Call, lines: Lines, is_look: bool) -> None:
         self.call, self.console, self.lines, self.is_look = call, call.console, lines, is_look
         self.journal, self.status, self.refused = call.journal(), 0, 0
-        self._is_trial = False
+        self._is_trial, self._steps = False, 0
 
     def run(self) -> int:
         """Does one statement after the other up to the end, and gives the status."""
-        while True:
-            text = self.lines.statement()
-            if text is None or text.strip() in ("quit", "exit", "\\q"):
-                break
-            self._guarded(text)
+        while self._step():
+            self._steps += 1
         self.journal.close()
+        if not self._steps and not self.lines.is_terminal:
+            self.console.say("the input is empty: nothing was done")
         return REFUSED if self.refused and not self.status and self.call.options.strict else self.status
 
-    def _guarded(self, text: str) -> None:
-        """Does what was typed; on a terminal Ctrl-C ends it, and not the shell, and so does a fault."""
+    def _step(self) -> bool:
+        """Does the next statement, False where there is none. On a terminal Ctrl-C ends it, and not the shell, and so does a fault."""
         try:
+            text = self.lines.statement()
+            if text is None or text.strip() in ("quit", "exit", "\\q"):
+                return False
             self.do(text)
         except OutputFault:
             raise
@@ -126,6 +135,7 @@ class Shell:
             cleanup.go_on()
             self.journal.close()
             self.console.say("stopped; what was not answered is not kept, or shows in the next answer")
+        return True
 
     def do(self, text: str) -> None:
         """Does what was typed up to a `;`: a word of the shell, or statements."""
@@ -137,7 +147,7 @@ class Shell:
                 self._one(statement, text)
 
     def _one(self, statement: Statement, text: str) -> None:
-        block = self._block(statement) if statement.word in BLOCKS else b""
+        block = self._block(statement, text) if statement.word in BLOCKS else b""
         try:
             if statement.word not in BATCHES:
                 self._ask(statement)
@@ -163,13 +173,13 @@ class Shell:
         self.journal.close()
         self.journal, self._is_trial = Journal(folder), True
 
-    def _block(self, statement: Statement) -> bytes:
-        """The block of a statement, up to a line `\\.`. Raises BlockOpen where the input ends in it."""
+    def _block(self, statement: Statement, text: str) -> bytes:
+        """The block of a statement, up to a line `\\.`. Raises CutOff where the input ends in it."""
         rows: list[bytes] = []
         while True:
             row = self.lines.row()
             if row is None:
-                raise BlockOpen(statement.text, len(rows) + 1)
+                raise CutOff("BlockOpen", self._line(statement, text), f"the block of {statement.text}", "nothing of it")
             if row in (b"\\.", b"\\.\r"):
                 return b"".join(rows)
             rows.append(row + b"\n")
@@ -215,7 +225,7 @@ class Shell:
             if statement.word not in BLOCKS or len(words) != 2:
                 yield unit.begin(sent) + (block + b"\\.\n" if statement.word in BLOCKS else b"")
                 return
-            sheet = _sheet_of(block)
+            sheet = _sheet_of(block, f"the block of {statement.text}")
             columns = columns_of(unit.state.catalog, words[1], sheet, column_names(sheet.header, True), {})
             yield from put_sheet(unit, words[1], sheet, columns, raw, words[0])
 
@@ -225,14 +235,17 @@ class Shell:
             outcome = transact(self.journal, "shell", lambda unit: body(unit, False), cause, self.console.say)
         self.console.line(f"@{outcome.version} ok")
 
+    def _line(self, statement: Statement, text: str) -> int:
+        """The line in which a statement of what was typed begins."""
+        return self.lines.line + encode(text)[:statement.start].count(b"\n")
+
     def _explain(self, refused: Refused, statement: Statement, text: str, block: bytes) -> None:
         """Says why a statement was refused."""
         from .explaining import explain_sheet, explain_statement
         from .replies import Fault
 
         self.refused += 1
-        line = self.lines.line + encode(text)[:statement.start].count(b"\n")
-        label = "this" if self.lines.is_terminal else f"line {line}"
+        label = "this" if self.lines.is_terminal else f"line {self._line(statement, text)}"
         if refused.place is not None and refused.place.record:
             lines = explain_sheet(label, statement.text, refused, io.BytesIO(block), "")
         else:
@@ -299,10 +312,10 @@ class Shell:
         self.console.write(encode("\n".join([*shown, f"  Words of the shell: {WORDS}" if not word else ""]).rstrip() + "\n"))
 
 
-def _sheet_of(block: bytes) -> Sheet:
+def _sheet_of(block: bytes, name: str) -> Sheet:
     from .sheets import Sheet
 
-    return Sheet(io.BytesIO(block), "the block")
+    return Sheet(io.BytesIO(block), name)
 
 
 def shell(call: Call) -> int:

@@ -16,6 +16,8 @@ _TOKEN = re.compile(rb"(?P<blank>[ \t\r\n]+)|(?P<name>[A-Za-z_][A-Za-z0-9_]*)|(?
 BATCHES = frozenset("CREATE PUT REMOVE MOMENT FORGET SYNC".split())
 BLOCKS = frozenset("PUT REMOVE SYNC".split())
 _MOST = (1 << 63) - 1
+_NO_UTF8 = "No character begins with this byte: type or save the statement as UTF-8."
+_BROKEN = {"OpenText": "a text in the statement has no end", "LineBreak": "a statement is one line, so no text in it, nor a parameter, has a line break"}
 
 
 class Token(NamedTuple):
@@ -57,7 +59,7 @@ class Order(NamedTuple):
 
 
 class Moment(NamedTuple):
-    """A day or a time behind AS OF, as it was typed, the byte where it stands, and its moment."""
+    """A day or a time after AS OF, as it was typed, the byte where it stands, and its moment."""
 
     text: str
     place: int
@@ -88,7 +90,10 @@ class Prepared(NamedTuple):
 
 def encode(text: str) -> bytes:
     """The bytes of a text, also of one that was no UTF-8."""
-    return text.encode("utf-8", "surrogateescape")
+    try:
+        return text.encode("utf-8", "surrogateescape")
+    except UnicodeEncodeError:          # half a character of another encoding, which stands for no byte
+        return text.encode("utf-8", "surrogatepass")
 
 
 def decode(text: bytes) -> str:
@@ -125,9 +130,9 @@ def prepare(statement: Statement, moment_of: Callable[[str, str], int], literals
     """The statement as the engine gets it. `moment_of` gives the moment of a DAY or a TIME and raises ValueError where it is none;
     `literals` are other texts for bytes of the statement.
 
-    Raises Refused where a day is none, or a text has a line break, which a statement cannot carry."""
+    Raises Refused where a day is none, and for what a statement cannot carry: a text with a line break, bytes that are no UTF-8."""
     found = tokens(statement.text)
-    _refuse_line_breaks(statement, found)
+    _refuse_texts(statement, found)
     words = [it for it in found if it.kind != "blank"]
     order, limit, end = _tail(statement, words)
     kept = [it for it in words if it.end <= end]
@@ -150,11 +155,17 @@ def _apply(text: bytes, edits: list[Edit]) -> bytes:
     return b"".join([*parts, text[at:]])
 
 
-def _refuse_line_breaks(statement: Statement, found: Sequence[Token]) -> None:
+def _refuse_texts(statement: Statement, found: Sequence[Token]) -> None:
+    """Raises Refused for what no line of a script can have: bytes that are no UTF-8, and line breaks within a text."""
+    strange = re.search("[\ud800-\udfff]", statement.text)
+    if strange:
+        at = len(encode(statement.text[:strange.start()]))
+        raise Refused("BadByte", (at,), statement.text, Place(at), sentence="the statement is no UTF-8", advice=_NO_UTF8)
     for token in found:
-        broken = encode(token.text).find(b"\n") if token.kind == "text" and not is_open(token) else -1
+        broken = encode(token.text).find(b"\n") if token.kind == "text" else -1
         if broken >= 0:
-            raise Refused("LineBreak", (token.start + broken,), statement.text, Place(token.start + broken))
+            kind, at = ("OpenText", token.start) if is_open(token) else ("LineBreak", token.start + broken)
+            raise Refused(kind, (at,), statement.text, Place(at), sentence=_BROKEN[kind])
 
 
 def _refuse(statement: Statement, kind: str, token: Token | None) -> Refused:
@@ -195,7 +206,7 @@ def _orders(statement: Statement, words: list[Token]) -> tuple[Order, ...]:
 
 
 def _days(statement: Statement, words: list[Token], moment_of: Callable[[str, str], int]) -> list[tuple[Edit, Moment]]:
-    """The days and times behind AS OF, as moments."""
+    """The days and times after AS OF, as moments."""
     found: list[tuple[Edit, Moment]] = []
     for at in range(len(words) - 2):
         front = [it.text for it in words[at:at + 3]]

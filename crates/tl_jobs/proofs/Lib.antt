@@ -1,3 +1,4 @@
 pub mod OnePlay
 pub mod ReadingLemmas
 pub mod ForgetLemmas
+pub mod SyncedLemmas

@@ -6,3 +6,4 @@ pub mod Replies
 pub mod Play
 pub mod Written
 pub mod Forgetting
+pub mod Synced

@@ -3,8 +3,9 @@
 ghost use Rattle.std.specs.Prelude.{◌≡◌, ℕ, ◌<◌, ◌≤◌, nat_abs, IsTrue, List, Some, Ok, Err};
 ghost use Rattle.tl_types.specs.declared.commits.Commit.{Commit};
 ghost use Rattle.tl_types.specs.declared.limits.Limits.{Limits};
-ghost use Rattle.tl_types.specs.History.{after_commit, fits};
+ghost use Rattle.tl_types.specs.History.{after_commit, fits, open_end, table_after};
 ghost use Rattle.tl_types.specs.Plain as plain;
+ghost use Rattle.tl_types.specs.Resolving.{sync_change};
 ghost use Rattle.tl_query.specs.declared.ast.Query.{Query};
 ghost use Rattle.tl_query.specs.declared.ast.Stamp.{Stamp};
 ghost use Rattle.tl_query.specs.declared.ast.Statement.{Statement};
@@ -17,6 +18,7 @@ ghost use Rattle.tl_query.specs.Texts.{Spells, IsFault, text_read};
 ghost use Rattle.tl_jobs.specs.Forgetting.{IsAnsweredAs, IsForget, IsReachedBy, asked, stated_at, tables_without_floors};
 ghost use Rattle.tl_jobs.specs.Jobs.{Job};
 ghost use Rattle.tl_jobs.specs.Reading.{HasOneReading};
+ghost use Rattle.tl_jobs.specs.Synced.{AreOpenRows};
 ghost use Rattle.tl_jobs.specs.Written.{IsPlayOf};
 
 /// A job is one thing over a list of commits: a batch that reads well, a query with its answer, or
@@ -69,4 +71,13 @@ pub fn forgetting_keeps_answers()
         → nat_abs stamp.value < query_floor (after_commit db commit) q
         → asked (after_commit db commit) q
         ≡ Err (check_fault.Forgotten stamp.at (query_floor (after_commit db commit) q)) }
+{}
+
+/// After the commit that a SYNC becomes, the open rows of its table are the rows of its block,
+/// each as often as the block has it: with the same cells and, where the table has valid time, the
+/// same period.
+pub fn a_sync_says_all()
+    ensures { (version number : ℕ) (table : plain.Table) (rows : List plain.Opened)
+        → version < open_end
+        → AreOpenRows (table_after version (sync_change number table rows) table) rows }
 {}

@@ -143,7 +143,15 @@ def test_a_page_replaces_a_regular_file(books: str) -> None:
 
 def test_json_has_types(books: str) -> None:
     lines = run(["history", "staff", "2", "--json"], folder=books).out.splitlines()
-    assert json.loads(lines[0])["pay"] == 2800.0 and json.loads(lines[1])["to"] is None
+    assert json.loads(lines[0])["pay"] == 2800.0 and json.loads(lines[1])["to"] is None and json.loads(lines[1])["to_time"] is None
+    lines = run(["diff", "staff", "FROM", "5", "TO", "8", "--json"], folder=books).out.splitlines()
+    assert [(it["dept_old"], it["dept_new"]) for it in map(json.loads, lines)] == [("ops", None), ("dev", "dev"), (None, "dev")]
+
+
+def test_a_refused_plot_is_explained(books: str) -> None:
+    done = run(["plot", "SUM pay FROM staff OVER SYSTEM AL"], folder=books)
+    assert done.status == 20 and done.err.startswith("timeline: the query was refused: Unexpected 31\n    SUM pay FROM staff OVER SYSTEM AL\n"), done
+    assert "docs/LANGUAGE.md" in done.err
 
 
 def test_the_corners_of_a_line(books: str, monkeypatch: pytest.MonkeyPatch) -> None:
@@ -153,7 +161,9 @@ def test_the_corners_of_a_line(books: str, monkeypatch: pytest.MonkeyPatch) -> N
     opened = journal.Journal(".")
     picture = plots.picture_of(opened, "SUM pay FROM staff BY dept OVER SYSTEM ALL")
     assert picture.axis == "time (UTC)" and [one.label for one in picture.series] == ["dev", "ops"]
-    assert plots.steps_of(picture.series[0]) == ([1767229200, 1767402000, 1767402000, 1767410640], [2800.0, 2800.0, 3101.0, 3101.0])
+    assert plots.steps_of(picture.series[0]) == ([1767229200, 1767402000, 1767402000, 1767402000], [2800.0, 2800.0, 3101.0, 3101.0])
+    assert picture.bounds == (1767229200, 1767402000)      # not past the last moment
+    assert plots.picture_of(opened, "COUNT FROM staff OVER SYSTEM ALL").bounds[1] == 1767402000
     opened.close()
 
 

@@ -182,7 +182,7 @@ def draw(picture: Picture, path: str) -> None:
 
 
 def _figure(picture: Picture) -> Any:
-    from matplotlib import ticker
+    from matplotlib import dates, ticker
     from matplotlib.figure import Figure  # type: ignore[import]
 
     figure = Figure(figsize=(10, 5), layout="constrained")
@@ -196,9 +196,23 @@ def _figure(picture: Picture) -> Any:
     axes.yaxis.set_major_formatter(ticker.FuncFormatter(lambda value, _: f"{value:,.10g}"))
     if picture.axis == "version":
         axes.xaxis.set_major_locator(ticker.MaxNLocator(integer=True))
+    elif picture.kind.name in ("DATE", "TIME"):
+        places = dates.AutoDateLocator()
+        axes.xaxis.set_major_locator(places)
+        axes.xaxis.set_major_formatter(_formatter(places))
     if len(picture.series) > 1 or picture.series[0].label:
         axes.legend(fontsize=8, ncols=1 + len(picture.series) // 21, title=_left_out(picture))
     return figure
+
+
+def _formatter(places: Any) -> Any:
+    """How days and times stand below the axis: as short as they can be told from each other, the rest at its end."""
+    from matplotlib import dates
+
+    # For points at years, months, days, hours, minutes and seconds; what they have in common, by the same order.
+    return dates.ConciseDateFormatter(places, formats=["%Y", "%Y-%m", "%m-%d", "%H:%M", "%H:%M", "%H:%M:%S.%f"],
+                                      zero_formats=["", "%Y", "%Y-%m", "%m-%d", "%H:%M", "%H:%M"],
+                                      offset_formats=["", "", "%Y", "%Y-%m-%d", "%Y-%m-%d", "%Y-%m-%d"])
 
 
 def _left_out(picture: Picture) -> str | None:

@@ -336,7 +336,7 @@ class Guess:
         given = cells
         if "" in cells or self.is_end:
             self.has_empty = self.has_empty or "" in cells
-            cells = [cell for cell in cells if cell and not (self.is_end and cell == FOREVER)]
+            cells = [cell for cell in cells if self._counts(cell)]
         if not cells:
             return
         if self.left is None:
@@ -346,9 +346,14 @@ class Guess:
             cells = [self.first[1], *cells]
         self.left = [kind for kind in self.left if fits(kind, cells)]
         if not self.left and self.samples is not None:
-            self._take_numbers([self.first, *((at, cell) for at, cell in enumerate(given, record) if cell)])
+            placed = [(at, cell) for at, cell in enumerate(given, record) if self._counts(cell)]
+            self._take_numbers([self.first, *placed])
             if self.samples is None:
-                self.strange = _strange(given, record)
+                self.strange = _strange(placed)
+
+    def _counts(self, cell: str) -> bool:
+        """Whether a cell says anything of the kind: an empty one does not, nor an end that never comes."""
+        return bool(cell) and not (self.is_end and cell == FOREVER)
 
     def _take_numbers(self, cells: Sequence[tuple[int, str]]) -> None:
         assert self.samples is not None
@@ -388,20 +393,21 @@ class Guess:
 
 
 def _family(cell: str) -> str:
-    """What a cell looks like: a number, a day, a time, a number with a decimal comma, or a text."""
+    """What a cell looks like: a number, a day of the calendar, a time, a number with a decimal comma, or a text."""
     found = _MEANT.fullmatch(cell)
-    return str(found.lastgroup) if found else "text"
+    if found is None or found["day"] and not comes_back(kinds.DATE, cell):
+        return "text"
+    return str(found.lastgroup)
 
 
-def _strange(cells: Sequence[str], record: int) -> tuple[int, str, str] | None:
-    """The first cell that is no number, or no day, where more than half of them are, with its record and what these are; the first with
-    a decimal comma where more than half have one."""
-    families = [_family(cell) if cell else "" for cell in cells]
-    most, count = Counter(filter(None, families)).most_common(1)[0]
-    if most == "text" or 2 * count <= sum(map(bool, families)):
+def _strange(cells: Sequence[tuple[int, str]]) -> tuple[int, str, str] | None:
+    """The first of some cells that is no number, or no day, where more than half of them are, with its record and what these are; the
+    first with a decimal comma where more than half have one. None where all look alike."""
+    families = [_family(cell) for _, cell in cells]
+    most, count = Counter(families).most_common(1)[0]
+    if most == "text" or 2 * count <= len(cells):
         return None
-    at = next(at for at, it in enumerate(families) if it and (it != most) != (most == "comma"))
-    return record + at, cells[at], most
+    return next(((*cell, most) for cell, family in zip(cells, families) if (family != most) != (most == "comma")), None)
 
 
 def _decimal_of(cell: str) -> list[Kind]:

@@ -177,6 +177,22 @@ def test_a_picture_is_a_file(books: str, ending: str, magic: bytes) -> None:
     assert run(["plot", "COUNT FROM staff OVER SYSTEM ALL", "-o", "none/pay.svg"], folder=books).status == 5
 
 
+@pytest.mark.parametrize("begin, end, label", [(1796100000, 1796150000, "[01][0-9]:00"), (1796100008, 1796100050, "04:40:[0-5][0-9]")])
+def test_the_hour_and_the_day_stand_below_the_axis(begin: int, end: int, label: str) -> None:
+    """From 04:40 of a day to its evening, and within a minute of it."""
+    pytest.importorskip("matplotlib")
+    from matplotlib.backends.backend_agg import FigureCanvasAgg
+
+    from timeline import kinds, plots
+
+    figure = plots._figure(plots.Picture("COUNT", "time (UTC)", kinds.TIME, [plots.Series("", [begin], [end], [1.0])]))
+    FigureCanvasAgg(figure).draw()
+    axis = figure.axes[0].xaxis
+    found = [it.get_text() for it in axis.get_ticklabels()]
+    assert len(found) > 3 and all(re.fullmatch(label, it) for it in found), found
+    assert axis.get_offset_text().get_text() == "2026-12-01"
+
+
 def test_a_picture_of_text(books: str) -> None:
     done = run(["plot", "SUM pay FROM staff BY dept OVER SYSTEM ALL"], folder=books, env=dict(os.environ, COLUMNS="60", LINES="20"))
     assert done.status == 0 and re.search(r"^ *3,101\|", done.out, re.MULTILINE) and "# dev\n* ops\n" in done.out

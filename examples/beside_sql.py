@@ -25,7 +25,7 @@ at once; so does ClickHouse those of plain data too, since it changes no rows: a
 each, into a table that is sorted by group, and by the version where rows begin; prices by where their periods begin. Each
 system but ClickHouse syncs each commit. Loading has the indexes (see `indexes`) and ANALYZE in it. Last, 1,000 statements of
 one row are kept all or none: by `timeline group`, and as INSERTs of one transaction, into a table with an index, in SQL.
-And 1,000 statements of one row, each with the sum of each of 10 groups of 20,000 rows behind it: by `timeline watch`, and
+And 1,000 statements of one row, each with the sum of each of 10 groups of 20,000 rows after it: by `timeline watch`, and
 in SQL by triggers that keep the sums in a table, in one transaction, over a table that keeps no earlier rows. The items
 are also loaded with a moment before each version, and asked AS OF moments: beside MariaDB's system versioning, where each
 version is a transaction of one second.
@@ -443,7 +443,7 @@ def measure_group(systems, times):
 
 
 def measure_totals(systems, times):
-    """The line of 1,000 statements of one row with the sums of all groups behind each, and whether answers differ."""
+    """The line of 1,000 statements of one row with the sums of all groups after each, and whether answers differ."""
     chance = random.Random(5)
     first = [(key, key % 10, chance.randrange(10000)) for key in range(20000)]
     changes = [(chance.randrange(30000), chance.randrange(10), chance.randrange(10000)) for _ in range(1000)]
@@ -473,8 +473,8 @@ def measure_totals(systems, times):
         wanted = taken[0][1] if wanted is None else wanted
         differing += taken[0][1] != wanted
     if differing:
-        print(f"sums of groups behind 1,000 statements: {differing} systems differ from {systems[0].name}")
-    return ("1,000 statements of one row, sums behind each", len(wanted), seconds, None), differing
+        print(f"sums of groups after 1,000 statements: {differing} systems differ from {systems[0].name}")
+    return ("1,000 statements of one row, sums after each", len(wanted), seconds, None), differing
 
 
 def measure_moments(systems, commits, times):

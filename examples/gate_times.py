@@ -1,5 +1,5 @@
 #!/usr/bin/env python3
-"""gate_times.py COMMAND..: runs a command, such as `rt ci`, and prints behind it how many processor seconds each crate's proof,
+"""gate_times.py COMMAND..: runs a command, such as `rt ci`, and prints after it how many processor seconds each crate's proof,
 tests and must-fail edits took, as a table, and their sum in minutes. Ends with the command's status. It reads /proc every
 third of a second, so of each process the last third may be missing; processes that others run are counted too."""
 import collections

@@ -1,12 +1,12 @@
 #!/usr/bin/env bash
-# Loads a large CSV file into a table, so many lines a batch, with a GO behind each thousand batches or 16 MiB, so that
+# Loads a large CSV file into a table, so many lines a batch, with a GO after each thousand batches or 16 MiB, so that
 # no phase grows large; what was loaded is told after each thousand batches. Where it was killed, run it again: it goes
-# on behind the batches that are there. `bash examples/long_load.sh FILE TABLE [LINES]`; 1,000 lines a batch unless
+# on after the batches that are there. `bash examples/long_load.sh FILE TABLE [LINES]`; 1,000 lines a batch unless
 # given. Each row stands on one line, and the first one names the columns.
 #
-# How far a load came is kept in the journal, in a table long_load: behind each batch the run puts there the file's name,
+# How far a load came is kept in the journal, in a table long_load: after each batch the run puts there the file's name,
 # size and checksum, the lines of a batch and the batch's number. So at most one batch is there without its mark, the
-# one that was committed right behind the last mark, and it is known by its rows. While one file is not loaded whole,
+# one that was committed right after the last mark, and it is known by its rows. While one file is not loaded whole,
 # another one is refused for that table, until `bash examples/long_load.sh --give-up TABLE`. Where a batch is refused the
 # others are loaded, TABLE.load.refused names it, and no further load of that table begins while that file is there.
 set -euo pipefail
@@ -47,13 +47,13 @@ mark() {
 # The lines of a batch, in order of bytes: batch NUMBER
 batch() { tail -n "+$((2 + ($1 - 1) * lines))" "$file" | head -n "$lines" | tr -d '\r' | LC_ALL=C sort; }
 
-# Whether the commit behind a version put the rows of a batch and no others: was_put VERSION BATCH
+# Whether the commit after a version put the rows of a batch and no others: was_put VERSION BATCH
 was_put() {
-    local columns before behind
+    local columns before after
     columns=$(head -n 1 "$file" | tr -d '\r"' | sed 's/^\xef\xbb\xbf//')
     before=$(rows "SELECT $columns FROM $table AS OF $1" | LC_ALL=C sort)
-    behind=$(rows "SELECT $columns FROM $table AS OF $(($1 + 1))" | LC_ALL=C sort)
-    [[ $(LC_ALL=C comm -13 <(printf '%s\n' "$before") <(printf '%s\n' "$behind")) == "$(batch "$2")" ]]
+    after=$(rows "SELECT $columns FROM $table AS OF $(($1 + 1))" | LC_ALL=C sort)
+    [[ $(LC_ALL=C comm -13 <(printf '%s\n' "$before") <(printf '%s\n' "$after")) == "$(batch "$2")" ]]
 }
 
 if [[ -s $refused ]]; then stop_at_refusals; fi

@@ -56,7 +56,7 @@ def table():
 
 
 def wanted_of(statement, told, count, room):
-    """The reply with names: that of `run`, with the line of the names behind its first one."""
+    """The reply with names: that of `run`, with the line of the names after its first one."""
     if told.startswith("!"):
         return f"a @{VERSION} {told}\n"
     status, printed = run(PROGRAM, ["run"], f"a> {statement}\n", room)
@@ -90,7 +90,7 @@ def what_ends_it(room, empty):
         judge(words, run(LOOK, words, "a> SELECT id FROM emp\n", room), (2, "! usage\n"))
     one = f"a @{VERSION} rows 0\nid\n"
     judge("a fault", run(LOOK, ["--names"], "a> SELECT id FROM emp AS OF 1\nnone\n", room), (6, "! script NoSession 2\n"))
-    judge("a fault behind a phase", run(LOOK, ["--names"], "a> SELECT id FROM emp AS OF 1\nGO\nnone\n", room), (6, one + "! script NoSession 3\n"))
+    judge("a fault after a phase", run(LOOK, ["--names"], "a> SELECT id FROM emp AS OF 1\nGO\nnone\n", room), (6, one + "! script NoSession 3\n"))
     judge("no journal", run(LOOK, ["--names"], "a> SELECT id FROM emp\n", empty), (7, "! journal NotInitialised 0\n"))
     with open(f"{empty}/timeline.tlj", "wb") as file:
         file.write(b"timeline")

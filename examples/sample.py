@@ -4,7 +4,7 @@ sample.py N START [OPTIONS..]"""
 import sys
 
 BLOCK = 10000            # so many rows a block has, all but the last
-lines, number = int(sys.argv[1]), int(sys.argv[2]) % 2**31      # options behind them change nothing
+lines, number = int(sys.argv[1]), int(sys.argv[2]) % 2**31      # options after them change nothing
 
 
 def runs(values):

@@ -1,5 +1,5 @@
 #!/usr/bin/env python3
-"""Refuses memory to the program: each allocation of eleven runs in turn, alone and with all behind it, by the library
+"""Refuses memory to the program: each allocation of eleven runs in turn, alone and with all after it, by the library
 that refuse.c makes. Each run has to give the usual result; or status 1, and then the replies of its first phases, whole,
 and a journal that opens and has at least the commits that were answered. Of `group`, `transact`, `ship`, `follow` and `watch`
 it is the usual result, or status 1, nothing that is written, and the journal as it was. `memory.py PROGRAM`; it prints a row for each
@@ -37,7 +37,7 @@ TOLD = [
 SAMPLE = [(None, "sample @1 ok\n"), (None, "sample @2 ok\n"), (None, "sample @2 rows 2\n0,2,\n2,3,9806\n"),
           (None, "sample @2 rows 2\n0,2,\n2,3,19564\n"), (None, "sample @2 rows 2\n4,2,3,19564\n6,2,3,9806\n")]
 
-# What is watched of the grouped script, and the rows behind each of its commits.
+# What is watched of the grouped script, and the rows after each of its commits.
 LONG = "a text of more than sixteen bytes,2,1"
 WATCHED = [("MIN id FROM emp BY dept OVER SYSTEM ALL", [[LONG, "ops,1,1"]] * 2 + [[LONG, "dev,1,1"]] * 2),
            ("COUNT FROM emp WHERE dept <> 'dev' OVER SYSTEM ALL", [["2,2"]] * 2 + [["1,1"]] * 2)]
@@ -101,13 +101,13 @@ def grouped():
     return first, script.encode(), b"a @2 ok\na @3 ok\na @4 ok\na @5 ok\na @5 rows 1\n1\n"
 
 
-def watched(replies, behind):
-    """The replies with what is watched behind each commit."""
-    lines, behind = [], iter(behind)
+def watched(replies, after):
+    """The replies with what is watched after each commit."""
+    lines, after = [], iter(after)
     for line in replies.decode().splitlines():
         lines.append(line)
         if line.endswith(" ok"):
-            rows = next(behind)
+            rows = next(after)
             lines += [f"watch {line.split()[1]} rows {len(rows)}", *rows]
     return "".join(f"{it}\n" for it in lines).encode()
 
@@ -142,11 +142,11 @@ def all_or_nothing(words, given, journal, usual, library, refusal):
 
 
 def refusals():
-    """None, and then each allocation by its number, alone and with all behind it."""
+    """None, and then each allocation by its number, alone and with all after it."""
     yield "no memory", {}
     for number in range(1, 1_000_000):
         yield f"allocation {number}", {"REFUSE": str(number)}
-        yield f"allocation {number} and all behind it", {"REFUSE": str(number), "REFUSE_ON": "1"}
+        yield f"allocation {number} and all after it", {"REFUSE": str(number), "REFUSE_ON": "1"}
 
 
 def main():
@@ -166,7 +166,7 @@ def main():
         for name, words, given, journal, wanted in ("group", ["group"], script, first, (0, replies)), ("transact", ["transact"], script, first, (0, replies)), \
                 ("transact, refused", ["transact"], refused[0], first, (12, refused[1])), \
                 ("ship 0 16777215", ["ship", "0", "16777215"], b"", worked, (0, packets)), ("follow", ["follow"], packets, empty, (0, b"follow @5\n")), \
-                *((f"watch {text}"[:30], ["watch", text], script, first, (0, watched(replies, behind))) for text, behind in WATCHED):
+                *((f"watch {text}"[:30], ["watch", text], script, first, (0, watched(replies, after))) for text, after in WATCHED):
             status, written, left, _ = over(words, given, journal)
             if (status, written) != wanted or status == 12 and left != journal:
                 sys.exit(f"{name}: status {status}, {written!r}")

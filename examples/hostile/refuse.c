@@ -1,5 +1,5 @@
 /* Preloaded into a program, refuses memory: the allocation whose number is in the variable REFUSE, counted from 1, and,
-   where REFUSE_ON is set, each one behind it. Where it refuses one it makes the file that the variable REFUSED names. */
+   where REFUSE_ON is set, each one after it. Where it refuses one it makes the file that the variable REFUSED names. */
 #define _GNU_SOURCE
 #include <errno.h>
 #include <fcntl.h>

@@ -37,7 +37,7 @@ def make_journal(room, script=""):
 
 
 def test_files_are_opened():
-    """`try`, `run` and `load` open the file that stands behind them."""
+    """`try`, `run` and `load` open the file that stands after them."""
     with open(f"{ROOT}/examples/first.expected") as expected:
         wanted = expected.read()
     judge("try FILE", run(["try", f"{ROOT}/examples/first.tl"]) == (0, wanted, ""), wanted)
@@ -53,7 +53,8 @@ def test_refusals_are_told():
     """A refused load says so; `--strict` ends with 20 where a statement was refused, and else as the program does."""
     with tempfile.TemporaryDirectory(dir=JOURNALS) as room:
         make_journal(room, "a> CREATE TABLE t (k INT) KEY k\n")
-        told = "timeline: 1 of 1 statements was refused: nothing was loaded\n"
+        told = "timeline: the load was refused: NotInt 2 1: line 2 of standard input, record 2\n" \
+               "timeline: 1 of 1 statements was refused: nothing was loaded\n"
         refused = "load @1 ! NotInt 2 1\n"
         judge("a refused load", run(["load", "t"], "k\nx\n", room) == (20, refused, told), "")
         judge("--lenient load", run(["--lenient", "load", "t"], "k\nx\n", room) == (0, refused, told), "")
@@ -85,11 +86,11 @@ def test_refusals_are_told():
             asked = f"a> PUT b\nk,t\n{rows}\\.\na> SELECT t, k FROM b\na> SELECT x FROM b\n"
             done = subprocess.run([COMMAND, "--strict", "run"], input=asked.encode(), cwd=room, capture_output=True)
             told = "timeline: 1 of 3 statements was refused\n"
-            judge(f"--strict behind the bytes from {first} on", (done.returncode, done.stderr.decode()) == (20, told), done)
+            judge(f"--strict after the bytes from {first} on", (done.returncode, done.stderr.decode()) == (20, told), done)
             passed = subprocess.run([f"{ROOT}/examples/rows", "2"], input=done.stdout, capture_output=True).stdout
             judge(f"examples/rows of the bytes from {first} on", passed == done.stdout.split(b" rows 64\n")[1].rpartition(b"a @2")[0], passed)
             explained = subprocess.run([COMMAND, "--explain", "run"], input=asked.encode(), cwd=room, capture_output=True)
-            judge(f"--explain behind the bytes from {first} on", b"UnknownColumn 7\n    SELECT x FROM b\n           ^\n" in explained.stderr, explained)
+            judge(f"--explain after the bytes from {first} on", b"UnknownColumn 7\n    SELECT x FROM b\n           ^\n" in explained.stderr, explained)
 
 
 def test_explanations_come_from_a_pipe():
@@ -298,9 +299,10 @@ def test_a_disk_that_fails_says_why():
 def test_a_listing_is_refused():
     """Where there is no journal, or none that can be listed, `log` and `tables` say so, and end as a run does."""
     with tempfile.TemporaryDirectory(dir=JOURNALS) as room:
+        told = "timeline: no journal is here\n    ./timeline init makes one in this folder; from Python, timeline.open(folder, create=True)\n"
         for words in (["log"], ["tables", "--csv"], ["log", "--times"], ["rows", "t"]):
             found = run(words, room=room)
-            judge(f"{words} without a journal", found == (7, "! journal NotInitialised 0\n", "timeline: no journal is here\n"), found)
+            judge(f"{words} without a journal", found == (7, "! journal NotInitialised 0\n", told), found)
         judge("a listing makes no file", not os.listdir(room), os.listdir(room))
         with open(f"{room}/timeline.tlj", "w") as journal:
             journal.write("this is no journal of timeline\n")

@@ -143,7 +143,15 @@ def test_a_page_replaces_a_regular_file(books: str) -> None:
 
 def test_json_has_types(books: str) -> None:
     lines = run(["history", "staff", "2", "--json"], folder=books).out.splitlines()
-    assert json.loads(lines[0])["pay"] == 2800.0 and json.loads(lines[1])["to"] is None
+    assert json.loads(lines[0])["pay"] == 2800.0 and json.loads(lines[1])["to"] is None and json.loads(lines[1])["to_time"] is None
+    lines = run(["diff", "staff", "FROM", "5", "TO", "8", "--json"], folder=books).out.splitlines()
+    assert [(it["dept_old"], it["dept_new"]) for it in map(json.loads, lines)] == [("ops", None), ("dev", "dev"), (None, "dev")]
+
+
+def test_a_refused_plot_is_explained(books: str) -> None:
+    done = run(["plot", "SUM pay FROM staff OVER SYSTEM AL"], folder=books)
+    assert done.status == 20 and done.err.startswith("timeline: the query was refused: Unexpected 31\n    SUM pay FROM staff OVER SYSTEM AL\n"), done
+    assert "docs/LANGUAGE.md" in done.err
 
 
 def test_the_corners_of_a_line(books: str, monkeypatch: pytest.MonkeyPatch) -> None:
@@ -153,7 +161,9 @@ def test_the_corners_of_a_line(books: str, monkeypatch: pytest.MonkeyPatch) -> N
     opened = journal.Journal(".")
     picture = plots.picture_of(opened, "SUM pay FROM staff BY dept OVER SYSTEM ALL")
     assert picture.axis == "time (UTC)" and [one.label for one in picture.series] == ["dev", "ops"]
-    assert plots.steps_of(picture.series[0]) == ([1767229200, 1767402000, 1767402000, 1767410640], [2800.0, 2800.0, 3101.0, 3101.0])
+    assert plots.steps_of(picture.series[0]) == ([1767229200, 1767402000, 1767402000, 1767402000], [2800.0, 2800.0, 3101.0, 3101.0])
+    assert picture.bounds == (1767229200, 1767402000)      # not past the last moment
+    assert plots.picture_of(opened, "COUNT FROM staff OVER SYSTEM ALL").bounds[1] == 1767402000
     opened.close()
 
 
@@ -165,6 +175,22 @@ def test_a_picture_is_a_file(books: str, ending: str, magic: bytes) -> None:
     with open(os.path.join(books, f"pay.{ending}"), "rb") as file:
         assert file.read(5).startswith(magic[:5])
     assert run(["plot", "COUNT FROM staff OVER SYSTEM ALL", "-o", "none/pay.svg"], folder=books).status == 5
+
+
+@pytest.mark.parametrize("begin, end, label", [(1796100000, 1796150000, "[01][0-9]:00"), (1796100008, 1796100050, "04:40:[0-5][0-9]")])
+def test_the_hour_and_the_day_stand_below_the_axis(begin: int, end: int, label: str) -> None:
+    """From 04:40 of a day to its evening, and within a minute of it."""
+    pytest.importorskip("matplotlib")
+    from matplotlib.backends.backend_agg import FigureCanvasAgg
+
+    from timeline import kinds, plots
+
+    figure = plots._figure(plots.Picture("COUNT", "time (UTC)", kinds.TIME, [plots.Series("", [begin], [end], [1.0])]))
+    FigureCanvasAgg(figure).draw()
+    axis = figure.axes[0].xaxis
+    found = [it.get_text() for it in axis.get_ticklabels()]
+    assert len(found) > 3 and all(re.fullmatch(label, it) for it in found), found
+    assert axis.get_offset_text().get_text() == "2026-12-01"
 
 
 def test_a_picture_of_text(books: str) -> None:

@@ -11,7 +11,7 @@ import tempfile
 import pytest
 from conftest import ROOT, room_for_journals
 
-# The types whose variants are the words of a fault, and those that stand behind `! script` and `! journal`.
+# The types whose variants are the words of a fault, and those that stand after `! script` and `! journal`.
 FAULTS = {"TextFault": "", "CheckFault": "", "CsvFault": "", "BatchFault": "", "ScriptFault": "script ", "JournalFault": "journal "}
 # What is no word of a fault: want of memory ends a run, and a fault of the source or the disk is a line of its own.
 UNTOLD = {"NoMemory", "Source", "script NoMemory", "script Source", "journal NoMemory", "journal Device"}

@@ -168,7 +168,7 @@ def test_a_transaction_is_kept_whole():
 
 
 def test_a_group_waits_twice():
-    """However many commits a group has, behind the opening there are two syncs, and one write of them all and one of the
+    """However many commits a group has, after the opening there are two syncs, and one write of them all and one of the
     gate. `strace` counts, where it is there."""
     if not shutil.which("strace"):
         pytest.skip("syncs are not counted, since strace is not here")

@@ -75,6 +75,22 @@ def test_parameters_are_spelled_and_never_pasted(journal: str) -> None:
             books.put("t (id)\n\\.\npy> FORGET t BEFORE 1\npy> PUT t", [{"id": 1, "x": ""}])
 
 
+def test_a_parameter_with_a_line_break_says_why(journal: str) -> None:
+    with timeline.open(journal) as books:
+        books.execute("CREATE TABLE t (id INT, pay DECIMAL(2)) KEY id")
+        with pytest.raises(timeline.Refused) as refused:
+            books.ask("SELECT id FROM t WHERE id = ?", ["a\nb"])
+        assert refused.value.kind == "LineBreak" and "nor a parameter, has a line break" in str(refused.value) and refused.value.advice
+        with pytest.raises(timeline.NoJournal) as none:
+            timeline.open(os.path.join(journal, "timeline.tlj.d"))
+        assert "timeline init" in none.value.advice and "create=True" in none.value.advice
+        with pytest.raises(timeline.Refused) as refused:
+            books.ask("SELECT id FROM t WHERE id = '\ud800'")
+        assert refused.value.kind == "BadByte"
+        books.put("t", [{"id": 1, "pay": "2.5"}])
+        assert str(list(books.ask("SELECT pay FROM t"))[0][0]) == "2.50"
+
+
 def test_refusals_have_their_place_in_what_was_typed(journal: str) -> None:
     with timeline.open(journal) as books:
         books.execute("CREATE TABLE t (id INT) KEY id")

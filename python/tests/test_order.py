@@ -1,4 +1,4 @@
-"""Runs the program under order.c, and looks at the order of its writes and syncs: each commit is written behind the
+"""Runs the program under order.c, and looks at the order of its writes and syncs: each commit is written after the
 closed gate and synced, then its gate is opened and synced, and only then is it answered."""
 import os
 import shutil

@@ -185,7 +185,7 @@ def test_evidence():
         size = os.path.getsize(f"{room}/timeline.tlj")
         judge("seal", status == 0 and not said and re.fullmatch(rf"@5 {size - 1} [0-9a-f]{{64}}\n", first), (status, first, said))
         run(["--no-stamp", "load", "staff"], "id,name,pay\n9,Noe,1\n", room)
-        # What stands behind the last gate is not sealed.
+        # What stands after the last gate is not sealed.
         with open(f"{room}/timeline.tlj", "ab") as journal:
             journal.write(b"cut off")
         second = run(["seal"], room=room)[1]

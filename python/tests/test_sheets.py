@@ -105,16 +105,30 @@ def test_telephone_numbers_and_a_quoted_line_end_before_numbers(journal: str) ->
     rows = [["id", "text", "phone", "pay"], ["1", "two\r\nlines", "0273", "10"], ["2", "x", "+44", "20"]]
     done = run(["import", "t", "--key", "id"], csv_of(rows), journal)
     assert done.out.startswith("CREATE TABLE t (id INT, text TEXT, phone TEXT, pay INT) KEY id\n")
-    assert "phone is TEXT, since 0273 would come back as 273" in done.err
+    assert "phone is TEXT, since 0273 in line 2 would come back as 273" in done.err
     assert asked(journal, "SELECT * FROM t") == rows
 
 
 def test_what_is_said_of_columns_that_might_be_numbers() -> None:
     said: list[str] = []
-    rows = [["k", "pay", "fee", "zip"], ["1", "2800.5", "", "01"], ["2", "2800", "5", "2"]]
+    rows = [["k", "pay", "fee", "zip", "tax", "day", "rate", "name", "code", "born"],
+            ["1", "2800.5", "", "01", "n/a", "2026-01-01", "1,5", "Ann", "7", "2000-02-29"],
+            ["2", "2800", "5", "2", "5", "two\r\nlines", "2.000,25", "Bob", "x", "2001-02-29"],
+            ["3", "1.5", "5", "2", "7", "2026-01-02", "3,5", "Cy", "y", "2004-02-29"]]
     loads.plan("t", sheet_of(csv_of(rows)), "k", say=said.append)
-    assert [it.partition(";")[0] for it in said] == ["pay is TEXT, since 2800 would come back as 2800.0",
-                                                     "fee is TEXT, since it has empty cells", "zip is TEXT, since 01 would come back as 1"]
+    assert [it.partition(";")[0] for it in said] == [
+        "pay is TEXT, since 2800 in line 3 would come back as 2800.0", "fee is TEXT, since it has empty cells",
+        "zip is TEXT, since 01 in line 2 would come back as 1", "tax is TEXT, since line 2 has 'n/a', which is no number",
+        "day is TEXT, since line 3 has 'two\\r\\nlines', which is no day",
+        "rate is TEXT, since line 2 has '1,5', with a decimal comma: save the sheet with points, as 1.5",
+        "born is TEXT, since line 3 has '2001-02-29', which is no day"]
+
+
+def test_an_odd_cell_after_many_is_said() -> None:
+    said: list[str] = []
+    rows = [["k", "pay"], *([str(at), "n/a" if at == 7_000 else str(at)] for at in range(12_000))]
+    assert str(loads.plan("t", sheet_of(csv_of(rows)), "k", say=said.append).columns[1].kind) == "TEXT"
+    assert said == ["pay is TEXT, since line 7002 has 'n/a', which is no number"]
 
 
 def test_kinds_that_are_said_and_cells_that_are_missing(journal: str) -> None:

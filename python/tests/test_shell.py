@@ -39,6 +39,14 @@ def test_what_comes_through_a_pipe(journal: str, given: str, status: int, out: s
     assert said in done.err, done
 
 
+def test_a_create_gives_kinds(journal: str) -> None:
+    given = ("CREATE TABLE p (id INT, DATE DATE,\n pay DECIMAL(2)) KEY id VALID DATE;\nPUT p;\nid,DATE,pay,valid_from,valid_to\n1,2026-01-31,2.50,2026-01-01,FOREVER\n\\.\n"
+             "SELECT * FROM p WHERE pay = 2.5 VALID AT '2026-02-01';\nCREATE TABLE q (id INT, pay DECIMAL(2), x) KEY id;\nCREATE TABLE q (id DECIMAL) KEY id;\n")
+    done = run(["--no-stamp", "shell"], given, journal)
+    assert done.out == "@3 ok\n@4 ok\nid,DATE,pay,valid_from,valid_to\n1,2026-01-31,2.50,2026-01-01,FOREVER\n", done
+    assert "line 8 was refused: Unexpected 41" in done.err and "line 9 was refused: Unexpected 19" in done.err and "DECIMAL(n)" in done.err, done
+
+
 def test_strict_makes_a_refusal_a_status(journal: str) -> None:
     assert run(["--strict", "shell"], "SELECT id FROM nope;\n", journal).status == 20
     assert run(["shell"], "SELECT id FROM nope;\n", journal).status == 0

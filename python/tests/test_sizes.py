@@ -168,7 +168,7 @@ def follow(name, given, status, wanted, megabytes, seconds=20):
 
 
 def test_long_inputs():
-    """An input of packets is not kept: not that of 3 GB which is none, nor what stands behind a place where no packet
+    """An input of packets is not kept: not that of 3 GB which is none, nor what stands after a place where no packet
     begins, nor packets that came before. A packet may be longer than a piece, and the place of one past the first."""
     if not LIMITED:
         return

@@ -1,4 +1,4 @@
-"""Compares what `watch` says behind each commit of a script with asking anew. It runs
+"""Compares what `watch` says after each commit of a script with asking anew. It runs
 `timeline watch TEXT` over the script, on a journal of its own or a copy of one, and asks at each version of a line
 `watch @V` the aggregate of TEXT, and the number of its rows, over that version alone."""
 import csv

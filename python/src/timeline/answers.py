@@ -4,7 +4,7 @@ Writes to what it is given; asks nothing and starts nothing. The rows stay the e
 from __future__ import annotations
 
 import re
-from typing import Callable, Iterator, Protocol, Sequence
+from typing import Callable, Container, Iterator, Protocol, Sequence, Tuple, TypeVar
 
 TYPE_CHECKING = False
 if TYPE_CHECKING:
@@ -16,12 +16,15 @@ if TYPE_CHECKING:
 _QUOTED = re.compile(r'[,"\r\n]')
 _PIECE = 1 << 20           # so many characters are written at once
 Row = Sequence[str]
+Place = Tuple[int, int]      # a row and a column of an answer, both from 0
+T = TypeVar("T")
 
 
 class Output(Protocol):
     """What an answer is written to."""
 
-    def write(self, data: bytes, /) -> object: ...
+    def write(self, data: bytes, /) -> object:
+        """Takes some bytes."""
 
 
 class Answer:
@@ -30,11 +33,13 @@ class Answer:
     Iterated it gives the rows as tuples of Python values: int, str, Decimal, date, datetime, and None for an empty number and for
     a period that does not end."""
 
-    def __init__(self, reply: Rows, kinds: Sequence[Kind | None] = ()) -> None:
-        """`kinds` has the kind of each column, None where it is INT or TEXT and nobody asked which."""
+    def __init__(self, reply: Rows, kinds: Sequence[Kind | None] = (), absent: Container[Place] = ()) -> None:
+        """`kinds` has the kind of each column, None where it is INT or TEXT and nobody asked which; `absent` the rows and columns,
+        from 0, of cells that are empty since nothing is there: null in JSON, None in Python."""
         self.names, self.version, self.count, self._reply = reply.names, reply.version, reply.count, reply
         self._kinds = tuple(kinds) or (None,) * len(reply.names)
         self._rows: list[tuple[str, ...]] | None = None
+        self._absent = absent
 
     @property
     def kinds(self) -> tuple[Kind, ...]:
@@ -60,8 +65,14 @@ class Answer:
         return self.count
 
     def __iter__(self) -> Iterator[tuple[object, ...]]:
-        value = [kind.value for kind in self.kinds]
-        return (tuple([make(cell) for make, cell in zip(value, row)]) for row in self.cells())
+        return map(tuple, self._made([kind.value for kind in self.kinds], None))
+
+    def _made(self, makes: Sequence[Callable[[str], T]], nothing: T) -> Iterator[list[T]]:
+        """The rows with what is made of each cell, and `nothing` for one that is absent."""
+        rows = ([make(cell) for make, cell in zip(makes, row)] for row in self.cells())
+        if not self._absent:
+            return rows
+        return ([nothing if (at, column) in self._absent else it for column, it in enumerate(row)] for at, row in enumerate(rows))
 
     def dicts(self) -> Iterator[dict[str, object]]:
         """The rows as dicts; of two columns of one name the second is called `name_2`."""
@@ -98,7 +109,7 @@ class Answer:
         quote = JSONEncoder(ensure_ascii=False).encode
         names = [quote(name) + ": " for name in _unlike(self.names)]
         spell = [_json_of(kind, quote) for kind in self.kinds]
-        _write_lines(("{" + ", ".join([name + make(cell) for name, make, cell in zip(names, spell, row)]) + "}\n" for row in self.cells()), out)
+        _write_lines(("{" + ", ".join(map("".join, zip(names, row))) + "}\n" for row in self._made(spell, "null")), out)
 
     def write_table(self, out: Output) -> None:
         """The names and the rows laid under each other."""
@@ -107,9 +118,11 @@ class Answer:
 
 def _json_of(kind: Kind, quote: Callable[[str], str]) -> Callable[[str], str]:
     def number(cell: str) -> str:
+        """A whole number, or a sum and a count, which stays a text."""
         return "null" if not cell or cell == "FOREVER" else quote(cell) if "/" in cell else cell
 
     def shown(cell: str) -> str:
+        """What people read, as a number where it is one."""
         text = kind.shown(cell)
         return "null" if not text or text == "FOREVER" else quote(text) if kind.name in ("DATE", "TIME") else text
 

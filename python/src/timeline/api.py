@@ -246,13 +246,14 @@ class Unit:
 def _script(unit: notes.Unit, parts: Sequence[_Part]) -> Iterator[bytes]:
     """The pieces of a unit's statements, with the engine's cells in place of what people write."""
     for number, part in enumerate(parts, 1):
-        piece = unit.begin(part.statement)
         try:
-            piece += _block(unit.state.catalog, part) if part.names else b""
+            if part.names:
+                yield unit.begin(part.statement) + _block(unit.state.catalog, part)
+            else:
+                yield from notes.batch(unit, Statement(part.statement, 0))
         except Refused as refused:
             refused.statement, refused.number = part.statement, number
             raise
-        yield piece
 
 
 def _block(catalog: kinds.Catalog, part: _Part) -> bytes:

@@ -108,10 +108,12 @@ class Times:
         return days.shown(self.stated[at - 1][1]) if at else ""
 
 
-def answer_of(names: Sequence[str], found: Sequence[Kind], rows: Iterable[Cells], version: int) -> Answer:
-    """An Answer with these rows of the engine's cells."""
-    lines = [csv_line(row) for row in rows]
-    return Answer(Rows("", version, len(lines), tuple(names), "".join(lines).encode("utf-8")), found)
+def answer_of(names: Sequence[str], found: Sequence[Kind], rows: Iterable[Sequence[str | None]], version: int) -> Answer:
+    """An Answer with these rows of the engine's cells, None where nothing is there."""
+    taken = list(rows)
+    absent = {(at, column) for at, row in enumerate(taken) for column, cell in enumerate(row) if cell is None}
+    raw = "".join(csv_line([cell or "" for cell in row]) for row in taken).encode("utf-8")
+    return Answer(Rows("", version, len(taken), tuple(names), raw), found, absent)
 
 
 def key_cell(table: Table, key: str) -> str:
@@ -133,8 +135,8 @@ def history(journal: Journal, name: str, key: str) -> Answer:
     rows = []
     for row in rows_ever(journal, table):
         if row.cells[table.key] == wanted:
-            cells = [str(row.begin), str(row.end or "")]
-            cells += [times.shown(row.begin), times.shown(row.end)] if when else []
+            cells: list[str | None] = [str(row.begin), str(row.end) if row.end else None]
+            cells += [times.shown(row.begin) or None, times.shown(row.end) or None] if when else []
             rows.append([*cells, *row.cells, *(made.get(row.begin, ("", ""))[:2] if made else ())])
     columns = [("from", INT), ("to", INT), *when, *zip(table.names, table.kinds), *who]
     return answer_of([it for it, _ in columns], [it for _, it in columns], rows, times.last)
@@ -168,7 +170,7 @@ def _identity(table: Table, cells: Cells) -> Cells:
     return (*cells[:table.periods], cells[table.key])
 
 
-def _differences(before: dict[Cells, Cells], after: dict[Cells, Cells], front: Sequence[int], shown: Sequence[int]) -> Iterator[Cells]:
+def _differences(before: dict[Cells, Cells], after: dict[Cells, Cells], front: Sequence[int], shown: Sequence[int]) -> Iterator[list[str | None]]:
     for identity, old in before.items():
         new = after.get(identity)
         if new != old:
@@ -178,9 +180,9 @@ def _differences(before: dict[Cells, Cells], after: dict[Cells, Cells], front: S
             yield _line("new", None, new, front, shown)
 
 
-def _line(what: str, old: Cells | None, new: Cells | None, front: Sequence[int], shown: Sequence[int]) -> Cells:
+def _line(what: str, old: Cells | None, new: Cells | None, front: Sequence[int], shown: Sequence[int]) -> list[str | None]:
     one = old or new or ()
-    pairs = [cells[at] if cells else "" for at in shown for cells in (old, new)]
+    pairs = [cells[at] if cells else None for at in shown for cells in (old, new)]
     return [what, *(one[at] for at in front), *pairs]
 
 

@@ -9,7 +9,7 @@ import sys
 
 from . import cleanup, programs
 from .console import Console
-from .errors import TimelineError, UsageError
+from .errors import Refused, TimelineError, UsageError
 
 TYPE_CHECKING = False
 if TYPE_CHECKING:
@@ -84,6 +84,7 @@ class Call:
 
         class Parser(argparse.ArgumentParser):
             def error(self, message: str) -> NoReturn:
+                """Raises what argparse would end the process for."""
                 raise UsageError(message)
 
         return Parser(prog=f"timeline {self.word}", add_help=False, allow_abbrev=False)
@@ -165,15 +166,25 @@ def _main(words: Sequence[str], console: Console) -> int:
             return 0
         return _command(Call(left[0], left[1:], options, console))
     except TimelineError as error:
-        if str(error):
-            console.say(str(error))
-        if error.advice:
-            console.tell(f"    {error.advice}")
+        console.tell(_told(error))
         if isinstance(error, UsageError):
             console.say(HINT)
         if error.closing:
             console.line(f"! {error.closing}")
         return error.status
+
+
+def _told(error: TimelineError) -> str:
+    """What is said of an error; of a query that was refused its text too, with a caret."""
+    if isinstance(error, Refused) and error.statement and not error.sentence:
+        from .explaining import explain_statement
+        from .replies import Fault
+        from .statements import encode
+
+        fault = Fault(error.kind, error.numbers)
+        return "\n".join(explain_statement(encode(error.statement), fault, "the query", error.advice))
+    lines = [f"timeline: {error}" if str(error) else "", f"    {error.advice}" if error.advice else ""]
+    return "\n".join(filter(None, lines))
 
 
 def run(words: Sequence[str], console: Console) -> int:

@@ -36,11 +36,13 @@ class Console:
         self.write(text.encode("utf-8", "surrogateescape") + b"\n")
 
     def say(self, text: str) -> None:
-        """Says a sentence, behind the command's name."""
+        """Says a sentence, after the command's name."""
         self.tell(f"timeline: {text}")
 
     def tell(self, text: str) -> None:
-        """Says lines as they are; that they cannot be said is no fault."""
+        """Says lines as they are, nothing for an empty text; that they cannot be said is no fault."""
+        if not text:
+            return
         front = CLEAR if self.err_is_terminal else ""
         self._say(front + text + "\n")
 

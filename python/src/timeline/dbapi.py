@@ -144,7 +144,7 @@ class Connection:
 
     @property
     def database(self) -> api.Database:
-        """The journal behind it. Raises InterfaceError once it is closed."""
+        """The journal of it. Raises InterfaceError once it is closed."""
         if self._database is None:
             raise InterfaceError("the connection is closed")
         return self._database
@@ -173,7 +173,7 @@ class Connection:
         self.unit.rollback()
 
     def close(self) -> None:
-        """Forgets what waits, and ends the programs behind it."""
+        """Forgets what waits, and ends its programs."""
         if self._database is not None:
             self._database.close()
             self._database = None

@@ -284,6 +284,26 @@ def _edit(words: Sequence[Token], at: int, place: str, kind: Kind | None) -> tup
     raise LiteralFault(start, place, kind, advice)
 
 
+def declared(words: Sequence[Token]) -> tuple[list[tuple[int, int, str]], list[tuple[str, str]]]:
+    """The kinds that a CREATE TABLE gives columns and periods beyond the engine's types: the edits that put these in their place, and
+    the rows of the catalog. Raises LiteralFault for DECIMAL without its places."""
+    edits, rows = list[tuple[int, int, str]](), list[tuple[str, str]]()
+    for at, word in enumerate(words):
+        before, front = words[at - 1], words[at - 2].text
+        is_period = before.text == "VALID"
+        if word.text not in ("DECIMAL", "DATE", "TIME") or not (is_period or before.kind == "name" and front in ("(", ",")):
+            continue
+        place = f"{words[2].text}.{PERIOD if is_period else before.text}"
+        end = at + 3 if [it.text for it in words[at + 1:at + 4:2]] == ["(", ")"] else at
+        try:
+            kind = parse("".join(it.text for it in words[at:end + 1]))
+        except KindFault as fault:
+            raise LiteralFault(word.start, place, TEXT, fault.advice) from None
+        edits.append((word.start, words[end].end, "" if is_period else "INT"))
+        rows.append((place, str(kind)))
+    return edits, rows
+
+
 def tables_of(words: Sequence[Token]) -> list[str]:
     """The tables that a query names, in their order."""
     return [words[at + 1].text for at, word in enumerate(words[:-1]) if word.text in ("FROM", "JOIN", "WITH") and word.kind == "name"]

@@ -243,13 +243,13 @@ def plan(table: str, sheet: Sheet, key: str, is_valid: bool = False, given: Mapp
     guesses = {name: Guess(is_end=is_valid and name == "valid_to") for name in names if name not in wanted}
     records = 0
     for chunk in sheet.chunks():
-        records += len(chunk)
         for name, cells in zip(names, zip(*chunk)):
             if name in guesses:
-                guesses[name].take(cells)
+                guesses[name].take(cells, records + 2)
+        records += len(chunk)
     columns = []
     for header, name in zip(sheet.header, names):
-        column = Column(header, name, wanted.get(name) or _guessed(name, guesses[name], empty, say), empty.get(name))
+        column = Column(header, name, wanted.get(name) or _guessed(name, guesses[name], empty, sheet, say), empty.get(name))
         check_missing(column)
         columns.append(column)
     period = _period(sheet, columns) if is_valid else None
@@ -268,7 +268,8 @@ def _key(key: str, sheet: Sheet, names: Sequence[str]) -> str:
     headers = {from_bytes(header).strip(): name for header, name in zip(sheet.header, names)}
     name = key if key in names else headers.get(key.strip())
     if name is None:
-        raise Refused("UnknownColumn", sentence=f"no column is called {key}, which is to be the key; there are {', '.join(names)}")
+        advice = "Semicolons stand in the header: where they part the fields, save the sheet with commas." if any(";" in it for it in headers) else ""
+        raise Refused("UnknownColumn", sentence=f"no column is called {key}, which is to be the key; there are {', '.join(names)}", advice=advice)
     return name
 
 
@@ -285,15 +286,13 @@ def _check_names(sheet: Sheet, names: Sequence[str], is_valid: bool) -> None:
         raise sheet.refused("HeaderMissing", 1, None, "with --valid the header names valid_from and valid_to")
 
 
-def _guessed(name: str, guess: Guess, missing: Mapping[str, str], say: Say) -> Kind:
-    if guess.has_empty and name not in missing and name not in PERIOD:
-        advice = guess.advice(name)
-        if advice:
-            say(advice)
-        return kinds.TEXT
-    if guess.kind == kinds.TEXT and guess.advice(name):
-        say(guess.advice(name))
-    return guess.kind
+def _guessed(name: str, guess: Guess, missing: Mapping[str, str], sheet: Sheet, say: Say) -> Kind:
+    """The kind that a column gets; where that is TEXT, and its cells do not look so, it is said why."""
+    kind = kinds.TEXT if guess.has_empty and name not in missing and name not in PERIOD else guess.kind
+    advice = guess.advice(name, sheet.line_of) if kind == kinds.TEXT else ""
+    if advice:
+        say(advice)
+    return kind
 
 
 def _period(sheet: Sheet, columns: Sequence[Column]) -> Kind:

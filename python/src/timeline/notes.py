@@ -8,10 +8,10 @@ from __future__ import annotations
 import time
 from typing import Callable, Iterable, Iterator, List, NamedTuple, Sequence, Tuple
 
-from . import kinds
+from . import days, kinds
 from .errors import Place, Refused, UsageError
 from .replies import Ok, Rows
-from .statements import encode
+from .statements import Prepared, Statement, decode, encode, prepare, tokens
 
 TYPE_CHECKING = False
 if TYPE_CHECKING:
@@ -80,7 +80,7 @@ class Unit:
         self.records: list[int] = []       # of each, how many records of a sheet came before its block's
 
     def begin(self, statement: str, use: str = "own", records: int = 0) -> bytes:
-        """The line of a statement that makes a commit; its block, where it has one, comes behind it."""
+        """The line of a statement that makes a commit; its block, where it has one, comes after it."""
         self.version += 1
         self.statements.append(statement)
         self.uses.append(use)
@@ -152,6 +152,26 @@ def put_kinds(unit: Unit, rows: Sequence[tuple[str, str]]) -> Whole:
     if not unit.state.has_catalog and "catalog" not in unit.uses:
         made = unit.begin(kinds.CREATE_CATALOG, "catalog")
     return Whole(made + unit.put(kinds.CATALOG, ("place", "kind"), rows, "kinds"))
+
+
+def prepared_batch(statement: Statement) -> tuple[Prepared, list[tuple[str, str]]]:
+    """A statement that makes a commit, as the engine gets it, and the rows of the catalog for the kinds that a CREATE names. Raises
+    Refused where it is none that the engine can get."""
+    edits, rows = list[tuple[int, int, str]](), list[tuple[str, str]]()
+    if statement.word == "CREATE":
+        try:
+            edits, rows = kinds.declared([it for it in tokens(statement.text) if it.kind != "blank"])
+        except kinds.LiteralFault as fault:
+            raise Refused("Unexpected", (fault.offset,), statement.text, Place(fault.offset), advice=fault.advice) from None
+    return prepare(statement, days.moment_of, edits), rows
+
+
+def batch(unit: Unit, statement: Statement) -> Iterator[bytes]:
+    """The pieces of a statement without a block that makes a commit, and of the kinds that it names."""
+    prepared, rows = prepared_batch(statement)
+    if rows:
+        yield put_kinds(unit, rows)
+    yield unit.begin(decode(prepared.sent))
 
 
 def put_note(unit: Unit, version: int, cause: Cause) -> Whole:
@@ -266,8 +286,6 @@ def between(rows: Listing, is_timed: bool, first: str, last: str) -> Listing:
     """The rows of a log, with their moments, of commits that were done from the first second of a day on to the last of another.
 
     Raises UsageError where one is no day, Refused where the journal's moments are no seconds."""
-    from . import days
-
     try:
         least, most = days.moment_of("TIME", f"{first}T00:00"), days.moment_of("DAY", last)
     except ValueError:
@@ -280,7 +298,5 @@ def between(rows: Listing, is_timed: bool, first: str, last: str) -> Listing:
 
 def with_times(rows: Listing) -> Listing:
     """The rows of a log with times for its moments."""
-    from . import days
-
     places = {at for at, name in enumerate(rows[0]) if name in ("moment", "when")}
     return [rows[0], *(tuple(days.shown(int(cell)) if at in places and cell else cell for at, cell in enumerate(row)) for row in rows[1:])]

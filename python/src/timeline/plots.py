@@ -79,6 +79,14 @@ def picture_of(journal: Journal, text: str) -> Picture:
     return _drawn(answer, text, _axis_of(journal, answer, text))
 
 
+def _last(axis: _Axis, points: Sequence[float]) -> float:
+    """Where the axis ends: after the last version, or at the last moment; a valid time that does not end goes on for a while."""
+    greatest, first = max(points), min(filter(None, points), default=0)
+    if axis.name == "version" or axis.times is not None and greatest > first:
+        return greatest
+    return greatest + max(1.0, (greatest - first) // 20)
+
+
 class _Axis(NamedTuple):
     """What the points of an answer stand for: a name, a kind, and where versions have seconds these."""
 
@@ -113,19 +121,18 @@ def _axis_of(journal: Journal, answer: Answer, text: str) -> _Axis:
 
 
 def _drawn(answer: Answer, text: str, axis: _Axis) -> Picture:
-    """The lines of an answer. A run of no length on the axis, as one within a second, is left out."""
+    """The lines of an answer. A run of no length on the axis, as one within a second, is left out, but for one at its end."""
     grouped = len(answer.names) == 4
     rows = answer.cells()
     if not rows:
         raise Refused("NoRows", statement=text, sentence="the answer has no row to be drawn")
-    points = [axis.place(row[-3], 0) for row in rows] + [axis.place(row[-2], 0) for row in rows if row[-2] != kinds.FOREVER]
-    last = max(points) + max(1.0, (max(points) - min(filter(None, points), default=0)) // 20)
+    last = _last(axis, [axis.place(row[-3], 0) for row in rows] + [axis.place(row[-2], 0) for row in rows if row[-2] != kinds.FOREVER])
     found: dict[str, Series] = {}
     for row in rows:
         label = answer.kinds[0].shown(row[0]) if grouped else ""
         one = found.setdefault(label, Series(label, [], [], []))
         begin, end = axis.place(row[-3], last), axis.place(row[-2], last)
-        if begin < end:
+        if begin < end or begin == last:
             one.begins.append(begin)
             one.ends.append(end)
             one.values.append(_number(row[-1], answer.kinds[-1]))
@@ -175,7 +182,7 @@ def draw(picture: Picture, path: str) -> None:
 
 
 def _figure(picture: Picture) -> Any:
-    from matplotlib import ticker
+    from matplotlib import dates, ticker
     from matplotlib.figure import Figure  # type: ignore[import]
 
     figure = Figure(figsize=(10, 5), layout="constrained")
@@ -189,9 +196,23 @@ def _figure(picture: Picture) -> Any:
     axes.yaxis.set_major_formatter(ticker.FuncFormatter(lambda value, _: f"{value:,.10g}"))
     if picture.axis == "version":
         axes.xaxis.set_major_locator(ticker.MaxNLocator(integer=True))
+    elif picture.kind.name in ("DATE", "TIME"):
+        places = dates.AutoDateLocator()
+        axes.xaxis.set_major_locator(places)
+        axes.xaxis.set_major_formatter(_formatter(places))
     if len(picture.series) > 1 or picture.series[0].label:
         axes.legend(fontsize=8, ncols=1 + len(picture.series) // 21, title=_left_out(picture))
     return figure
+
+
+def _formatter(places: Any) -> Any:
+    """How days and times stand below the axis: as short as they can be told from each other, the rest at its end."""
+    from matplotlib import dates
+
+    # For points at years, months, days, hours, minutes and seconds; what they have in common, by the same order.
+    return dates.ConciseDateFormatter(places, formats=["%Y", "%Y-%m", "%m-%d", "%H:%M", "%H:%M", "%H:%M:%S.%f"],
+                                      zero_formats=["", "%Y", "%Y-%m", "%m-%d", "%H:%M", "%H:%M"],
+                                      offset_formats=["", "", "%Y", "%Y-%m-%d", "%Y-%m-%d", "%Y-%m-%d"])
 
 
 def _left_out(picture: Picture) -> str | None:
@@ -209,7 +230,7 @@ def draw_text(picture: Picture, width: int, height: int) -> str:
     grid = [[" "] * columns for _ in range(height)]
     for number, one in enumerate(picture.series):
         for column in range(columns):
-            value = _at(one, first + (last - first) * (column + 0.5) / columns)
+            value = _at(one, first + (last - first) * column / (columns - 1), last)
             if value is not None:
                 row = 0 if high == low else round((high - value) / (high - low) * (height - 1))
                 grid[row][column] = _MARKS[number] if number < len(_MARKS) else "?"
@@ -221,10 +242,10 @@ def draw_text(picture: Picture, width: int, height: int) -> str:
     return "\n".join([picture.title, *lines, *legend]) + "\n"
 
 
-def _at(one: Series, point: float) -> float | None:
-    """The value of a line at a point."""
+def _at(one: Series, point: float, last: float) -> float | None:
+    """The value of a line at a point, of which the last one ends the axis."""
     at = bisect_right(one.begins, point) - 1
-    return one.values[at] if at >= 0 and point < one.ends[at] else None
+    return one.values[at] if at >= 0 and (point < one.ends[at] or point == one.ends[at] == last) else None
 
 
 def plot(call: Call) -> int:

@@ -78,7 +78,7 @@ def run(call: Call) -> int:
 
 
 def watch(call: Call) -> int:
-    """Runs a script as a group, and has the program say behind each commit what an aggregate is."""
+    """Runs a script as a group, and has the program say after each commit what an aggregate is."""
     parser = call.parser()
     parser.add_argument("text")
     parser.add_argument("file", nargs="?")

@@ -1,6 +1,6 @@
 """The command seal: of the journal, up to its last record, how long it is and its checksum; and such lines tried.
 
-A journal only grows behind its last record, so a line stays true for ever. How long it is up to there is worked out of the
+A journal only grows after its last record, so a line stays true for ever. How long it is up to there is worked out of the
 packets that the program ships, each of which is a record with its version in front."""
 from __future__ import annotations
 

@@ -1,6 +1,10 @@
 """The commands load, import and sync: their words, and what they print of what came of a sheet."""
 from __future__ import annotations
 
+import io
+import os
+import time
+
 from .errors import Refused, UsageError
 from .replies import Fault
 
@@ -10,6 +14,7 @@ if TYPE_CHECKING:
     from typing import Iterable
 
     from .cli import Call
+    from .console import Console
     from .notes import Cause, Outcome
     from .sheets import Sheet
 
@@ -51,10 +56,37 @@ def _parsed(call: Call, *flags: str, key: bool = False) -> argparse.Namespace:
     return parsed
 
 
-def _sheet(file: str) -> Sheet:
+class _Watched(io.BufferedReader):
+    """The file of a sheet, of which it is said each second on a terminal how much was read."""
+
+    def __init__(self, sheet: Sheet, console: Console) -> None:
+        super().__init__(io.FileIO(os.dup(sheet.file.fileno())))
+        self._sheet, self._console, self._next = sheet, console, time.monotonic() + 1.0
+        self._size = sheet.size() or 1
+
+    def _tell(self) -> None:
+        if time.monotonic() >= self._next:
+            self._next = time.monotonic() + 1.0
+            self._console.progress(f"{self._sheet.name}: {self.tell() * 100 // self._size} % read")
+
+    def read(self, size: int | None = -1, /) -> bytes:
+        """As of every such file."""
+        self._tell()
+        return super().read(size)
+
+    def read1(self, size: int = -1, /) -> bytes:
+        """As of every such file."""
+        self._tell()
+        return super().read1(size)
+
+
+def _sheet(call: Call, file: str) -> Sheet:
     from .sheets import open_sheet
 
-    return open_sheet(None if file == "-" else file, ".")
+    sheet = open_sheet(None if file == "-" else file, ".")
+    if call.console.err_is_terminal:
+        sheet.file = _Watched(sheet, call.console)
+    return sheet
 
 
 def _cause(call: Call, sheet: Sheet) -> Cause:
@@ -65,6 +97,7 @@ def _cause(call: Call, sheet: Sheet) -> Cause:
 
 
 def _print(call: Call, outcome: Outcome) -> None:
+    call.console.progress("")
     for reply in outcome.replies:
         call.console.line(str(reply))
 
@@ -92,7 +125,7 @@ def load(call: Call) -> int:
     from .loads import load as load_sheet
 
     words = _parsed(call)
-    sheet = _sheet(words.file)
+    sheet = _sheet(call, words.file)
     try:
         _print(call, load_sheet(call.journal(), words.table, sheet, _cause(call, sheet), _pairs(words.missing, "--missing"), call.console.say))
     except Refused as refused:
@@ -108,7 +141,7 @@ def import_(call: Call) -> int:
     from .loads import import_sheet, plan
 
     words = _parsed(call, "--valid", "--dry-run", key=True)
-    sheet = _sheet(words.file)
+    sheet = _sheet(call, words.file)
     try:
         made = plan(words.table, sheet, words.key[0], words.valid, _pairs(words.kind, "--kind"), _pairs(words.missing, "--missing"), call.console.say)
         done = None if words.dry_run else import_sheet(call.journal(), made, sheet, _cause(call, sheet), call.console.say)
@@ -116,6 +149,7 @@ def import_(call: Call) -> int:
         _tell(call, f"PUT {words.table}", sheet, refused)
         call.console.say("nothing was made")
         return refused.status
+    call.console.progress("")
     call.console.line(made.create(stored=False))
     if done is None:
         call.console.say(f"{made.records} records would be put into it; nothing was made")
@@ -129,7 +163,7 @@ def sync(call: Call) -> int:
     from .loads import sync as sync_sheet
 
     words = _parsed(call, "--keep", "--dry-run", "--allow-removals")
-    sheet = _sheet(words.file)
+    sheet = _sheet(call, words.file)
     try:
         done = sync_sheet(call.journal(), words.table, sheet, _cause(call, sheet), _pairs(words.missing, "--missing"), words.keep,
                           words.allow_removals, words.dry_run, call.console.say)
@@ -138,6 +172,7 @@ def sync(call: Call) -> int:
         call.console.say("nothing was changed")
         return refused.status
     found = done.difference
+    call.console.progress("")
     call.console.line(f"{found.new} new, {found.changed} changed, {len(found.gone)} gone, {found.same} unchanged")
     if words.dry_run:
         call.console.say("nothing was changed")

@@ -10,7 +10,7 @@ import io
 import os
 import re
 import sys
-from collections import deque
+from collections import Counter, deque
 from itertools import chain, islice
 from typing import IO, Callable, Iterable, Iterator, NamedTuple, Sequence
 
@@ -31,6 +31,9 @@ PERIOD = ("valid_from", "valid_to")
 _NAME = re.compile(r"[A-Za-z_][A-Za-z0-9_]{0,63}")
 _LAST = "\u0101"             # a record after the last one: where it is part of that, the file ends within quotes
 _NUL = "\u0100"              # what stands for a NUL, which the csv module of Python 3.10 refuses
+_COMMA = re.compile(r"[-+]?[0-9]+(?:\.[0-9]{3})*,[0-9]+")
+_MEANT = re.compile(rf"(?P<number>[-+]?[0-9]+(?:\.[0-9]+)?)|(?P<day>[0-9]{{4}}-[0-9]{{2}}-[0-9]{{2}})|(?P<comma>{_COMMA.pattern})"
+                    r"|(?P<time>[0-9]{4}-[0-9]{2}-[0-9]{2}[T ][0-9]{2}:[0-9]{2}(?::[0-9]{2})?)")
 _NUMBER = re.compile(r"([-+]?[0-9]+)(?:\.([0-9]{1,18}))?")
 _ODD = re.compile(r"[+].*|-?0[0-9]+|-0")
 _CANONICAL = re.compile(r"0|-?[1-9][0-9]{0,17}").fullmatch
@@ -321,57 +324,90 @@ class Guess:
 
     def __init__(self, is_end: bool = False) -> None:
         """`is_end` where FOREVER may stand in place of a number."""
-        self.is_end, self.has_empty, self.first = is_end, False, ""
+        self.is_end, self.has_empty, self.first = is_end, False, (0, "")
         self.left: list[Kind] | None = None
-        self.samples: dict[int, str] | None = {}     # while all cells are numbers in any spelling: one of each number of decimals
-        self.odd = ""                                # one that no kind of number would show as it is
+        # While all cells are numbers in any spelling: one of each number of decimals, with its record.
+        self.samples: dict[int, tuple[int, str]] | None = {}
+        self.odd: tuple[int, str] | None = None      # one that no kind of number would show as it is
+        self.strange: tuple[int, str, str] | None = None    # the first that is not what most are, and what
 
-    def take(self, cells: Sequence[str]) -> None:
-        """Looks at further cells of the column."""
+    def take(self, cells: Sequence[str], record: int) -> None:
+        """Looks at further cells of the column, the first of which stands in a record with this number."""
+        given = cells
         if "" in cells or self.is_end:
             self.has_empty = self.has_empty or "" in cells
-            cells = [cell for cell in cells if cell and not (self.is_end and cell == FOREVER)]
+            cells = [cell for cell in cells if self._counts(cell)]
         if not cells:
             return
         if self.left is None:
             self.left = [kinds.INT, kinds.DATE, kinds.TIME, *_decimal_of(cells[0])]
+            self.first = record + given.index(cells[0]), cells[0]
         else:
-            cells = [self.first, *cells]
-        self.first = cells[0]
+            cells = [self.first[1], *cells]
         self.left = [kind for kind in self.left if fits(kind, cells)]
         if not self.left and self.samples is not None:
-            self._take_numbers(cells)
+            placed = [(at, cell) for at, cell in enumerate(given, record) if self._counts(cell)]
+            self._take_numbers([self.first, *placed])
+            if self.samples is None:
+                self.strange = _strange(placed)
 
-    def _take_numbers(self, cells: Sequence[str]) -> None:
+    def _counts(self, cell: str) -> bool:
+        """Whether a cell says anything of the kind: an empty one does not, nor an end that never comes."""
+        return bool(cell) and not (self.is_end and cell == FOREVER)
+
+    def _take_numbers(self, cells: Sequence[tuple[int, str]]) -> None:
         assert self.samples is not None
-        for cell in cells:
+        for place, cell in cells:
             found = _NUMBER.fullmatch(cell)
             if found is None:
                 self.samples = None
                 return
-            self.samples.setdefault(len(found[2] or ""), cell)
+            self.samples.setdefault(len(found[2] or ""), (place, cell))
             if _ODD.fullmatch(found[1] if found[2] is None or found[1] != "-0" else ""):
-                self.odd = self.odd or cell
+                self.odd = self.odd or (place, cell)
 
     @property
     def kind(self) -> Kind:
         """The kind of the column, empty cells aside; TEXT where it has no other cell."""
         return self.left[0] if self.left else kinds.TEXT
 
-    def advice(self, name: str) -> str:
-        """What to say of a column of texts that might be meant as numbers, else nothing."""
+    def advice(self, name: str, line_of: Callable[[int], int]) -> str:
+        """What to say of a column of texts that might be meant as numbers or days, else nothing; `line_of` gives a record's line."""
         if self.left and self.has_empty:
             return f"{name} is TEXT, since it has empty cells; --missing {name}=.. says what stands for them, and then it is {self.kind}"
+        if self.strange is not None:
+            place, cell, most = self.strange
+            front = f"{name} is TEXT, since line {line_of(place)} has {from_bytes(cell)[:60]!r}"
+            with_point = cell.replace(".", "").replace(",", ".")
+            return front + (f", with a decimal comma: save the sheet with points, as {with_point}" if most == "comma" else f", which is no {most}")
         if self.left or not self.samples:
             return ""
         places = max(self.samples)
         meant = Kind("DECIMAL", places) if places else kinds.INT
-        cell = self.odd or self.samples[min(self.samples)]
+        place, cell = self.odd or self.samples[min(self.samples)]
         try:
             shown = meant.shown(meant.cell(cell))
         except KindFault:
             return ""
-        return f"{name} is TEXT, since {cell} would come back as {shown}; --kind '{name}={meant}' takes it as a number" if shown != cell else ""
+        return f"{name} is TEXT, since {cell} in line {line_of(place)} would come back as {shown}; --kind '{name}={meant}' takes it as a number" if shown != cell else ""
+
+
+def _family(cell: str) -> str:
+    """What a cell looks like: a number, a day of the calendar, a time, a number with a decimal comma, or a text."""
+    found = _MEANT.fullmatch(cell)
+    if found is None or found["day"] and not comes_back(kinds.DATE, cell):
+        return "text"
+    return str(found.lastgroup)
+
+
+def _strange(cells: Sequence[tuple[int, str]]) -> tuple[int, str, str] | None:
+    """The first of some cells that is no number, or no day, where more than half of them are, with its record and what these are; the
+    first with a decimal comma where more than half have one. None where all look alike."""
+    families = [_family(cell) for _, cell in cells]
+    most, count = Counter(families).most_common(1)[0]
+    if most == "text" or 2 * count <= len(cells):
+        return None
+    return next(((*cell, most) for cell, family in zip(cells, families) if (family != most) != (most == "comma")), None)
 
 
 def _decimal_of(cell: str) -> list[Kind]:

@@ -209,30 +209,36 @@ class Shell:
 
     def _commit(self, statement: Statement, block: bytes) -> None:
         """Keeps what a statement makes, and prints its version."""
-        from .days import moment_of
         from .loads import columns_of, put_sheet
-        from .notes import cause_of, transact
+        from .notes import batch, cause_of, prepared_batch, transact
         from .sheets import NotRaw, column_names
-        from .statements import prepare
 
         options = self.call.options
         stamp = False if self.is_look or statement.word == "MOMENT" else options.stamp
         cause = cause_of(options.by, options.because, "", stamp)
-        sent = decode(prepare(statement, moment_of).sent)
+        prepared = prepared_batch(statement)[0]
+        sent = decode(prepared.sent)
         words = sent.split()
 
         def body(unit: Unit, raw: bool) -> Iterator[bytes]:
-            if statement.word not in BLOCKS or len(words) != 2:
-                yield unit.begin(sent) + (block + b"\\.\n" if statement.word in BLOCKS else b"")
-                return
-            sheet = _sheet_of(block, f"the block of {statement.text}")
-            columns = columns_of(unit.state.catalog, words[1], sheet, column_names(sheet.header, True), {})
-            yield from put_sheet(unit, words[1], sheet, columns, raw, words[0])
+            """The pieces of the statement, with its block as it was typed where that is wanted."""
+            if statement.word not in BLOCKS:
+                yield from batch(unit, statement)
+            elif len(words) != 2:
+                yield unit.begin(sent) + block + b"\\.\n"
+            else:
+                sheet = _sheet_of(block, f"the block of {statement.text}")
+                columns = columns_of(unit.state.catalog, words[1], sheet, column_names(sheet.header, True), {})
+                yield from put_sheet(unit, words[1], sheet, columns, raw, words[0])
 
         try:
             outcome = transact(self.journal, "shell", lambda unit: body(unit, True), cause, self.console.say)
         except NotRaw:
             outcome = transact(self.journal, "shell", lambda unit: body(unit, False), cause, self.console.say)
+        except Refused as refused:
+            if refused.place is not None and refused.place.offset is not None and refused.number:
+                refused.numbers = (prepared.typed_offset(refused.place.offset), *refused.numbers[1:])
+            raise
         self.console.line(f"@{outcome.version} ok")
 
     def _line(self, statement: Statement, text: str) -> int:

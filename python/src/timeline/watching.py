@@ -123,7 +123,7 @@ def pass_on(run: Run, console: Console) -> int:
 
 def watch(run: Run, console: Console, explainer: Explainer | None, journal: Journal | None, is_watch: bool) -> tuple[int, Count]:
     """Passes on a run and looks at its replies: gives its status and the count. `journal` is given where progress is shown, and
-    `is_watch` where a line of what is watched comes behind each commit."""
+    `is_watch` where a line of what is watched comes after each commit."""
     passing, count = Passing(run, console, journal), Count()
     committed = False
     try:

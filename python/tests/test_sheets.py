@@ -111,17 +111,18 @@ def test_telephone_numbers_and_a_quoted_line_end_before_numbers(journal: str) ->
 
 def test_what_is_said_of_columns_that_might_be_numbers() -> None:
     said: list[str] = []
-    rows = [["k", "pay", "fee", "zip", "tax", "day", "rate", "name", "code", "born"],
-            ["1", "2800.5", "", "01", "n/a", "2026-01-01", "1,5", "Ann", "7", "2000-02-29"],
-            ["2", "2800", "5", "2", "5", "two\r\nlines", "2.000,25", "Bob", "x", "2001-02-29"],
-            ["3", "1.5", "5", "2", "7", "2026-01-02", "3,5", "Cy", "y", "2004-02-29"]]
+    rows = [["k", "pay", "fee", "zip", "tax", "day", "rate", "name", "code", "born", "cost"],
+            ["1", "2800.5", "", "01", "n/a", "2026-01-01", "1,5", "Ann", "7", "2000-02-29", "1,234"],
+            ["2", "2800", "5", "2", "5", "two\r\nlines", "2.000,25", "Bob", "x", "2001-02-29", "12,000"],
+            ["3", "1.5", "5", "2", "7", "2026-01-02", "3,5", "Cy", "y", "2004-02-29", "5,5"]]
     loads.plan("t", sheet_of(csv_of(rows)), "k", say=said.append)
     assert [it.partition(";")[0] for it in said] == [
         "pay is TEXT, since 2800 in line 3 would come back as 2800.0", "fee is TEXT, since it has empty cells",
         "zip is TEXT, since 01 in line 2 would come back as 1", "tax is TEXT, since line 2 has 'n/a', which is no number",
         "day is TEXT, since line 3 has 'two\\r\\nlines', which is no day",
         "rate is TEXT, since line 2 has '1,5', with a decimal comma: save the sheet with points, as 1.5",
-        "born is TEXT, since line 3 has '2001-02-29', which is no day"]
+        "born is TEXT, since line 3 has '2001-02-29', which is no day",
+        "cost is TEXT, since line 2 has '1,234', with a comma: save the sheet without it, as 1234, or with a point, as 1.234"]
 
 
 def test_an_odd_cell_after_many_is_said() -> None:

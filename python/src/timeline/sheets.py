@@ -32,6 +32,7 @@ _NAME = re.compile(r"[A-Za-z_][A-Za-z0-9_]{0,63}")
 _LAST = "\u0101"             # a record after the last one: where it is part of that, the file ends within quotes
 _NUL = "\u0100"              # what stands for a NUL, which the csv module of Python 3.10 refuses
 _COMMA = re.compile(r"[-+]?[0-9]+(?:\.[0-9]{3})*,[0-9]+")
+_THOUSANDS = re.compile(r"[-+]?[1-9][0-9]{0,2},[0-9]{3}")
 _MEANT = re.compile(rf"(?P<number>[-+]?[0-9]+(?:\.[0-9]+)?)|(?P<day>[0-9]{{4}}-[0-9]{{2}}-[0-9]{{2}})|(?P<comma>{_COMMA.pattern})"
                     r"|(?P<time>[0-9]{4}-[0-9]{2}-[0-9]{2}[T ][0-9]{2}:[0-9]{2}(?::[0-9]{2})?)")
 _NUMBER = re.compile(r"([-+]?[0-9]+)(?:\.([0-9]{1,18}))?")
@@ -373,13 +374,12 @@ class Guess:
 
     def advice(self, name: str, line_of: Callable[[int], int]) -> str:
         """What to say of a column of texts that might be meant as numbers or days, else nothing; `line_of` gives a record's line."""
+        front = f"{name} is TEXT, since "
         if self.left and self.has_empty:
-            return f"{name} is TEXT, since it has empty cells; --missing {name}=.. says what stands for them, and then it is {self.kind}"
+            return f"{front}it has empty cells; --missing {name}=.. says what stands for them, and then it is {self.kind}"
         if self.strange is not None:
             place, cell, most = self.strange
-            front = f"{name} is TEXT, since line {line_of(place)} has {from_bytes(cell)[:60]!r}"
-            with_point = cell.replace(".", "").replace(",", ".")
-            return front + (f", with a decimal comma: save the sheet with points, as {with_point}" if most == "comma" else f", which is no {most}")
+            return f"{front}line {line_of(place)} has {from_bytes(cell)[:60]!r}, {_difference(cell, most)}"
         if self.left or not self.samples:
             return ""
         places = max(self.samples)
@@ -389,7 +389,19 @@ class Guess:
             shown = meant.shown(meant.cell(cell))
         except KindFault:
             return ""
-        return f"{name} is TEXT, since {cell} in line {line_of(place)} would come back as {shown}; --kind '{name}={meant}' takes it as a number" if shown != cell else ""
+        end = f"would come back as {shown}; --kind '{name}={meant}' takes it as a number"
+        return f"{front}{cell} in line {line_of(place)} {end}" if shown != cell else ""
+
+
+def _difference(cell: str, most: str) -> str:
+    """What is said of a cell that is not what most of its column are, or that has a comma as most have: of decimals, or of thousands
+    where it could be either."""
+    if most != "comma":
+        return f"which is no {most}"
+    with_point = cell.replace(".", "").replace(",", ".")
+    if _THOUSANDS.fullmatch(cell):
+        return f"with a comma: save the sheet without it, as {cell.replace(',', '')}, or with a point, as {with_point}"
+    return f"with a decimal comma: save the sheet with points, as {with_point}"
 
 
 def _family(cell: str) -> str:

@@ -1,5 +1,6 @@
 -- The phases of a script come one after the other.
-use Rattle.std.proofs.Common.{◌≡◌, ◌⊎◌, inl, inr, ℕ, ◌<◌, ◌≤◌, Bool, true, false, List, [], ◌∷◌, ◌++◌, length, All, slice_index_or, zero, suc, nat_lt, Option, Some, None, Result, Ok, Err, refl, sym, ap, ◌∙◌, subst, arith}
+use Rattle.std.proofs.Common.{◌≡◌, ◌⊎◌, inl, inr, ℕ, ◌+◌, ◌<◌, ◌≤◌, take, drop, length-take, length-drop, take-append-drop, Bool, true, false, List, [], ◌∷◌, ◌++◌, length, All, slice_index_or, zero, suc, nat_lt, Option, Some, None, Result, Ok, Err, refl, sym, ap, ◌∙◌, subst, arith}
+use Rattle.std.proofs.lemmas.Bool.Decides.{nat_tests}
 use Rattle.tl_types.specs.declared.limits.Limits.{Limits}
 use Rattle.tl_types.specs.Limits.{standard_limits}
 use Rattle.tl_script.specs.declared.phases.NextError.{NextError}
@@ -7,10 +8,10 @@ use Rattle.tl_script.specs.declared.phases.NextError.TheVariants as next
 use Rattle.tl_script.specs.declared.phases.Phase.{Phase}
 use Rattle.tl_script.specs.Script.{Job, ScriptReading, load_of, job_with}
 use Rattle.tl_script.specs.Phases.{with_phase, no_phase, most_sessions, reading_from}
-use Rattle.tl_script.specs.Reader.{ScriptState, new_state, spot_of, reading_ahead, Grows, ComesNext, ComesLast, Loads}
+use Rattle.tl_script.specs.Reader.{ScriptState, new_state, spot_of, reading_ahead, Grows, ComesNext, ComesLast, IsNeeded, Loads, LoadSays}
 use Rattle.tl_script.specs.Reader as reader
 use Rattle.tl_script.specs.Taking.{IsAtEnd}
-use Rattle.tl_command.specs.Coming.{Comes, BringsPhase, BringsNone, SaysComing, AnswersComing, script_coming, loader_names, block_coming, HasNotBegun}
+use Rattle.tl_command.specs.Coming.{Comes, BringsPhase, BringsNone, SaysComing, AnswersComing, script_coming, loader_names, block_coming, block_reads, HasNotBegun}
 use Rattle.tl_command.proofs.NamesLemmas.{names_kept, not_longer, grows_itself}
 
 -- nothing is ahead where nothing is pending
@@ -69,7 +70,7 @@ says old new taken (Err e) left h = stops old taken e left h.cause
 
 pub script_answers : (old new : ScriptState) (before : Option (List ℕ)) (answer : Result (Option Phase) NextError) (after : Option (List ℕ)) → reader.AnswersNext old before answer new after → AnswersComing (script_coming old) before answer (script_coming new) after
 script_answers old new before answer after h =
-    record { taken = h.taken; order = h.order; idle = h.idle; says = says old new h.taken answer after h.says }
+    record { taken = h.taken; order = h.order; needed = h.needed; idle = h.idle; says = says old new h.taken answer after h.says }
 
 -- a new script is fresh, and what it reads is the whole script
 pub new_script_fresh : (limits : Limits) → most_sessions limits < 65536 → HasNotBegun (script_coming (new_state limits))
@@ -95,11 +96,31 @@ first_alone text bytes jobs e = rw e (λ k d inside. at k d inside) where
   at zero d inside = omega arith
   at (suc k) d inside = absurd (omega (arith, inside))
 
+-- a block that is not too long decides nothing before the end of its source
+undecided : (text bytes : List ℕ) → length bytes ≤ standard_limits.phase → block_reads text false bytes ≡ no_phase []
+undecided text bytes few = rw (not_less standard_limits.phase (length bytes) few) refl where
+  not_less : (a b : ℕ) → b ≤ a → nat_lt a b ≡ false
+  not_less a b le = grind (arith, nat_tests)
+
+-- all but the last read of a block's bytes is not too long
+block_needed : (text bytes : List ℕ) → length bytes ≤ standard_limits.phase + 65536 → IsNeeded (block_reads text false) [] bytes
+block_needed text bytes bound =
+    let most = standard_limits.phase in
+    inr (record {
+      in_hand = undecided text [] (omega arith);
+      front = take most bytes;
+      last = drop most bytes;
+      parts = sym (take-append-drop most bytes);
+      bound = omega (arith, bound, length-drop most bytes);
+      undecided = undecided text (take most bytes) (omega (arith, length-take most bytes));
+    })
+
 -- the whole source is the block
 pub block_given : (text : List ℕ) (before after : Option (List ℕ)) (phase : Phase) → Loads standard_limits text before (Ok phase) after → AnswersComing (block_coming text false) before (Ok (Some phase)) (block_coming text true) after
 block_given text before after phase h = record {
   taken = h.taken;
   order = h.order;
+  needed = block_needed text h.taken h.bound;
   idle = λ e. absurd (cc);
   says = record {
     live = refl;
@@ -111,4 +132,20 @@ block_given text before after phase h = record {
     ended = λ e. h.says.0;
     comes = inr (h.says.0, refl, h.says.1);
   };
+}
+
+-- why the source gave no block
+no_block : (text taken : List ℕ) (e : NextError) (after : Option (List ℕ)) → LoadSays standard_limits text taken (Err e) after → BringsNone (block_coming text false) taken e after
+no_block text taken next.NoMemory after h = tt
+no_block text taken (next.Source faults) after h = undecided text taken h
+no_block text taken (next.Fault f) after h = inl h
+
+-- or it gave none
+pub block_missing : (text : List ℕ) (before after : Option (List ℕ)) (e : NextError) → Loads standard_limits text before (Err e) after → AnswersComing (block_coming text false) before (Err e) (block_coming text false) after
+block_missing text before after e h = record {
+  taken = h.taken;
+  order = h.order;
+  needed = block_needed text h.taken h.bound;
+  idle = λ i. absurd (cc);
+  says = no_block text h.taken e after h.says;
 }

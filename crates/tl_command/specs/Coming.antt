@@ -10,7 +10,7 @@ use Rattle.tl_script.specs.declared.phases.NextError.TheVariants as next
 use Rattle.tl_script.specs.declared.phases.Phase.{Phase}
 use Rattle.tl_script.specs.Script.{Job, ScriptReading, load_of}
 use Rattle.tl_script.specs.Phases.{with_phase, no_phase, no_phase_but, most_sessions, script_start, reading_from}
-use Rattle.tl_script.specs.Reader.{ScriptState, reading_ahead, with_phases, Grows}
+use Rattle.tl_script.specs.Reader.{ScriptState, reading_ahead, with_phases, Grows, IsNeeded}
 use Rattle.tl_script.specs.Taking.{IsAtEnd}
 
 -- what may still come: what is read where these bytes follow, and are all that does or may go on;
@@ -68,12 +68,14 @@ SaysComing old taken (Ok (Some phase)) new left = BringsPhase old taken phase.jo
 SaysComing old taken (Ok None) new left = BringsNoMore old taken left
 SaysComing old taken (Err e) new left = BringsNone old taken e left
 
--- bytes were taken of the source, none where it is at its end, and the answer says this of them
+-- bytes were taken of the source, none where it is at its end or those in hand decide, and the
+-- answer says this of them
 pub record AnswersComing (old : Coming) (before : Option (List ℕ))
     (answer : Result (Option Phase) NextError) (new : Coming) (after : Option (List ℕ))
     : Type 0 where
   pub taken : List ℕ
   pub order : before ≡ prepend_known taken after
+  pub needed : IsNeeded (old.reads false) old.names taken
   pub idle : old.at_end ≡ true → (taken ≡ []) × (answer ≡ Ok None)
   pub says : SaysComing old taken answer new after
 

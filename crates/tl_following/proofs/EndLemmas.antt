@@ -1,5 +1,5 @@
 -- How a journal that follows packets ends.
-use Rattle.std.proofs.Common.{◌≡◌, inl, inr, ℕ, List, [], ◌++◌, length, map, Some, None, refl, sym, ap, ◌∙◌, subst, append-nil}
+use Rattle.std.proofs.Common.{◌≡◌, ◌≢◌, inl, inr, ℕ, List, [], ◌++◌, length, map, Some, None, refl, sym, ap, ◌∙◌, subst}
 use Rattle.std.specs.declared.option.Option.{Option}
 use Rattle.tl_types.specs.declared.commits.Commit.{Commit}
 use Rattle.tl_types.specs.declared.commits.Entry.{Entry}
@@ -16,7 +16,7 @@ use Rattle.tl_group.specs.Standing.{DiskStandsForGroup, IsGivenBack, WaitsWithAl
 use Rattle.tl_group.proofs.WaitLemmas.{commits_behind}
 use Rattle.tl_command.specs.declared.statuses.Status.{Status}
 use Rattle.tl_command.specs.declared.statuses.Status.TheVariants as status
-use Rattle.tl_command.specs.Closing.{Closes}
+use Rattle.tl_command.specs.Closing.{Closes, WritesNothing}
 use Rattle.tl_command.specs.Outside.{Outside, HoldsJournal}
 use Rattle.tl_command.specs.Status.{closing_line}
 use Rattle.tl_grouping.specs.Appending.{AppendsAndWrites, IsAttached}
@@ -26,7 +26,7 @@ use Rattle.tl_command.proofs.HeldLemmas.{holds_journal, stored_image}
 use Rattle.tl_grouping.proofs.DiskLemmas.{left_image, left_count}
 use Rattle.tl_grouping.proofs.EndLemmas.{appended}
 use Rattle.tl_grouping.proofs.PlayLemmas.{keeps_itself}
-use Rattle.tl_following.specs.Following.{AppendsMore, Extends, FailsInput, FollowEndsBy, Follows, TakesCommits, follow_line}
+use Rattle.tl_following.specs.Following.{AppendsMore, Extends, FailsInput, FollowEndsBy, Follows, TakesCommits, WhyFollowFails, follow_line}
 
 -- where the input has no fault
 as_follow : (opening : List Commit) (before after : Outside) (ended : Status) → LeavesBy (λ all text. Follows opening all text before after) opening before after ended → FollowEndsBy opening before after ended
@@ -43,11 +43,6 @@ as_follow opening before after (status.Damaged at) h = h
 as_follow opening before after (status.PacketFault at) h = absurd h
 as_follow opening before after (status.WatchFault f) h = h
 as_follow opening before after (status.StatementRefused n) h = h
-
--- nothing was written
-silent_line : (old new : Option (List ℕ)) → new ≡ append_known old [] → new ≡ old
-silent_line None new e = e
-silent_line (Some b) new e = e ∙ ap Some (append-nil b)
 
 -- a group that was extended by commits, and is appended with the line that tells how many there are
 pub extended_by : {K D : Type 0} (sinks : SinkGhosts K) (disks : DiskGhosts D) (first waiting later : group.Group D) (commits given : List Commit) (next : List Entry) (text : List ℕ) (old new : K) (disk : D) (ended : Status) → waiting ≡ first → given ≡ commits → next ≡ first.entries ++ map commit_entry commits → later.limits ≡ waiting.limits → WaitsWithAll given waiting later → disks.faults later.journal.disk ≡ disks.faults waiting.journal.disk → (DiskStandsForGroup disks.reads disks.may_leave waiting → DiskStandsForGroup disks.reads disks.may_leave later) → text ≡ follow_line (length (commits_of next)) → AppendsAndWrites sinks disks later text old new disk ended → AppendsMore sinks disks first commits old new disk ended
@@ -93,28 +88,35 @@ module _ {K D : Type 0} (sinks : SinkGhosts K) (disks : DiskGhosts D) (begun : D
       (taken.0, taken.2.0, taken.1.1, taken.1.2, taken.2.1, taken.2.2, more.all ∙ taken.2.3.history, refl, sure) more.writes)
 
   -- no commits were made of the input
-  pub not_extended : (wanted : Status) → FailsInput (commits_in attached) left first last wanted → disk ≡ attached.journal.disk → Closes [] wanted (sinks.written old) (sinks.written new) (sinks.faults old) (sinks.faults new) ended → FollowEndsBy (commits_in attached) before after ended
-  not_extended wanted fails same closes = by_status wanted fails closes where
+  pub not_extended : (wanted : Status) → FailsInput (commits_in attached) left first last wanted → disk ≡ attached.journal.disk
+      → (wanted ≡ status.NoMemory → WritesNothing status.NoMemory (sinks.written old) (sinks.written new) (sinks.faults old) (sinks.faults new) ended)
+      → (wanted ≢ status.NoMemory → Closes [] wanted (sinks.written old) (sinks.written new) (sinks.faults old) (sinks.faults new) ended) → FollowEndsBy (commits_in attached) before after ended
+  not_extended wanted fails same silent closes = by_status wanted fails silent closes where
     kept : HoldsJournal (commits_in attached) None before after
     kept = holds attached (keeps_itself disks attached) same
 
-    cut : (wanted : Status) → FailsInput (commits_in attached) left first last wanted → (sinks.written new ≡ append_known (sinks.written old) (closing_line wanted) → sinks.faults new ≡ sinks.faults old → FollowEndsBy (commits_in attached) before after wanted) → Closes [] wanted (sinks.written old) (sinks.written new) (sinks.faults old) (sinks.faults new) ended → FollowEndsBy (commits_in attached) before after ended
+    cut : (wanted : Status) → WhyFollowFails (commits_in attached) left first last wanted → (sinks.written new ≡ append_known (sinks.written old) (closing_line wanted) → sinks.faults new ≡ sinks.faults old → FollowEndsBy (commits_in attached) before after wanted) → Closes [] wanted (sinks.written old) (sinks.written new) (sinks.faults old) (sinks.faults new) ended → FollowEndsBy (commits_in attached) before after ended
     cut wanted why closed (inl (e, written, faults)) = subst (FollowEndsBy (commits_in attached) before after) (sym e) (closed written faults)
     cut wanted why closed (inr (inl (e, written, faults))) = subst (FollowEndsBy (commits_in attached) before after) (sym e) ((written, faults), kept)
     cut wanted why closed (inr (inr (e, rose, some))) =
         subst (FollowEndsBy (commits_in attached) before after) (sym e) (inr (refl, record { closing = wanted; why = why; prints = (rose, some); holds = kept }))
 
-    by_status : (w : Status) → FailsInput (commits_in attached) left first last w → Closes [] w (sinks.written old) (sinks.written new) (sinks.faults old) (sinks.faults new) ended → FollowEndsBy (commits_in attached) before after ended
-    by_status status.Done h c = absurd h
-    by_status status.NoMemory h c = cut status.NoMemory h (λ written faults. ((silent_line (sinks.written old) (sinks.written new) written, faults), kept)) c
-    by_status status.Usage h c = absurd h
-    by_status (status.SourceFault n) h c = cut (status.SourceFault n) h (λ written faults. (h.0, h.1, record { prints = (written, faults); holds = kept })) c
-    by_status (status.SinkFault n) h c = absurd h
-    by_status (status.DiskFault n) h c = absurd h
-    by_status (status.ScriptFault f) h c = absurd h
-    by_status (status.NotInitialised n) h c = absurd h
-    by_status (status.AlreadyInitialised n) h c = absurd h
-    by_status (status.Damaged n) h c = absurd h
-    by_status (status.PacketFault n) h c = cut (status.PacketFault n) h (λ written faults. (h.0, h.1, record { prints = (written, faults); holds = kept })) c
-    by_status (status.WatchFault f) h c = absurd h
-    by_status (status.StatementRefused n) h c = absurd h
+    gone : WritesNothing status.NoMemory (sinks.written old) (sinks.written new) (sinks.faults old) (sinks.faults new) ended → FollowEndsBy (commits_in attached) before after ended
+    gone (e, written, faults) = subst (FollowEndsBy (commits_in attached) before after) (sym e) ((written, faults), kept)
+
+    by_status : (w : Status) → FailsInput (commits_in attached) left first last w
+        → (w ≡ status.NoMemory → WritesNothing status.NoMemory (sinks.written old) (sinks.written new) (sinks.faults old) (sinks.faults new) ended)
+        → (w ≢ status.NoMemory → Closes [] w (sinks.written old) (sinks.written new) (sinks.faults old) (sinks.faults new) ended) → FollowEndsBy (commits_in attached) before after ended
+    by_status status.Done h silent c = absurd h
+    by_status status.NoMemory h silent c = gone (silent refl)
+    by_status status.Usage h silent c = absurd h
+    by_status (status.SourceFault n) h silent c = let other : status.SourceFault n ≢ status.NoMemory = λ e. cc in cut (status.SourceFault n) (other, h) (λ written faults. (h.0, h.1, record { prints = (written, faults); holds = kept })) (c other)
+    by_status (status.SinkFault n) h silent c = absurd h
+    by_status (status.DiskFault n) h silent c = absurd h
+    by_status (status.ScriptFault f) h silent c = absurd h
+    by_status (status.NotInitialised n) h silent c = absurd h
+    by_status (status.AlreadyInitialised n) h silent c = absurd h
+    by_status (status.Damaged n) h silent c = absurd h
+    by_status (status.PacketFault n) h silent c = let other : status.PacketFault n ≢ status.NoMemory = λ e. cc in cut (status.PacketFault n) (other, h) (λ written faults. (h.0, h.1, record { prints = (written, faults); holds = kept })) (c other)
+    by_status (status.WatchFault f) h silent c = absurd h
+    by_status (status.StatementRefused n) h silent c = absurd h

@@ -9,7 +9,7 @@
 --   DiskFault                 the closing line                     C, or all; where it came in
 --                                                                  opening, as for a run
 --   NotInitialised, Damaged   as for a run that is not opened
-use Rattle.std.specs.Prelude.{◌≡◌, ◌⊎◌, ℕ, ◌<◌, ◌≤◌, List, [], ◌++◌, length, codes, Option, Some, None, IfSome}
+use Rattle.std.specs.Prelude.{◌≡◌, ◌≢◌, ◌⊎◌, ℕ, ◌<◌, ◌≤◌, List, [], ◌++◌, length, codes, Option, Some, None, IfSome}
 use Rattle.std.specs.Fmt.{decimal}
 use Rattle.tl_types.specs.declared.commits.Commit.{Commit}
 use Rattle.tl_types.specs.declared.commits.Entry.{Entry}
@@ -127,6 +127,12 @@ FailsInput opening before first last (status.PacketFault at) =
 FailsInput opening before first last (status.WatchFault f) = ⊥
 FailsInput opening before first last (status.StatementRefused number) = ⊥
 
+-- why the group is given up for what a line tells: the same but for want of memory, at which
+-- nothing is written
+abbrev pub WhyFollowFails : List Commit → Option (List ℕ) → ℕ → ℕ → Status → Type 0
+WhyFollowFails opening before first last ended =
+    (ended ≢ status.NoMemory) × FailsInput opening before first last ended
+
 -- THE GROUP
 
 -- memory ran out before the append: nothing is written, and the disk is handed back
@@ -186,7 +192,7 @@ FollowEndsBy opening before after (status.SinkFault faults) =
     LeavesBy (λ all text. Follows opening all text before after) opening before after
     (status.SinkFault faults)
     ⊎ ((faults ≡ after.sink_faults)
-    × CutsGivenUp (FailsInput opening before.left before.source_faults after.source_faults)
+    × CutsGivenUp (WhyFollowFails opening before.left before.source_faults after.source_faults)
     opening before after)
 FollowEndsBy opening before after (status.DiskFault faults) =
     LeavesBy (λ all text. Follows opening all text before after) opening before after

@@ -1,7 +1,7 @@
 //! A journal is opened, the packets of the source make commits behind its own, and these are
 //! appended as one group. Where the input has a fault or fails, or memory runs out, the disk keeps
 //! what it had.
-ghost use Rattle.std.specs.Prelude.{◌≡◌, ◌++◌, length, map, false, IfErr, IfOk, OnOk};
+ghost use Rattle.std.specs.Prelude.{◌≡◌, ◌≢◌, ◌++◌, [], length, map, false, IfErr, IfOk, OnOk};
 ghost use Rattle.std.specs.String.{string_bytes};
 ghost use Rattle.tl_types.specs.Entries.{commits_of, has_break};
 ghost use Rattle.tl_types.specs.History.{database_of};
@@ -9,7 +9,9 @@ ghost use Rattle.tl_types.specs.Legality.{FitFrom};
 ghost use Rattle.tl_types.specs.Limits.{standard_limits};
 ghost use Rattle.tl_index.specs.Snapshots.{commit_entry};
 ghost use Rattle.tl_script.specs.Reader.{TakesBlock};
+ghost use Rattle.tl_command.specs.Closing.{Closes, WritesNothing};
 ghost use Rattle.tl_command.specs.Outside.{outside};
+ghost use Rattle.tl_command.specs.declared.statuses.Status.TheVariants as status;
 ghost use Rattle.tl_group.specs.Keeping.{commits_in};
 ghost use Rattle.tl_grouping.specs.Appending.{IsAttached};
 ghost use Rattle.tl_following.specs.Following.{Extends, FailsBytes, FailsInput, FailsPiece, FollowEnds, FollowEndsBy, ReadsWhole, TakesCommits, follow_line};
@@ -167,6 +169,19 @@ fn extend<K: Sink, D: Disk>(
     }
 }
 
+// Closes a run whose input made no commits: its closing line is written, unless memory ran out.
+fn close_without_commits<K: Sink>(alloc: Global, sink: &mut K, ended: Status) -> Status
+    ensures memory { ended ≡ status.NoMemory → WritesNothing status.NoMemory (K.written sink.old)
+        (K.written sink.new) (K.faults sink.old) (K.faults sink.new) result }
+    ensures line { ended ≢ status.NoMemory → Closes [] ended (K.written sink.old)
+        (K.written sink.new) (K.faults sink.old) (K.faults sink.new) result }
+{
+    match ended {
+        Status::NoMemory => Status::NoMemory,
+        _ => close(alloc, sink, ended),
+    }
+}
+
 // Takes the input behind a group as it was opened, and appends what its packets make.
 fn follow_over<S: Source, K: Sink, D: Disk>(
     alloc: Global,
@@ -182,7 +197,7 @@ fn follow_over<S: Source, K: Sink, D: Disk>(
     match take_input(alloc, &group, source) {
         Ok(followed) => extend(alloc, group, followed, sink),
         Err(ended) => Ending {
-            status: close(alloc, sink, ended),
+            status: close_without_commits(alloc, sink, ended),
             disk: group.into_disk(),
         },
     }

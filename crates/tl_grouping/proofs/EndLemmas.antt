@@ -1,5 +1,5 @@
 -- How a group ends, by why its phases stopped and what became of its append.
-use Rattle.std.proofs.Common.{◌≡◌, inl, inr, ℕ, Bool, true, false, List, [], Some, None, IfSome, codes, refl, sym, ◌∙◌, subst}
+use Rattle.std.proofs.Common.{◌≡◌, inl, inr, ℕ, Bool, false, List, [], Some, None, IfSome, codes, refl, sym, ◌∙◌, subst}
 use Rattle.std.specs.declared.option.Option.{Option}
 use Rattle.tl_types.specs.declared.commits.Commit.{Commit}
 use Rattle.tl_device.specs.Known.{append_known, Rose}
@@ -138,7 +138,7 @@ given_up sinks disks stops plan reads begun attached left end first last old new
   holds = back_held disks begun disk attached left end (sinks.written old) (sinks.written new) first last (sinks.faults old) (sinks.faults new) a back
 
   -- memory ran out, or the sink failed at the closing line
-  cut : (wanted : Status) → WhyGivenUp reads before after wanted → Closes [] wanted (sinks.written old) (sinks.written new) (sinks.faults old) (sinks.faults new) ended
+  cut : (wanted : Status) → WhyGivenUp stops reads (commits_in attached) before after wanted → Closes [] wanted (sinks.written old) (sinks.written new) (sinks.faults old) (sinks.faults new) ended
       → ((sinks.written new ≡ append_known (sinks.written old) (closing_line wanted)) → (sinks.faults new ≡ sinks.faults old) → GroupEndsBy stops plan reads (commits_in attached) before after wanted)
       → GroupEndsBy stops plan reads (commits_in attached) before after ended
   cut wanted why (inl (e, written, faults)) closed = subst (GroupEndsBy stops plan reads (commits_in attached) before after) (sym e) (closed written faults)
@@ -146,7 +146,7 @@ given_up sinks disks stops plan reads begun attached left end first last old new
   cut wanted why (inr (inr (e, rose, some))) closed =
       subst (GroupEndsBy stops plan reads (commits_in attached) before after) (sym e) (inr (refl, inl (record { closing = wanted; why = why; prints = (rose, some); holds = holds })))
 
-  by_stop : (w : Stop) → PlayStops reads w left end first last → ClosesAfter w false 0 (sinks.written old) (sinks.written new) (sinks.faults old) (sinks.faults new) ended → GroupEndsBy stops plan reads (commits_in attached) before after ended
+  by_stop : (w : Stop) → PlayStops stops reads (commits_in attached) w left end first last → ClosesAfter w false 0 (sinks.written old) (sinks.written new) (sinks.faults old) (sinks.faults new) ended → GroupEndsBy stops plan reads (commits_in attached) before after ended
   by_stop stop.Ended h c = absurd h
   by_stop (stop.Fault f) h c = cut (status.ScriptFault f) h c (λ written faults. (h, record { prints = (written, faults); holds = holds }))
   by_stop (stop.Source n) h c = cut (status.SourceFault n) h c (λ written faults. (h, record { prints = (written, faults); holds = holds }))
@@ -154,7 +154,7 @@ given_up sinks disks stops plan reads begun attached left end first last old new
   by_stop stop.NoMemory h (e, written, faults) = subst (GroupEndsBy stops plan reads (commits_in attached) before after) (sym e) ((written, faults), holds)
 
   -- a statement was refused: its number and the replies up to its own are to be told
-  by_refusal : (text : List ℕ) (number : ℕ) → EndsAtRefusal stops plan (reads true) (commits_in attached) text number left → last ≡ first → Closes text (status.StatementRefused number) (sinks.written old) (sinks.written new) (sinks.faults old) (sinks.faults new) ended → GroupEndsBy stops plan reads (commits_in attached) before after ended
+  by_refusal : (text : List ℕ) (number : ℕ) → EndsAtRefusal stops plan reads (commits_in attached) text number left end → last ≡ first → Closes text (status.StatementRefused number) (sinks.written old) (sinks.written new) (sinks.faults old) (sinks.faults new) ended → GroupEndsBy stops plan reads (commits_in attached) before after ended
   by_refusal text number plays sure (inl (e, written, faults)) =
       subst (GroupEndsBy stops plan reads (commits_in attached) before after) (sym e) (record { text = text; plays = plays; sure = sure; prints = (written, faults); holds = holds })
   by_refusal text number plays sure (inr (inl (e, written, faults))) =

@@ -19,7 +19,7 @@ use Rattle.tl_script.specs.declared.phases.NextError.TheVariants as next
 use Rattle.tl_script.specs.declared.phases.Phase.{Phase}
 use Rattle.tl_script.specs.Script.{Job as ScriptJob, ScriptReading}
 use Rattle.tl_script.specs.Phases.{no_phase}
-use Rattle.tl_script.specs.Reader.{NextFaults}
+use Rattle.tl_script.specs.Reader.{IsNeeded, NextFaults}
 use Rattle.tl_history.proofs.ListLemmas.{commits_more}
 use Rattle.tl_journal.specs.Stands.{DiskStandsFor}
 use Rattle.tl_group.specs.Keeping.{commits_in, journal_commits}
@@ -48,7 +48,7 @@ use Rattle.tl_command.proofs.LentLemmas.{sessions_lent}
 use Rattle.tl_command.proofs.ComingLemmas.{rest_of, whole_told, all_told, none_come, one_more_come, at_the_end, all_read, closed_read, fault_read, so_far_read}
 use Rattle.tl_grouping.specs.declared.playing.Cause.{Cause}
 use Rattle.tl_grouping.specs.declared.playing.Cause.TheVariants as cause
-use Rattle.tl_grouping.specs.Playing.{AddsBatch, Answers, AnswersJob, EndsAtRefusal, HasFault, HasNoFaultSoFar, JobsStop, JobsToRefusal, KeepsDisk, PlayGivenUp, PlayStops, Played, PlaysJobs, PlaysScript, ScriptToRefusal}
+use Rattle.tl_grouping.specs.Playing.{AddsBatch, Answers, AnswersJob, EndsAtRefusal, HasFault, HasNoFaultSoFar, JobsStop, JobsToRefusal, KeepsDisk, PlayGivenUp, PlayStops, Played, PlaysJobs, PlaysScript, PlaysThrough, ReadsNoFurther, ScriptToRefusal}
 use Rattle.tl_grouping.specs.Refusing.{AreAccepted, EndInRefusal, GoOn, is_refusal}
 use Rattle.tl_grouping.specs.Telling.{WatchesFor, told_behind, told_bytes, told_turn}
 use Rattle.tl_grouping.proofs.TellLemmas.{play_adds, play_by, play_within, told_later, told_more, told_now, told_on}
@@ -260,6 +260,7 @@ none_played stops plan first opening watching begun count text number fresh watc
       bytes = [];
       phases = [];
       come = none_come first begun fresh;
+      no_further = inl refl;
       live = fresh.live;
       turns = [];
       answers = refl;
@@ -276,12 +277,36 @@ none_played stops plan first opening watching begun count text number fresh watc
 not_over : (old : Coming) (taken : List ℕ) (answer : Result (Option Phase) NextError) → (old.at_end ≡ true → (taken ≡ []) × (answer ≡ Ok None)) → (answer ≡ Ok None → ⊥) → old.at_end ≡ true → ⊥
 not_over old taken answer idle other ended = other (idle ended).1
 
+-- the phases that were played
+through : (stops : Bool) (plan : Option WatchPlan) (first : Coming) (opening : List Commit) (begun : Option (List ℕ)) (count : ℕ) (now : Coming) (all : List Commit) (text : List ℕ) (number : ℕ) (watching : Option Watch) (left : Option (List ℕ)) (faults : ℕ)
+    → (p : Played stops plan first opening begun count now all text number watching left faults) → (phases : List (List ScriptJob)) → phases ≡ p.phases ++ [] → PlaysThrough stops opening phases
+through stops plan first opening begun count now all text number watching left faults p phases same =
+    subst (PlaysThrough stops opening) (sym (same ∙ append-nil p.phases))
+    (record { turns = p.turns; these = p.answers; all = all; play = p.play; goes_on = p.goes_on })
+
+-- more of a source was asked for while what it gave had no further phase
+asked_more : (stops : Bool) (plan : Option WatchPlan) (first : Coming) (opening : List Commit) (begun : Option (List ℕ)) (count : ℕ) (old : Coming) (mid : List Commit) (text : List ℕ) (number : ℕ) (watching : Option Watch) (left : Option (List ℕ)) (faults : ℕ) (taken : List ℕ)
+    → (old.at_end ≡ true → ⊥) → IsNeeded (old.reads false) old.names taken
+    → (p : Played stops plan first opening begun count old mid text number watching left faults) → ReadsNoFurther stops (first.reads false) opening (p.bytes ++ taken)
+asked_more stops plan first opening begun count old mid text number watching left faults taken live (inl none) p =
+    subst (ReadsNoFurther stops (first.reads false) opening) (sym (ap (λ b. p.bytes ++ b) none ∙ append-nil p.bytes)) p.no_further
+asked_more stops plan first opening begun count old mid text number watching left faults taken live (inr asked) p =
+    inr (record {
+      front = p.bytes ++ asked.front;
+      last = asked.last;
+      parts = ap (λ b. p.bytes ++ b) asked.parts ∙ sym (append_assoc p.bytes asked.front asked.last);
+      bound = asked.bound;
+      goes_on = through stops plan first opening begun count old mid text number watching left faults p (first.reads false (p.bytes ++ asked.front)).phases
+          (ap (λ (r : ScriptReading). r.phases) (closed_read first begun p.bytes p.phases old left asked.front p.come live asked.undecided));
+    })
+
 -- a phase came, and was played
 pub phase_played : (stops : Bool) (plan : Option WatchPlan) (first : Coming) (opening : List Commit) (begun : Option (List ℕ)) (count : ℕ) (old new : Coming) (mid all : List Commit) (at after : List ℕ) (number more : ℕ) (was watching : Option Watch) (left end : Option (List ℕ)) (faults last : ℕ) (phase : Phase)
     → AnswersComing old left (Ok (Some phase)) new end → last ≡ faults → PlaysJobs stops plan new.names (map asked phase.jobs.items) mid all at after number more watching
     → Played stops plan first opening begun count old mid at number was left faults → Played stops plan first opening begun count new all after more watching end last
 phase_played stops plan first opening begun count old new mid all at after number more was watching left end faults last phase h sure ran p =
     let jobs = phase.jobs.items in
+    let live = not_over old h.taken (Ok (Some phase)) h.idle (λ e. cc) in
     let gives : BringsPhase old h.taken jobs new end = h.says in
     let grown : Each (Inside (length new.names)) p.turns = each_grows old.names new.names p.turns gives.names p.inside in
     let adds = play_adds meant mid all ran.turns ran.play in
@@ -290,7 +315,8 @@ phase_played stops plan first opening begun count old new mid all at after numbe
     record {
       bytes = p.bytes ++ h.taken;
       phases = p.phases ++ jobs ∷ [];
-      come = one_more_come first begun p.bytes p.phases old left h.taken jobs new end p.come h.order (not_over old h.taken (Ok (Some phase)) h.idle (λ e. cc)) gives;
+      come = one_more_come first begun p.bytes p.phases old left h.taken jobs new end p.come h.order live gives;
+      no_further = asked_more stops plan first opening begun count old mid at number was left faults h.taken live h.needed p;
       live = gives.live;
       turns = p.turns ++ ran.turns;
       answers = map-append (λ (t : Turn). t.job) p.turns ran.turns ∙ (ap (λ js. js ++ jobs_of ran.turns) p.answers ∙ (ap (λ js. all_jobs (phases_asked p.phases) ++ js) ran.these ∙ sym (jobs_more p.phases jobs)));
@@ -327,31 +353,37 @@ all_played stops plan first opening begun count old new all text number watching
 -- the next phase has a fault
 faulty : (stops : Bool) (plan : Option WatchPlan) (first : Coming) (opening : List Commit) (begun : Option (List ℕ)) (count : ℕ) (old new : Coming) (all : List Commit) (text : List ℕ) (number : ℕ) (watching : Option Watch) (left end : Option (List ℕ)) (faults : ℕ) (f : ScriptFault)
     → AnswersComing old left (Err (next.Fault f)) new end
-    → Played stops plan first opening begun count old all text number watching left faults → HasFault (first.reads true) f begun
+    → Played stops plan first opening begun count old all text number watching left faults → HasFault stops (first.reads true) opening f begun
 faulty stops plan first opening begun count old new all text number watching left end faults f h p =
     let gives : BringsFault old h.taken f end = h.says in
-    let read = fault_read first begun p.bytes p.phases old left h.taken f end p.come (not_over old h.taken (Err (next.Fault f)) h.idle (λ e. cc)) gives in (
-      (p.bytes ++ h.taken) ++ rest_of end,
-      whole_told begun end (p.bytes ++ h.taken) (read_more begun left end p.bytes h.taken (p.bytes ++ h.taken) p.come.order h.order refl),
-      ap (λ (r : ScriptReading). r.fault) read,
-    )
+    let read = fault_read first begun p.bytes p.phases old left h.taken f end p.come (not_over old h.taken (Err (next.Fault f)) h.idle (λ e. cc)) gives in
+    let script = (p.bytes ++ h.taken) ++ rest_of end in
+    record {
+      script = script;
+      told = whole_told begun end (p.bytes ++ h.taken) (read_more begun left end p.bytes h.taken (p.bytes ++ h.taken) p.come.order h.order refl);
+      is = ap (λ (r : ScriptReading). r.fault) read;
+      goes_on = through stops plan first opening begun count old all text number watching left faults p (first.reads true script).phases (ap (λ (r : ScriptReading). r.phases) read);
+    }
 
 -- the source failed before a fault was read
 not_faulty : (stops : Bool) (plan : Option WatchPlan) (first : Coming) (opening : List Commit) (begun : Option (List ℕ)) (count : ℕ) (old new : Coming) (all : List Commit) (text : List ℕ) (number : ℕ) (watching : Option Watch) (left end : Option (List ℕ)) (faults n : ℕ)
     → AnswersComing old left (Err (next.Source n)) new end
-    → Played stops plan first opening begun count old all text number watching left faults → HasNoFaultSoFar (first.reads false) begun end
+    → Played stops plan first opening begun count old all text number watching left faults → HasNoFaultSoFar stops (first.reads false) opening begun end
 not_faulty stops plan first opening begun count old new all text number watching left end faults n h p =
     let none : old.reads false h.taken ≡ no_phase old.names = h.says in
-    let read = closed_read first begun p.bytes p.phases old left h.taken p.come (not_over old h.taken (Err (next.Source n)) h.idle (λ e. cc)) none in (
-      p.bytes ++ h.taken,
-      read_more begun left end p.bytes h.taken (p.bytes ++ h.taken) p.come.order h.order refl,
-      ap (λ (r : ScriptReading). r.fault) read,
-    )
+    let read = closed_read first begun p.bytes p.phases old left h.taken p.come (not_over old h.taken (Err (next.Source n)) h.idle (λ e. cc)) none in
+    let taken = p.bytes ++ h.taken in
+    record {
+      taken = taken;
+      took = read_more begun left end p.bytes h.taken taken p.come.order h.order refl;
+      faultless = ap (λ (r : ScriptReading). r.fault) read;
+      goes_on = through stops plan first opening begun count old all text number watching left faults p (first.reads false taken).phases (ap (λ (r : ScriptReading). r.phases) read);
+    }
 
 -- the phases stopped
 pub stop_played : (stops : Bool) (plan : Option WatchPlan) (first : Coming) (opening : List Commit) (begun : Option (List ℕ)) (count : ℕ) (old new : Coming) (all : List Commit) (text : List ℕ) (number : ℕ) (watching : Option Watch) (left end : Option (List ℕ)) (faults last : ℕ) (e : NextError)
     → AnswersComing old left (Err e) new end → NextFaults e faults last
-    → Played stops plan first opening begun count old all text number watching left faults → PlayStops first.reads (stop_for e) begun end count last
+    → Played stops plan first opening begun count old all text number watching left faults → PlayStops stops first.reads opening (stop_for e) begun end count last
 stop_played stops plan first opening begun count old new all text number watching left end faults last next.NoMemory h counts p = counts ∙ p.sure
 stop_played stops plan first opening begun count old new all text number watching left end faults last (next.Source n) h counts p =
     (not_faulty stops plan first opening begun count old new all text number watching left end faults n h p, subst (λ (k : ℕ). Rose k last) p.sure counts.1, counts.0)
@@ -410,11 +442,12 @@ script_jobs phases jobs more ts us later answers these =
 -- a phase came, and a statement of it is refused, which ends the play
 phase_refused : (stops : Bool) (plan : Option WatchPlan) (first : Coming) (opening : List Commit) (begun : Option (List ℕ)) (count : ℕ) (old new : Coming) (mid : List Commit) (at after : List ℕ) (number more : ℕ) (was : Option Watch) (left end : Option (List ℕ)) (faults : ℕ) (phase : Phase)
     → AnswersComing old left (Ok (Some phase)) new end → stops ≡ true → JobsToRefusal plan new.names (map asked phase.jobs.items) mid at after number more
-    → Played stops plan first opening begun count old mid at number was left faults → ScriptToRefusal plan (first.reads true) opening after more begun
+    → Played stops plan first opening begun count old mid at number was left faults → ScriptToRefusal plan first.reads opening after more begun end
 phase_refused stops plan first opening begun count old new mid at after number more was left end faults phase h ends ran p =
     let jobs = phase.jobs.items in
     let gives : BringsPhase old h.taken jobs new end = h.says in
-    let come = one_more_come first begun p.bytes p.phases old left h.taken jobs new end p.come h.order (not_over old h.taken (Ok (Some phase)) h.idle (λ e. cc)) gives in
+    let live = not_over old h.taken (Ok (Some phase)) h.idle (λ e. cc) in
+    let come = one_more_come first begun p.bytes p.phases old left h.taken jobs new end p.come h.order live gives in
     let far = so_far_read first begun (p.bytes ++ h.taken) (p.phases ++ jobs ∷ []) new end come in
     let script = (p.bytes ++ h.taken) ++ rest_of end in
     let turns = p.turns ++ ran.turns in
@@ -431,6 +464,9 @@ phase_refused stops plan first opening begun count old new mid at after number m
     record {
       script = script;
       told = whole_told begun end (p.bytes ++ h.taken) come.order;
+      taken = p.bytes ++ h.taken;
+      took = come.order;
+      no_further = subst (λ (b : Bool). ReadsNoFurther b (first.reads false) opening (p.bytes ++ h.taken)) ends (asked_more stops plan first opening begun count old mid at number was left faults h.taken live h.needed p);
       turns = turns;
       later = ran.later ++ all_jobs (phases_asked far.0.phases);
       jobs = ap (λ (r : ScriptReading). all_jobs (phases_asked r.phases)) far.1 ∙ script_jobs p.phases jobs far.0.phases p.turns ran.turns ran.later p.answers ran.these;
@@ -446,9 +482,9 @@ pub phase_stopped : (stops : Bool) (plan : Option WatchPlan) (first : Coming) (o
     → AnswersComing old left (Ok (Some phase)) new end → last ≡ faults → JobsStop stops plan new.names (map asked phase.jobs.items) mid at number why
     → Played stops plan first opening begun count old mid at number was left faults → PlayGivenUp stops plan first.reads opening why begun end count last
 phase_stopped stops plan first opening begun count old new mid at number was left end faults last phase (cause.Stop why) h sure memory p =
-    subst (λ (s : Stop). PlayStops first.reads s begun end count last) (sym memory) (sure ∙ p.sure)
+    subst (λ (s : Stop). PlayStops stops first.reads opening s begun end count last) (sym memory) (sure ∙ p.sure)
 phase_stopped stops plan first opening begun count old new mid at number was left end faults last phase (cause.Refusal replies) h sure (ends, ran) p = (
-  subst (λ (b : Bool). EndsAtRefusal b plan (first.reads true) opening replies.text.items replies.count begun) (sym ends)
+  subst (λ (b : Bool). EndsAtRefusal b plan first.reads opening replies.text.items replies.count begun end) (sym ends)
       (phase_refused stops plan first opening begun count old new mid at replies.text.items number replies.count was left end faults phase h ends ran p),
   sure ∙ p.sure,
 )

@@ -14,8 +14,9 @@
 --   NotInitialised, Damaged   as for a run that is not opened
 --
 -- `group` goes on at a statement that is refused, and so it never ends with StatementRefused.
--- `transact` ends there (`stops`): so at Done no statement is refused, and what comes first in the
--- script decides, a statement that is refused, or a fault of a phase or of the source.
+-- `transact` ends there (`stops`): at Done no statement is refused, and at SourceFault and
+-- ScriptFault none of the phases before the fault. At StatementRefused the source is asked for no
+-- more bytes once a phase with a refusal is whole.
 use Rattle.std.specs.Prelude.{◌≡◌, ◌⊎◌, ℕ, Bool, true, false, List, ◌++◌, Option, None}
 use Rattle.tl_types.specs.declared.commits.Commit.{Commit}
 use Rattle.tl_device.specs.Known.{Rose}
@@ -38,24 +39,27 @@ Plays stops plan reads opening all text before after =
     PlaysScript stops plan (reads true) opening all text before.left after.left
     × (after.source_faults ≡ before.source_faults)
 
--- why a group was given up: the script has a fault, or the source failed before one was read
-abbrev pub WhyGivenUp : (Bool → List ℕ → ScriptReading) → Outside → Outside → Status → Type 0
-WhyGivenUp reads before after (status.ScriptFault f) =
-    HasFault (reads true) f before.left × (after.source_faults ≡ before.source_faults)
-WhyGivenUp reads before after (status.SourceFault faults) =
-    HasNoFaultSoFar (reads false) before.left after.left
+-- why a group was given up: the script has a fault, or the source failed before one was read, and
+-- no statement of the phases before that ended the play
+abbrev pub WhyGivenUp : Bool → (Bool → List ℕ → ScriptReading) → List Commit → Outside → Outside
+    → Status → Type 0
+WhyGivenUp stops reads opening before after (status.ScriptFault f) =
+    HasFault stops (reads true) opening f before.left
+    × (after.source_faults ≡ before.source_faults)
+WhyGivenUp stops reads opening before after (status.SourceFault faults) =
+    HasNoFaultSoFar stops (reads false) opening before.left after.left
     × Rose before.source_faults after.source_faults × (faults ≡ after.source_faults)
-WhyGivenUp reads before after status.Done = ⊥
-WhyGivenUp reads before after status.NoMemory = ⊥
-WhyGivenUp reads before after status.Usage = ⊥
-WhyGivenUp reads before after (status.SinkFault faults) = ⊥
-WhyGivenUp reads before after (status.DiskFault faults) = ⊥
-WhyGivenUp reads before after (status.NotInitialised len) = ⊥
-WhyGivenUp reads before after (status.AlreadyInitialised len) = ⊥
-WhyGivenUp reads before after (status.Damaged at) = ⊥
-WhyGivenUp reads before after (status.PacketFault at) = ⊥
-WhyGivenUp reads before after (status.WatchFault f) = ⊥
-WhyGivenUp reads before after (status.StatementRefused number) = ⊥
+WhyGivenUp stops reads opening before after status.Done = ⊥
+WhyGivenUp stops reads opening before after status.NoMemory = ⊥
+WhyGivenUp stops reads opening before after status.Usage = ⊥
+WhyGivenUp stops reads opening before after (status.SinkFault faults) = ⊥
+WhyGivenUp stops reads opening before after (status.DiskFault faults) = ⊥
+WhyGivenUp stops reads opening before after (status.NotInitialised len) = ⊥
+WhyGivenUp stops reads opening before after (status.AlreadyInitialised len) = ⊥
+WhyGivenUp stops reads opening before after (status.Damaged at) = ⊥
+WhyGivenUp stops reads opening before after (status.PacketFault at) = ⊥
+WhyGivenUp stops reads opening before after (status.WatchFault f) = ⊥
+WhyGivenUp stops reads opening before after (status.StatementRefused number) = ⊥
 
 -- The group was given up at the statement with this number, which is refused and ends the play: the
 -- replies up to its own and the closing line were written as `IsPrinted` says, and the disk holds
@@ -64,7 +68,7 @@ pub record GivesUpAtRefusal (stops : Bool) (plan : Option WatchPlan)
     (reads : Bool → List ℕ → ScriptReading) (opening : List Commit) (number : ℕ)
     (IsPrinted : List ℕ → Type 0) (before after : Outside) : Type 0 where
   pub text : List ℕ
-  pub plays : EndsAtRefusal stops plan (reads true) opening text number before.left
+  pub plays : EndsAtRefusal stops plan reads opening text number before.left after.left
   pub sure : after.source_faults ≡ before.source_faults
   pub prints : IsPrinted (text ++ closing_line (status.StatementRefused number))
   pub holds : HoldsJournal opening None before after
@@ -82,10 +86,10 @@ CutsRefusal stops plan reads opening before after =
 abbrev pub GroupEndsBy : Bool → Option WatchPlan → (Bool → List ℕ → ScriptReading) → List Commit
     → Outside → Outside → Status → Type 0
 GroupEndsBy stops plan reads opening before after (status.ScriptFault f) =
-    WhyGivenUp reads before after (status.ScriptFault f)
+    WhyGivenUp stops reads opening before after (status.ScriptFault f)
     × IsGivenUp opening (status.ScriptFault f) before after
 GroupEndsBy stops plan reads opening before after (status.SourceFault faults) =
-    WhyGivenUp reads before after (status.SourceFault faults)
+    WhyGivenUp stops reads opening before after (status.SourceFault faults)
     × IsGivenUp opening (status.SourceFault faults) before after
 GroupEndsBy stops plan reads opening before after (status.StatementRefused number) =
     GivesUpAtRefusal stops plan reads opening number (λ bytes. Prints bytes before after)
@@ -94,7 +98,7 @@ GroupEndsBy stops plan reads opening before after (status.SinkFault faults) =
     LeavesBy (λ all text. Plays stops plan reads opening all text before after) opening before
     after (status.SinkFault faults)
     ⊎ ((faults ≡ after.sink_faults)
-    × (CutsGivenUp (WhyGivenUp reads before after) opening before after
+    × (CutsGivenUp (WhyGivenUp stops reads opening before after) opening before after
     ⊎ CutsRefusal stops plan reads opening before after))
 GroupEndsBy stops plan reads opening before after status.Done =
     LeavesBy (λ all text. Plays stops plan reads opening all text before after) opening before

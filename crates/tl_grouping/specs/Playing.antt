@@ -1,7 +1,7 @@
 -- Jobs done one after the other over a group whose commits wait: what each is answered with, what
 -- is told of a plan, what is read and done of a script, and what the disk keeps meanwhile. A play
 -- goes on at a statement that is refused, or it ends there (`stops`).
-use Rattle.std.specs.Prelude.{◌≡◌, ℕ, ◌+◌, ◌<◌, Bool, true, false, List, [], ◌∷◌, ◌++◌, length, Option, Some, None, IfSome, Ok, Err}
+use Rattle.std.specs.Prelude.{◌≡◌, ◌⊎◌, ℕ, ◌+◌, ◌<◌, ◌≤◌, Bool, true, false, List, [], ◌∷◌, ◌++◌, length, Option, Some, None, IfSome, Ok, Err}
 use Rattle.tl_types.specs.declared.batches.Batch.{Batch}
 use Rattle.tl_types.specs.declared.batches.BatchFault.{BatchFault}
 use Rattle.tl_types.specs.declared.commits.Commit.{Commit}
@@ -121,6 +121,32 @@ JobsStop stops plan names jobs old before first (cause.Refusal replies) =
 
 -- THE SCRIPT
 
+-- the jobs of these phases were done one after the other from these commits on, and none of them
+-- ended the play
+pub record PlaysThrough (stops : Bool) (opening : List Commit) (phases : List (List ScriptJob))
+    : Type 0 where
+  pub turns : List Turn
+  pub these : jobs_of turns ≡ all_jobs (phases_asked phases)
+  pub all : List Commit
+  pub play : IsPlay meant opening turns all
+  pub goes_on : GoOn stops turns
+
+-- of these bytes, which a source gave, the last read gave at most 65536; those before it have no
+-- whole phase with a statement that ends the play
+pub record EndsReading (stops : Bool) (closed : List ℕ → ScriptReading) (opening : List Commit)
+    (taken : List ℕ) : Type 0 where
+  pub front : List ℕ
+  pub last : List ℕ
+  pub parts : taken ≡ front ++ last
+  pub bound : length last ≤ 65536
+  pub goes_on : PlaysThrough stops opening (closed front).phases
+
+-- a source is read no further once the bytes that it gave have a whole phase with a statement that
+-- ends the play
+abbrev pub ReadsNoFurther : Bool → (List ℕ → ScriptReading) → List Commit → List ℕ → Type 0
+ReadsNoFurther stops closed opening taken =
+    (taken ≡ []) ⊎ EndsReading stops closed opening taken
+
 -- the phases that have come were played, of what a source had left and its count of faults, and no
 -- statement ended the play; so many replies there are
 pub record Played (stops : Bool) (plan : Option WatchPlan) (first : Coming) (opening : List Commit)
@@ -129,6 +155,7 @@ pub record Played (stops : Bool) (plan : Option WatchPlan) (first : Coming) (ope
   pub bytes : List ℕ
   pub phases : List (List ScriptJob)
   pub come : HaveCome first begun bytes phases now left
+  pub no_further : ReadsNoFurther stops (first.reads false) opening bytes
   pub live : now.live ≡ true
   pub turns : List Turn
   pub answers : jobs_of turns ≡ all_jobs (phases_asked phases)
@@ -153,55 +180,67 @@ pub record PlaysScript (stops : Bool) (plan : Option WatchPlan) (reads : List �
       (all_jobs (phases_asked (reads script).phases)) opening all text
 
 -- the first jobs of the script were done one after the other up to one that is refused, which is
--- the one with this number, from 1, in the order of phases and lines; this is the text of their
--- replies
-pub record ScriptToRefusal (plan : Option WatchPlan) (reads : List ℕ → ScriptReading)
-    (opening : List Commit) (text : List ℕ) (number : ℕ) (before : Option (List ℕ)) : Type 0 where
+-- the one with this number, from 1, in the order of phases and lines, and the script was read no
+-- further; this is the text of their replies
+pub record ScriptToRefusal (plan : Option WatchPlan) (reads : Bool → List ℕ → ScriptReading)
+    (opening : List Commit) (text : List ℕ) (number : ℕ) (before after : Option (List ℕ))
+    : Type 0 where
   pub script : List ℕ
   pub told : IfSome before (λ left. left ≡ script)
+  pub taken : List ℕ
+  pub took : before ≡ prepend_known taken after
+  pub no_further : ReadsNoFurther true (reads false) opening taken
   pub turns : List Turn
   pub later : List Job
-  pub jobs : all_jobs (phases_asked (reads script).phases) ≡ jobs_of turns ++ later
+  pub jobs : all_jobs (phases_asked (reads true script).phases) ≡ jobs_of turns ++ later
   pub all : List Commit
   pub play : IsPlay meant opening turns all
   pub refusal : EndInRefusal turns
-  pub written : text ≡ told_bytes plan (reads script).names all turns
+  pub written : text ≡ told_bytes plan (reads true script).names all turns
   pub counted : number ≡ length turns
 
 -- a play ended at the statement with this number, which is refused; one that goes on at refusals
 -- does not end so
-abbrev pub EndsAtRefusal : Bool → Option WatchPlan → (List ℕ → ScriptReading) → List Commit
-    → List ℕ → ℕ → Option (List ℕ) → Type 0
-EndsAtRefusal false plan reads opening text number before = ⊥
-EndsAtRefusal true plan reads opening text number before =
-    ScriptToRefusal plan reads opening text number before
+abbrev pub EndsAtRefusal : Bool → Option WatchPlan → (Bool → List ℕ → ScriptReading) → List Commit
+    → List ℕ → ℕ → Option (List ℕ) → Option (List ℕ) → Type 0
+EndsAtRefusal false plan reads opening text number before after = ⊥
+EndsAtRefusal true plan reads opening text number before after =
+    ScriptToRefusal plan reads opening text number before after
 
--- the script has this fault
-abbrev pub HasFault : (List ℕ → ScriptReading) → ScriptFault → Option (List ℕ) → Type 0
-HasFault reads f before =
-    (script : List ℕ) × IfSome before (λ left. left ≡ script) × ((reads script).fault ≡ Some f)
+-- the script has this fault, and no statement of the phases before it ended the play
+pub record HasFault (stops : Bool) (reads : List ℕ → ScriptReading) (opening : List Commit)
+    (f : ScriptFault) (before : Option (List ℕ)) : Type 0 where
+  pub script : List ℕ
+  pub told : IfSome before (λ left. left ≡ script)
+  pub is : (reads script).fault ≡ Some f
+  pub goes_on : PlaysThrough stops opening (reads script).phases
 
--- in the bytes that were taken no fault is read
-abbrev pub HasNoFaultSoFar : (List ℕ → ScriptReading) → Option (List ℕ) → Option (List ℕ) → Type 0
-HasNoFaultSoFar closed before after =
-    (taken : List ℕ) × (before ≡ prepend_known taken after) × ((closed taken).fault ≡ None)
+-- in the bytes that were taken no fault is read, and no statement of the phases that are whole in
+-- them ended the play
+pub record HasNoFaultSoFar (stops : Bool) (closed : List ℕ → ScriptReading)
+    (opening : List Commit) (before after : Option (List ℕ)) : Type 0 where
+  pub taken : List ℕ
+  pub took : before ≡ prepend_known taken after
+  pub faultless : (closed taken).fault ≡ None
+  pub goes_on : PlaysThrough stops opening (closed taken).phases
 
--- what was read, by why a script is given up; how a whole script is read, and the start of one
-abbrev pub PlayStops : (Bool → List ℕ → ScriptReading) → Stop → Option (List ℕ) → Option (List ℕ)
-    → ℕ → ℕ → Type 0
-PlayStops reads stop.Ended before after first last = ⊥
-PlayStops reads (stop.Fault f) before after first last =
-    HasFault (reads true) f before × (last ≡ first)
-PlayStops reads (stop.Source faults) before after first last =
-    HasNoFaultSoFar (reads false) before after × Rose first last × (faults ≡ last)
-PlayStops reads (stop.Sink faults) before after first last = ⊥
-PlayStops reads stop.NoMemory before after first last = last ≡ first
+-- what was read, by why a script is given up, whose play from these commits a refusal ends or not;
+-- how a whole script is read, and the start of one
+abbrev pub PlayStops : Bool → (Bool → List ℕ → ScriptReading) → List Commit → Stop
+    → Option (List ℕ) → Option (List ℕ) → ℕ → ℕ → Type 0
+PlayStops stops reads opening stop.Ended before after first last = ⊥
+PlayStops stops reads opening (stop.Fault f) before after first last =
+    HasFault stops (reads true) opening f before × (last ≡ first)
+PlayStops stops reads opening (stop.Source faults) before after first last =
+    HasNoFaultSoFar stops (reads false) opening before after × Rose first last × (faults ≡ last)
+PlayStops stops reads opening (stop.Sink faults) before after first last = ⊥
+PlayStops stops reads opening stop.NoMemory before after first last = last ≡ first
 
 -- why a play is given up: its phases stopped, or a statement is refused, which ends it
 abbrev pub PlayGivenUp : Bool → Option WatchPlan → (Bool → List ℕ → ScriptReading) → List Commit
     → Cause → Option (List ℕ) → Option (List ℕ) → ℕ → ℕ → Type 0
 PlayGivenUp stops plan reads opening (cause.Stop why) before after first last =
-    PlayStops reads why before after first last
+    PlayStops stops reads opening why before after first last
 PlayGivenUp stops plan reads opening (cause.Refusal replies) before after first last =
-    EndsAtRefusal stops plan (reads true) opening replies.text.items replies.count before
+    EndsAtRefusal stops plan reads opening replies.text.items replies.count before after
     × (last ≡ first)

@@ -37,7 +37,7 @@ use Rattle.tl_jobs.specs.declared.replies.Refusal.{Refusal}
 use Rattle.tl_watch.specs.declared.plans.WatchPlan.{WatchPlan}
 use Rattle.tl_watching.specs.Plans.{plan_reading}
 use Rattle.tl_shipping.specs.Shipping.{ShipEnds}
-use Rattle.tl_following.specs.Following.{FailsInput, FollowEnds, FollowEndsBy, Follows, HasInputFault}
+use Rattle.tl_following.specs.Following.{FollowEnds, FollowEndsBy, Follows, HasInputFault, WhyFollowFails}
 use Rattle.tl_run.proofs.EndLemmas.{no_rise, no_break, only_memory}
 
 -- COMPLETENESS
@@ -111,15 +111,15 @@ sink_rose What Why opening before after n (inr (same, h)) = h.prints.0
 
 -- the sink failed at what a group writes
 group_rose : (stops : Bool) (plan : Option WatchPlan) (opening : List Commit) (before after : Outside) (n : ℕ) → GroupEndsBy stops plan script_reads opening before after (status.SinkFault n) → Rose before.sink_faults after.sink_faults
-group_rose stops plan opening before after n (inl h) = sink_rose (λ all text. Plays stops plan script_reads opening all text before after) (WhyGivenUp script_reads before after) opening before after n (inl h)
+group_rose stops plan opening before after n (inl h) = sink_rose (λ all text. Plays stops plan script_reads opening all text before after) (WhyGivenUp stops script_reads opening before after) opening before after n (inl h)
 group_rose stops plan opening before after n (inr (same, inl h)) = h.prints.0
 group_rose stops plan opening before after n (inr (same, inr h)) = h.1.prints.0
 
 -- no fault is read of a faultless script
-no_fault : (before : Outside) (f : ScriptFault) → HasFault (script_reads true) f before.left → IsFaultless script_reads before → ⊥
-no_fault before f (script, told, is) faultless =
-    let own : script ≡ faultless.script = sym (told_script before.left script faultless.script faultless.told told) in
-    absurd (let e : None ≡ Some f = sym faultless.whole ∙ (ap (λ s. (script_reads true s).fault) (sym own) ∙ is) in cc)
+no_fault : (stops : Bool) (opening : List Commit) (before : Outside) (f : ScriptFault) → HasFault stops (script_reads true) opening f before.left → IsFaultless script_reads before → ⊥
+no_fault stops opening before f h faultless =
+    let own : h.script ≡ faultless.script = sym (told_script before.left h.script faultless.script faultless.told h.told) in
+    absurd (let e : None ≡ Some f = sym faultless.whole ∙ (ap (λ s. (script_reads true s).fault) (sym own) ∙ h.is) in cc)
 
 -- a group that was opened, with a script in which no fault is read
 group_opened : (plan : Option WatchPlan) (opening : List Commit) (before after : Outside) (ended : Status) → GroupEndsBy false plan script_reads opening before after ended → IsFaultless script_reads before → StaysSure before after → IsDoneOrNoMemory ended
@@ -129,7 +129,7 @@ group_opened plan opening before after status.Usage h faultless sure = absurd h
 group_opened plan opening before after (status.SourceFault n) h faultless sure = absurd (sure.source h.0.1)
 group_opened plan opening before after (status.SinkFault n) h faultless sure = absurd (sure.sink (group_rose false plan opening before after n h))
 group_opened plan opening before after (status.DiskFault n) h faultless sure = absurd (sure.disk h.1.holds.rose)
-group_opened plan opening before after (status.ScriptFault f) h faultless sure = absurd (no_fault before f h.0.0 faultless)
+group_opened plan opening before after (status.ScriptFault f) h faultless sure = absurd (no_fault false opening before f h.0.0 faultless)
 group_opened plan opening before after (status.NotInitialised len) h faultless sure = absurd h
 group_opened plan opening before after (status.AlreadyInitialised len) h faultless sure = absurd h
 group_opened plan opening before after (status.Damaged at) h faultless sure = absurd h
@@ -160,8 +160,8 @@ accepts_all opening all text before after faultless (plays, sure) =
     })
 
 -- or up to a statement that is refused
-refuses_first : (opening : List Commit) (text : List ℕ) (number : ℕ) (before : Outside) (faultless : IsFaultless script_reads before) → ScriptToRefusal None (script_reads true) opening text number before.left → RefusesFirst (script_reads true faultless.script) opening number
-refuses_first opening text number before faultless plays =
+refuses_first : (opening : List Commit) (text : List ℕ) (number : ℕ) (before after : Outside) (faultless : IsFaultless script_reads before) → ScriptToRefusal None script_reads opening text number before.left after.left → RefusesFirst (script_reads true faultless.script) opening number
+refuses_first opening text number before after faultless plays =
     let own : plays.script ≡ faultless.script = sym (told_script before.left plays.script faultless.script faultless.told plays.told) in
     subst (λ (s : List ℕ). RefusesFirst (script_reads true s) opening number) own (record {
       turns = plays.turns;
@@ -180,13 +180,13 @@ transact_opened opening before after status.Usage h faultless sure = absurd h
 transact_opened opening before after (status.SourceFault n) h faultless sure = absurd (sure.source h.0.1)
 transact_opened opening before after (status.SinkFault n) h faultless sure = absurd (sure.sink (group_rose true None opening before after n h))
 transact_opened opening before after (status.DiskFault n) h faultless sure = absurd (sure.disk h.1.holds.rose)
-transact_opened opening before after (status.ScriptFault f) h faultless sure = absurd (no_fault before f h.0.0 faultless)
+transact_opened opening before after (status.ScriptFault f) h faultless sure = absurd (no_fault true opening before f h.0.0 faultless)
 transact_opened opening before after (status.NotInitialised len) h faultless sure = absurd h
 transact_opened opening before after (status.AlreadyInitialised len) h faultless sure = absurd h
 transact_opened opening before after (status.Damaged at) h faultless sure = absurd h
 transact_opened opening before after (status.PacketFault at) h faultless sure = absurd h
 transact_opened opening before after (status.WatchFault f) h faultless sure = absurd h
-transact_opened opening before after (status.StatementRefused n) h faultless sure = inr (inr (n, refl, refuses_first opening h.text n before faultless h.plays))
+transact_opened opening before after (status.StatementRefused n) h faultless sure = inr (inr (n, refl, refuses_first opening h.text n before after faultless h.plays))
 
 transact_complete : (before after : Outside) (ended : Status) → TransactEnds script_reads before after ended → TransactCompletes script_reads before after ended
 transact_complete before after ended (inl refused) = λ honest faultless sure. inr (inl (refused_memory before after ended refused honest sure))
@@ -224,7 +224,7 @@ follow_opened opening before after status.Done h followed sure = inl refl
 follow_opened opening before after status.NoMemory h followed sure = inr refl
 follow_opened opening before after status.Usage h followed sure = absurd h
 follow_opened opening before after (status.SourceFault n) h followed sure = absurd (sure.source h.1)
-follow_opened opening before after (status.SinkFault n) h followed sure = absurd (sure.sink (sink_rose (λ all text. Follows opening all text before after) (FailsInput opening before.left before.source_faults after.source_faults) opening before after n h))
+follow_opened opening before after (status.SinkFault n) h followed sure = absurd (sure.sink (sink_rose (λ all text. Follows opening all text before after) (WhyFollowFails opening before.left before.source_faults after.source_faults) opening before after n h))
 follow_opened opening before after (status.DiskFault n) h followed sure = absurd (sure.disk h.1.holds.rose)
 follow_opened opening before after (status.ScriptFault f) h followed sure = absurd h
 follow_opened opening before after (status.NotInitialised len) h followed sure = absurd h

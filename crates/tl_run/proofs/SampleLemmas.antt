@@ -101,6 +101,7 @@ pub sample_gives : (old new : SampleState) (left : Option (List ℕ)) (phase : P
 sample_gives old new left phase h = record {
   taken = [];
   order = sym (prepend_none left);
+  needed = inl refl;
   idle = λ e. absurd (cc);
   says = record {
     live = refl;

@@ -69,5 +69,5 @@ returns-in-Err-clause-stops g c = λ plan watches.
     let count = source.faults c.args.source.now in
     let last = source.faults c.next-brought.new.source in
     let now = c.phases.playing in
-    subst (λ (s : Stop). PlayStops first.reads s left end count last) (sym c.stop_for.ensures)
+    subst (λ (s : Stop). PlayStops stops first.reads opening s left end count last) (sym c.stop_for.ensures)
     (stop_played stops plan first opening left count (coming c.phases.phases) (coming c.next-brought.new.self) (commits_in now.group) now.replies.text.items now.replies.count now.watching (source.left c.phases.source) end (source.faults c.phases.source) last c.in-Err.error c.in-Err.ensures.answers c.in-Err.ensures.faults (c.phases.invariant.played plan watches))

@@ -3,7 +3,7 @@
 //! the memory and on the journal's disk that are taken for it. Each time that this is too little,
 //! room for twice as many bytes as are needed is taken: so the steps in which room for n bytes is
 //! taken cost n together, and no byte that waits is looked at again.
-ghost use Rattle.std.specs.Prelude.{◌≡◌, ◌==◌, ◌+◌, ◌≤◌, ◌<◌, ◌^◌, ◌++◌, ◌∷◌, [], ℕ, List, length, OnOk, vec_len, vec_capacity};
+ghost use Rattle.std.specs.Prelude.{◌≡◌, ◌==◌, ◌+◌, ◌*◌, ◌≤◌, ◌<◌, ◌^◌, ◌++◌, ◌∷◌, [], ℕ, List, length, OnOk, OnErr, vec_len, vec_capacity};
 ghost use Rattle.tl_types.specs.declared.commits.Commit.{Commit as CommitValue};
 ghost use Rattle.tl_history.specs.Committing.{TakesRoom};
 ghost use Rattle.tl_journal.specs.Image.{IsBodyOf, body_of};
@@ -82,6 +82,7 @@ impl GroupBody {
         requires spare { self.old.room ≤ journal.old.spare }
         ensures bytes { self.new.bytes ≡ self.old.bytes }
         ensures room { OnOk result (self.new.room ≡ room) }
+        ensures kept { OnErr result (self.new.room ≡ self.old.room) }
         ensures spare { self.new.room ≤ journal.new.spare }
         ensures journal { TakesRoom D.reads D.may_leave D.moment D.left_since D.faults
             journal.old journal.new }
@@ -97,7 +98,7 @@ impl GroupBody {
 
     /// Takes the memory for a record behind the body, and the room of the journal's disk for both,
     /// where there is too little: then for twice as many bytes as the body has with the record.
-    /// The error is `NoMemory`, and leaves the body as it is.
+    /// The error is `NoMemory`, and leaves the body and its room as they are.
     pub(crate) fn take_room<D: Disk>(
         &mut self,
         journal: &mut Journal<D>,
@@ -106,6 +107,11 @@ impl GroupBody {
         requires spare { self.old.room ≤ journal.old.spare }
         ensures bytes { self.new.bytes ≡ self.old.bytes }
         ensures room { OnOk result (length self.old.bytes + length spelled.now ≤ self.new.room) }
+        ensures enough { length self.old.bytes + length spelled.now ≤ self.old.room
+            → self.new.room ≡ self.old.room }
+        ensures most { self.old.room < length self.old.bytes + length spelled.now
+            → self.new.room ≤ 2 * (length self.old.bytes + length spelled.now) }
+        ensures kept { OnErr result (self.new.room ≡ self.old.room) }
         ensures spare { self.new.room ≤ journal.new.spare }
         ensures journal { TakesRoom D.reads D.may_leave D.moment D.left_since D.faults
             journal.old journal.new }

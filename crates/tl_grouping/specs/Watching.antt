@@ -51,9 +51,13 @@ WatchEnds text reads before after ended =
     EndsRefused before after ended
     ⊎ ((opening : List Commit) × WatchOpened text reads opening before after ended)
 
--- what the text comes to over these commits: a watch of the plan that it names, which stands for
--- them, or its fault
+-- what was read of a text comes to this over these commits: a watch of the plan that it names,
+-- which stands for them, or its fault
+abbrev pub BeginsRead : List Commit → Result WatchPlan Refusal → Result Watch Refusal → Type 0
+BeginsRead commits read (Ok watch) =
+    (plan : WatchPlan) × (read ≡ Ok plan) × WatchesPlan plan commits watch
+BeginsRead commits read (Err f) = read ≡ Err f
+
+-- the same of the text
 abbrev pub BeginsWatch : List Commit → List ℕ → Result Watch Refusal → Type 0
-BeginsWatch commits text (Ok watch) =
-    (plan : WatchPlan) × (plan_reading commits text ≡ Ok plan) × WatchesPlan plan commits watch
-BeginsWatch commits text (Err f) = plan_reading commits text ≡ Err f
+BeginsWatch commits text read = BeginsRead commits (plan_reading commits text) read

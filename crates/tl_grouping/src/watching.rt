@@ -1,13 +1,16 @@
 //! The command `watch`: the journal is opened, a text names a plan over its commits, and the script
 //! is played as by `group`, with the plan's value told behind each reply that is done.
-ghost use Rattle.std.specs.Prelude.{◌≡◌, IfOk, false};
+ghost use Rattle.std.specs.Prelude.{◌≡◌, IfOk, Ok, Err, false};
 ghost use Rattle.tl_types.specs.Entries.{commits_of};
+ghost use Rattle.tl_types.specs.History.{database_of};
 ghost use Rattle.tl_types.specs.Limits.{standard_limits};
+ghost use Rattle.tl_jobs.specs.declared.replies.Refusal.{Refusal as RefusalValue};
+ghost use Rattle.tl_watch.specs.Watches.{IsOfQuery};
 ghost use Rattle.tl_command.specs.Coming.{script_reads};
 ghost use Rattle.tl_command.specs.Outside.{outside};
 ghost use Rattle.tl_group.specs.Keeping.{commits_in};
 ghost use Rattle.tl_grouping.specs.Appending.{IsAttached};
-ghost use Rattle.tl_grouping.specs.Watching.{BeginsWatch, WatchEnds, WatchEndsBy};
+ghost use Rattle.tl_grouping.specs.Watching.{BeginsRead, BeginsWatch, WatchEnds, WatchEndsBy};
 ghost use Rattle.tl_watching.specs.Plans.{plan_reading};
 
 use crate::grouping::play_group;
@@ -24,6 +27,7 @@ use tl_jobs::{Pace, Refusal};
 use tl_journal::Refused;
 use tl_script::Script;
 use tl_types::{Limits, NoMemory};
+use tl_watch::WatchPlan;
 use tl_watching::{Watching, read_plan};
 
 /// What is watched, and how the statements meanwhile are done.
@@ -35,6 +39,26 @@ pub struct WatchText<'a> {
     pub pace: &'a Pace,
 }
 
+// The watch of the plan that was read of a text over the commits of a snapshot, or the refusal of
+// the text. The outer error is `NoMemory`, which a text that was refused never has.
+fn begin_read(
+    alloc: Global,
+    snapshot: &Snapshot,
+    read: Result<WatchPlan, Refusal>,
+) -> Result<Result<Watching, Refusal>, NoMemory>
+    requires { IfOk read (λ plan. IsOfQuery plan (database_of (commits_of snapshot.now))) }
+    ensures begins { IfOk result (BeginsRead (commits_of snapshot.now) read) }
+    ensures told { (why : RefusalValue) → read ≡ Err why → result ≡ Ok (Err why) }
+{
+    match read {
+        Ok(plan) => {
+            let watching = Watching::begin(alloc, snapshot, plan)?;
+            Ok(Ok(watching))
+        }
+        Err(refusal) => Ok(Err(refusal)),
+    }
+}
+
 // The watch of the plan that a text names over the commits of a snapshot, or the text's fault. The
 // outer error is `NoMemory`.
 fn begin(
@@ -44,13 +68,8 @@ fn begin(
 ) -> Result<Result<Watching, Refusal>, NoMemory>
     ensures { IfOk result (BeginsWatch (commits_of snapshot.now) text.now) }
 {
-    match read_plan(alloc, snapshot.store(), text)? {
-        Ok(plan) => {
-            let watching = Watching::begin(alloc, snapshot, plan)?;
-            Ok(Ok(watching))
-        }
-        Err(refusal) => Ok(Err(refusal)),
-    }
+    let read = read_plan(alloc, snapshot.store(), text)?;
+    begin_read(alloc, snapshot, read)
 }
 
 // Watches a plan while a script is played over a group as it was opened.

@@ -81,7 +81,7 @@ pub(crate) fn put_timed<L: Ledger>(
 {
     let mut steps = Steps::<L>::new(blank);
     let schema = table.schema();
-    let _place = schema.key();
+    let _place = schema.key(); // says that the key is one of the columns
     let PutPieces { back, periods } = pieces_behind(alloc, schema, rows)?;
     let closes = rows_to_close(alloc, table, &periods, &mut steps)?;
     let ids = closes.as_slice();

@@ -122,7 +122,7 @@ impl<'a> OpenTable<'a> {
         ensures some { IfOk result (λ cells. 1 ≤ length cells) }
         ensures few { IfOk result (λ cells. length cells ≤ 16) }
     {
-        let _columns = self.schema.columns();
+        let _columns = self.schema.columns(); // says that there are 1 to 16 columns
         let cells = self.store.row_cells(alloc, self.number, row, steps)?;
         Ok(cells)
     }
@@ -257,7 +257,7 @@ impl<'a> OpenTable<'a> {
         ensures rows { IfOk result (λ ids. working_rows self.now.rows ids ≡ open_rows self.now) }
         ensures within { IfOk result (λ ids. All (λ row. row < length self.now.rows) ids) }
     {
-        let _place = self.schema.key();
+        let _place = self.schema.key(); // says that the key is one of the columns
         let mut ids = IdList::new(alloc);
         self.index.add_all_to(&mut ids)?;
         let listed = ids.listed();

@@ -43,10 +43,10 @@ fn count_more(counts: &mut BTreeMap<i64, u64>, value: i64) -> Result<(), NoMemor
             let Some(more) = entry.get().checked_add(1) else {
                 return Err(AllocError);
             };
-            let _ = entry.insert(more);
+            let _ = entry.insert(more); // the count before
         }
         Entry::Vacant(entry) => {
-            let _ = entry.insert(1);
+            let _ = entry.insert(1); // the new count, lent
         }
     }
     Ok(())
@@ -77,7 +77,7 @@ fn count_less(counts: &mut BTreeMap<i64, u64>, value: i64)
     if lessen(counts, value) > 0 {
         return;
     }
-    let _ = counts.remove(&value);
+    let _ = counts.remove(&value); // the count before
 }
 
 // The value that is lent.

@@ -87,7 +87,7 @@ pub fn check(alloc: Global, query: &Query, store: &Store) -> Result<Typed, Check
     // What is given suits the tables of the store.
     ensures typed { IfOk result (λ t. IsTypedFor (database_of store.now) t) }
 {
-    let _versions = store.versions();
+    let _versions = store.versions(); // says that versions and stamps are in order
     let times = StoreTimes::new(store, query_floor(query, store));
     check_at(alloc, &times, query, store)
 }

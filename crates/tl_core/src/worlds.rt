@@ -267,7 +267,7 @@ impl World {
         ensures value { IfOk result (λ world. world ≡ after_steps self steps) }
         ensures law { IfOk result (λ world. GoesOn self world) }
     {
-        let _ = &self.entries;
+        let _ = &self.entries; // says what holds of each world
         let mut world = self;
         for step in steps.into_vec() {
             world.step_if_allowed(alloc, step)?;

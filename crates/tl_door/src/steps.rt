@@ -96,7 +96,7 @@ impl<V: Published> Door<V> {
         ensures given { seat.new.me ≡ (with_stage Idle seat.old.me.0, []) }
     {
         let value = held.into_value();
-        let _none = self.table.shared.exchange(seat, SLOT, Some(value));
+        let _none = self.table.shared.exchange(seat, SLOT, Some(value)); // nothing was there
         self.table.shared.fetch_add::<PassOn>(seat, SERVING, 1);
     }
 
@@ -130,8 +130,8 @@ impl<V: Published> Door<V> {
             ≡ with_seen (V.entries next)
             (with_stage (Served held.old.ticket (V.entries next)) seat.old.me.0) }
     {
-        let _count = next.len();
-        let _none = self.table.shared.exchange(seat, SLOT, Some(next));
+        let _count = next.len(); // says that the entries are few
+        let _none = self.table.shared.exchange(seat, SLOT, Some(next)); // nothing was there
         self.table.shared.fetch_add::<Publish>(seat, HISTORY, 1);
         let Some(next) = self.table.shared.exchange(seat, SLOT, None) else {
             unreachable!()

@@ -229,7 +229,7 @@ impl<D: Disk, J: Named> Committer<D, J> {
         let alloc = rt.alloc();
         let Committer { history, publisher } = self;
         publisher.show(head, pass);
-        let _legal = history.has_break();
+        let _legal = history.has_break(); // says that the entries are legal
         let Offer { author, batch } = offer;
         let draft = history.draft(alloc, author, batch)?;
         let Ok(copies) = copies_of(&draft) else {
@@ -239,7 +239,7 @@ impl<D: Disk, J: Named> Committer<D, J> {
         let Some(shown) = copies.shown_by(&answer) else {
             return answer;
         };
-        let _legal = shown.has_break();
+        let _legal = shown.has_break(); // says that the entries are legal
         publisher.publish(rt, head, pass, share, shown);
         answer
     }
@@ -278,7 +278,7 @@ impl<D: Disk, J: Named> Committer<D, J> {
             return Err(TendFault::NoMemory);
         };
         let MarkedCopies { kept, shown } = copies;
-        let _legal = shown.has_break();
+        let _legal = shown.has_break(); // says that the entries are legal
         history.take_mark(kept);
         publisher.publish_uncounted(rt, head, pass, shown);
         Ok(Tended::Built { version, read })

@@ -187,7 +187,7 @@ impl<D: Disk, J: Named> Engine<D, J> {
         book.audit(&mut share);
         drop(head.close(rt, writer, pass));
         let closed = history.close();
-        let _legal = closed.snapshot.has_break();
+        let _legal = closed.snapshot.has_break(); // says that the entries are legal
         closed
     }
 }

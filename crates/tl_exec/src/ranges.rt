@@ -53,7 +53,7 @@ pub(crate) fn range_runs<R: AllocGlobal + Threads + Sync, L: Ledger, G: Gate>(
 {
     kept_rows_pass();
     plans_suit();
-    let _legal = snapshot.has_break();
+    let _legal = snapshot.has_break(); // says that the entries are legal
     let alloc = rt.alloc();
     let keep = passing_rows(alloc, snapshot, asked.plan.table, asked.pred, steps)?;
     let kept = KeptRows::new(&keep, steps);

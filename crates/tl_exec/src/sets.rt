@@ -58,7 +58,7 @@ pub(crate) fn chosen_rows<L: Ledger>(
         let s = map_digits db table in
         steps.new ≤ steps.old + p * w + e + 3 * w + 2 * s }
 {
-    let _rows = snapshot.store().rows(table);
+    let _rows = snapshot.store().rows(table); // says that rows are few
     let mut set = visible(alloc, snapshot, table, version, steps)?;
     select_within(snapshot, table, pred, &mut set, steps);
     Ok(set)

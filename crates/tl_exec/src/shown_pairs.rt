@@ -158,6 +158,6 @@ pub(crate) fn rows_of_pairs<L: Ledger>(
         + (length (columns_of db plan.now.left) + length (columns_of db plan.now.right))
         * length pairs.now }
 {
-    let _legal = snapshot.has_break();
+    let _legal = snapshot.has_break(); // says that the entries are legal
     pairs_as_rows(alloc, snapshot.store(), plan, pairs.as_slice(), steps)
 }

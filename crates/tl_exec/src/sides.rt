@@ -40,7 +40,7 @@ pub(crate) fn starting_rows<L: Ledger>(
         let s = map_digits db table in
         steps.new ≤ steps.old + e + 3 * w + 2 * s }
 {
-    let _rows = snapshot.store().rows(table);
+    let _rows = snapshot.store().rows(table); // says that rows are few
     let mut set = visible(alloc, snapshot, table, version, steps)?;
     meet(&mut set, keep, steps);
     Ok(set)

@@ -181,7 +181,7 @@ impl Snapshot {
         ensures last { result ≡ last_mark self.now table }
         ensures known { result ≤ (database_of (commits_of self.now)).version }
     {
-        let _ = &self.store;
+        let _ = &self.store; // says that the marks are those of the entries
         let marks = self.marks();
         let count = marks.count(table);
         if count == 0 {

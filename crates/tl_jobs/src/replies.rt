@@ -71,6 +71,7 @@ fn text_fault_words(alloc: Global, fault: &TextFault) -> Result<String, NoMemory
     }
 }
 
+// The words of a fault of a query or of a new table.
 fn check_fault_words(alloc: Global, fault: &CheckFault) -> Result<String, NoMemory>
     ensures { IfOk result (λ text. string_bytes text ≡ check_fault_words fault.now) }
 {
@@ -89,6 +90,7 @@ fn check_fault_words(alloc: Global, fault: &CheckFault) -> Result<String, NoMemo
     }
 }
 
+// The words of a fault of a block.
 fn csv_fault_words(alloc: Global, fault: &CsvFault) -> Result<String, NoMemory>
     ensures { IfOk result (λ text. string_bytes text ≡ csv_fault_words fault.now) }
 {
@@ -106,6 +108,7 @@ fn csv_fault_words(alloc: Global, fault: &CsvFault) -> Result<String, NoMemory>
     }
 }
 
+// The words of a fault of a batch.
 fn batch_fault_words(alloc: Global, fault: &BatchFault) -> Result<String, NoMemory>
     ensures { IfOk result (λ text. string_bytes text ≡ batch_fault_words fault.now) }
 {

@@ -179,7 +179,7 @@ pub(crate) fn side_entries<'a, L: Ledger>(
     ensures steps { steps.new ≤ steps.old + side_bound (side_rows side.now) (last_in side.now)
         piece.from piece.to side.now.start.now }
 {
-    let _rows = side.store.rows(side.table);
+    let _rows = side.store.rows(side.table); // says that rows are few
     let ids = there_ids(alloc, side, piece, steps)?;
     let entries = entries_of(alloc, side, plan, &ids, keys, steps)?;
     Ok(entries)

@@ -25,7 +25,7 @@ pub(crate) fn start_ids<L: Ledger>(
     ensures steps { steps.new
         ≤ steps.old + words_for (length start.now) + length (members start.now) }
 {
-    let _rows = start.rows();
+    let _rows = start.rows(); // says that rows are few
     let mut ids = Vec::new(alloc);
     let mut at = 0;
     'members: while let Some(row) = start.next(at, steps) {

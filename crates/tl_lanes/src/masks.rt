@@ -42,10 +42,11 @@ pub(crate) fn all_fit(values: &[i64])
         → FitsSigned w64 (slice_index_or values.now k (pos 0)) }
 {
     for value in values {
-        let _read = number(value);
+        let _read = number(value); // says that it fits
     }
 }
 
+// The word of which bit i says whether number i of 64 passes.
 fn signed_lanes(cmp: LaneCmp, values: &[i64], bound: i64) -> u64
     requires { length values.now ≡ 64 }
     ensures { result ≡ mask_l (map (λ x. passes cmp x bound) values.now) }

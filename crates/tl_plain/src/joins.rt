@@ -58,6 +58,7 @@ fn pair_from(left: u32, right: u32, from: i64, to: i64) -> Option<Pair>
     }
 }
 
+// The pair of two rows over the times at which both hold, where there are any.
 fn common_pair(
     span: Span,
     left: u32,

@@ -15,6 +15,7 @@ use crate::tokens::Placed;
 use std::alloc::Global;
 use tl_types::{Keyword, Seq};
 
+// A test that begins here: a column, a comparison, a constant.
 #[tactic(auto, unfolding(crate::specs::Reading::test_at))]
 fn test_at(tokens: &[Placed]) -> Result<(Test, &[Placed]), Stop>
     ensures { Gives (λ x. (x.0, x.1.now)) result (test_at tokens.now) }
@@ -135,6 +136,7 @@ fn system_at(tokens: &[Placed]) -> Result<(Over, &[Placed]), Stop>
     }
 }
 
+// The range of valid time that begins here, with the version that it is asked of.
 #[tactic(auto, unfolding(crate::specs::Reading::moments_at))]
 fn moments_at(tokens: &[Placed]) -> Result<(Over, &[Placed]), Stop>
     ensures { Gives (λ x. (x.0, x.1.now)) result (moments_at tokens.now) }

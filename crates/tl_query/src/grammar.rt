@@ -28,6 +28,7 @@ fn column_at(tokens: &[Placed]) -> Result<(ColumnForm, &[Placed]), Stop>
     Ok((ColumnForm { name, kind }, rest))
 }
 
+// The columns of a new table that begin here, at most as many as a table can have.
 #[tactic(auto, unfolding(crate::specs::Reading::columns_at))]
 fn columns_at(alloc: Global, tokens: &[Placed]) -> Result<(Seq<ColumnForm>, &[Placed]), Stop>
     ensures { Gives (λ x. (x.0, x.1.now)) result (columns_at tokens.now) }
@@ -56,6 +57,7 @@ fn valid_at(tokens: &[Placed]) -> (bool, &[Placed])
     }
 }
 
+// The statement behind `CREATE`.
 #[tactic(auto, unfolding(crate::specs::Reading::create_at))]
 fn create_at(alloc: Global, tokens: &[Placed]) -> Result<Statement, Stop>
     ensures { Gives (λ s. s) result (create_at tokens.now) }
@@ -120,6 +122,7 @@ fn asked_at(alloc: Global, tokens: &[Placed]) -> Result<(bool, Seq<Item>, &[Plac
     Ok((false, items, rest))
 }
 
+// The statement behind `SELECT`.
 #[tactic(auto, unfolding(crate::specs::Reading::parse_select))]
 fn parse_select(alloc: Global, tokens: &[Placed]) -> Result<Statement, Stop>
     ensures { Gives (λ s. s) result (parse_select tokens.now) }
@@ -141,6 +144,7 @@ fn parse_select(alloc: Global, tokens: &[Placed]) -> Result<Statement, Stop>
     statement_end(Statement::Ask(Query::Select(form)), rest)
 }
 
+// The statement that begins with the name of an aggregate.
 #[tactic(auto, unfolding(crate::specs::Reading::agg_at))]
 fn agg_at(alloc: Global, tokens: &[Placed]) -> Result<Statement, Stop>
     ensures { Gives (λ s. s) result (agg_at tokens.now) }
@@ -163,6 +167,7 @@ fn agg_at(alloc: Global, tokens: &[Placed]) -> Result<Statement, Stop>
     statement_end(Statement::Ask(Query::Agg(form)), rest)
 }
 
+// The statement behind `JOIN`.
 #[tactic(auto, unfolding(crate::specs::Reading::join_at))]
 fn join_at(alloc: Global, tokens: &[Placed]) -> Result<Statement, Stop>
     ensures { Gives (λ s. s) result (join_at tokens.now) }

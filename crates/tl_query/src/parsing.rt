@@ -15,6 +15,7 @@ use std::alloc::Global;
 /// How many bytes a statement's text can have.
 const MOST_BYTES: usize = 65536;
 
+// The statement that a text spells, or its fault.
 #[tactic(auto, unfolding(crate::specs::Texts::text_read))]
 fn read(alloc: Global, text: &str) -> Result<Statement, TextFault>
     ensures { Answers result (text_read text.now) }

@@ -430,6 +430,7 @@ impl Printer {
         Ok(())
     }
 
+    // Writes the range of versions or of valid time that is asked over.
     fn over(&mut self, over: Over) -> Result<(), NoMemory>
         ensures { OnOk result (self.new ≡ write self.old (over_parts over)) }
     {
@@ -475,6 +476,7 @@ impl Printer {
         Ok(())
     }
 
+    // Writes a query for pairs.
     #[tactic(auto, using(crate::proofs::Writing::write_append))]
     fn join(&mut self, form: &JoinForm) -> Result<(), NoMemory>
         ensures { OnOk result (self.new ≡ write self.old (join_parts form.now)) }
@@ -493,6 +495,7 @@ impl Printer {
         Ok(())
     }
 
+    // Writes a statement.
     fn statement(&mut self, statement: &Statement) -> Result<(), NoMemory>
         ensures { OnOk result (self.new ≡ write self.old (statement_parts statement.now)) }
     {

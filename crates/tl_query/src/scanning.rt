@@ -155,6 +155,7 @@ fn negative(number: u64) -> i64
     -(number as i64)
 }
 
+// The number behind a minus sign: its digits alone would not tell the least one.
 #[tactic(auto, unfolding(crate::specs::Scanning::negative_piece))]
 fn negative_piece(at: u32, bytes: &[u8]) -> Result<Piece, TextFault>
     requires { length bytes.now < 2 ^ 32 }
@@ -264,6 +265,7 @@ fn greater_piece(bytes: &[u8]) -> Piece
     }
 }
 
+// The token that begins with a byte that is no letter, digit or quote.
 #[tactic(auto, unfolding(crate::specs::Scanning::symbol_piece))]
 fn symbol_piece(at: u32, first: u8, bytes: &[u8]) -> Result<Piece, TextFault>
     ensures { result ≡ symbol_piece at first bytes.now }
@@ -307,6 +309,7 @@ fn piece_of(alloc: Global, at: u32, bytes: &[u8]) -> Result<Result<Piece, TextFa
     Ok(symbol_piece(at, *first, others))
 }
 
+// A piece at its place; one that is joined to the piece before it, as no two may be, is stray.
 fn placed_token(at: u32, joined: bool, piece: Piece) -> Placed
     ensures { result ≡ placed_token at joined piece }
 {

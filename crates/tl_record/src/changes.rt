@@ -16,6 +16,7 @@ use crate::{numbers, rows};
 use std::alloc::Global;
 use tl_types::{Change, Opened, Seq};
 
+// So many ids, each above the one before it, and what is left of the bytes.
 fn ids_of(alloc: Global, count: u32, bytes: &[u8]) -> Result<(Vec<u32>, &[u8]), ReadError>
     ensures { Gives (λ x. (x.0.items, x.1.now)) result (ids_of count bytes.now) }
 {

@@ -119,7 +119,7 @@ fn put_rows(out: &mut Vec<u8>, len: usize, rows: &[Opened]) -> Result<(), NoMemo
 {
     let at = out.len();
     out.resize(len, 0)?;
-    let _end = placing::place_rows(out.as_mut_slice(), at, rows);
+    let _end = placing::place_rows(out.as_mut_slice(), at, rows); // the end, which is the length
     Ok(())
 }
 

@@ -45,17 +45,17 @@ pub fn record_len(commit: &Commit) -> usize
     ensures small { result < 2 ^ 60 }
     ensures fits { IsCommit commit.now }
 {
-    let _author = commit.author;
+    let _author = commit.author; // says that it is of 32 bits
     match &commit.body {
         Body::Create(schema) => 5 + schema_len(schema),
         Body::Change(change) => 5 + change_len(change),
         Body::Moment { moment } => {
-            let _moment = *moment;
+            let _moment = *moment; // says that it is of 64 bits
             13
         }
         Body::Forget { table, floor } => {
-            let _table = *table;
-            let _floor = *floor;
+            let _table = *table; // says that it is of 16 bits
+            let _floor = *floor; // says that it is of 32 bits
             11
         }
     }
@@ -87,7 +87,7 @@ fn cell_len(cell: &Cell) -> usize
 {
     match cell {
         Cell::Int(value) => {
-            let _value = *value;
+            let _value = *value; // says that it is of 64 bits
             9
         }
         Cell::Text(text) => 3 + text.as_str().len(),
@@ -114,8 +114,8 @@ fn period_len(period: Option<Period>) -> usize
     match period {
         None => 1,
         Some(period) => {
-            let _from = period.from();
-            let _to = period.to();
+            let _from = period.from(); // says that it is of 64 bits
+            let _to = period.to(); // says that it is of 64 bits
             17
         }
     }
@@ -156,6 +156,6 @@ fn change_len(change: &Change) -> usize
     ensures small { result < 2 ^ 59 }
     ensures fits { IsBody (Body.Change change.now) }
 {
-    let _table = change.table();
+    let _table = change.table(); // says that it is of 16 bits
     10 + ids_len(change.closes()) + rows_len(change.opens())
 }

@@ -183,6 +183,7 @@ fn turned(byte: u8) -> u8
     if byte < 128 { byte + 128 } else { byte - 128 }
 }
 
+// The first byte, of which the top bit is turned, where it is between two bounds, and the rest.
 fn turned_byte(lo: u8, hi: u8, bytes: &[u8]) -> Result<(u8, &[u8]), ReadError>
     ensures read { Gives (λ x. (x.0, x.1.now)) result (turned_byte lo hi bytes.now) }
     ensures within { IfOk result (λ x. IsBetween lo hi x.0) }
@@ -225,6 +226,7 @@ fn distance(i: i64) -> u64
     }
 }
 
+// The number of 64 bits in the first eight bytes, where it is between two bounds, and the rest.
 #[tactic(auto, using(crate::proofs::Whole::eight_read))]
 #[inline(always)]
 fn whole_signed(lo: i64, hi: i64, bytes: &[u8]) -> Result<(i64, &[u8]), ReadError>

@@ -64,7 +64,7 @@ fn pass_over<D: Disk>(
     ensures kinds { IfErr result IsDamagedOrMemoryThere }
 {
     'commits: while let Some(found) = found_commits.next(alloc)? {
-        let _at = found.at;
+        let _at = found.at; // says that it is of 64 bits
     }
     Ok(())
 }

@@ -51,8 +51,8 @@ fn drop_top(pile: &mut Pile, top: i64)
     ensures joins { JoinsHeap pile.new pile.old top }
     ensures room { pile.new.room ≡ pile.old.room }
 {
-    let _top = top;
-    let _ = pile.pop();
+    let _top = top; // says that it is of 64 bits
+    let _ = pile.pop(); // the top, which is known
 }
 
 // Takes out of both piles what is the greatest of both.

@@ -96,7 +96,7 @@ fn drop_first(rows: &mut BinaryHeap<Lasting>, now: i64)
     ensures same { SameFrom now (heap_items rows.old) (heap_items rows.new) }
     ensures fewer { heap_len rows.new < heap_len rows.old }
 {
-    let _now = now;
+    let _now = now; // says that it is of 64 bits
     let Some(_first) = rows.pop() else {
         unreachable!()
     };

@@ -146,7 +146,7 @@ fn exchange(near: &mut Heap, far: &mut Far, bound: i64, number: i64) -> i64
     requires room { length far.old.numbers < far.old.room }
     ensures fills { FillsPile near.old far.old near.new far.new number result }
 {
-    let _bound = bound;
+    let _bound = bound; // says that it is of 64 bits
     let Some(top) = near.pop() else {
         unreachable!()
     };

@@ -285,7 +285,7 @@ impl TableData {
         ensures value { IfOk result (λ closes. closes ≡ part first count self.now.closed) }
         ensures ticks { IfOk result (λ _. steps.new ≡ steps.old + count) }
     {
-        let _all = self.closed();
+        let _all = self.closed(); // says that places are of 64 bits
         let mut closes = Vec::with_capacity(alloc, count as usize)?;
         for place in 0..count {
             steps.tick();
@@ -307,7 +307,7 @@ impl TableData {
             (λ opens. opens ≡ map opened_of (part first count self.now.rows)) }
         ensures ticks { IfOk result (λ _. steps.new ≡ steps.old + count) }
     {
-        let _all = self.rows();
+        let _all = self.rows(); // says that rows are few
         let mut opens = Vec::with_capacity(alloc, count as usize)?;
         for place in 0..count {
             steps.tick();

@@ -48,6 +48,7 @@ fn one_changes(alloc: Global, list: &SharedList<u64>) -> bool {
     }
 }
 
+// Whether a list with new items at several places has them there and the old ones elsewhere.
 fn several_change(alloc: Global, list: &SharedList<u64>) -> bool {
     if list.len() != 70000 {
         return false;

@@ -68,6 +68,7 @@ fn keys_below(alloc: Global, keys: i64) -> Result<Seq<KeyLine>, NoMemory> {
     Ok(lines)
 }
 
+// The batch of a kind for a table, where there is memory for it.
 fn batch_of(alloc: Global, kind: Kind, table: Text) -> Option<Batch> {
     match kind {
         Kind::Create => match schema(alloc, table) {

@@ -37,9 +37,10 @@ pub enum Batch {
         /// The keys, in order.
         lines: Seq<KeyLine>,
     },
-    /// Rows that are to be all the open rows of a table. An open row stays where one of them has its
-    /// cells and, where the table has valid time, its period; each other open row is closed, and the
-    /// rows that none stayed for are opened.
+    /// Rows that are to be all the open rows of a table. Each row in turn keeps the open row of
+    /// least id that has its cells and, where the table has valid time, its period, and that no row
+    /// before it keeps; so of two equal open rows one alone stays where the rows have them once.
+    /// Each other open row is closed, and the rows that keep none are opened.
     Sync {
         /// The name of the table that it is for; `UnknownTable` where no table has it.
         table: Text,

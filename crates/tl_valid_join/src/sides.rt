@@ -223,7 +223,7 @@ pub(crate) fn side_entries<'a, L: Ledger>(
     ensures count { OnOk result (keys.new.count ≤ keys.old.count + 33554432) }
     ensures steps { steps.new ≤ steps.old + 3 * length events.now }
 {
-    let _rows = side.store.rows(side.table);
+    let _rows = side.store.rows(side.table); // says that rows are few
     let list = events.list(alloc)?;
     let entries = entries_of(alloc, side, plan, &list, keys, steps)?;
     Ok(entries)

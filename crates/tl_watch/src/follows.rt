@@ -113,7 +113,7 @@ fn open_at(
     ensures { OnOk result (Stands plan.now state.new
         (rows_opening plan.now (database_of before.now) change.now (i + 1))) }
 {
-    let _before = before;
+    let _before = before; // says what holds of each store
     let opened = &change.opens()[i];
     let passes = opening::passes(opened, &plan.pred);
     if !passes {

@@ -91,7 +91,7 @@ fn leave_in(by: &mut BTreeMap<Cell, Numbers>, value: &Cell, number: i64)
     if lessen(by, value, number) > 0 {
         return;
     }
-    let _ = by.remove(value);
+    let _ = by.remove(value); // the value's group before
 }
 
 // The groups by their values. Where two are of one value, the first of them counts.

@@ -299,8 +299,8 @@ pub(crate) fn start<L: Ledger>(
         (database_of (commits_of snapshot.now))) }
     ensures steps { steps.new ≤ steps.old + start_steps snapshot.now plan.now }
 {
-    let _has_break = snapshot.has_break();
-    let _rows = snapshot.store().rows(plan.table);
+    let _has_break = snapshot.has_break(); // says that the entries are legal
+    let _rows = snapshot.store().rows(plan.table); // says that rows are few
     let set = standing_set(alloc, snapshot, plan, steps)?;
     let state = state_of(alloc, plan, snapshot, &set, steps)?;
     Ok(state)

@@ -27,7 +27,7 @@ fn all_short(values: &[i64])
     ensures { AreShort values.now }
 {
     for value in values {
-        let _read = number(value);
+        let _read = number(value); // says that it fits
     }
 }
 

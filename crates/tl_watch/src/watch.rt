@@ -154,7 +154,7 @@ impl Watch {
         ensures plans { result.plans ≡ [] }
         ensures stands { StandsForCommits result (commits_of snapshot.now) }
     {
-        let _has_break = snapshot.has_break();
+        let _has_break = snapshot.has_break(); // says that the entries are legal
         Watch {
             alloc,
             live: true,

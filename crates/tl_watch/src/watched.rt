@@ -61,8 +61,8 @@ impl Watched {
         ensures steps { steps.new
             ≤ steps.old + most_steps_for (body.Change change.now) self.old }
     {
-        let _author = author;
-        let _closes = change.closes();
+        let _author = author; // says that it is of 32 bits
+        let _closes = change.closes(); // says that ids are few
         if self.plan.table != change.table() {
             return Ok(());
         }

@@ -22,11 +22,15 @@ use std::sync::Arc;
 use std::sync::ledger::Ledger;
 use tl_column::IntColumn;
 use tl_query::TypedTest;
-use tl_shared::{CHUNK, FineList, Shareable, SharedList, share_all};
+use tl_shared::{CHUNK, ListInChunks, Shareable, SharedList, share_all};
 use tl_types::{
     Cell, Change, Column, Limits, NoMemory, OPEN, Opened, Period, Schema, Seq, SmallSeq, Steps,
     Text, all_match,
 };
+
+// How many ends of rows stand in a full chunk. They change all over, and a change of one copies its
+// chunk where another snapshot has it; and a table that changes copies its list of chunks.
+const ENDS: usize = 256;
 
 /// A table: its schema and its floor, a column for each of the schema's, the valid periods of its
 /// rows where it has them, the versions from which and before which each row stands, and the ids of
@@ -38,8 +42,8 @@ pub(crate) struct TableData {
     columns: Vec<ColumnData>,
     periods: PeriodList,
     from: SharedList<u32>,
-    to: FineList<u32>,
-    closed: FineList<u32>,
+    to: ListInChunks<u32, ENDS>,
+    closed: SharedList<u32>,
 }
 
 impl Model for TableData {
@@ -71,8 +75,8 @@ impl TableData {
             floor: 0,
             periods: PeriodList::none(alloc),
             from: SharedList::none(alloc),
-            to: FineList::none(alloc),
-            closed: FineList::none(alloc),
+            to: ListInChunks::none(alloc),
+            closed: SharedList::none(alloc),
         })
     }
 

@@ -35,8 +35,15 @@ fn run_over<R: AllocGlobal + Threads + Wait + Sync, S: Source, K: Sink, G: Gate>
     ending.status
 }
 
+// After how many events a table gets a mark where a journal has so many bytes: 4,096, and more
+// where the journal is large, since each mark has a bit for each row. An event takes some twenty
+// bytes, so a large table gets some 25 marks.
+fn events_between_marks(bytes: usize) -> u32 {
+    (bytes / 512).max(4096).min(16_777_216) as u32
+}
+
 // Asks the queries of the script that the source has over a disk in memory that has these bytes,
-// by four workers, with a mark after 4096 events, and forgets the disk.
+// by four workers, with few marks, and forgets the disk.
 fn ask_over<R: AllocGlobal + Threads + Wait + Sync, S: Source, K: Sink, G: Gate>(
     rt: &R,
     image: Vec<u8>,
@@ -48,7 +55,7 @@ fn ask_over<R: AllocGlobal + Threads + Wait + Sync, S: Source, K: Sink, G: Gate>
         (streams S.Source K.Sink source.old sink.old)
         (streams S.Source K.Sink source.new sink.new) result }
 {
-    let (alloc, pace) = (rt.alloc(), Pace::new(4, 4096));
+    let (alloc, pace) = (rt.alloc(), Pace::new(4, events_between_marks(image.len())));
     let disk = SureDisk::new(alloc, image);
     let ending = ask(rt, &pace, source, sink, disk, gate);
     ending.status

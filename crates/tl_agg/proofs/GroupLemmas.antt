@@ -36,7 +36,7 @@ stays wanted since at rows l same (pos v) after before =
     ap (aggregate_of wanted.kind wanted.column) (same v (omega (arith, ints)) (omega (arith, ints)) ∙ sym (same since (omega arith) l))
 stays wanted since at rows l same (negsuc n) after before = absurd (omega (arith, ints))
 
-plain_more : (wanted : Wanted) (since at : ℕ) (rows : List plain.Row) → wanted.from ≤ since → since < at → ((v : ℕ) → since ≤ v → v < at → kept_in wanted (standing wanted.rows v) ≡ rows)
+pub plain_more : (wanted : Wanted) (since at : ℕ) (rows : List plain.Row) → wanted.from ≤ since → since < at → ((v : ℕ) → since ≤ v → v < at → kept_in wanted (standing wanted.rows v) ≡ rows)
     → add_stretch (runs_of (kept_value wanted) (pos wanted.from) (pos since)) (stretch_of (pos since) (pos at) (aggregate_of wanted.kind wanted.column rows)) ≡ runs_of (kept_value wanted) (pos wanted.from) (pos at)
 plain_more wanted since at rows past l same =
     let value : aggregate_of wanted.kind wanted.column rows ≡ kept_value wanted (pos since) = ap (aggregate_of wanted.kind wanted.column) (sym (same since (omega arith) l)) in
@@ -105,7 +105,7 @@ advances_made wanted set at old new tracks advances =
 
 -- ONE EVENT
 
-turn_of : (wanted : Wanted) (set : List Bool) (event : Event) (r : plain.Row) → length set ≡ length wanted.rows → slice_get wanted.rows event.row ≡ Some r → slice_get set event.row ≡ Some (not event.opens) → is_member wanted.keep event.row ≡ true
+pub turn_of : (wanted : Wanted) (set : List Bool) (event : Event) (r : plain.Row) → length set ≡ length wanted.rows → slice_get wanted.rows event.row ≡ Some r → slice_get set event.row ≡ Some (not event.opens) → is_member wanted.keep event.row ≡ true
     → Turn event.opens r (kept_in wanted set) (kept_in wanted (after_event set event))
 turn_of wanted set event r long is turn kept =
     let member : is_member set event.row ≡ not event.opens = get_or_from_slice_get set event.row (not event.opens) false turn in record {

@@ -14,3 +14,4 @@ pub mod GroupedLemmas
 pub mod TypedLemmas
 pub mod PassLemmas
 pub mod TypedAggregates
+pub mod ExtremeLemmas

@@ -26,7 +26,7 @@ use Rattle.tl_running.proofs.TellLemmas.{suits_none}
 
 -- THE START
 
-none_below : (set keep : List Bool) (rows : List plain.Row) → picked (both (below 0 set) keep) rows ≡ []
+pub none_below : (set keep : List Bool) (rows : List plain.Row) → picked (both (below 0 set) keep) rows ≡ []
 none_below [] keep rows = refl
 none_below (s ∷ set) [] rows = refl
 none_below (s ∷ set) (k ∷ keep) [] = refl

@@ -2,7 +2,6 @@
 use Rattle.std.proofs.Common.{◌≡◌, ℕ, zero, suc, ◌+◌, ◌-◌, ◌<◌, ◌≤◌, ℤ, Bool, true, false, not, List, [], ◌∷◌, length, take, drop, map, cond, Option, None, Some, refl, sym, ap, ◌∙◌, arith, subst, slice_get, length-append}
 use Rattle.std.proofs.lemmas.List.{length-map}
 use Rattle.std.proofs.lemmas.Option.{slice_get_within}
-use Rattle.std.proofs.Math.ListN.{drop_of_length-le}
 use Rattle.tl_types.specs.declared.events.Event.{Event}
 use Rattle.tl_types.specs.Plain as plain
 use Rattle.tl_types.specs.History.{is_visible, same_cell, cell_at}
@@ -198,7 +197,7 @@ turn_at set [] i e changes is = absurd (cc)
 turn_at set (x ∷ es) zero e changes is = let same : x ≡ e = cc in subst (λ (y : Event). slice_get set y.row ≡ Some (not y.opens)) same changes.0
 turn_at set (x ∷ es) (suc i) e changes is = turn_at (after_event set x) es i e changes.1 is
 
-step_at : (set : List Bool) (es : List Event) (i : ℕ) (e : Event) → slice_get es i ≡ Some e → after_events set (take (i + 1) es) ≡ after_event (after_events set (take i es)) e
+pub step_at : (set : List Bool) (es : List Event) (i : ℕ) (e : Event) → slice_get es i ≡ Some e → after_events set (take (i + 1) es) ≡ after_event (after_events set (take i es)) e
 step_at set [] i e is = absurd (cc)
 step_at set (x ∷ es) zero e is = let same : x ≡ e = cc in ap (after_event set) same
 step_at set (x ∷ es) (suc i) e is = let s : suc i + 1 ≡ suc (i + 1) = omega arith in ap (λ n. after_events set (take n (x ∷ es))) s ∙ step_at (after_event set x) es i e is
@@ -214,13 +213,13 @@ get_drop zero i xs x is = let e : 0 + i ≡ i = omega arith in ap (slice_get xs)
 get_drop (suc p) i [] x is = absurd (cc)
 get_drop (suc p) i (y ∷ xs) x is = let e : suc p + i ≡ suc (p + i) = omega arith in ap (slice_get (y ∷ xs)) e ∙ get_drop p i xs x is
 
-event_here : (table : TableOf) (events : List Event) (place i : ℕ) (e : Event) → events ≡ take (length events) (drop place (events_of (rows_in table) table.db.version)) → slice_get events i ≡ Some e
+pub event_here : (table : TableOf) (events : List Event) (place i : ℕ) (e : Event) → events ≡ take (length events) (drop place (events_of (rows_in table) table.db.version)) → slice_get events i ≡ Some e
     → slice_get (events_of (rows_in table) table.db.version) (place + i) ≡ Some e
 event_here table events place i e are is =
     get_drop place i (events_of (rows_in table) table.db.version) e
     (get_take (length events) i (drop place (events_of (rows_in table) table.db.version)) e (ap (λ es. slice_get es i) (sym are) ∙ is))
 
-run_turns : (table : TableOf) (place i : ℕ) (events : List Event) (e : Event) → AreWellFormed table.db.version (rows_in table)
+pub run_turns : (table : TableOf) (place i : ℕ) (events : List Event) (e : Event) → AreWellFormed table.db.version (rows_in table)
     → events ≡ take (length events) (drop place (events_of (rows_in table) table.db.version)) → slice_get events i ≡ Some e → Turns (rows_in table) (set_after table (place + i)) e
 run_turns table place i events e formed are is =
     let rows = rows_in table in
@@ -260,7 +259,7 @@ pub events_many : (rows : List plain.Row) (before version : ℕ) → before < ve
 events_many rows before version l quiet = ap length (quiet_events rows before version l quiet) ∙ length-append (events_of rows before) (events_at rows version)
 
 -- the same rows stand at the last version of a quiet stretch
-last_stands : (last : ℕ) (rows : List plain.Row) (at to : ℕ) → AreWellFormed last rows → at < to → IsQuiet rows at to → standing rows (to - 1) ≡ standing rows at
+pub last_stands : (last : ℕ) (rows : List plain.Row) (at to : ℕ) → AreWellFormed last rows → at < to → IsQuiet rows at to → standing rows (to - 1) ≡ standing rows at
 last_stands last rows at to formed l quiet = quiet_stays last rows formed at to (to - 1) quiet (omega arith) (omega arith)
 
 -- the rows that stand after the events up to a version
@@ -299,11 +298,6 @@ pub next_some : (rows : List plain.Row) (last at to i : ℕ) (entry : VersionEnd
 next_some rows last at to i entry follow is before =
     let f : Follow rows last at (entry ∷ drop (i + 1) (ends_of rows last)) = subst (Follow rows last at) (drop_get (ends_of rows last) i entry is) follow in
     record { later = f.0; before = before; within = f.1; quiet = f.2; place = f.3; some = f.4; rest = f.5 }
-
-pub next_none : (rows : List plain.Row) (last at to i : ℕ) → Follow rows last at (drop i (ends_of rows last)) → to ≤ last + 1 → length (ends_of rows last) ≤ i → IsQuiet rows at to
-next_none rows last at to i follow within past =
-    let f : Follow rows last at [] = subst (Follow rows last at) (drop_of_length-le (ends_of rows last) past) follow in
-    λ m l h. f m l (omega arith)
 
 pub next_later : (rows : List plain.Row) (last at to i : ℕ) (entry : VersionEnd) → Follow rows last at (drop i (ends_of rows last)) → slice_get (ends_of rows last) i ≡ Some entry → to ≤ entry.version → IsQuiet rows at to
 next_later rows last at to i entry follow is later =

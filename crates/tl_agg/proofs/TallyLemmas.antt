@@ -44,23 +44,6 @@ key_told rows id column (Some b) (Some ms) ns n by_is are is l at =
     let place : b ≡ column = cc in
     key_there rows id column ns n (subst (λ k. map some_int ns ≡ column_cells rows k) place (subst (λ l. map some_int l ≡ column_cells rows b) same are)) l at
 
--- BEFORE THE FIRST EVENT
-
-pub tally_start : (scan : ScanOf) (place at : ℕ) (groups : Groups) (tally : Tally) → tally ≡ record { came = 0; kept = 0; sum = groups.all.running.sum } → AllTrack scan (set_after scan.table place) at groups
-    → AllTrack scan (set_after scan.table (place + 0)) at (all_summed groups (count_with groups.all.running.count tally) (total tally)) × IsTally groups.all.running.count 0 tally
-tally_start scan place at groups tally is tracks =
-    let came : tally.came ≡ 0 = ap (λ (t : Tally). t.came) is in
-    let kept : tally.kept ≡ 0 = ap (λ (t : Tally). t.kept) is in
-    let sum : tally.sum ≡ groups.all.running.sum = ap (λ (t : Tally). t.sum) is in
-    let c : groups.all.running.count ≡ count_with groups.all.running.count tally = omega arith in
-    let s : groups.all.running.sum ≡ total tally = omega (arith, ints) in
-    let p : place ≡ place + 0 = omega arith in (
-      subst (λ n. AllTrack scan (set_after scan.table n) at (all_summed groups (count_with groups.all.running.count tally) (total tally))) p
-          (subst (λ m. AllTrack scan (set_after scan.table place) at (all_summed groups (count_with groups.all.running.count tally) m)) s
-          (subst (λ n. AllTrack scan (set_after scan.table place) at (all_summed groups n groups.all.running.sum)) c tracks)),
-      record { came = omega arith; kept = omega arith; some = omega arith },
-    )
-
 -- ANY NUMBER OF EVENTS
 
 room_by : (by : Option ℕ) (scan : ScanOf) (set : List Bool) (at : ℕ) (groups : Groups) → by ≡ None → length (rows_in scan.table) ≤ 16777216 → TrackBy by scan set at groups → HasRoom groups.all.running

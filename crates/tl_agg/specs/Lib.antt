@@ -1,4 +1,5 @@
 pub mod Columns
+pub mod Extremes
 pub mod Kept
 pub mod Groups
 pub mod Scans

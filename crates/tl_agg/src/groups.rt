@@ -34,8 +34,8 @@ impl Model for Group {
     } };
 }
 
-// A stretch of versions with one value.
-fn stretch_of(from: u32, to: u32, value: Field) -> Run
+/// A stretch of versions with one value.
+pub(crate) fn stretch_of(from: u32, to: u32, value: Field) -> Run
     ensures { result ≡ stretch_of (pos from) (pos to) value }
 {
     Run {
@@ -56,9 +56,9 @@ fn grow(runs: &mut Vec<Run>) -> Result<(), NoMemory>
     Ok(())
 }
 
-// Makes room for more runs where there is none.
+/// Makes room for more runs where there is none.
 #[inline(always)]
-fn make_room(runs: &mut Vec<Run>) -> Result<(), NoMemory>
+pub(crate) fn make_room(runs: &mut Vec<Run>) -> Result<(), NoMemory>
     ensures { OnOk result (runs.new.items ≡ runs.old.items) }
 {
     if runs.len() == runs.capacity() {

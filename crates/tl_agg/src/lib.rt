@@ -6,6 +6,7 @@
 mod aggregates;
 mod all_groups;
 pub mod columns;
+mod extremes;
 mod groups;
 mod kept;
 pub mod laws;

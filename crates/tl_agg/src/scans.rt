@@ -1,6 +1,6 @@
 //! The walk along the events of a table over a piece of its versions. At each version it keeps that
-//! the groups are those of the kept rows that stand there; a least or greatest number is not folded
-//! into one sum, and a row that is not kept changes nothing.
+//! the groups are those of the kept rows that stand there; a row that is not kept changes nothing. A
+//! least or greatest number of all kept rows has a walk of its own.
 ghost use Rattle.std.specs.Prelude.{◌≡◌, None, Some, ◌+◌, ◌-◌, ◌*◌, ◌^◌, ◌<◌, ◌≤◌, true, false, length, drop, is_some, OnOk, IfOk, IfSome, IfNone};
 ghost use Rattle.tl_types.specs.Events.{place_of};
 ghost use Rattle.tl_types.specs.Walks.{IsQuiet, standing};
@@ -12,10 +12,13 @@ ghost use Rattle.tl_store.specs.Reading.{cell_shown, IsShort as IsShortCell};
 ghost use Rattle.tl_agg.specs.Kept.{below, size, IsWithin, count_moved};
 ghost use Rattle.tl_agg.specs.Runs.{system_runs, start_set};
 ghost use Rattle.tl_agg.specs.Columns.{AreNumbers, HasKey};
+ghost use Rattle.tl_agg.specs.Extremes.{IsExtreme, IsSummed};
 ghost use Rattle.tl_agg.specs.Scans.{IsNextEntry, IsScan, scan_of, AllTrack, IsRun, IsRunOfAll, TakesRun, IsReady, TakesEvent, set_after, all_recounted, all_summed};
 ghost use Rattle.tl_index.specs.Tables.{rows_in, ends_in, search_steps};
 ghost use Rattle.tl_running.specs.Telling.{TellsNumber};
 ghost use Rattle.tl_agg.specs.Tallies.{IsFarFromEnds, total, count_with, IsTally, TalliesWhere};
+
+mod extreme_walks;
 
 use crate::all_groups::Groups;
 use crate::columns::{int_keys, key_at, numbers};
@@ -178,28 +181,6 @@ impl<'a> Scan<'a> {
         Ok(())
     }
 
-    // An event of the version up to which the runs of the group of all rows reach, which changes
-    // that group where its row is kept. It takes at most two steps.
-    fn fold_all<L: Ledger>(
-        &self,
-        groups: &mut Groups<'a>,
-        at: u32,
-        event: Event,
-        steps: &mut Steps<L>,
-    ) -> Result<(), NoMemory>
-        requires single { self.now.plan.by ≡ None }
-        requires ready { IsReady self.now at event groups.old }
-        requires since { groups.old.all.since ≡ at }
-        ensures takes { OnOk result (TakesEvent self.now at event groups.old groups.new) }
-        ensures since { OnOk result (groups.new.all.since ≡ at) }
-        ensures steps { steps.new ≤ steps.old + 2 }
-    {
-        if self.keep.test(event.row, steps) {
-            return self.move_all(groups, at, event, steps);
-        }
-        Ok(())
-    }
-
     // A kept row comes into its group at a version, or goes. It takes at most two steps.
     #[inline(always)]
     fn move_row<L: Ledger>(
@@ -353,55 +334,9 @@ impl<'a> Scan<'a> {
         groups.set_sums(count, tally.total());
     }
 
-    // Some events of the version up to which the runs of the group of all rows reach, which begin
-    // at a place among the table's events, where the rows have one group. It takes at most three
-    // steps for each.
-    fn number_run<L: Ledger>(
-        &self,
-        groups: &mut Groups<'a>,
-        at: u32,
-        place: u32,
-        events: &[PackedEvent],
-        steps: &mut Steps<L>,
-    ) -> Result<(), NoMemory>
-        requires run { IsRunOfAll self.now at place events.now groups.old }
-        ensures tracks { OnOk result (TakesRun self.now at place events.now groups.new) }
-        ensures steps { steps.new ≤ steps.old + 3 * length events.now }
-    {
-        let _place = place;
-        let _ = self.table.rows();
-        for packed in events {
-            self.fold_all(groups, at, packed.event(), steps)?;
-        }
-        Ok(())
-    }
-
-    // Some events of the version up to which the runs of the group of all rows reach, which begin
-    // at a place among the table's events, where a column is aggregated and the rows have one
-    // group. It takes at most three steps for each.
-    fn column_run<L: Ledger>(
-        &self,
-        groups: &mut Groups<'a>,
-        at: u32,
-        place: u32,
-        events: &[PackedEvent],
-        steps: &mut Steps<L>,
-    ) -> Result<(), NoMemory>
-        requires run { IsRunOfAll self.now at place events.now groups.old }
-        requires column { is_some self.now.plan.column ≡ true }
-        ensures tracks { OnOk result (TakesRun self.now at place events.now groups.new) }
-        ensures steps { steps.new ≤ steps.old + 3 * length events.now }
-    {
-        let is_ordered = is_ordered(self.plan.kind);
-        if is_ordered {
-            return self.number_run(groups, at, place, events, steps);
-        }
-        self.sum_run(groups, at, place, events, steps);
-        Ok(())
-    }
-
     // Some events of a version, which begin at a place among the table's events, where the rows
-    // have one group. It takes at most three steps for each.
+    // have one group and the order of the numbers is not asked for. It takes at most two steps for
+    // each.
     fn run_all<L: Ledger>(
         &self,
         groups: &mut Groups<'a>,
@@ -411,9 +346,10 @@ impl<'a> Scan<'a> {
         steps: &mut Steps<L>,
     ) -> Result<(), NoMemory>
         requires single { self.now.plan.by ≡ None }
+        requires kind { is_ordered self.now.plan.kind ≡ false }
         requires run { IsRun self.now at place events.now groups.old }
         ensures tracks { OnOk result (TakesRun self.now at place events.now groups.new) }
-        ensures steps { steps.new ≤ steps.old + 3 * length events.now }
+        ensures steps { steps.new ≤ steps.old + 2 * length events.now }
     {
         groups.advance(at)?;
         match self.plan.column {
@@ -422,7 +358,10 @@ impl<'a> Scan<'a> {
                 groups.set_count(count);
                 Ok(())
             }
-            Some(_) => self.column_run(groups, at, place, events, steps),
+            Some(_) => {
+                self.sum_run(groups, at, place, events, steps);
+                Ok(())
+            }
         }
     }
 
@@ -459,6 +398,7 @@ impl<'a> Scan<'a> {
         events: &[PackedEvent],
         steps: &mut Steps<L>,
     ) -> Result<(), NoMemory>
+        requires sums { IsSummed self.now }
         requires run { IsRun self.now at place events.now groups.old }
         ensures tracks { OnOk result (TakesRun self.now at place events.now groups.new) }
         ensures steps { steps.new ≤ steps.old + 3 * length events.now }
@@ -478,6 +418,7 @@ impl<'a> Scan<'a> {
         to: u32,
         steps: &mut Steps<L>,
     ) -> Result<(), NoMemory>
+        requires sums { IsSummed self.now }
         requires ordered { from ≤ to }
         requires within { to ≤ place_of (rows_in self.now.table) self.now.table.db.version }
         requires tracks { AllTrack self.now (set_after self.now.table from) at groups.old }
@@ -526,6 +467,7 @@ impl<'a> Scan<'a> {
         from: u32,
         steps: &mut Steps<L>,
     ) -> Result<(), NoMemory>
+        requires sums { IsSummed self.now }
         requires follow { Follow (rows_in self.now.table) self.now.table.db.version self.now.from
             (drop first (ends_in self.now.table)) }
         requires from { from ≡ place_of (rows_in self.now.table) self.now.from }
@@ -579,7 +521,9 @@ impl<'a> Scan<'a> {
         start: &RowSet,
         steps: &mut Steps<L>,
     ) -> Result<Groups<'a>, NoMemory>
-        requires { start.now ≡ start_set (rows_in self.now.table) self.now.keep self.now.from }
+        requires sums { IsSummed self.now }
+        requires start { start.now
+            ≡ start_set (rows_in self.now.table) self.now.keep self.now.from }
         ensures tracks { IfOk result (λ groups. AllTrack self.now
             (standing (rows_in self.now.table) (self.now.to - 1)) self.now.to groups) }
         ensures steps { let rows = rows_in self.now.table in
@@ -616,6 +560,17 @@ impl<'a> Scan<'a> {
         }
     }
 
+    // Whether a least or greatest number of all kept rows is asked for.
+    fn is_extreme(&self) -> bool
+        ensures extreme { result ≡ true → IsExtreme self.now }
+        ensures sums { result ≡ false → IsSummed self.now }
+    {
+        match self.plan.by {
+            None => is_ordered(self.plan.kind),
+            Some(_) => false,
+        }
+    }
+
     /// The runs over the piece. `start` is the set of the kept rows that stand at its first
     /// version. The error is `NoMemory`.
     pub(crate) fn runs<L: Ledger>(
@@ -631,6 +586,10 @@ impl<'a> Scan<'a> {
             steps.new ≤ steps.old + (5 * e + 3 * size start.now + words_for (length start.now)
             + 2 * search_steps self.now.table + 1) }
     {
+        let is_extreme = self.is_extreme();
+        if is_extreme {
+            return self.extreme_runs(start, steps);
+        }
         let groups = self.groups(start, steps)?;
         let runs = self.runs_of(groups)?;
         Ok(runs)

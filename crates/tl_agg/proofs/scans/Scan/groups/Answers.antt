@@ -8,7 +8,7 @@ use Rattle.tl_agg.proofs.PieceLemmas.{start_tracks, start_within, start_stands}
 use Rattle.tl_agg.proofs.scans.Scan.groups.Goals as goal
 
 pub enter_all-requires-clause-members : goal.enter_all-requires-clause-members
-enter_all-requires-clause-members g c = start_within c.args.self.now c.args.start.now (subst IsScan c.self.view_is c.self.invariant.is_scan) c.requires
+enter_all-requires-clause-members g c = start_within c.args.self.now c.args.start.now (subst IsScan c.self.view_is c.self.invariant.is_scan) c.requires.start
 
 pub enter_all-requires-clause-tracks : goal.enter_all-requires-clause-tracks
 enter_all-requires-clause-tracks g c =
@@ -35,4 +35,4 @@ walk-requires-clause-follow g c =
     split_follow (rows_in c.args.self.now.table) c.args.self.now.table.db.version c.args.self.now.from c.entries_to-first.result (omega arith) split
 
 pub walk-requires-clause-tracks : goal.walk-requires-clause-tracks
-walk-requires-clause-tracks g c = start_stands c.args.self.now c.args.start.now c.enter_all.new.groups c.requires c.in_ok-enter_all.ensures.tracks
+walk-requires-clause-tracks g c = start_stands c.args.self.now c.args.start.now c.enter_all.new.groups c.requires.start c.in_ok-enter_all.ensures.tracks

@@ -7,7 +7,7 @@ count_run-count-requires-clause-run g c =
     let made = all_advanced c.args.self.now c.args.at (set_after c.args.self.now.table c.args.place) c.args.groups.now c.advance.new.self c.requires.single c.in_ok-advance.ensures c.requires.run.tracks in
     record { single = c.requires.single; are = c.requires.run.are; tracks = made.0; since = made.1 }
 
-pub column_run-requires-clause-run : goal.column_run-requires-clause-run
-column_run-requires-clause-run g c =
+pub sum_run-requires-clause-run : goal.sum_run-requires-clause-run
+sum_run-requires-clause-run g c =
     let made = all_advanced c.args.self.now c.args.at (set_after c.args.self.now.table c.args.place) c.args.groups.now c.advance.new.self c.requires.single c.in_ok-advance.ensures c.requires.run.tracks in
     record { single = c.requires.single; are = c.requires.run.are; tracks = made.0; since = made.1 }

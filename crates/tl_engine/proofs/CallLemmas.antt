@@ -8,8 +8,8 @@ use mathlib.Core.List.{IsPrefix}
 use mathlib.Core.Option.{some, Option as Homes}
 use lib.ListN.{get_elem?}
 use Rattle.atomic_table.specs.Table.{State}
-use Rattle.tl_door.specs.declared.views.View.{View}
-use Rattle.tl_door.specs.Rule.{DoorState, FitsSlot, FitsTable}
+use Rattle.tl_head.specs.declared.views.View.{View}
+use Rattle.tl_head.specs.Rule.{DoorState, FitsSlot, FitsTable}
 use Rattle.tl_types.specs.declared.commits.Commit.{Commit}
 use Rattle.tl_types.specs.declared.commits.Entry.{Entry}
 use Rattle.tl_types.specs.declared.commits.Entry.TheVariants as variant

@@ -5,8 +5,8 @@ use mathlib.Core.List.{IsPrefix}
 use mathlib.Core.Option.{some}
 use lib.ListN.{get_elem?}
 use Rattle.atomic_table.specs.Table.{State}
-use Rattle.tl_door.specs.declared.views.View.{View}
-use Rattle.tl_door.specs.Rule.{DoorState}
+use Rattle.tl_head.specs.declared.views.View.{View}
+use Rattle.tl_head.specs.Rule.{DoorState}
 use Rattle.tl_types.specs.declared.commits.Entry.{Entry}
 use Rattle.tl_types.specs.Legality.{are_legal, version_at}
 use Rattle.tl_core.specs.declared.passes.Build.{Build}

@@ -4,8 +4,8 @@ ghost use Rattle.std.specs.Prelude.{◌≡◌, ℕ, ◌+◌, IsTrue, List, lengt
 ghost use Rattle.std.specs.declared.option.Option.{Option};
 ghost use mathlib.Core.List.{IsPrefix};
 ghost use Rattle.atomic_table.specs.Table.{State};
-ghost use Rattle.tl_door.specs.declared.views.View.{View};
-ghost use Rattle.tl_door.specs.Rule.{DoorState, FitsTable};
+ghost use Rattle.tl_head.specs.declared.views.View.{View};
+ghost use Rattle.tl_head.specs.Rule.{DoorState, FitsTable};
 ghost use Rattle.tl_types.specs.declared.batches.Batch.{Batch};
 ghost use Rattle.tl_types.specs.declared.batches.BatchFault.{BatchFault};
 ghost use Rattle.tl_types.specs.declared.commits.Commit.{Commit};

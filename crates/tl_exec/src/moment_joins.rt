@@ -15,10 +15,10 @@ use std::alloc::Global;
 use std::sync::ledger::Ledger;
 use tl_app::valid_events;
 use tl_index::Snapshot;
+use tl_join::valid_join;
 use tl_query::{JoinPlan, TypedPred};
 use tl_rows::AnswerRows;
 use tl_types::{NoMemory, Pair, Seq, Steps};
-use tl_valid_join::valid_join;
 
 /// What is joined: by which plan, whose range is one of valid time, at which version, and which
 /// rows of each side.

@@ -1,0 +1,3 @@
+pub mod PrefixLemmas
+pub mod StepLemmas
+pub mod ViewLemmas

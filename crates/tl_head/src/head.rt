@@ -4,11 +4,11 @@ ghost use Rattle.std.specs.Prelude.{◌≡◌, ◌++◌, ◌∷◌, [], IfOk};
 ghost use Rattle.tl_types.specs.declared.commits.Entry.{Entry};
 ghost use mathlib.Core.List.{IsPrefix};
 
+use crate::door::{Door, NewDoor};
 use crate::passes::{Pass, WriterPass};
 use std::alloc::Global;
 use std::marker::Model;
 use std::sync::Wait;
-use tl_door::{Door, NewDoor};
 use tl_types::{NoMemory, Published};
 
 /// A value that many read while one writer publishes the next. Contracts see a head as the name of

@@ -4,8 +4,8 @@ ghost use Rattle.std.specs.Prelude.{◌≡◌, ◌⊎◌};
 ghost use mathlib.Core.List.{IsPrefix};
 
 use crate::head::Head;
+use crate::seats::DoorSeat;
 use std::marker::Model;
-use tl_door::DoorSeat;
 use tl_types::Published;
 
 /// A pass with which a thread reads a head. It has no bytes. Contracts see the head's table and the
@@ -17,7 +17,7 @@ pub struct Pass<V> {
 
 impl<V> Model for Pass<V> {
     ghost use Rattle.std.specs.Prelude.{◌≡◌, false};
-    ghost use Rattle.tl_door.specs.declared.views.Stage.TheVariants.{Idle};
+    ghost use Rattle.tl_head.specs.declared.views.Stage.TheVariants.{Idle};
     ghost use Rattle.tl_head.specs.Passes.{PassValue};
 
     ghost Value = { PassValue };
@@ -36,7 +36,7 @@ pub struct WriterPass<V> {
 
 impl<V> Model for WriterPass<V> {
     ghost use Rattle.std.specs.Prelude.{◌≡◌, true};
-    ghost use Rattle.tl_door.specs.declared.views.Stage.TheVariants.{Idle};
+    ghost use Rattle.tl_head.specs.declared.views.Stage.TheVariants.{Idle};
     ghost use Rattle.tl_head.specs.Passes.{WriterValue};
 
     ghost Value = { WriterValue };

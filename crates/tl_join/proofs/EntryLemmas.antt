@@ -12,8 +12,8 @@ use Rattle.tl_types.specs.WellFormed.{AreWellFormed, BeginInOrder}
 use Rattle.tl_query.specs.declared.typed_queries.JoinPlan.{JoinPlan}
 use Rattle.tl_query.specs.declared.typed_queries.TypedPred.{TypedPred}
 use Rattle.tl_query.specs.Passing.{passes}
-use Rattle.tl_sweep.specs.declared.entries.Entry.{Entry}
-use Rattle.tl_sweep.specs.Sweep.{IsEntry, Rises, AreOne}
+use Rattle.tl_join.specs.declared.entries.Entry.{Entry}
+use Rattle.tl_join.specs.Sweep.{IsEntry, Rises, AreOne}
 use Rattle.tl_keys.specs.Keys.{KeyNumbers, number_at, AreApart}
 use Rattle.tl_join.specs.Pieces.{is_there, entry_of, entry_in}
 use Rattle.tl_join.specs.Sides.{IsOfRow, ids_in}

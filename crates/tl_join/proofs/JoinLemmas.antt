@@ -12,8 +12,8 @@ use Rattle.tl_query.specs.declared.typed_queries.Span.TheVariants as span
 use Rattle.tl_query.specs.declared.typed_queries.TypedPred.{TypedPred}
 use Rattle.tl_query.specs.Joins.{joined_pairs, pairs_of}
 use Rattle.tl_query.specs.Ordered.{in_order, pair_before}
-use Rattle.tl_sweep.specs.declared.entries.Entry.{Entry}
-use Rattle.tl_sweep.specs.Sweep.{Rises, AreOne, grid}
+use Rattle.tl_join.specs.declared.entries.Entry.{Entry}
+use Rattle.tl_join.specs.Sweep.{Rises, AreOne, grid}
 use Rattle.tl_join.specs.declared.sides.Side.{Side}
 use Rattle.tl_keys.specs.Keys.{KeyNumbers, AreApart}
 use Rattle.tl_join.specs.Pieces.{is_in_piece, entries_in, starting, pairs_in}

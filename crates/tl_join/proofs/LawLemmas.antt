@@ -12,8 +12,8 @@ use Rattle.tl_query.specs.declared.typed_queries.Span.TheVariants as span
 use Rattle.tl_query.specs.declared.typed_queries.TypedPred.{TypedPred}
 use Rattle.tl_query.specs.Passing.{passes}
 use Rattle.tl_query.specs.Joins.{pair_of, pair_from, pairs_of}
-use Rattle.tl_sweep.specs.declared.entries.Entry.{Entry}
-use Rattle.tl_sweep.specs.Sweep.{made, grid}
+use Rattle.tl_join.specs.declared.entries.Entry.{Entry}
+use Rattle.tl_join.specs.Sweep.{made, grid}
 use Rattle.tl_join.specs.Pieces.{is_in_piece, is_there, entry_of, entry_in, entries_in}
 
 -- a pair, where it begins in the piece

@@ -1,7 +1,15 @@
+pub mod ChainLemmas
 pub mod EntryLemmas
 pub mod IdLemmas
 pub mod JoinLemmas
 pub mod LawLemmas
+pub mod PairLemmas
 pub mod PartLemmas
 pub mod SideLemmas
 pub mod ThereLemmas
+pub mod ValidEntryLemmas
+pub mod ValidEventLemmas
+pub mod ValidGridLemmas
+pub mod ValidJoinLemmas
+pub mod ValidSideLemmas
+pub mod WalkLemmas

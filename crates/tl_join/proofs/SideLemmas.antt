@@ -10,7 +10,7 @@ use Rattle.tl_types.specs.Plain as plain
 use Rattle.tl_types.proofs.EventLemmas.{events_few, place_grows}
 use Rattle.tl_query.specs.declared.typed_queries.JoinPlan.{JoinPlan}
 use Rattle.tl_bits.specs.Sets.{is_member, members}
-use Rattle.tl_sweep.specs.declared.entries.Entry.{Entry}
+use Rattle.tl_join.specs.declared.entries.Entry.{Entry}
 use Rattle.tl_join.specs.declared.sides.Side.{Side}
 use Rattle.tl_keys.specs.Keys.{KeyNumbers, KeepsNumbers, number_at}
 use Rattle.tl_join.specs.Sides.{IsOfRow, IsEntryOf, ids_in, side_rows}

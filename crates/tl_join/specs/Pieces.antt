@@ -9,7 +9,7 @@ use Rattle.tl_query.specs.declared.typed_queries.Span.TheVariants as span
 use Rattle.tl_query.specs.declared.typed_queries.TypedPred.{TypedPred}
 use Rattle.tl_query.specs.Joins.{joined_pairs}
 use Rattle.tl_query.specs.Passing.{passes, passing}
-use Rattle.tl_sweep.specs.declared.entries.Entry.{Entry}
+use Rattle.tl_join.specs.declared.entries.Entry.{Entry}
 use Rattle.tl_types.specs.declared.runs.Piece.{Piece}
 
 -- the pair begins at the first of two versions or later, and before the second

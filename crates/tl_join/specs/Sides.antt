@@ -8,7 +8,7 @@ use Rattle.tl_types.specs.WellFormed.{AreWellFormed, BeginInOrder}
 use Rattle.tl_query.specs.declared.typed_queries.JoinPlan.{JoinPlan}
 use Rattle.tl_store.specs.Reading.{columns_of}
 use Rattle.tl_events.specs.Timeline.{ends_of}
-use Rattle.tl_sweep.specs.declared.entries.Entry.{Entry}
+use Rattle.tl_join.specs.declared.entries.Entry.{Entry}
 use Rattle.tl_join.specs.declared.sides.Side.{Side}
 use Rattle.tl_keys.specs.Keys.{KeyNumbers, number_at}
 

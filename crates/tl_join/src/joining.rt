@@ -10,13 +10,13 @@ ghost use Rattle.tl_join.specs.Pieces.{AreOf, AreOfSome, pairs_in};
 ghost use Rattle.tl_join.specs.There.{side_bound};
 
 use crate::sides::{side_entries, side_of};
+use crate::sweeping::swept_pairs;
 use std::alloc::Global;
 use std::sync::ledger::Ledger;
 use tl_bits::RowSet;
 use tl_index::Snapshot;
 use tl_keys::Keys;
 use tl_query::JoinPlan;
-use tl_sweep::swept_pairs;
 use tl_types::{NoMemory, Pair, Piece, Seq, Steps};
 
 /// The pairs of a join over the versions of two tables that begin in a piece of them, each with its

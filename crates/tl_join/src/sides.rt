@@ -9,6 +9,7 @@ ghost use Rattle.tl_keys.specs.Keys.{AreApart, KeepsNumbers};
 ghost use Rattle.tl_join.specs.Sides.{IsSide, IsEntryOf, ids_in, side_rows, last_in};
 ghost use Rattle.tl_join.specs.There.{ids_there, side_bound, there_bound};
 
+use crate::entries::Entry;
 use crate::there::{add_opened, start_ids};
 use std::alloc::Global;
 use std::sync::ledger::Ledger;
@@ -18,7 +19,6 @@ use tl_index::Snapshot;
 use tl_keys::Keys;
 use tl_query::JoinPlan;
 use tl_store::Store;
-use tl_sweep::Entry;
 use tl_types::{NoMemory, Piece, Steps};
 
 /// One side of a join: the table with its timeline, the column whose cells are compared, the rows

@@ -4,7 +4,7 @@ use Rattle.tl_query.specs.Ordered.{in_order, pair_before}
 use Rattle.std.specs.List.{AllByRecursion}
 use Rattle.tl_types.specs.Entries.{commits_of}
 use Rattle.tl_types.specs.History.{database_of}
-use Rattle.tl_sweep.specs.Sweep.{IsEntry, grid}
+use Rattle.tl_join.specs.Sweep.{IsEntry, grid}
 use Rattle.tl_join.proofs.SideLemmas.{entries_later}
 use Rattle.tl_join.proofs.JoinLemmas.{side_ready, pairs_found}
 use Rattle.tl_join.proofs.joining.join_piece.Goals as goal

@@ -1,3 +1,0 @@
-pub mod PrefixLemmas
-pub mod ViewLemmas
-pub mod StepLemmas

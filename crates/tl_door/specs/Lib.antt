@@ -1,4 +1,0 @@
-pub mod Views
-pub mod Values
-pub mod Rule
-pub mod Moves

@@ -1,5 +1,0 @@
-pub mod EntryLemmas
-pub mod EventLemmas
-pub mod GridLemmas
-pub mod JoinLemmas
-pub mod SideLemmas

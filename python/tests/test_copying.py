@@ -30,6 +30,15 @@ def shipped(folder: str, *words: str) -> bytes:
     return subprocess.run([COMMAND, "ship", *words], cwd=folder, stdout=subprocess.PIPE, check=True).stdout
 
 
+def test_all_packets_are_shipped_also_where_a_piece_of_them_begins_as_a_closing_line_does(journal: str) -> None:
+    """A pipe gives pieces that end anywhere: here nearly each of them begins with the sign of a closing line."""
+    rows = "".join(f"{it},{'!' * 90}\n" for it in range(20_000))
+    assert run(["run"], f"a> CREATE TABLE t (k INT, v TEXT) KEY k\na> PUT t\nk,v\n{rows}\\.\n", journal).status == 0
+    size = len(bytes_of(journal))
+    assert len(shipped(journal)) == size - 16 - 1 + 2 * 3
+    assert run(["seal"], folder=journal).out.startswith(f"@2 {size - 1} ")
+
+
 def follower(leader: str, name: str) -> str:
     """A folder with an empty journal."""
     os.mkdir(f"{leader}/{name}")

@@ -74,7 +74,7 @@ GUESSES = [
 @pytest.mark.parametrize("cells,kind", GUESSES)
 def test_a_column_has_the_kind_that_shows_its_cells_as_they_are(cells: list[str], kind: str) -> None:
     made = loads.plan("t", sheet_of(csv_of([["k", "c"], *([str(at), cell] for at, cell in enumerate(cells))])), "k")
-    assert str(made.columns[1].kind) == kind
+    assert str(made.target.columns[1].kind) == kind
 
 
 @pytest.mark.parametrize("kind", sorted({kind for _, kind in GUESSES}))
@@ -128,7 +128,7 @@ def test_what_is_said_of_columns_that_might_be_numbers() -> None:
 def test_an_odd_cell_after_many_is_said() -> None:
     said: list[str] = []
     rows = [["k", "pay"], *([str(at), "n/a" if at == 7_000 else str(at)] for at in range(12_000))]
-    assert str(loads.plan("t", sheet_of(csv_of(rows)), "k", say=said.append).columns[1].kind) == "TEXT"
+    assert str(loads.plan("t", sheet_of(csv_of(rows)), "k", say=said.append).target.columns[1].kind) == "TEXT"
     assert said == ["pay is TEXT, since line 7002 has 'n/a', which is no number"]
 
 
@@ -251,9 +251,8 @@ def test_records_are_parted_as_the_program_parts_them(journal: str) -> None:
     for data in files:
         script += b"a> PUT t\n" + data.replace(b"\xc3", b"\xc3\xa9") + b"\\.\na> SELECT * FROM t\nGO\n"
     done = subprocess.run([program("timeline"), "run"], input=script, cwd=journal, stdout=subprocess.PIPE, check=True)
-    from timeline.journal import replies_of
-    from timeline.replies import Refusal
-    replies = replies_of(done.stdout)[1:]
+    from timeline.replies import Refusal, read_replies
+    replies = list(read_replies(io.BytesIO(done.stdout)))[1:]
     standing: dict[str, list[str]] = {}
     for data, put, seen in zip(files, replies[::2], replies[1::2]):
         try:
@@ -308,16 +307,16 @@ def test_a_sheet_that_no_block_can_hold_is_one_unit(journal: str, monkeypatch: p
     said: list[str] = []
     data = csv_of([["id", "a"], *([str(at), f"text {at}"] for at in range(8))])
     made = loads.plan("t", sheet_of(data), "id")
-    done = loads.import_sheet(Journal(journal), made, sheet_of(data), say=said.append)
+    done = loads.import_sheet(Journal(journal), made, say=said.append)
     assert len(done.replies) == 1 + 4 and "4 versions" in said[0]
     assert asked(journal, "SELECT * FROM t") == list(csv.reader(io.StringIO(data.decode())))
     twice = csv_of([["id", "a"], *([str(at % 7), "x"] for at in range(8))])
     with pytest.raises(Refused) as caught:
-        loads.import_sheet(Journal(journal), loads.plan("u", sheet_of(twice), "id"), sheet_of(twice))
+        loads.import_sheet(Journal(journal), loads.plan("u", sheet_of(twice), "id"))
     assert (caught.value.kind, caught.value.numbers) == ("KeyTwice", (9,))
     late = csv_of([["id", "a"], *([str(at), "x" * (70_000 if at == 6 else 1)] for at in range(8))])
     with pytest.raises(Refused) as caught:
-        loads.import_sheet(Journal(journal), loads.plan("u", sheet_of(late), "id"), sheet_of(late))
+        loads.import_sheet(Journal(journal), loads.plan("u", sheet_of(late), "id"))
     assert (caught.value.kind, caught.value.place.record, caught.value.place.field) == ("TextTooLong", 8, 2)
     assert ",u," not in listed(journal)
 
@@ -351,7 +350,7 @@ def test_moments_of_another_unit_are_left_alone(journal: str) -> None:
 def test_two_loads_within_a_second(journal: str, monkeypatch: pytest.MonkeyPatch) -> None:
     monkeypatch.setattr(time, "time", lambda: 1_800_000_000.5)
     sheet = b"id,a\n%d,x\n"
-    loads.import_sheet(Journal(journal), loads.plan("t", sheet_of(sheet % 1), "id"), sheet_of(sheet % 1))
+    loads.import_sheet(Journal(journal), loads.plan("t", sheet_of(sheet % 1), "id"))
     assert len(loads.load(Journal(journal), "t", sheet_of(sheet % 2)).replies) == 1
     said: list[str] = []
     monkeypatch.setattr(time, "time", lambda: 1_700_000_000.0)
@@ -429,7 +428,7 @@ def test_a_sync_that_no_block_can_hold(journal: str, monkeypatch: pytest.MonkeyP
     wanted = [["id", "a"], *([str(at), "x" if at % 3 else "y"] for at in range(4, 16))]
     done = loads.sync(Journal(journal), "t", sheet_of(csv_of(wanted)))
     assert (done.difference.new, done.difference.changed, len(done.difference.gone), done.difference.same) == (4, 2, 4, 6)
-    assert len(done.outcome.replies) == 4 and sorted(asked(journal, "SELECT * FROM t")) == sorted(wanted)
+    assert len(done.outcome.replies) == 5 and sorted(asked(journal, "SELECT * FROM t")) == sorted(wanted)
     run(["import", "v", "--key", "id", "--valid"], "id,valid_from,valid_to\n1,0,10\n", journal)
     with pytest.raises(Refused) as caught:
         loads.sync(Journal(journal), "v", sheet_of(b"id,valid_from,valid_to\n2,0,1\n1,0,8\n2,1,2\n1,7,FOREVER\n"))

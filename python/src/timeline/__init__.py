@@ -8,8 +8,10 @@ if TYPE_CHECKING:
     from .api import Database as Database, Unit as Unit, open as open
     from .errors import Damaged as Damaged, DeviceFault as DeviceFault, Locked as Locked, NoJournal as NoJournal
     from .errors import Refused as Refused, TimelineError as TimelineError
+    from .loads import Reading as Reading
 
 _PLACES = {
+    "Reading": "loads",
     **dict.fromkeys(("Database", "Unit", "open"), "api"),
     **dict.fromkeys(("AlreadyThere", "Damaged", "DeviceFault", "Locked", "NoJournal", "Refused", "TimelineError", "UsageError"), "errors"),
 }

@@ -20,6 +20,7 @@ if TYPE_CHECKING:
     from decimal import Decimal
     from types import TracebackType
 
+    from .loads import Reading
     from .sheets import Sheet
 
 Value = Union[int, str, "Decimal", "datetime.date"]
@@ -109,18 +110,18 @@ class Database:
         from . import loads
 
         with _advising(), _sheet(path) as sheet:
-            synced = loads.sync(self.journal, table, sheet, _cause(by, because, path), {}, keep, allow_removals)
+            synced = loads.sync(self.journal, table, sheet, _cause(by, because, path), loads.Syncing(keep, allow_removals))
         return synced.outcome.version if synced.outcome is not None else self.version
 
-    def import_(self, table: str, path: str | os.PathLike[str], key: str, valid: bool = False,
-                kinds: Mapping[str, str] | None = None, missing: Mapping[str, str] | None = None, by: str = "", because: str = "") -> int:
-        """Makes a table of a CSV file and puts it in, and gives the version that this made. `kinds` says by columns' names what they
-        are where that is not to be found out, as `{"pay": "DECIMAL(2)"}`. Raises Refused, UsageError."""
+    def import_(self, table: str, path: str | os.PathLike[str], key: str, by: str = "", because: str = "",
+                reading: Reading | None = None) -> int:
+        """Makes a table of a CSV file and puts it in, and gives the version that this made. `reading` says how the file is read where
+        that is not to be found out, as `timeline.Reading(valid=True, kinds={"pay": "DECIMAL(2)"})`. Raises Refused, UsageError."""
         from . import loads
 
         with _advising(), _sheet(path) as sheet:
-            plan = loads.plan(table, sheet, key, valid, kinds or {}, missing or {})
-            outcome = loads.import_sheet(self.journal, plan, sheet, _cause(by, because, path))
+            plan = loads.plan(table, sheet, key, reading or loads.Reading())
+            outcome = loads.import_sheet(self.journal, plan, _cause(by, because, path))
         return outcome.version
 
     def execute(self, statement: str, by: str = "", because: str = "") -> int:
@@ -150,7 +151,7 @@ def _sheet(path: str | os.PathLike[str]) -> Iterator[Sheet]:
     """The sheet of a file, closed at the end."""
     from .sheets import open_sheet
 
-    sheet = open_sheet(os.fspath(path), ".")
+    sheet = open_sheet(os.fspath(path))
     try:
         yield sheet
     finally:

@@ -142,7 +142,7 @@ def make_checked(name: str, alone: bool = False) -> None:
             for _ in range(2):
                 if programs.find(name) is None:
                     _make(name)
-    except BaseException:
+    except BaseException:      # a signal too: none of those beside goes on alone
         for process in beside:
             process.terminate()
         raise

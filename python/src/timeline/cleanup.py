@@ -8,7 +8,7 @@ from __future__ import annotations
 import os
 import signal
 import time
-from contextlib import contextmanager
+from contextlib import contextmanager, suppress
 
 TYPE_CHECKING = False
 if TYPE_CHECKING:
@@ -98,13 +98,6 @@ def end(process: subprocess.Popen[bytes]) -> int:
     return 128 - status if status < 0 else status
 
 
-def temporary() -> str:
-    """The folder in which private folders are made."""
-    import tempfile
-
-    return tempfile.gettempdir()
-
-
 def private_folder(beside: str | None = None) -> str:
     """Makes a folder that is gone when the command ends: in the system's temporary folder, or in another one."""
     import fcntl
@@ -136,48 +129,33 @@ def remove(path: str) -> None:
 
 def sweep(parent: str) -> None:
     """Removes the private folders that commands of this user left in a folder when they were killed."""
-    try:
-        left = [it for it in os.scandir(parent) if it.name.startswith(PREFIX) and it.is_dir(follow_symlinks=False)
-                and it.stat(follow_symlinks=False).st_uid == os.getuid() and it.path not in _folders]
-    except OSError:
-        return
-    for entry in left:
-        _remove_unlocked(entry.path)
-
-
-def _remove_unlocked(path: str) -> None:
     import fcntl
 
-    try:
-        number = os.open(path, os.O_RDONLY | os.O_DIRECTORY | os.O_NOFOLLOW)
-    except OSError:
-        return
-    try:
-        fcntl.flock(number, fcntl.LOCK_EX | fcntl.LOCK_NB)
-        remove(path)
-    except OSError:
-        return
-    finally:
-        os.close(number)
+    left: list[str] = []
+    with suppress(OSError):
+        left = [it.path for it in os.scandir(parent) if it.name.startswith(PREFIX) and it.is_dir(follow_symlinks=False)
+                and it.stat(follow_symlinks=False).st_uid == os.getuid() and it.path not in _folders]
+    for path in left:
+        with suppress(OSError):
+            number = os.open(path, os.O_RDONLY | os.O_DIRECTORY | os.O_NOFOLLOW)
+            try:
+                fcntl.flock(number, fcntl.LOCK_EX | fcntl.LOCK_NB)
+                remove(path)
+            finally:
+                os.close(number)
 
 
 def check_target(path: str, journal: str) -> None:
     """Raises UsageError where a file may not be put at a path: where something else than a regular file is there, a link too, or where
     it is the journal, or has the name of one. `journal` is the path of the folder's own."""
-    import stat
-
     from .errors import UsageError
 
-    name = os.path.basename(path)
+    name, is_there = os.path.basename(path), os.path.lexists(path)
     if not name:
         raise UsageError(f"{path or 'an empty word'} names no file")
-    try:
-        mode = os.lstat(path).st_mode
-    except OSError:
-        mode = None          # nothing is there, or what is wrong shows when it is written
-    if mode is not None and not stat.S_ISREG(mode):
+    if is_there and (os.path.islink(path) or not os.path.isfile(path)):
         raise UsageError(f"{path} is there already, and is no regular file: it stays as it is")
-    is_journal = mode is not None and os.path.exists(journal) and os.path.samefile(path, journal)
+    is_journal = is_there and os.path.exists(journal) and os.path.samefile(path, journal)
     if is_journal or name == os.path.basename(journal):
         raise UsageError(f"{path} is the journal, or has a journal's name: nothing is written there")
 
@@ -189,38 +167,33 @@ def whole(path: str) -> Iterator[str]:
     Raises DeviceFault where it cannot be written. What a command left that was killed is removed by the next one that writes there."""
     from .errors import DeviceFault
 
-    beside = os.path.dirname(path) or "."
+    beside, name = os.path.dirname(path) or ".", os.path.basename(path)
     sweep(beside)
     try:
         folder = private_folder(beside)
         try:
-            yield os.path.join(folder, os.path.basename(path))
-            os.replace(os.path.join(folder, os.path.basename(path)), path)
+            yield os.path.join(folder, name)
+            os.replace(os.path.join(folder, name), path)
         finally:
             remove(folder)
     except OSError as error:
         raise DeviceFault(f"{path} cannot be written: {error.strerror}") from None
 
 
-def _await(process: subprocess.Popen[bytes]) -> None:
-    """Waits for a program that was told to end, and kills it where it does not."""
-    import subprocess
-
-    try:
-        process.wait(_PATIENCE)
-    except subprocess.TimeoutExpired:
-        process.kill()
-
-
 def undo() -> None:
-    """Ends what still runs, and removes what is left; from here on signals are kept back for good."""
+    """Ends what still runs, or kills it where it does not end, and removes what is left; from here on signals are kept back for good."""
     global _deferring, _dealt_with
     _deferring += 1
     _dealt_with = time.monotonic()
     for process in list(_processes):
         if process.poll() is None:
+            import subprocess
+
             process.terminate()
-            _await(process)
+            try:
+                process.wait(_PATIENCE)
+            except subprocess.TimeoutExpired:
+                process.kill()
         end(process)
     for path in list(_folders):
         remove(path)
@@ -237,12 +210,5 @@ def show(words: Sequence[str], text: bytes) -> None:
     import subprocess
 
     process = start(words, ".", subprocess.PIPE, None)
-    assert process.stdin is not None
-    try:
-        left = memoryview(text)
-        while left:
-            left = left[process.stdin.write(left):]
-        process.stdin.close()
-    except BrokenPipeError:
-        pass
+    process.communicate(text)
     end(process)

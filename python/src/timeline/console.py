@@ -4,10 +4,18 @@ Only cli.py makes one of standard output and standard error; every other part is
 from __future__ import annotations
 
 import os
+from contextlib import suppress
 
 from .errors import OutputFault
 
 CLEAR = "\r\x1b[K"
+
+
+def write_all(number: int, data: bytes) -> None:
+    """Writes all of some bytes to a descriptor; OSError where that fails."""
+    left = memoryview(data)
+    while left:
+        left = left[os.write(number, left):]
 
 
 class Console:
@@ -17,16 +25,10 @@ class Console:
         self._out, self._err = out, err
         self.out_is_terminal, self.err_is_terminal = os.isatty(out), os.isatty(err)
 
-    def is_terminal(self, number: int) -> bool:
-        """Whether a descriptor is one of a terminal."""
-        return os.isatty(number)
-
     def write(self, data: bytes) -> None:
         """Writes bytes to the output, all of them; OutputFault where that fails."""
-        left = memoryview(data)
         try:
-            while left:
-                left = left[os.write(self._out, left):]
+            write_all(self._out, data)
         except OSError as error:
             is_closed = isinstance(error, BrokenPipeError)       # who read it has ended, as `head` does, which is worth no word
             raise OutputFault("" if is_closed else f"writing the output failed: {error.strerror}") from None
@@ -41,10 +43,8 @@ class Console:
 
     def tell(self, text: str) -> None:
         """Says lines as they are, nothing for an empty text; that they cannot be said is no fault."""
-        if not text:
-            return
-        front = CLEAR if self.err_is_terminal else ""
-        self._say(front + text + "\n")
+        if text:
+            self._say((CLEAR if self.err_is_terminal else "") + text + "\n")
 
     def progress(self, text: str) -> None:
         """Shows on a terminal how far a command is, in place of what was shown before; an empty text clears it."""
@@ -52,9 +52,5 @@ class Console:
             self._say(f"\rtimeline: {text} " if text else CLEAR)
 
     def _say(self, text: str) -> None:
-        try:
-            left = memoryview(text.encode("utf-8", "surrogateescape"))
-            while left:
-                left = left[os.write(self._err, left):]
-        except OSError:
-            return
+        with suppress(OSError):
+            write_all(self._err, text.encode("utf-8", "surrogateescape"))

@@ -157,6 +157,7 @@ def _pack(folder: str, name: str, path: str) -> None:
     import tarfile
 
     def owned_by_none(entry: tarfile.TarInfo) -> tarfile.TarInfo:
+        """An entry of the archive without the owner that its file has here."""
         entry.uid = entry.gid = 0
         entry.uname = entry.gname = ""
         return entry

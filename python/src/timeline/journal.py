@@ -8,17 +8,19 @@ from __future__ import annotations
 import os
 import signal
 import time
+from contextlib import suppress
 
 from . import cleanup
-from .errors import (ILLEGAL, CheckFailed, Damaged, DeviceFault, Holder, Locked, NoJournal, Place,
-                     Refused, TimelineError, from_closing)
+from .console import write_all
+from .errors import (ILLEGAL, CheckFailed, Damaged, DeviceFault, Holder, Locked, NoJournal, Refused,
+                     TimelineError, from_closing)
 from .programs import program
 from .replies import PIECE, Closing, Refusal, Reply, read_replies
 
 TYPE_CHECKING = False
 if TYPE_CHECKING:
     import subprocess
-    from typing import IO, Callable, Iterable, Sequence, TypeVar
+    from typing import Callable, Iterable, Iterator, Sequence, TypeVar
 
     from .kinds import Catalog, Kind
 
@@ -69,16 +71,15 @@ class Journal:
 
     def _check(self) -> bool:
         """Whether there is a file. Raises DeviceFault where what has its name is none."""
-        import stat
-
         try:
-            mode = os.stat(self.path).st_mode
+            os.stat(self.path)
         except FileNotFoundError:
             return False
         except OSError as error:
             raise DeviceFault(f"{NAME} cannot be read: {error.strerror}") from None
-        if not stat.S_ISREG(mode):
-            raise DeviceFault(f"{NAME} is a folder" if stat.S_ISDIR(mode) else f"{NAME} is no file")
+        if not os.path.isfile(self.path):
+            what = "a folder" if os.path.isdir(self.path) else "no file"
+            raise DeviceFault(f"{NAME} is {what}")
         return True
 
     def check_readable(self) -> None:
@@ -97,22 +98,19 @@ class Journal:
 
     def size(self) -> int:
         """The bytes of the file, 0 where there is none."""
-        try:
+        with suppress(OSError):
             return os.stat(self.path).st_size
-        except OSError:
-            return 0
+        return 0
 
     def holder(self) -> Holder | None:
         """Who has the journal's lock, where the system tells. It takes no lock itself."""
-        try:
+        with suppress(OSError, ValueError):
             at = os.stat(self.path)
             place = f"{os.major(at.st_dev):02x}:{os.minor(at.st_dev):02x}:{at.st_ino}"
             with open("/proc/locks", encoding="ascii", errors="replace") as locks:
                 for words in map(str.split, locks):
                     if place in words and "FLOCK" in words and "->" not in words:
                         return _holder(int(words[4]))
-        except (OSError, ValueError):
-            pass
         return None
 
     def is_held(self) -> bool:
@@ -122,21 +120,16 @@ class Journal:
             return True
         import fcntl
 
-        try:
-            with open(self.path, "rb") as file:
+        with suppress(OSError), open(self.path, "rb") as file:
+            try:
                 fcntl.flock(file, fcntl.LOCK_EX | fcntl.LOCK_NB)
-        except BlockingIOError:
-            return True
-        except OSError:
-            pass
+            except BlockingIOError:
+                return True
         return False
 
     def init(self) -> None:
         """Makes an empty journal; AlreadyThere where one is there."""
-        output: list[bytes] = []
-        status = self.stream(["init"], [], output.append)
-        if status:
-            raise self.fault(status, _closing_words(b"".join(output)))
+        self.answers(["init"], [])
 
     def transact(self, script: Iterable[bytes]) -> list[Reply]:
         """Runs a script of which all commits are kept, or none where a statement is refused: then
@@ -149,13 +142,22 @@ class Journal:
         No piece but the last ends between two statements, and one that has the end of a statement
         has at most 4,096 bytes: a pipe takes such a piece whole, so that a script that is cut off
         since this process was killed ends within a block, and is refused."""
+        return self.answers(["transact"], script)
+
+    def answers(self, words: Sequence[str], source: Iterable[bytes]) -> list[Reply]:
+        """The replies to a command of the program that ends with the first refusal, which is raised
+        as Refused, as its error is where it ends otherwise. Its input is pieces of bytes."""
+        import io
+
         output: list[bytes] = []
-        status = self.stream(["transact"], script, output.append)
-        replies = replies_of(b"".join(output))
+        status = self.stream(words, source, output.append)
+        replies = list(read_replies(io.BytesIO(b"".join(output))))
         closing = replies.pop() if replies and isinstance(replies[-1], Closing) else None
-        if status == 12 and replies and isinstance(replies[-1], Refusal):
-            fault, version = replies[-1].fault, replies[-1].version
-            raise Refused(fault.name, fault.numbers, place=fault.place).over(version, len(replies))
+        last = replies[-1] if replies else None
+        if isinstance(last, Refusal) and status in (0, 12):
+            fault = last.fault
+            refused = Refused(fault.name, fault.numbers, place=fault.place)
+            raise refused.over(last.version, len(replies))
         if status:
             raise self.fault(status, closing.words if isinstance(closing, Closing) else ())
         return replies
@@ -170,16 +172,22 @@ class Journal:
         """What the program that lists writes of the journal: `log`, `tables` or `rows` and a
         table."""
         self.check_readable()
-        return _twice(lambda: self._listing(words))
+        return _twice(lambda: b"".join(self._read(["timeline_log", *words])))
 
-    def _listing(self, words: Sequence[str]) -> bytes:
-        process = self.start(["timeline_log", *words])
+    def _read(self, words: Sequence[str]) -> Iterator[bytes]:
+        """What a program that only reads writes, in pieces. A closing line stands alone, so that no
+        later piece is taken for one; its error is raised."""
+        process = self.start(words)
         assert process.stdout is not None
-        listed = process.stdout.read()
+        first = piece = process.stdout.read(PIECE)
+        while piece:
+            if not first.startswith(b"!"):
+                yield piece
+            piece = process.stdout.read(PIECE)
         status = cleanup.end(process)
         if status:
-            raise self.fault(status, ("device",) if status == 3 else _closing_words(listed))
-        return listed
+            closing = ("device",) if status == 3 else _closing_words(first)
+            raise self.fault(status, closing)
 
     def start(self, words: Sequence[str], stdin: int | None = None) -> subprocess.Popen[bytes]:
         """Starts one of the programs in the folder, with its output to be read; without `stdin` its
@@ -200,24 +208,16 @@ class Journal:
         """Gives `sink` the packets of the versions from one to another, once the journal's file is
         synced: a commit may be seen that its writer has not synced yet, and a crash could take it
         back."""
-        self.check_readable()
-        _twice(lambda: self._ship(first, last, sink))
-
-    def _ship(self, first: int, last: int, sink: Sink) -> None:
-        process = self.start(["timeline_look", "ship", str(first), str(last)])
-        assert process.stdout is not None
-        piece, closing = process.stdout.read(PIECE), b""
-        if piece and not piece.startswith(b"!"):
-            self._sync()
-        while piece:
-            if closing or piece.startswith(b"!"):
-                closing += piece
-            else:
+        def read() -> None:
+            """Gives the packets, or raises Damaged before the first of them."""
+            for number, piece in enumerate(self._read(["timeline_look", "ship", *bounds])):
+                if not number:
+                    self._sync()
                 sink(piece)
-            piece = process.stdout.read(PIECE)
-        status = cleanup.end(process)
-        if status:
-            raise from_closing(status, _closing_words(closing))
+
+        bounds = [str(first), str(last)]
+        self.check_readable()
+        _twice(read)
 
     def _sync(self) -> None:
         try:
@@ -248,10 +248,7 @@ class Journal:
             source = pieces(source)
         given: int | Iterable[bytes] = source if isinstance(source, int) else iter(source)
         ends, tries, is_told = time.monotonic() + (self.wait or 0.0), 0, False
-        while True:
-            run = Run(self, words, given, beside)
-            if run.is_open():
-                return run
+        while not (run := Run(self, words, given, beside)).is_open():
             held = self.is_held()
             tries = 0 if held else tries + 1
             may_open = not os.path.exists(self.path) or os.access(self.path, os.R_OK | os.W_OK)
@@ -263,21 +260,21 @@ class Journal:
                 is_told = True
                 self.on_wait(self.holder())
             time.sleep(_PAUSE)
+        return run
 
     def device_reason(self) -> str:
         """Why the disk failed, where the system tells, else an empty text."""
         if os.path.isdir(self.path):
             return f"{NAME} is a folder"
-        if os.path.exists(self.path):
-            if not os.access(self.path, os.R_OK | os.W_OK):
-                return f"{NAME} may not be read and written here; ./timeline ask needs to read alone"
-        elif not os.access(self.folder, os.W_OK):
+        is_there = os.path.exists(self.path)
+        if is_there and not os.access(self.path, os.R_OK | os.W_OK):
+            return f"{NAME} may not be read and written here; ./timeline ask needs to read alone"
+        if not is_there and not os.access(self.folder, os.W_OK):
             return "this folder may not be written"
-        try:
+        with suppress(OSError):
             left = os.statvfs(self.folder)
-        except OSError:
-            return ""
-        return "the disk is full" if left.f_bavail * left.f_frsize < 65536 else ""
+            return "the disk is full" if left.f_bavail * left.f_frsize < 65536 else ""
+        return ""
 
 
 class Look:
@@ -299,11 +296,10 @@ class Look:
         return may_ask and self._settled and self._file == self._seen()
 
     def _seen(self) -> tuple[int, ...]:
-        try:
+        with suppress(OSError):
             at = os.stat(self._journal.path)
-        except OSError:
-            return ()
-        return (at.st_dev, at.st_ino, at.st_size, at.st_mtime_ns)
+            return (at.st_dev, at.st_ino, at.st_size, at.st_mtime_ns)
+        return ()
 
     def _open(self) -> subprocess.Popen[bytes]:
         import subprocess
@@ -325,11 +321,9 @@ class Look:
         self._process = self._process or self._open()
         assert self._process.stdin is not None and self._process.stdout is not None
         self._phases += 1
-        try:
-            asked = b"".join(b"ask> " + it + b"\n" for it in statements)
-            _write(self._process.stdin, asked + b"GO\n")
-        except BrokenPipeError:
-            pass
+        asked = b"".join(b"ask> " + it + b"\n" for it in statements)
+        with suppress(BrokenPipeError):
+            write_all(self._process.stdin.fileno(), asked + b"GO\n")
         replies: list[Reply] = []
         for reply in read_replies(self._process.stdout, self._with_names):
             if isinstance(reply, Closing):
@@ -369,7 +363,10 @@ class Run:
         self._file = given if isinstance(given, int) and is_file(given) else None
         self._begun = self._place()
         self._process = journal.start(["timeline", *words], stdin)
-        self._first, self._is_sent, self._error = b"", False, Exception()
+        assert self._process.stdout is not None
+        self._output = self._process.stdout
+        self._first, self._is_sent = b"", False
+        self._error: OSError | TimelineError | None = None
         if isinstance(given, int):
             return
         try:
@@ -378,7 +375,7 @@ class Run:
                 threading.Thread(target=self._send, args=(given,), daemon=True).start()
             else:
                 self._send(given if self._is_sent else ())
-        except BaseException:
+        except BaseException:      # a signal too: the program is not to take what was sent for all
             self._process.kill()
             self.status()
             raise
@@ -406,7 +403,7 @@ class Run:
         assert self._process.stdin is not None
         try:
             for piece in given:
-                _write(self._process.stdin, piece)
+                write_all(self._process.stdin.fileno(), piece)
         except BrokenPipeError:
             pass
         except (OSError, TimelineError) as error:
@@ -419,7 +416,7 @@ class Run:
         """Whether the journal was opened, or need not be; where not, the program has ended and read
         nothing."""
         while len(self._first) <= len(_UNOPENED) and _UNOPENED.startswith(self._first):
-            piece = self._piece(PIECE)
+            piece = self._output.read(PIECE)
             if not piece:
                 break
             self._first += piece
@@ -428,16 +425,12 @@ class Run:
         self.status()
         return False
 
-    def _piece(self, size: int) -> bytes:
-        assert self._process.stdout is not None
-        return self._process.stdout.read(size)
-
     def read(self, size: int, /) -> bytes:
         """The next piece of the output, of at most so many bytes; empty at its end."""
         if self._first:
             piece, self._first = self._first[:size], self._first[size:]
             return piece
-        return self._piece(size)
+        return self._output.read(size)
 
     def is_waiting(self) -> bool:
         """Whether a piece was read that was not given yet."""
@@ -445,15 +438,13 @@ class Run:
 
     def fileno(self) -> int:
         """The descriptor of the output, to be waited for."""
-        assert self._process.stdout is not None
-        return self._process.stdout.fileno()
+        return self._output.fileno()
 
     def status(self) -> int:
         """Waits for the end, and gives the status. Raises what kept the input from being given."""
-        assert self._process.stdout is not None
-        self._process.stdout.close()
+        self._output.close()
         status = cleanup.end(self._process)
-        if isinstance(self._error, (OSError, TimelineError)):
+        if self._error is not None:
             raise self._error
         if status == ILLEGAL:
             raise CheckFailed()
@@ -468,37 +459,19 @@ def _twice(work: Callable[[], T]) -> T:
         return work()
 
 
-def _write(stream: IO[bytes], data: bytes) -> None:
-    """Writes all of some bytes to a file without a buffer."""
-    left = memoryview(data)
-    while left:
-        left = left[stream.write(left):]
-
-
 def _sleeps(process: int) -> bool:
     """Whether a process waits for something other than a processor or the disk."""
-    try:
-        with open(f"/proc/{process}/stat", "rb") as file:
-            return file.read().rpartition(b") ")[2].startswith(b"S")
-    except OSError:
-        return True
+    with suppress(OSError), open(f"/proc/{process}/stat", "rb") as file:
+        return file.read().rpartition(b") ")[2].startswith(b"S")
+    return True
 
 
 def _holder(process: int) -> Holder:
-    try:
-        with open(f"/proc/{process}/cmdline", "rb") as file:
-            words = file.read().rstrip(b"\0").split(b"\0")
-    except OSError:
-        return Holder(process, "")
-    text = b" ".join([os.path.basename(words[0]), *words[1:]]).decode("utf-8", "replace")
+    text = ""
+    with suppress(OSError), open(f"/proc/{process}/cmdline", "rb") as file:
+        words = file.read().rstrip(b"\0").split(b"\0")
+        text = b" ".join([os.path.basename(words[0]), *words[1:]]).decode("utf-8", "replace")
     return Holder(process, "".join(it if it.isprintable() else "?" for it in text[:200]))
-
-
-def replies_of(output: bytes) -> list[Reply]:
-    """The replies of a whole output."""
-    import io
-
-    return list(read_replies(io.BytesIO(output)))
 
 
 def _closing_words(output: bytes) -> tuple[str, ...]:

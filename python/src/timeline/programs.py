@@ -22,9 +22,14 @@ class Listener(Protocol):
     """Who is told which program runs, and how far the making of one is."""
 
     @property
-    def err_is_terminal(self) -> bool: ...
-    def say(self, text: str, /) -> None: ...
-    def progress(self, text: str, /) -> None: ...
+    def err_is_terminal(self) -> bool:
+        """Whether what is said is shown on a terminal."""
+
+    def say(self, text: str, /) -> None:
+        """Says a sentence."""
+
+    def progress(self, text: str, /) -> None:
+        """Shows how far the making is, in place of what was shown before."""
 
 
 class _Nobody:

@@ -1,6 +1,8 @@
 """The commands that pass a script to the program: init, run, group, transact, watch, sample and try."""
 from __future__ import annotations
 
+import os
+
 from .errors import UsageError
 
 TYPE_CHECKING = False
@@ -118,7 +120,7 @@ def run_script(call: Call, journal: Journal, words: list[str], path: str | None)
     from .watching import watch as watch_run
 
     number, console, options = open_input(path), call.console, call.options
-    is_typed = console.is_terminal(number)
+    is_typed = os.isatty(number)
     if words[0] == "run" and is_typed and console.err_is_terminal:
         console.say("a line GO sends what stands before it, Ctrl-D ends; ./timeline shell has a prompt")
     if options.stamp:

@@ -43,6 +43,7 @@ def length_of(journal: Journal) -> tuple[int, int]:
     shipped = 0
 
     def count(piece: bytes) -> None:
+        """Adds the bytes of a piece."""
         nonlocal shipped
         shipped += len(piece)
 

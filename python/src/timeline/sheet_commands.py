@@ -83,7 +83,7 @@ class _Watched(io.BufferedReader):
 def _sheet(call: Call, file: str) -> Sheet:
     from .sheets import open_sheet
 
-    sheet = open_sheet(None if file == "-" else file, ".")
+    sheet = open_sheet(None if file == "-" else file)
     if call.console.err_is_terminal:
         sheet.file = _Watched(sheet, call.console)
     return sheet
@@ -138,13 +138,14 @@ def load(call: Call) -> int:
 
 def import_(call: Call) -> int:
     """Makes a table of a sheet, and puts its records into it."""
-    from .loads import import_sheet, plan
+    from .loads import Reading, import_sheet, plan
 
     words = _parsed(call, "--valid", "--dry-run", key=True)
     sheet = _sheet(call, words.file)
     try:
-        made = plan(words.table, sheet, words.key[0], words.valid, _pairs(words.kind, "--kind"), _pairs(words.missing, "--missing"), call.console.say)
-        done = None if words.dry_run else import_sheet(call.journal(), made, sheet, _cause(call, sheet), call.console.say)
+        reading = Reading(words.valid, _pairs(words.kind, "--kind"), _pairs(words.missing, "--missing"))
+        made = plan(words.table, sheet, words.key[0], reading, call.console.say)
+        done = None if words.dry_run else import_sheet(call.journal(), made, _cause(call, sheet), call.console.say)
     except Refused as refused:
         _tell(call, f"PUT {words.table}", sheet, refused)
         call.console.say("nothing was made")
@@ -160,13 +161,14 @@ def import_(call: Call) -> int:
 
 def sync(call: Call) -> int:
     """Brings a table to what a sheet says."""
+    from .loads import Syncing
     from .loads import sync as sync_sheet
 
     words = _parsed(call, "--keep", "--dry-run", "--allow-removals")
     sheet = _sheet(call, words.file)
     try:
-        done = sync_sheet(call.journal(), words.table, sheet, _cause(call, sheet), _pairs(words.missing, "--missing"), words.keep,
-                          words.allow_removals, words.dry_run, call.console.say)
+        options = Syncing(words.keep, words.allow_removals, words.dry_run, _pairs(words.missing, "--missing"))
+        done = sync_sheet(call.journal(), words.table, sheet, _cause(call, sheet), options, call.console.say)
     except Refused as refused:
         _tell(call, f"SYNC {words.table}", sheet, refused)
         call.console.say("nothing was changed")

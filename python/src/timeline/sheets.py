@@ -11,12 +11,14 @@ import os
 import re
 import sys
 from collections import Counter, deque
+from contextlib import contextmanager
 from itertools import chain, islice
 from typing import IO, Callable, Iterable, Iterator, NamedTuple, Sequence
 
 from . import kinds
 from .errors import DeviceFault, Place, Refused, SourceFault, TimelineError, UsageError
 from .kinds import FOREVER, Kind, KindFault, Memo
+from .scripts import is_file
 
 PIECE = 1 << 20
 CHUNK = 5_000                # so many records are handled at once
@@ -62,31 +64,33 @@ def to_bytes(text: str) -> str:
     return text.encode("utf-8", "surrogateescape").decode("latin-1")
 
 
-def open_sheet(path: str | None, room: str) -> Sheet:
-    """The sheet of a file, or of standard input for None. What is no regular file is copied into a file in the folder `room`
-    that has no name. UsageError where it cannot be opened, SourceFault and DeviceFault where reading or copying it fails."""
-    import stat
-
+def open_sheet(path: str | None) -> Sheet:
+    """The sheet of a file, or of standard input for None. What is no regular file is copied into a file that has no name, in the
+    working folder where that may be. UsageError where it cannot be opened, SourceFault and DeviceFault where reading or copying fails."""
     try:
         file = open(path, "rb") if path is not None else open(0, "rb", closefd=False)
-        is_regular = stat.S_ISREG(os.fstat(file.fileno()).st_mode)
+        is_regular = is_file(file.fileno())
     except OSError as error:
         raise UsageError(f"{path or 'standard input'} is no file that can be read: {error.strerror}") from None
-    return Sheet(file if is_regular else _copied(file, room), path or "standard input")
+    return Sheet(file if is_regular else _copied(file), path or "standard input")
 
 
-def _copied(file: IO[bytes], room: str) -> IO[bytes]:
+def _copied(file: IO[bytes]) -> IO[bytes]:
     import tempfile
 
-    folder = room if os.access(room, os.W_OK) else None
     try:
-        copy: IO[bytes] = tempfile.TemporaryFile(dir=folder)
-        for piece in _pieces(file):
-            copy.write(piece)
+        copy: IO[bytes] = tempfile.TemporaryFile(dir="." if os.access(".", os.W_OK) else None)
+        copy.writelines(_pieces(file))
         copy.seek(0)
     except OSError as error:
         raise DeviceFault(f"the input cannot be copied: {error.strerror}") from None
     return copy
+
+
+def chunked(rows: Iterable[Row]) -> Iterator[list[Row]]:
+    """Rows, some thousand at once."""
+    left = iter(rows)
+    return iter(lambda: list(islice(left, CHUNK)), [])
 
 
 class Sheet:
@@ -110,16 +114,11 @@ class Sheet:
     def _header(self) -> list[str]:
         """Reads the header, and keeps where the records begin."""
         self.body = self.start
-        with Lines(self.file, self.start) as lines:
-            for line in lines:
-                self.body += len(line)
-                if line.strip("\r\n"):
-                    break
-            else:
-                return []
+        with lines_from(self.file, self.start) as lines:
+            counted = self._counted(lines)
+            line = next((line for line in counted if line.strip("\r\n")), "")
             self.delimiter = _delimiter(line)
-            rest = chain(self._counted(lines), [_LAST])
-            return next(csv.reader(chain([line], rest), delimiter=self.delimiter))
+            return next(csv.reader(chain([line], counted, [_LAST]), delimiter=self.delimiter)) if line else []
 
     def _counted(self, lines: Iterable[str]) -> Iterator[str]:
         for line in lines:
@@ -144,21 +143,17 @@ class Sheet:
         """The records of lines, and after the last one, where no quote is open there, `[_LAST]`."""
         return filter(None, csv.reader(chain(lines, [_LAST]), delimiter=self.delimiter))
 
-    def chunks(self) -> Iterator[list[list[str]]]:
+    def chunks(self) -> Iterator[list[Row]]:
         """The records after the header, some thousand at once, each with as many fields as it. Raises Refused for one that has
         another number of them, and where the file ends within quotes; SourceFault where reading fails."""
-        record, width = 1, len(self.header)
-        with Lines(self.file, self.body) as lines:
-            reader = self._records(lines)
-            is_last = False
-            while not is_last:
-                chunk = list(islice(reader, CHUNK))
-                is_last = len(chunk) < CHUNK or chunk[-1][-1].endswith(_LAST)
-                if is_last and (not chunk or chunk.pop() != [_LAST]):
-                    raise self._cut_off(record + len(chunk) + 1)
-                if chunk and set(map(len, chunk)) != {width}:
-                    at = next(at for at, row in enumerate(chunk) if len(row) != width)
-                    raise self.refused("FieldCount", record + at + 1, None, f"it has {len(chunk[at])} fields and the header {width}")
+        record, width = 2, len(self.header)
+        with lines_from(self.file, self.body) as lines:
+            for chunk in chunked(self._records(lines)):
+                if chunk[-1][-1].endswith(_LAST) and chunk.pop() != [_LAST]:
+                    raise self._cut_off(record + len(chunk))
+                if set(map(len, chunk)) - {width}:
+                    at, row = next((at, row) for at, row in enumerate(chunk, record) if len(row) != width)
+                    raise self.refused("FieldCount", at, None, f"it has {len(row)} fields and the header {width}")
                 if chunk:
                     yield chunk
                 record += len(chunk)
@@ -167,7 +162,7 @@ class Sheet:
         """Raises Refused where the file ends within quotes. Without a quote in it nothing is parted into records."""
         self.file.seek(self.body)
         if self.header and any(b'"' in piece for piece in _pieces(self.file)):
-            with Lines(self.file, self.body) as lines:
+            with lines_from(self.file, self.body) as lines:
                 record, last = deque(enumerate(self._records(lines), 2), maxlen=1).pop()
             if last != [_LAST]:
                 raise self._cut_off(record)
@@ -204,22 +199,21 @@ class Sheet:
 
     def line_of(self, record: int) -> int:
         """The line in which a record begins, both from 1; the header is record 1, which begins in the first line that is not empty."""
-        ended, begins = 0, list[int]()
+        begun = ended = 0
 
         def counted(lines: Iterable[str]) -> Iterator[str]:
             nonlocal ended
             for line in lines:
-                begins.append(ended)
-                yield line
                 ended += line.endswith("\n")
+                yield line
 
-        with Lines(self.file, self.start) as lines:
+        with lines_from(self.file, self.start) as lines:
             for row in csv.reader(counted(lines), delimiter=self.delimiter):
                 record -= bool(row)
                 if not record:
                     break
-                begins.clear()
-        return begins[0] + 1 if begins else ended + 1
+                begun = ended
+        return begun + 1
 
     def refused(self, kind: str, record: int, field: int | None, sentence: str, advice: str = "") -> Refused:
         """The refusal of a record, from 1 for the header, and of its field, from 1."""
@@ -244,21 +238,18 @@ def _pieces(file: IO[bytes]) -> Iterator[bytes]:
     return iter(lambda: _read(file), b"")
 
 
-class Lines:
-    """The lines of a file from a place on, each with its end; the file stays open."""
-
-    def __init__(self, file: IO[bytes], place: int) -> None:
-        file.seek(place)
-        self.text = io.TextIOWrapper(file, "latin-1", newline="")
-
-    def __enter__(self) -> Iterator[str]:
-        return self.text if _CSV_TAKES_NUL else (line.replace("\0", _NUL) for line in iter(self.text))
-
-    def __exit__(self, _type: object, error: BaseException | None, _trace: object) -> None:
-        if not self.text.closed:
-            self.text.detach()
-        if isinstance(error, OSError):
-            raise SourceFault(f"reading the input failed: {error.strerror}") from None
+@contextmanager
+def lines_from(file: IO[bytes], place: int) -> Iterator[Iterator[str]]:
+    """The lines of a file from a place on, each with its end; the file stays open. SourceFault where it cannot be read."""
+    file.seek(place)
+    text = io.TextIOWrapper(file, "latin-1", newline="")
+    try:
+        yield iter(text) if _CSV_TAKES_NUL else (line.replace("\0", _NUL) for line in text)
+    except OSError as error:
+        raise SourceFault(f"reading the input failed: {error.strerror}") from None
+    finally:
+        if not text.closed:
+            text.detach()
 
 
 def _delimiter(line: str) -> str:

@@ -209,9 +209,9 @@ class Shell:
 
     def _commit(self, statement: Statement, block: bytes) -> None:
         """Keeps what a statement makes, and prints its version."""
-        from .loads import columns_of, put_sheet
+        from .loads import put_sheet, target_of
         from .notes import batch, cause_of, prepared_batch, transact
-        from .sheets import NotRaw, column_names
+        from .sheets import NotRaw
 
         options = self.call.options
         stamp = False if self.is_look or statement.word == "MOMENT" else options.stamp
@@ -228,8 +228,7 @@ class Shell:
                 yield unit.begin(sent) + block + b"\\.\n"
             else:
                 sheet = _sheet_of(block, f"the block of {statement.text}")
-                columns = columns_of(unit.state.catalog, words[1], sheet, column_names(sheet.header, True), {})
-                yield from put_sheet(unit, words[1], sheet, columns, raw, words[0])
+                yield from put_sheet(unit, target_of(unit.state, words[1], sheet), raw, words[0])
 
         try:
             outcome = transact(self.journal, "shell", lambda unit: body(unit, True), cause, self.console.say)
@@ -291,7 +290,7 @@ class Shell:
             raise UsageError(f"{table} is no name of a table")
         self._begin_trial()
         options = self.call.options
-        sheet = open_sheet(path, ".")
+        sheet = open_sheet(path)
         stamp = False if self.is_look else options.stamp
         try:
             outcome = load(self.journal, table, sheet, cause_of(options.by, options.because, sheet.name, stamp), {}, self.console.say)

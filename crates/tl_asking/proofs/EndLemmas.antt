@@ -17,7 +17,7 @@ use Rattle.tl_command.specs.Closing.{EndsFor, EndsRefused}
 use Rattle.tl_command.specs.Outside.{streams_of}
 use Rattle.tl_command.proofs.HeldLemmas.{holds_journal, stored_image}
 use Rattle.tl_command.proofs.OpenedLemmas.{ends_refused, outside_of}
-use Rattle.tl_run.specs.Runs.{PhasesEnd}
+use Rattle.tl_commands.specs.Runs.{PhasesEnd}
 use Rattle.tl_asking.specs.Answers.{AreAnswered}
 use Rattle.tl_asking.specs.Asking.{AskOpened}
 

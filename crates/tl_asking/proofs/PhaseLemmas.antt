@@ -27,8 +27,8 @@ use Rattle.tl_command.specs.Writing.{WritesBytes}
 use Rattle.tl_command.proofs.BytesLemmas.{Inside, turns_on, same_turns, each_grows, turns_inside, written_more, written_none}
 use Rattle.tl_command.proofs.ComingLemmas.{rest_of, whole_told, all_told, none_come, one_more_come, at_the_end, all_read, fault_read, closed_read, so_far_read}
 use Rattle.tl_command.proofs.LentLemmas.{sessions_lent}
-use Rattle.tl_run.specs.Running.{TakesOnePhase}
-use Rattle.tl_run.specs.Stopping.{RunsAll, StopsAtSource, StopsAtSink, AreFronts, StopsShort}
+use Rattle.tl_commands.specs.Running.{TakesOnePhase}
+use Rattle.tl_commands.specs.Stopping.{RunsAll, StopsAtSource, StopsAtSink, AreFronts, StopsShort}
 use Rattle.tl_asking.specs.Answers.{AreAnswered, IsAnswered, named_reply}
 use Rattle.tl_asking.specs.Progress.{replies_text, GoesOn, Progress}
 

@@ -14,7 +14,7 @@ use Rattle.tl_script.specs.Script.{ScriptReading}
 use Rattle.tl_command.specs.declared.statuses.Status.{Status}
 use Rattle.tl_command.specs.Closing.{EndsRefused}
 use Rattle.tl_command.specs.Outside.{Outside, streams_of, OpensWith, HoldsJournal}
-use Rattle.tl_run.specs.Runs.{PhasesEnd}
+use Rattle.tl_commands.specs.Runs.{PhasesEnd}
 use Rattle.tl_asking.specs.Answers.{AreAnswered}
 
 -- how it ends over a journal that was opened with these commits: the phases stopped as those of a

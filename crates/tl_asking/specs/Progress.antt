@@ -12,7 +12,7 @@ use Rattle.tl_command.specs.declared.stops.Stop.{Stop}
 use Rattle.tl_command.specs.Coming.{Coming, HaveCome}
 use Rattle.tl_command.specs.Jobs.{phases_asked}
 use Rattle.tl_command.specs.Outside.{Streams}
-use Rattle.tl_run.specs.Stopping.{RunStops}
+use Rattle.tl_commands.specs.Stopping.{RunStops}
 use Rattle.tl_asking.specs.Answers.{AreAnswered, named_reply}
 
 -- the replies to jobs over these commits, each under the name of its session

@@ -4,7 +4,7 @@ ghost use Rattle.std.specs.Prelude.{false};
 ghost use Rattle.tl_types.specs.Entries.{commits_of};
 ghost use Rattle.tl_command.specs.Coming.{script_reads};
 ghost use Rattle.tl_command.specs.Outside.{outside, streams};
-ghost use Rattle.tl_run.specs.Runs.{PhasesEnd};
+ghost use Rattle.tl_commands.specs.Runs.{PhasesEnd};
 ghost use Rattle.tl_asking.specs.Answers.{AreAnswered};
 ghost use Rattle.tl_asking.specs.Asking.{AskEnds};
 

@@ -10,8 +10,8 @@ ghost use Rattle.tl_command.specs.Coming.{Coming, HasNotBegun};
 ghost use Rattle.tl_command.specs.Jobs.{asked};
 ghost use Rattle.tl_command.specs.Outside.{streams, Streams};
 ghost use Rattle.tl_command.specs.Writing.{WritesBytes};
-ghost use Rattle.tl_run.specs.Running.{TakesOnePhase};
-ghost use Rattle.tl_run.specs.Stopping.{RunStops};
+ghost use Rattle.tl_commands.specs.Running.{TakesOnePhase};
+ghost use Rattle.tl_commands.specs.Stopping.{RunStops};
 ghost use Rattle.tl_asking.specs.Answers.{AreAnswered, named_reply};
 ghost use Rattle.tl_asking.specs.Progress.{replies_text, GoesOn, Progress};
 

@@ -13,9 +13,9 @@ use Rattle.tl_command.specs.Closing.{Writes, ClosesAfter, EndsFor, EndsRefused}
 use Rattle.tl_command.specs.Coming.{script_reads}
 use Rattle.tl_command.specs.Outside.{Outside, Streams, streams_of}
 use Rattle.tl_command.specs.Status.{closing_line}
-use Rattle.tl_run.specs.Runs.{PhasesEnd}
-use Rattle.tl_run.specs.Stopping.{RunStops}
-use Rattle.tl_run.proofs.EndLemmas.{only_memory}
+use Rattle.tl_commands.specs.Runs.{PhasesEnd}
+use Rattle.tl_commands.specs.Stopping.{RunStops}
+use Rattle.tl_commands.proofs.RunEndLemmas.{only_memory}
 use Rattle.tl_program.specs.Headline.{IsDoneOrNoMemory, StaysSure, IsHonest, RunCompletes}
 use Rattle.tl_program.proofs.TopLemmas.{told_script}
 use Rattle.tl_asking.specs.Answers.{AreAnswered}

@@ -16,10 +16,10 @@ use Rattle.tl_command.specs.declared.stops.Stop.TheVariants as stop
 use Rattle.tl_command.specs.Status.{closing_line}
 use Rattle.tl_command.specs.Jobs.{phases_asked}
 use Rattle.tl_command.specs.Closing.{Closes, EndsFor, EndsRefused, ClosesAfter, status_for, wanted_by}
-use Rattle.tl_run.specs.Runs.{Told, OpenedEnds}
+use Rattle.tl_commands.specs.Runs.{Told, OpenedEnds}
 use Rattle.tl_program.specs.Headline.{CutsReplies, CutsClosing, CutsClosed, CutsBySink, StopsInPhase, CutsByMemory, wanted_for}
 use Rattle.tl_command.specs.Outside.{Outside, streams_of, HoldsJournal}
-use Rattle.tl_run.specs.Stopping.{RunsAll, RunStops}
+use Rattle.tl_commands.specs.Stopping.{RunsAll, RunStops}
 use Rattle.tl_command.proofs.BytesLemmas.{written_more, written_none}
 use Rattle.tl_program.proofs.TopLemmas.{told_script}
 

@@ -19,15 +19,15 @@ use Rattle.tl_command.specs.declared.stops.Stop.TheVariants as stop
 use Rattle.tl_program.specs.declared.commands.Command.{Command}
 use Rattle.tl_program.specs.declared.commands.Command.TheVariants as command
 use Rattle.tl_command.specs.Status.{closing_line}
-use Rattle.tl_run.specs.Runs.{put_text, SampleEnds, sink_alone, Told, OpenedEnds, RunEnds}
+use Rattle.tl_commands.specs.Runs.{put_text, SampleEnds, sink_alone, Told, OpenedEnds, RunEnds}
 use Rattle.tl_command.specs.Coming.{script_reads, block_reads}
 use Rattle.tl_command.specs.Jobs.{phases_asked}
-use Rattle.tl_run.specs.Sample.{puts_from, blocks_of, sample_reading}
+use Rattle.tl_commands.specs.Sample.{puts_from, blocks_of, sample_reading}
 use Rattle.tl_command.specs.Closing.{status_for, wanted_by, Writes, EndsFor, EndsRefused, ClosesAfter}
 use Rattle.tl_program.specs.Ending.{EndsBy}
 use Rattle.tl_program.specs.Headline.{PrintsPlay, PrintsTranscript, PrintsAll, PrintsBreak, PrintsToFault, PrintsClosed, RunTells, RunHeadline, HeadlineBy}
 use Rattle.tl_command.specs.Outside.{Outside, streams_of, HoldsJournal}
-use Rattle.tl_run.specs.Stopping.{RunsAll, RunStops}
+use Rattle.tl_commands.specs.Stopping.{RunsAll, RunStops}
 use Rattle.tl_program.proofs.CutLemmas.{refused_sink, refused_memory, nothing_done, sink_cuts, memory_cuts}
 use Rattle.tl_command.proofs.BytesLemmas.{written_more}
 use Rattle.tl_program.proofs.TopLemmas.{told_script}

@@ -16,11 +16,11 @@ use Rattle.tl_program.specs.declared.commands.Command.{Command}
 use Rattle.tl_program.specs.declared.commands.Command.TheVariants as command
 use Rattle.tl_command.specs.declared.stops.Stop.{Stop}
 use Rattle.tl_command.specs.declared.stops.Stop.TheVariants as stop
-use Rattle.tl_run.specs.Runs.{put_text, Told, PhasesEnd, RunEnds, sink_alone, SampleEnds}
+use Rattle.tl_commands.specs.Runs.{put_text, Told, PhasesEnd, RunEnds, sink_alone, SampleEnds}
 use Rattle.tl_command.specs.Status.{closing_line}
 use Rattle.tl_command.specs.Coming.{script_reads, block_reads}
-use Rattle.tl_run.specs.Sample.{sample_reading}
-use Rattle.tl_run.specs.Stopping.{RunStops}
+use Rattle.tl_commands.specs.Sample.{sample_reading}
+use Rattle.tl_commands.specs.Stopping.{RunStops}
 use Rattle.tl_command.specs.Closing.{wanted_by, Writes, ClosesAfter, EndsFor, EndsRefused, NotMadeBy, InitEnds}
 use Rattle.tl_program.specs.Ending.{EndsBy}
 use Rattle.tl_program.specs.Headline.{AcceptsAll, IsDoneOrNoMemory, StaysSure, IsHonest, IsFaultless, IsFollowed, NamesPlan, RefusesFirst, RunCompletes, CompletesBy, TransactCompletes}
@@ -29,16 +29,16 @@ use Rattle.tl_follow.specs.Inputs.{IsInput, input_fault, input_limit}
 use Rattle.tl_follow.specs.Shipping.{shipment}
 use Rattle.tl_follow.proofs.InputLemmas.{one_input}
 use Rattle.tl_csv.proofs.NumberLemmas.{lt_true}
-use Rattle.tl_grouping.specs.Grouping.{GroupEnds, GroupEndsBy, Plays, TransactEnds, WhyGivenUp}
-use Rattle.tl_grouping.specs.Leaving.{CutsGivenUp, LeavesBy}
-use Rattle.tl_grouping.specs.Playing.{HasFault, ScriptToRefusal}
-use Rattle.tl_grouping.specs.Watching.{WatchEnds, WatchEndsBy}
+use Rattle.tl_commands.specs.Grouping.{GroupEnds, GroupEndsBy, Plays, TransactEnds, WhyGivenUp}
+use Rattle.tl_commands.specs.Leaving.{CutsGivenUp, LeavesBy}
+use Rattle.tl_commands.specs.Playing.{HasFault, ScriptToRefusal}
+use Rattle.tl_commands.specs.Watching.{WatchEnds, WatchEndsBy}
 use Rattle.tl_jobs.specs.declared.replies.Refusal.{Refusal}
 use Rattle.tl_watch.specs.declared.plans.WatchPlan.{WatchPlan}
-use Rattle.tl_watching.specs.Plans.{plan_reading}
-use Rattle.tl_shipping.specs.Shipping.{ShipEnds}
-use Rattle.tl_following.specs.Following.{FollowEnds, FollowEndsBy, Follows, HasInputFault, WhyFollowFails}
-use Rattle.tl_run.proofs.EndLemmas.{no_rise, no_break, only_memory}
+use Rattle.tl_commands.specs.Plans.{plan_reading}
+use Rattle.tl_commands.specs.Shipping.{ShipEnds}
+use Rattle.tl_commands.specs.Following.{FollowEnds, FollowEndsBy, Follows, HasInputFault, WhyFollowFails}
+use Rattle.tl_commands.proofs.RunEndLemmas.{no_rise, no_break, only_memory}
 
 -- COMPLETENESS
 

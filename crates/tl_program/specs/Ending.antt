@@ -25,13 +25,13 @@ use Rattle.tl_command.specs.declared.statuses.Status.TheVariants as status
 use Rattle.tl_program.specs.declared.commands.Command.{Command}
 use Rattle.tl_program.specs.declared.commands.Command.TheVariants as command
 use Rattle.tl_program.specs.Commands.{command_of}
-use Rattle.tl_run.specs.Runs.{put_text, RunEnds, SampleEnds}
+use Rattle.tl_commands.specs.Runs.{put_text, RunEnds, SampleEnds}
 use Rattle.tl_command.specs.Coming.{script_reads, block_reads}
-use Rattle.tl_run.specs.Sample.{sample_reading}
-use Rattle.tl_grouping.specs.Grouping.{GroupEnds, TransactEnds}
-use Rattle.tl_grouping.specs.Watching.{WatchEnds}
-use Rattle.tl_shipping.specs.Shipping.{ShipEnds}
-use Rattle.tl_following.specs.Following.{FollowEnds}
+use Rattle.tl_commands.specs.Sample.{sample_reading}
+use Rattle.tl_commands.specs.Grouping.{GroupEnds, TransactEnds}
+use Rattle.tl_commands.specs.Watching.{WatchEnds}
+use Rattle.tl_commands.specs.Shipping.{ShipEnds}
+use Rattle.tl_commands.specs.Following.{FollowEnds}
 use Rattle.tl_command.specs.Outside.{Outside, IsUnread, DiskAsBefore}
 use Rattle.tl_command.specs.Closing.{Closes, EndsSilent, InitEnds}
 

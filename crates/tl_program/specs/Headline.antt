@@ -28,7 +28,7 @@ use Rattle.tl_session.specs.Transcript.{Transcript, IsTranscript}
 use Rattle.tl_jobs.specs.Turns.{Turn, meant}
 use Rattle.tl_jobs.specs.Written.{IsPlayOf, all_jobs, jobs_of, turns_bytes, transcript_bytes}
 use Rattle.tl_watch.specs.declared.plans.WatchPlan.{WatchPlan}
-use Rattle.tl_watching.specs.Plans.{plan_reading}
+use Rattle.tl_commands.specs.Plans.{plan_reading}
 use Rattle.tl_follow.specs.declared.packets.Packet.{Packet}
 use Rattle.tl_follow.specs.Inputs.{IsInput, input_fault}
 use Rattle.tl_journal.specs.Answers.{CountsFaults}
@@ -41,14 +41,14 @@ use Rattle.tl_program.specs.declared.commands.Command.{Command}
 use Rattle.tl_program.specs.declared.commands.Command.TheVariants as command
 use Rattle.tl_command.specs.Status.{closing_line}
 use Rattle.tl_program.specs.Commands.{command_of}
-use Rattle.tl_run.specs.Runs.{put_text}
+use Rattle.tl_commands.specs.Runs.{put_text}
 use Rattle.tl_command.specs.Coming.{script_reads, block_reads}
 use Rattle.tl_command.specs.Jobs.{phases_asked}
 use Rattle.tl_command.specs.Closing.{status_for, wanted_by, RefusedBy}
-use Rattle.tl_run.specs.Sample.{sample_reading}
+use Rattle.tl_commands.specs.Sample.{sample_reading}
 use Rattle.tl_command.specs.Outside.{Outside, IsUnread, KeepsJournal, HoldsJournal}
-use Rattle.tl_run.specs.Stopping.{AreFronts}
-use Rattle.tl_grouping.specs.Refusing.{AreAccepted, EndInRefusal}
+use Rattle.tl_commands.specs.Stopping.{AreFronts}
+use Rattle.tl_commands.specs.Refusing.{AreAccepted, EndInRefusal}
 
 -- COMPLETENESS
 

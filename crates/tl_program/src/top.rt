@@ -13,12 +13,9 @@ use std::alloc::Global;
 use std::sync::Wait;
 use std::thread::Threads;
 use tl_command::{Ending, Status, close, end_refused};
+use tl_commands::{Paced, WatchText, follow, group, load, run_sample, run_script, ship, transact, watch};
 use tl_device::{Disk, Gate, Sink, Source};
-use tl_following::follow;
-use tl_grouping::{WatchText, group, transact, watch};
 use tl_journal::{InitRun, Journal};
-use tl_run::{Paced, load, run_sample, run_script};
-use tl_shipping::ship;
 
 // Makes an empty journal.
 fn init<K: Sink, D: Disk>(alloc: Global, sink: &mut K, disk: D) -> Ending<D>

@@ -5,7 +5,7 @@ use Rattle.tl_script.specs.Reader.{ScriptState, new_state}
 use Rattle.tl_command.specs.Coming.{script_coming, HasNotBegun}
 use Rattle.tl_command.specs.Outside.{streams}
 use Rattle.tl_command.proofs.ScriptComing.{new_script_fresh}
-use Rattle.tl_run.specs.Stopping.{RunStops}
+use Rattle.tl_commands.specs.Stopping.{RunStops}
 use Rattle.tl_asking.specs.Answers.{AreAnswered}
 use Rattle.tl_asking.proofs.asking.ask_over.Goals as goal
 

@@ -1,9 +1,9 @@
 use Rattle.std.proofs.Common.{ℕ, List, Some, subst, sym}
 use Rattle.std.specs.declared.option.Option.{Option}
 use Rattle.tl_program.specs.declared.commands.Command.{Command}
-use Rattle.tl_run.specs.Runs.{put_text, RunEnds}
+use Rattle.tl_commands.specs.Runs.{put_text, RunEnds}
 use Rattle.tl_command.specs.Coming.{block_reads, script_reads}
-use Rattle.tl_grouping.specs.Watching.{WatchEnds}
+use Rattle.tl_commands.specs.Watching.{WatchEnds}
 use Rattle.tl_program.specs.Ending.{EndsBy}
 use Rattle.tl_command.specs.Outside.{outside}
 use Rattle.tl_program.proofs.top.do_command.Goals as goal

@@ -1,5 +1,0 @@
-pub mod Finishing
-pub mod Running
-pub mod Runs
-pub mod Sample
-pub mod Stopping

@@ -1,3 +1,0 @@
-pub mod CommitLemmas
-pub mod EndLemmas
-pub mod JournalLemmas

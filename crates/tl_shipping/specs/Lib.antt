@@ -1,2 +1,0 @@
-pub mod Shipments
-pub mod Shipping

@@ -13,7 +13,9 @@ use std::alloc::Global;
 use std::sync::Wait;
 use std::thread::Threads;
 use tl_command::{Ending, Status, close, end_refused};
-use tl_commands::{Paced, WatchText, follow, group, load, run_sample, run_script, ship, transact, watch};
+use tl_commands::{
+    Paced, WatchText, follow, group, load, run_sample, run_script, ship, transact, watch,
+};
 use tl_device::{Disk, Gate, Sink, Source};
 use tl_journal::{InitRun, Journal};
 

@@ -71,6 +71,10 @@ def test_parameters_are_spelled_and_never_pasted(journal: str) -> None:
             assert refused.value.kind == "Parameters"
         with pytest.raises(TypeError):
             books.ask("SELECT id FROM t WHERE id = ?", [1.5])  # type: ignore[list-item]
+        for number in ("NaN", "-Infinity"):
+            with pytest.raises(timeline.Refused) as refused:
+                books.ask("SELECT id FROM t WHERE id = ?", [Decimal(number)])
+            assert refused.value.kind == "NotDecimal"
         with pytest.raises(timeline.Refused):
             books.put("t (id)\n\\.\npy> FORGET t BEFORE 1\npy> PUT t", [{"id": 1, "x": ""}])
 
@@ -261,6 +265,12 @@ def test_pandas(journal: str) -> None:
         books.put("t", [{"id": 1, "x": "a"}])
         frame = books.ask("SELECT id, x FROM t").to_pandas()
         assert str(frame["id"].dtype) == "int64" and frame["x"].tolist() == ["a"]
+        books.execute("CREATE TABLE u (id INT, at TIME) KEY id")
+        books.put("u", [{"id": 1, "at": datetime.datetime(2026, 1, 2)}])
+        assert str(books.ask("SELECT at FROM u").to_pandas()["at"].dtype) == "datetime64[ns, UTC]"
+        far = datetime.datetime(9999, 12, 31, 12, tzinfo=datetime.timezone.utc)
+        books.put("u", [{"id": 2, "at": far}])
+        assert books.ask("SELECT at FROM u").to_pandas()["at"].tolist()[1] == far       # pandas has no such time
 
 
 def test_the_database_interface(journal: str) -> None:

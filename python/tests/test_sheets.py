@@ -68,6 +68,8 @@ GUESSES = [
     (["7", "", "8"], "TEXT"),
     (["", ""], "TEXT"),
     (["Doe, J.", "x\r\ny"], "TEXT"),
+    (["FOREVER", "FOREVER"], "TEXT"),
+    (["2026-03-31", "FOREVER"], "TEXT"),
 ]
 
 
@@ -240,6 +242,8 @@ def test_a_load_is_what_the_program_would_load(journal: str) -> None:
     assert asked(journal, "SELECT * FROM t")[1:] == [["1", "x"], ["2", "y"], ["3", 'q "x"'], ["4", "mac"], ["5", "nul\0nul"], ["6", ""]]
     done = run(["load", "t"], b"id,a\n7,\xff\n", journal)
     assert done.status == 20 and "NotUtf8 2 2" in done.out
+    for words in (["import", "p", "--key", "id"], ["load", "p"], ["sync", "p"]):     # no period: a header that names one gets another name
+        assert run(words, "id,valid_from\n1,5\n", journal).status == 0
 
 
 def test_records_are_parted_as_the_program_parts_them(journal: str) -> None:
@@ -297,6 +301,7 @@ def test_a_sheet_of_another_encoding_is_named(journal: str, mark: bytes, code: s
         run(["import", "t", "--key", "id"], "id,a\n1,x\n", journal)
         done = run(words, mark + "id,a\n2,y\n".encode(code), journal)
         assert done.status == 20 and "it is UTF-16" in done.err and "CSV UTF-8" in done.err, done
+        assert words[0] != "load" or not done.out.startswith("load @0"), done
 
 
 # Blocks

@@ -17,6 +17,7 @@ TABLE = "CREATE TABLE t (id INT, x TEXT) KEY id;\n"
     ("PUT t;\r\nid,x\r\n1,a\r\n\\.\r\nSELECT x FROM t;\r\n", 0, "@N ok\nx\na\n", ""),                   # lines that end in CRLF
     ("SELECT x FROM t", 0, "x\n", ""),                                                                     # a last statement without `;`
     ("\nPUT t;\nid,x\n1,a\n", 6, "! script BlockOpen 2\n", "the block of PUT t that begins in line 2 has no end"),   # a block that is cut off
+    ("PUT t\nid,x\n1,a\n\\.\nSELECT id FROM t;\n", 6, "! script BlockOpen 1\n", "PUT t that begins in line 1 has no end, `;`: nothing"),
     ("SELECT id FROM t;\nSELECT id FROM t\nWHERE x = 'a;\nCREATE TABLE u (k INT) KEY k;\n", 6, "id\n! script OpenText 3\n",
      "the text that begins in line 3 has no end"),                                                         # a text that is cut off
     ("PUT t;\nid,x\n1,\"a\n\\.\nSELECT id FROM t;\n", 0, "id\n", "line 2, record 2: the file ends within a quoted field"),

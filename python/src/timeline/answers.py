@@ -80,7 +80,8 @@ class Answer:
         return (dict(zip(names, row)) for row in self)
 
     def to_pandas(self) -> Any:
-        """The rows as a DataFrame of pandas: INT as int64, or Int64 where a number is missing; TIME as UTC; the others as Python's."""
+        """The rows as a DataFrame of pandas: INT as int64, or Int64 where a number is missing; TIME as UTC, where pandas has all of
+        the times; the others as Python's."""
         import pandas  # type: ignore[import]
 
         frame = pandas.DataFrame(list(self), columns=list(self.names), dtype=object)
@@ -89,7 +90,10 @@ class Answer:
             column = frame.iloc[:, at]
             if kind.name == "INT" and not column.map(lambda it: isinstance(it, str)).any():
                 column = column.astype("Int64" if column.isna().any() else "int64")
-            columns[at] = pandas.to_datetime(column, utc=True, errors="coerce") if kind.name == "TIME" else column
+            if kind.name == "TIME":
+                times = pandas.to_datetime(column, utc=True, errors="coerce")
+                column = times if times.isna().equals(column.isna()) else column
+            columns[at] = column
         made = pandas.concat(columns, axis=1) if columns else frame
         made.columns = pandas.Index(self.names)
         return made

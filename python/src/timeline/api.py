@@ -283,14 +283,22 @@ def _written(value: Cell) -> str:
         return value
     if isinstance(value, int) and not isinstance(value, bool):
         return str(value)
-    name = type(value).__name__
-    if name == "Decimal":
-        return format(value, "f")
-    if name == "datetime":
+    names = _names(value)
+    if "Decimal" in names:
+        text = format(value, "f")
+        if text.lstrip("-")[:1].isdigit():
+            return text
+        raise Refused("NotDecimal", sentence=f"{value} is no number that a column can have")
+    if "datetime" in names:
         return _second(value, is_local=False)
-    if name == "date":
+    if "date" in names:
         return str(value)
-    raise TypeError(f"a cell is an int, a str, a Decimal, a date or a datetime, and not {name}")
+    raise TypeError(f"a cell is an int, a str, a Decimal, a date or a datetime, and not {names[0]}")
+
+
+def _names(value: object) -> list[str]:
+    """The names of a value's type and of those that it is a case of, as pandas' Timestamp is of datetime; so no module is loaded."""
+    return [it.__name__ for it in type(value).__mro__]
 
 
 def _second(value: object, is_local: bool) -> str:
@@ -313,9 +321,9 @@ def _second(value: object, is_local: bool) -> str:
 
 def _literal(value: Value, is_local: bool) -> str:
     """A value as a statement has it: texts, days and times between quotes, numbers bare."""
-    name = type(value).__name__
-    text = _second(value, is_local) if name == "datetime" else _written(value)
-    return text if name in ("int", "Decimal") else "'" + text.replace("'", "''") + "'"
+    names = _names(value)
+    text = _second(value, is_local) if "datetime" in names else _written(value)
+    return text if "int" in names or "Decimal" in names else "'" + text.replace("'", "''") + "'"
 
 
 def with_parameters(query: str, parameters: Sequence[Value]) -> str:

@@ -221,13 +221,18 @@ def refuse_second(target: Target) -> None:
 
 def load(journal: Journal, table: str, sheet: Sheet, cause: Cause = Cause(), missing: Mapping[str, str] = {}, say: Say = _quiet) -> Outcome:
     """Puts the records of a sheet into a table. Raises Refused where one is refused; then nothing is kept."""
-    if cause.stamp is False and not (cause.who or cause.why) and sheet.is_plain(column_names(sheet.header, True)):
+    try:
+        names = column_names(sheet.header, True)
+    except Refused as refused:
+        raise refused.over(journal.version()) from None
+    if cause.stamp is False and not (cause.who or cause.why) and sheet.is_plain(names):
         if target_of(state_of(journal.look()), table, sheet, missing).is_unchanged():
             return _load_alone(journal, table, sheet)
+    shape = shape_of(journal, table) if set(PERIOD) & set(names) else _UNKNOWN
 
     def script(unit: Unit, raw: bool) -> Iterator[bytes]:
         """The PUT of the sheet."""
-        return put_sheet(unit, target_of(unit.state, table, sheet, missing), raw)
+        return put_sheet(unit, target_of(unit.state, table, sheet, missing, shape), raw)
 
     def check() -> None:
         """Refuses a key that stands twice in a sheet of several blocks."""

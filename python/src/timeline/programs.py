@@ -45,6 +45,7 @@ class _Nobody:
 
 
 console: Listener = _Nobody()      # cli.py sets it
+_is_told = False                   # whether this process has said which program runs
 
 
 class Program(NamedTuple):
@@ -79,9 +80,11 @@ def unproved() -> str:
 
 def program(name: str) -> str:
     """The path of a program, which is made first where it is not there and can be. ProgramFault where it is not and cannot."""
+    global _is_told
     found = find(name) or _made(name)
-    if found.kind == "checked" and (console.err_is_terminal or _is_first_today()):
+    if found.kind == "checked" and not _is_told and (console.err_is_terminal or _is_first_today()):
         console.say(unproved())
+    _is_told = _is_told or found.kind == "checked"
     return found.path
 
 

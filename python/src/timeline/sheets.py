@@ -275,7 +275,7 @@ def checked(sheet: Sheet, chunk: Sequence[Row], record: int) -> bytes:
             for field, cell in enumerate(row):
                 if _ENDS_BLOCK.search(cell):
                     raise sheet.refused("EndOfBlock", record + at, field + 1, "it has a line that is \\. alone, which ends a block",
-                                        "Write the line in another way; `load --no-stamp` takes it as it is.")
+                                        "Write the line in another way; into a table of INT and TEXT alone `load --no-stamp` takes it as it is.")
     return text
 
 
@@ -419,9 +419,9 @@ def _decimal_of(cell: str) -> list[Kind]:
 
 
 def comes_back(kind: Kind, cell: str) -> bool:
-    """Whether a column of a kind shows a cell as it is spelled."""
+    """Whether a column of a kind shows a cell as it is spelled; FOREVER is none of a kind's but at the end of a period."""
     try:
-        return kind.shown(kind.cell(cell)) == cell
+        return cell != kinds.FOREVER and kind.shown(kind.cell(cell)) == cell
     except KindFault:
         return False
 

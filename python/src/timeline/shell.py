@@ -81,20 +81,19 @@ class PipedLines:
             if quotes % 2 == 0 and line.rstrip().endswith(";"):
                 break
         if quotes % 2:
-            raise CutOff("OpenText", begun, "the text", "nothing from its statement on")
+            raise CutOff("OpenText", begun, "the text", "a single quote", "nothing from its statement on")
         return "\n".join(lines) if lines else None
 
 
 class CutOff(ScriptFault):
-    """The input ended within the block of a statement, or within a text, that began in a line: nothing of it was done."""
+    """The input ended before the end of a statement, a block or a text that began in a line: nothing of it was done."""
 
-    def __init__(self, kind: str, line: int, what: str, lost: str) -> None:
+    def __init__(self, kind: str, line: int, what: str, wanted: str, lost: str) -> None:
         super().__init__(kind, line)
-        self.what, self.lost = what, lost
+        self.what, self.wanted, self.lost = what, wanted, lost
 
     def __str__(self) -> str:
-        wanted = "a line \\. alone" if self.kind == "BlockOpen" else "a single quote"
-        return f"{self.what} that begins in line {self.line} has no end, {wanted}: {self.lost} was done"
+        return f"{self.what} that begins in line {self.line} has no end, {self.wanted}: {self.lost} was done"
 
 
 class Shell:
@@ -179,7 +178,9 @@ class Shell:
         while True:
             row = self.lines.row()
             if row is None:
-                raise CutOff("BlockOpen", self._line(statement, text), f"the block of {statement.text}", "nothing of it")
+                first, _, more = statement.text.strip().partition("\n")
+                wanted = "`;`" if more else "a line \\. alone"
+                raise CutOff("BlockOpen", self._line(statement, text), first if more else f"the block of {first}", wanted, "nothing of it")
             if row in (b"\\.", b"\\.\r"):
                 return b"".join(rows)
             rows.append(row + b"\n")
